@@ -1,0 +1,41 @@
+#!/bin/sh
+# Measures how fast ref_edn reads and prints EDN, beside Clojure and jq where they are installed:
+#
+#   bench/run.sh [--rounds N] [--seconds S] [--bytes N] [--members N] [SHAPE..]
+#
+# README.md beside this says what the figures mean. The program that is measured is no crate of the repository, so that
+# the gate needs no time for it: this copies ref_edn into a folder of its own, adds the program there, and has rt prove
+# and build both. The folder is $REF_BENCH, or ref-bench among the temporary files; it is kept, so that a second run
+# builds only what has changed.
+set -eu
+here=$(cd "$(dirname "$0")" && pwd)
+top=$(dirname "$here")
+room=${REF_BENCH:-${TMPDIR:-/tmp}/ref-bench}
+tree=$room/tree
+
+for tool in rt python3; do
+  command -v $tool >/dev/null || { echo "bench/run.sh needs $tool" >&2; exit 2; }
+done
+
+# What rt kept of earlier checks, there or in the repository, spares a proof of all of ref_edn.
+mkdir -p "$tree/crates/ref_edn" "$tree/crates/edn_bench/src" "$room/data"
+if [ ! -d "$tree/crates/ref_edn/out" ] && [ -d "$top/crates/ref_edn/out" ]; then
+  cp -a "$top/crates/ref_edn/out" "$tree/crates/ref_edn/"
+fi
+for part in src specs proofs; do
+  rm -rf "$tree/crates/ref_edn/$part"
+  cp -a "$top/crates/ref_edn/$part" "$tree/crates/ref_edn/"
+done
+cp "$here/edn_bench.rt.txt" "$tree/crates/edn_bench/src/main.rt"
+{ grep '^ref_edn *:' "$top/crates.txt"; echo 'edn_bench: ref_edn anyhow'; } > "$tree/crates.txt"
+
+echo "building in $tree"
+program=$tree/crates/edn_bench/out/edn_bench
+rm -f "$program"
+# rt also runs what it has built, here on a text that any reader takes.
+if ! (cd "$tree/crates/edn_bench" && echo '[1 2 3]' | rt run > "$room/build.txt" 2>&1); then
+  tail -20 "$room/build.txt" >&2
+  echo "bench/run.sh: not built, or [1 2 3] was not read; all that rt said is in $room/build.txt" >&2
+  exit 1
+fi
+exec python3 -B "$here/compare.py" "$program" "$room/data" "$@"

@@ -1,0 +1,78 @@
+use Rattle.std.proofs.Common.{◌+◌, ◌*◌, ◌≤◌, length}
+use Rattle.ref_edn.specs.ReadParts.{items_at, set_at, map_at, pairs_at}
+use Rattle.ref_edn.specs.Reading.{skip}
+use Rattle.ref_edn.proofs.Turns.{Skips}
+use Rattle.ref_edn.proofs.Loops.{ReadsItems, ReadsSet, ReadsMap, ReadsPairs}
+use Rattle.ref_edn.proofs.elements.+read.Given as goal
+
+abbrev pub decreases-discarded : goal.decreases-discarded
+decreases-discarded l = 8 * l.room
+
+abbrev pub decreases-vector : goal.decreases-vector
+decreases-vector l = 8 * l.room
+
+abbrev pub decreases-mapping : goal.decreases-mapping
+decreases-mapping l = 8 * l.room
+
+abbrev pub decreases-collection : goal.decreases-collection
+decreases-collection l = 8 * l.room
+
+abbrev pub decreases-skip : goal.decreases-skip
+decreases-skip l = 8 * l.room + 1
+
+abbrev pub decreases-read : goal.decreases-read
+decreases-read l = 8 * l.room + 1
+
+abbrev pub decreases-next : goal.decreases-next
+decreases-next l = 8 * l.room + 2
+
+abbrev pub decreases-value : goal.decreases-value
+decreases-value l = 8 * l.room + 2
+
+abbrev pub decreases-items : goal.decreases-items
+decreases-items l = 8 * l.room + 3
+
+abbrev pub decreases-elements : goal.decreases-elements
+decreases-elements l = 8 * l.room + 3
+
+abbrev pub decreases-pairs : goal.decreases-pairs
+decreases-pairs l = 8 * l.room + 3
+
+abbrev pub decreases-entries : goal.decreases-entries
+decreases-entries l = 8 * l.room + 3
+
+abbrev pub decreases-sorted_elements : goal.decreases-sorted_elements
+decreases-sorted_elements l = 8 * l.room + 4
+
+abbrev pub decreases-sorted_entries : goal.decreases-sorted_entries
+decreases-sorted_entries l = 8 * l.room + 4
+
+abbrev pub invariant-skip-loop-alloc : goal.invariant-skip-loop-alloc
+invariant-skip-loop-alloc l = record { reads : Skips l.room l.rest (skip l.room l.text); shorter : length l.rest ≤ length l.text }
+
+abbrev pub decreases-skip-loop-alloc : goal.decreases-skip-loop-alloc
+decreases-skip-loop-alloc l = length l.rest
+
+abbrev pub invariant-items-loop-found : goal.invariant-items-loop-found
+invariant-items-loop-found l = record { reads : ReadsItems l.room l.close l.found.items l.rest (items_at l.room l.close l.text); shorter : length l.rest ≤ length l.text }
+
+abbrev pub decreases-items-loop-found : goal.decreases-items-loop-found
+decreases-items-loop-found l = length l.rest
+
+abbrev pub invariant-elements-loop-found : goal.invariant-elements-loop-found
+invariant-elements-loop-found l = record { reads : ReadsSet l.room l.found.keys l.rest (set_at l.room l.text); shorter : length l.rest ≤ length l.text }
+
+abbrev pub decreases-elements-loop-found : goal.decreases-elements-loop-found
+decreases-elements-loop-found l = length l.rest
+
+abbrev pub invariant-pairs-loop-found : goal.invariant-pairs-loop-found
+invariant-pairs-loop-found l = record { reads : ReadsPairs l.room l.found.items l.rest (pairs_at l.room l.text); shorter : length l.rest ≤ length l.text }
+
+abbrev pub decreases-pairs-loop-found : goal.decreases-pairs-loop-found
+decreases-pairs-loop-found l = length l.rest
+
+abbrev pub invariant-entries-loop-found : goal.invariant-entries-loop-found
+invariant-entries-loop-found l = record { reads : ReadsMap l.room l.found.entries l.rest (map_at l.room l.text); shorter : length l.rest ≤ length l.text }
+
+abbrev pub decreases-entries-loop-found : goal.decreases-entries-loop-found
+decreases-entries-loop-found l = length l.rest

@@ -1,0 +1,26 @@
+use Rattle.std.proofs.Common.{◌≡◌, ◌+◌, ◌*◌, drop}
+use Rattle.ref_edn.specs.Edn.{nesting, items_depth, entries_depth, items_of, entries_of}
+use Rattle.ref_edn.specs.Order.{items_cmp, entries_cmp}
+use Rattle.ref_edn.proofs.order.+compare.Given as goal
+
+abbrev pub decreases-compare : goal.decreases-compare
+decreases-compare l = 2 * nesting l.a.now
+
+abbrev pub decreases-compare_items : goal.decreases-compare_items
+decreases-compare_items l = 2 * items_depth (items_of l.a.now) + 1
+
+abbrev pub decreases-compare_elements : goal.decreases-compare_elements
+decreases-compare_elements l = 2 * items_depth (items_of l.a.now) + 1
+
+abbrev pub decreases-compare_entries : goal.decreases-compare_entries
+decreases-compare_entries l = 2 * entries_depth (entries_of l.a.now) + 1
+
+-- The places so far are equal.
+abbrev pub invariant-compare_items-loop-i : goal.invariant-compare_items-loop-i
+invariant-compare_items-loop-i l = items_cmp (items_of l.a) (items_of l.b) ≡ items_cmp (items_of (drop l.i l.a)) (items_of (drop l.i l.b))
+
+abbrev pub invariant-compare_elements-loop-i : goal.invariant-compare_elements-loop-i
+invariant-compare_elements-loop-i l = items_cmp (items_of l.a) (items_of l.b) ≡ items_cmp (items_of (drop l.i l.a)) (items_of (drop l.i l.b))
+
+abbrev pub invariant-compare_entries-loop-i : goal.invariant-compare_entries-loop-i
+invariant-compare_entries-loop-i l = entries_cmp (entries_of l.a) (entries_of l.b) ≡ entries_cmp (entries_of (drop l.i l.a)) (entries_of (drop l.i l.b))

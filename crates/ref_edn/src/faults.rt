@@ -1,0 +1,206 @@
+//! Why a text is no EDN data, and where.
+ghost use Rattle.std.specs.Prelude.{◌≡◌, length};
+ghost use Rattle.ref_edn.specs.declared.faults.ReadError.TheVariants.{Memory};
+ghost use Rattle.ref_edn.specs.Faults.{fault_at, number_of, name_of, place_of};
+
+use std::alloc::{AllocError, AllocFailed};
+use thiserror::Error;
+
+/// What is wrong with a text, without where.
+#[derive(Clone, Copy, Debug, PartialEq, Eq)]
+pub(crate) enum Kind {
+    Nothing,
+    EndsEarly,
+    BadByte,
+    BadNumber,
+    TooLarge,
+    BadEscape,
+    BadName,
+    WrongClose,
+    Duplicate,
+    OddMap,
+    TooDeep,
+    LeftOut,
+    NotUtf8,
+    Trailing,
+}
+
+/// What is wrong, and how many bytes are left from its place on.
+#[derive(Clone, Copy, Debug, PartialEq, Eq)]
+pub(crate) struct Fault {
+    pub kind: Kind,
+    pub left: usize,
+}
+
+#[derive(Debug, Drop)]
+pub(crate) enum ReadError {
+    Memory,
+    Fault(Fault),
+}
+
+impl ReadError {
+    /// The fault at the place from which on these bytes are left.
+    pub fn at(kind: Kind, rest: &[u8]) -> ReadError
+        ensures { result ≡ ReadError.Fault (record { kind = kind; left = length rest.now }) }
+    {
+        ReadError::Fault(Fault {
+            kind,
+            left: rest.len(),
+        })
+    }
+}
+
+impl From<AllocError> for ReadError {
+    ghost from_gives = { λ _ e. e ≡ Memory };
+
+    fn from(_e: AllocError) -> ReadError {
+        ReadError::Memory
+    }
+}
+
+impl<T: Drop> From<AllocFailed<T>> for ReadError {
+    ghost from_gives = { λ _ e. e ≡ Memory };
+
+    fn from(_e: AllocFailed<T>) -> ReadError {
+        ReadError::Memory
+    }
+}
+
+/// Why a text was not read. The number in each is the place in bytes from the start of the text.
+#[derive(Clone, Copy, Debug, PartialEq, Eq, Error)]
+pub enum ReadFault {
+    /// There is no element; the place is the length of the text.
+    #[error("no element before the end, at byte {0}")]
+    Nothing(usize),
+    /// The text ends in a string or a collection, or behind a discard; the place is the length of the text.
+    #[error("the text ends too early, at byte {0}")]
+    EndsEarly(usize),
+    /// No element begins with this byte.
+    #[error("no element begins with this byte, at byte {0}")]
+    BadByte(usize),
+    #[error("not a number, at byte {0}")]
+    BadNumber(usize),
+    /// An integer of more than 64 bits.
+    #[error("an integer outside 64 bits, at byte {0}")]
+    TooLarge(usize),
+    #[error("an unknown escape in a string, at byte {0}")]
+    BadEscape(usize),
+    /// Neither a symbol nor a keyword.
+    #[error("not a name, at byte {0}")]
+    BadName(usize),
+    /// A bracket closes what it doesn't open, or nothing.
+    #[error("a closing bracket that closes nothing, at byte {0}")]
+    WrongClose(usize),
+    /// The second of two equal keys of a map, or elements of a set.
+    #[error("a key or an element that is there already, at byte {0}")]
+    Duplicate(usize),
+    /// The bracket that closes a map whose last key has no value.
+    #[error("a key without a value, at byte {0}")]
+    OddMap(usize),
+    /// More than 64 collections and discards would be open.
+    #[error("nested more than 64 deep, at byte {0}")]
+    TooDeep(usize),
+    /// EDN that this profile leaves out, as a float, a character or a tag.
+    #[error("left out of this profile of EDN, at byte {0}")]
+    LeftOut(usize),
+    #[error("not UTF-8, at byte {0}")]
+    NotUtf8(usize),
+    /// Something stands behind the one element.
+    #[error("more than one element, at byte {0}")]
+    Trailing(usize),
+    #[error("out of memory")]
+    Memory,
+}
+
+impl ReadFault {
+    /// The number of the fault, from 1 to 15 in the order of the variants.
+    pub fn number(&self) -> u8
+        ensures { result ≡ number_of self.now }
+    {
+        match self {
+            ReadFault::Nothing(_) => 1,
+            ReadFault::EndsEarly(_) => 2,
+            ReadFault::BadByte(_) => 3,
+            ReadFault::BadNumber(_) => 4,
+            ReadFault::TooLarge(_) => 5,
+            ReadFault::BadEscape(_) => 6,
+            ReadFault::BadName(_) => 7,
+            ReadFault::WrongClose(_) => 8,
+            ReadFault::Duplicate(_) => 9,
+            ReadFault::OddMap(_) => 10,
+            ReadFault::TooDeep(_) => 11,
+            ReadFault::LeftOut(_) => 12,
+            ReadFault::NotUtf8(_) => 13,
+            ReadFault::Trailing(_) => 14,
+            ReadFault::Memory => 15,
+        }
+    }
+
+    /// The name of the fault, as its variant is called.
+    pub fn name(&self) -> &'static str
+        ensures { result.now ≡ name_of self.now }
+    {
+        match self {
+            ReadFault::Nothing(_) => "Nothing",
+            ReadFault::EndsEarly(_) => "EndsEarly",
+            ReadFault::BadByte(_) => "BadByte",
+            ReadFault::BadNumber(_) => "BadNumber",
+            ReadFault::TooLarge(_) => "TooLarge",
+            ReadFault::BadEscape(_) => "BadEscape",
+            ReadFault::BadName(_) => "BadName",
+            ReadFault::WrongClose(_) => "WrongClose",
+            ReadFault::Duplicate(_) => "Duplicate",
+            ReadFault::OddMap(_) => "OddMap",
+            ReadFault::TooDeep(_) => "TooDeep",
+            ReadFault::LeftOut(_) => "LeftOut",
+            ReadFault::NotUtf8(_) => "NotUtf8",
+            ReadFault::Trailing(_) => "Trailing",
+            ReadFault::Memory => "Memory",
+        }
+    }
+
+    /// The place in bytes from the start of the text; want of memory has none.
+    pub fn place(&self) -> Option<usize>
+        ensures { result ≡ place_of self.now }
+    {
+        match self {
+            ReadFault::Nothing(place)
+            | ReadFault::EndsEarly(place)
+            | ReadFault::BadByte(place)
+            | ReadFault::BadNumber(place)
+            | ReadFault::TooLarge(place)
+            | ReadFault::BadEscape(place)
+            | ReadFault::BadName(place)
+            | ReadFault::WrongClose(place)
+            | ReadFault::Duplicate(place)
+            | ReadFault::OddMap(place)
+            | ReadFault::TooDeep(place)
+            | ReadFault::LeftOut(place)
+            | ReadFault::NotUtf8(place)
+            | ReadFault::Trailing(place) => Some(*place),
+            ReadFault::Memory => None,
+        }
+    }
+}
+
+// The fault at a place.
+pub(crate) fn fault_at(kind: Kind, place: usize) -> ReadFault
+    ensures { result ≡ fault_at kind place }
+{
+    match kind {
+        Kind::Nothing => ReadFault::Nothing(place),
+        Kind::EndsEarly => ReadFault::EndsEarly(place),
+        Kind::BadByte => ReadFault::BadByte(place),
+        Kind::BadNumber => ReadFault::BadNumber(place),
+        Kind::TooLarge => ReadFault::TooLarge(place),
+        Kind::BadEscape => ReadFault::BadEscape(place),
+        Kind::BadName => ReadFault::BadName(place),
+        Kind::WrongClose => ReadFault::WrongClose(place),
+        Kind::Duplicate => ReadFault::Duplicate(place),
+        Kind::OddMap => ReadFault::OddMap(place),
+        Kind::TooDeep => ReadFault::TooDeep(place),
+        Kind::LeftOut => ReadFault::LeftOut(place),
+        Kind::NotUtf8 => ReadFault::NotUtf8(place),
+        Kind::Trailing => ReadFault::Trailing(place),
+    }
+}

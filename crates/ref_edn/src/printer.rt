@@ -1,0 +1,213 @@
+//! The printer of EDN text.
+ghost use Rattle.std.specs.Prelude.{◌≡◌, ◌≤◌, ◌++◌, ◌∷◌, ◌==◌, [], if◌then◌else◌, OnOk, OnErr, MatchOption, length, take};
+ghost use Rattle.std.specs.Fmt.{signed_decimal};
+ghost use Rattle.ref_edn.specs.Edn.{Edn, items_of, entries_of};
+ghost use Rattle.ref_edn.specs.Grammar.{IsText};
+ghost use Rattle.ref_edn.specs.Lawful.{IsLawful};
+ghost use Rattle.ref_edn.specs.Printed.{printed, escaped, escaped_byte, items_text, entries_text};
+
+use crate::bytes::after;
+use crate::data::{Node, Value};
+use crate::maps::Entries;
+use crate::sets::Elements;
+use crate::vectors::Items;
+use itoa::Buffer;
+use std::alloc::{AllocError, Global};
+
+/// Appends the text of a value.
+///
+/// Each value has one text; docs/EDN.md says what it is. It takes time in proportion to that text, and the native stack
+/// holds at most 64 levels.
+pub fn print(alloc: Global, value: &Value, out: &mut Vec<u8>) -> Result<(), AllocError>
+    ensures ok { OnOk result (out.new.items ≡ out.old.items ++ printed value.now) }
+    ensures err { OnErr result (out.new.items ≡ out.old.items) }
+{
+    // The text grows by the allocator of `out`.
+    let _alloc = alloc;
+    let before = out.len();
+    let appended = append(value, out);
+    if appended.is_err() {
+        out.truncate(before);
+    }
+    appended
+}
+
+// Where memory is refused, this function and those below leave the front of a text behind.
+#[cycle(append)]
+fn append(value: &Value, out: &mut Vec<u8>) -> Result<(), AllocError>
+    ensures ok { OnOk result (out.new.items ≡ out.old.items ++ printed value.now) }
+    ensures kept { take (length out.old.items) out.new.items ≡ out.old.items }
+{
+    match value.node() {
+        Node::Nil => out.extend_from_slice(b"nil"),
+        Node::Bool(true) => out.extend_from_slice(b"true"),
+        Node::Bool(false) => out.extend_from_slice(b"false"),
+        Node::Int(n) => append_int(*n, out),
+        Node::Str(s) => append_string(s.as_bytes(), out),
+        Node::Keyword(s) => append_keyword(s.as_bytes(), out),
+        Node::Symbol(s) => out.extend_from_slice(s.as_bytes()),
+        Node::Vector(items) => append_vector(items, out),
+        Node::Map(entries) => append_map(entries, out),
+        Node::Set(elements) => append_set(elements, out),
+    }
+}
+
+fn append_int(n: i64, out: &mut Vec<u8>) -> Result<(), AllocError>
+    ensures ok { OnOk result (out.new.items ≡ out.old.items ++ signed_decimal n) }
+    ensures kept { take (length out.old.items) out.new.items ≡ out.old.items }
+{
+    out.extend_from_slice(Buffer::new().format(n).as_bytes())
+}
+
+fn append_keyword(name: &[u8], out: &mut Vec<u8>) -> Result<(), AllocError>
+    ensures ok { OnOk result (out.new.items ≡ out.old.items ++ 58 ∷ name.now) }
+    ensures kept { take (length out.old.items) out.new.items ≡ out.old.items }
+{
+    out.push(b':')?;
+    out.extend_from_slice(name)
+}
+
+// The letter that stands for a byte behind a backslash.
+fn letter_of(b: u8) -> Option<u8>
+    ensures { MatchOption result (escaped_byte b ≡ b ∷ []) (λ letter. escaped_byte b ≡ 92 ∷ letter ∷ []) }
+{
+    match b {
+        b'"' | b'\\' => Some(b),
+        b'\n' => Some(b'n'),
+        b'\r' => Some(b'r'),
+        b'\t' => Some(b't'),
+        8 => Some(b'b'),
+        12 => Some(b'f'),
+        _ => None,
+    }
+}
+
+// How many bytes at the front of a string stand as they are.
+#[tactic(auto, using(crate::proofs::PrintedParts::plain_more))]
+fn plain_len(s: &[u8]) -> usize
+    ensures bound { result ≤ length s.now }
+    ensures plain { escaped (take result s.now) ≡ take result s.now }
+{
+    for (i, b) in s.iter().enumerate() {
+        if letter_of(*b).is_some() {
+            return i;
+        }
+    }
+    s.len()
+}
+
+fn append_byte(b: u8, out: &mut Vec<u8>) -> Result<(), AllocError>
+    ensures ok { OnOk result (out.new.items ≡ out.old.items ++ escaped_byte b) }
+    ensures kept { take (length out.old.items) out.new.items ≡ out.old.items }
+{
+    match letter_of(b) {
+        Some(letter) => out.extend_from_slice(&[b'\\', letter]),
+        None => out.extend_from_slice(&[b]),
+    }
+}
+
+#[tactic(auto, using(crate::proofs::PrintedParts::escaped_all, crate::proofs::PrintedParts::kept_then))]
+fn append_escaped(s: &[u8], out: &mut Vec<u8>) -> Result<(), AllocError>
+    ensures ok { OnOk result (out.new.items ≡ out.old.items ++ escaped s.now) }
+    ensures kept { take (length out.old.items) out.new.items ≡ out.old.items }
+{
+    let mut rest = s;
+    loop {
+        let run = plain_len(rest);
+        out.extend_from_slice(&rest[..run])?;
+        let Some(b) = rest.get(run) else {
+            return Ok(());
+        };
+        append_byte(*b, out)?;
+        rest = after(rest, run + 1);
+    }
+}
+
+fn append_string(s: &[u8], out: &mut Vec<u8>) -> Result<(), AllocError>
+    ensures ok { OnOk result (out.new.items ≡ out.old.items ++ 34 ∷ (escaped s.now ++ 34 ∷ [])) }
+    ensures kept { take (length out.old.items) out.new.items ≡ out.old.items }
+{
+    out.push(b'"')?;
+    append_escaped(s, out)?;
+    out.push(b'"')?;
+    Ok(())
+}
+
+// What stands between elements goes before each but the first.
+fn append_gap(i: usize, gap: &[u8], out: &mut Vec<u8>) -> Result<(), AllocError>
+    ensures ok { OnOk result (out.new.items ≡ out.old.items ++ (if i == 0 then [] else gap.now)) }
+    ensures kept { take (length out.old.items) out.new.items ≡ out.old.items }
+{
+    if i == 0 {
+        return Ok(());
+    }
+    out.extend_from_slice(gap)
+}
+
+#[cycle(append)]
+fn append_element(i: usize, x: &Value, out: &mut Vec<u8>) -> Result<(), AllocError>
+    ensures ok { OnOk result (out.new.items ≡ out.old.items ++ ((if i == 0 then [] else 32 ∷ []) ++ printed x.now)) }
+    ensures kept { take (length out.old.items) out.new.items ≡ out.old.items }
+{
+    append_gap(i, b" ", out)?;
+    append(x, out)
+}
+
+#[cycle(append)]
+fn append_entry(i: usize, key: &Value, x: &Value, out: &mut Vec<u8>) -> Result<(), AllocError>
+    ensures ok { OnOk result (out.new.items ≡ out.old.items ++ ((if i == 0 then [] else 44 ∷ 32 ∷ []) ++ (printed key.now ++ 32 ∷ printed x.now))) }
+    ensures kept { take (length out.old.items) out.new.items ≡ out.old.items }
+{
+    append_gap(i, b", ", out)?;
+    append(key, out)?;
+    out.push(b' ')?;
+    append(x, out)
+}
+
+#[cycle(append)]
+fn append_vector(items: &Items, out: &mut Vec<u8>) -> Result<(), AllocError>
+    ensures ok { OnOk result (out.new.items ≡ out.old.items ++ 91 ∷ items_text 93 (items_of items.now) []) }
+    ensures kept { take (length out.old.items) out.new.items ≡ out.old.items }
+{
+    out.push(b'[')?;
+    for i in 0..items.len() {
+        append_element(i, items.at(i), out)?;
+    }
+    out.push(b']')?;
+    Ok(())
+}
+
+#[cycle(append)]
+fn append_set(elements: &Elements, out: &mut Vec<u8>) -> Result<(), AllocError>
+    ensures ok { OnOk result (out.new.items ≡ out.old.items ++ 35 ∷ 123 ∷ items_text 125 (items_of elements.now) []) }
+    ensures kept { take (length out.old.items) out.new.items ≡ out.old.items }
+{
+    out.extend_from_slice(b"#{")?;
+    for i in 0..elements.len() {
+        append_element(i, elements.at(i), out)?;
+    }
+    out.push(b'}')?;
+    Ok(())
+}
+
+#[cycle(append)]
+fn append_map(entries: &Entries, out: &mut Vec<u8>) -> Result<(), AllocError>
+    ensures ok { OnOk result (out.new.items ≡ out.old.items ++ 123 ∷ entries_text (entries_of entries.now) []) }
+    ensures kept { take (length out.old.items) out.new.items ≡ out.old.items }
+{
+    out.push(b'{')?;
+    for i in 0..entries.len() {
+        let (key, x) = entries.at(i);
+        append_entry(i, key, x, out)?;
+    }
+    out.push(b'}')?;
+    Ok(())
+}
+
+/// What is printed of a value belongs to that value, so it is read back as an equal one.
+pub fn reads_back()
+    ensures { (v : Edn) → IsLawful v → IsText (printed v) v }
+{}
+
+#[cfg(test)]
+mod tests;

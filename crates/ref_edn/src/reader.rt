@@ -1,0 +1,121 @@
+//! The reader of EDN text.
+ghost use Rattle.std.specs.Prelude.{◌≡◌, ◌≢◌, ℕ, List, IfOk, IfErr};
+ghost use Rattle.ref_edn.specs.Edn.{Edn};
+ghost use Rattle.ref_edn.specs.Faults.{Answers, Gives};
+ghost use Rattle.ref_edn.specs.Grammar.{IsText, AreTexts};
+ghost use Rattle.ref_edn.specs.ReadParts.{GivesAs, whole_at, series_at, public_error};
+ghost use Rattle.ref_edn.specs.Reading.{one, all};
+
+use crate::data::{MOST_NESTED, Value};
+use crate::elements::{read, skip};
+use crate::faults::{Kind, ReadError, ReadFault, fault_at};
+use std::alloc::Global;
+
+/// The value of a text that is one element.
+///
+/// Blanks, comments and discards may stand round it. It takes time in proportion to the text, but for n log n at a map
+/// or a set of n members, and the native stack holds at most 64 levels. docs/EDN.md has the grammar in words.
+pub fn read_one(alloc: Global, text: &[u8]) -> Result<Value, ReadFault>
+    // The text belongs to the value.
+    ensures found { IfOk result (λ v. IsText text.now v) }
+    // What is refused, for another reason than memory, belongs to no value.
+    ensures none { IfErr result (λ e. e ≢ ReadFault.Memory → (v : Edn) → IsText text.now v → ⊥) }
+    // Which fault it is, and where: the first one from the left.
+    ensures fault { Answers text.now (λ v. v) result (one text.now) }
+{
+    if let Err(error) = std::str::from_utf8(text) {
+        return Err(ReadFault::NotUtf8(error.valid_up_to()));
+    }
+    match whole(alloc, text) {
+        Ok(value) => Ok(value),
+        Err(error) => Err(public(text, error)),
+    }
+}
+
+/// The values of a text that is any number of elements, one after another.
+pub fn read_all(alloc: Global, text: &[u8]) -> Result<Vec<Value>, ReadFault>
+    ensures found { IfOk result (λ v. AreTexts text.now v.items) }
+    ensures none { IfErr result (λ e. e ≢ ReadFault.Memory → (v : List Edn) → AreTexts text.now v → ⊥) }
+    ensures fault { Answers text.now (λ v. v.items) result (all text.now) }
+{
+    if let Err(error) = std::str::from_utf8(text) {
+        return Err(ReadFault::NotUtf8(error.valid_up_to()));
+    }
+    match series(alloc, text) {
+        Ok(values) => Ok(values),
+        Err(error) => Err(public(text, error)),
+    }
+}
+
+/// A text belongs to at most one value.
+pub fn one_value()
+    ensures { (text : List ℕ) (v w : Edn) → IsText text v → IsText text w → v ≡ w }
+{}
+
+/// A text is one list of elements at most.
+pub fn one_series()
+    ensures { (text : List ℕ) (v w : List Edn) → AreTexts text v → AreTexts text w → v ≡ w }
+{}
+
+fn public(text: &[u8], error: ReadError) -> ReadFault
+    ensures { result ≡ public_error text.now error }
+{
+    match error {
+        ReadError::Memory => ReadFault::Memory,
+        ReadError::Fault(fault) => fault_at(fault.kind, text.len().saturating_sub(fault.left)),
+    }
+}
+
+// The quick reader tells no fault for sure, so the exact one reads again where it has found one.
+fn whole(alloc: Global, text: &[u8]) -> Result<Value, ReadError>
+    ensures { Gives (λ v. v) result (whole_at text.now) }
+{
+    match whole_as(alloc, text, false) {
+        Err(ReadError::Fault(_)) => whole_as(alloc, text, true),
+        result => result,
+    }
+}
+
+fn series(alloc: Global, text: &[u8]) -> Result<Vec<Value>, ReadError>
+    ensures { Gives (λ v. v.items) result (series_at text.now) }
+{
+    match series_as(alloc, text, false) {
+        Err(ReadError::Fault(_)) => series_as(alloc, text, true),
+        result => result,
+    }
+}
+
+#[tactic(auto, unfolding(crate::specs::ReadParts::whole_at))]
+fn whole_as(alloc: Global, text: &[u8], exact: bool) -> Result<Value, ReadError>
+    ensures { GivesAs exact (λ v. v) result (whole_at text.now) }
+{
+    let start = skip(alloc, text, MOST_NESTED, exact)?;
+    if start.is_empty() {
+        return Err(ReadError::at(Kind::Nothing, start));
+    }
+    let (value, after) = read(alloc, start, MOST_NESTED, exact)?;
+    let rest = skip(alloc, after, MOST_NESTED, exact)?;
+    if !rest.is_empty() {
+        return Err(ReadError::at(Kind::Trailing, rest));
+    }
+    Ok(value)
+}
+
+fn series_as(alloc: Global, text: &[u8], exact: bool) -> Result<Vec<Value>, ReadError>
+    ensures { GivesAs exact (λ v. v.items) result (series_at text.now) }
+{
+    let mut found = Vec::new(alloc);
+    let mut rest = text;
+    loop {
+        let start = skip(alloc, rest, MOST_NESTED, exact)?;
+        if start.is_empty() {
+            return Ok(found);
+        }
+        let (value, behind) = read(alloc, start, MOST_NESTED, exact)?;
+        found.push(value)?;
+        rest = behind;
+    }
+}
+
+#[cfg(test)]
+mod tests;

@@ -1,0 +1,200 @@
+//! Tokens: integers, keywords, symbols, and the words `nil`, `true` and `false`.
+ghost use Rattle.std.specs.Prelude.{◌≡◌, ◌<◌, ◌≤◌, ◌^◌, length, drop, IfOk, IfSome, IfNone, IsTrue, IsUtf8};
+ghost use Rattle.std.specs.Option.{SomeIff};
+ghost use Rattle.ref_edn.specs.Edn.{nesting};
+ghost use Rattle.ref_edn.specs.Bytes.{all_digits, is_numeral as is_numeral_text, is_integer as is_integer_text, digits_value, integer_value};
+ghost use Rattle.ref_edn.specs.Faults.{Gives};
+ghost use Rattle.ref_edn.specs.ReadTokens.{starts_number as starts_number_text, after_digits as after_digits_text, after_numeral as after_numeral_text, after_integer as after_integer_text, marks_left_out as marks_left_out_text, fits_i64, number_value, keyword_value, word_value, token_value as value_of_token, token_at};
+
+use crate::bytes::{after, is_digit, token_end};
+use crate::data::{Node, Value};
+use crate::faults::{Kind, ReadError};
+use crate::names::{is_keyword, is_same, is_symbol};
+use crate::texts::Text;
+use std::alloc::{AllocError, Global};
+
+fn are_digits(digits: &[u8]) -> bool
+    ensures { result ≡ all_digits digits.now }
+{
+    digits.iter().all(|b| is_digit(*b))
+}
+
+fn is_numeral(digits: &[u8]) -> bool
+    ensures { result ≡ is_numeral_text digits.now }
+{
+    match digits {
+        [] => false,
+        [b] => is_digit(*b),
+        [b'0', ..] => false,
+        _ => are_digits(digits),
+    }
+}
+
+fn is_integer(word: &[u8]) -> bool
+    ensures { result ≡ is_integer_text word.now }
+{
+    match word {
+        [b'+' | b'-', digits @ ..] => is_numeral(digits),
+        _ => is_numeral(word),
+    }
+}
+
+// The number that digits write, unless it takes more than 64 bits.
+#[tactic(auto, using(crate::proofs::Runs::all_digits_at, crate::proofs::Runs::value_after_at, crate::proofs::Runs::value_grows))]
+fn magnitude(digits: &[u8]) -> Option<u64>
+    requires { IsTrue (all_digits digits.now) }
+    ensures some { IfSome result (λ n. n ≡ digits_value digits.now) }
+    ensures none { IfNone result (2 ^ 64 ≤ digits_value digits.now) }
+{
+    let mut n: u64 = 0;
+    for b in digits {
+        n = n.checked_mul(10)?.checked_add(u64::from(*b - b'0'))?;
+    }
+    Some(n)
+}
+
+// The number that an integer writes, where it has 64 bits with its sign.
+fn integer(word: &[u8]) -> Option<i64>
+    requires { IsTrue (is_integer_text word.now) }
+    ensures { SomeIff result (IsTrue (fits_i64 (integer_value word.now))) (integer_value word.now) }
+{
+    match word {
+        [b'-', digits @ ..] => 0i64.checked_sub_unsigned(magnitude(digits)?),
+        [b'+', digits @ ..] => 0i64.checked_add_unsigned(magnitude(digits)?),
+        _ => 0i64.checked_add_unsigned(magnitude(word)?),
+    }
+}
+
+fn starts_number(word: &[u8]) -> bool
+    ensures { result ≡ starts_number_text word.now }
+{
+    match word {
+        [b'+' | b'-', b, ..] => is_digit(*b),
+        [b, ..] => is_digit(*b),
+        [] => false,
+    }
+}
+
+#[tactic(auto, using(crate::proofs::Runs::after_digits_at, crate::proofs::Runs::after_digits_all))]
+fn after_digits(text: &[u8]) -> &[u8]
+    ensures { result.now ≡ after_digits_text text.now }
+{
+    for (i, b) in text.iter().enumerate() {
+        if !is_digit(*b) {
+            return after(text, i);
+        }
+    }
+    after(text, text.len())
+}
+
+fn after_numeral(text: &[u8]) -> &[u8]
+    ensures { result.now ≡ after_numeral_text text.now }
+{
+    match text {
+        [b'0', rest @ ..] => rest,
+        _ => after_digits(text),
+    }
+}
+
+fn after_integer(word: &[u8]) -> &[u8]
+    ensures { result.now ≡ after_integer_text word.now }
+{
+    match word {
+        [b'+' | b'-', rest @ ..] => after_numeral(rest),
+        _ => after_numeral(word),
+    }
+}
+
+// Whether these bytes behind an integer make it a ratio, a float or a number in another notation.
+fn marks_left_out(rest: &[u8]) -> bool
+    ensures { result ≡ marks_left_out_text rest.now }
+{
+    matches!(
+        rest,
+        [b'.' | b'/' | b'e' | b'E' | b'N' | b'M' | b'r' | b'x', ..]
+    )
+}
+
+#[tactic(auto, unfolding(crate::specs::ReadTokens::number_value))]
+fn number(word: &[u8]) -> Result<Value, Kind>
+    ensures { result ≡ number_value word.now }
+{
+    if is_integer(word) {
+        match integer(word) {
+            Some(n) => Ok(Value::of_lawful(Node::Int(n))),
+            None => Err(Kind::TooLarge),
+        }
+    } else if marks_left_out(after_integer(word)) {
+        Err(Kind::LeftOut)
+    } else {
+        Err(Kind::BadNumber)
+    }
+}
+
+// The text of a name.
+fn name_text(name: &[u8]) -> &str
+    requires { IsUtf8 name.now }
+    ensures { result.now ≡ name.now }
+{
+    str::from_utf8(name).unwrap()
+}
+
+// The value of a keyword, of which this is what stands behind the colon.
+#[tactic(auto, using(crate::proofs::NameParts::name_utf8), unfolding(crate::specs::ReadTokens::keyword_value))]
+fn keyword(alloc: Global, name: &[u8]) -> Result<Result<Value, Kind>, AllocError>
+    ensures { IfOk result (λ r. r ≡ keyword_value name.now) }
+{
+    if !is_keyword(name) {
+        return Ok(Err(Kind::BadName));
+    }
+    let name = Text::copy_of(alloc, name_text(name))?;
+    Ok(Ok(Value::of_lawful(Node::Keyword(name))))
+}
+
+// The value of a symbol, or of a word that is a value of its own.
+#[tactic(auto, using(crate::proofs::NameParts::symbol_utf8), unfolding(crate::specs::ReadTokens::word_value))]
+fn symbol(alloc: Global, word: &[u8]) -> Result<Result<Value, Kind>, AllocError>
+    ensures { IfOk result (λ r. r ≡ word_value word.now) }
+{
+    Ok(Ok(if is_same(word, b"nil") {
+        Value::of_lawful(Node::Nil)
+    } else if is_same(word, b"true") {
+        Value::of_lawful(Node::Bool(true))
+    } else if is_same(word, b"false") {
+        Value::of_lawful(Node::Bool(false))
+    } else if is_symbol(word) {
+        Value::of_lawful(Node::Symbol(Text::copy_of(alloc, name_text(word))?))
+    } else {
+        return Ok(Err(Kind::BadName));
+    }))
+}
+
+#[tactic(auto, unfolding(crate::specs::ReadTokens::token_value))]
+fn token_value(alloc: Global, word: &[u8]) -> Result<Result<Value, Kind>, AllocError>
+    ensures { IfOk result (λ r. r ≡ value_of_token word.now) }
+{
+    if starts_number(word) {
+        return Ok(number(word));
+    }
+    match word {
+        [b':', name @ ..] => keyword(alloc, name),
+        _ => symbol(alloc, word),
+    }
+}
+
+/// The value of the token at the front of a text, and what follows it.
+#[tactic(auto, using(crate::proofs::Tokens::value_flat), unfolding(crate::specs::ReadTokens::token_at))]
+pub(crate) fn token(alloc: Global, text: &[u8]) -> Result<(Value, &[u8]), ReadError>
+    ensures value { Gives (λ r. (r.0, r.1.now)) result (token_at text.now) }
+    ensures shorter { IfOk result (λ r. length r.1.now < length text.now) }
+    ensures depth { IfOk result (λ r. nesting r.0 ≡ 0) }
+{
+    let (word, rest) = text.split_at(token_end(text));
+    match token_value(alloc, word)? {
+        Ok(value) => Ok((value, rest)),
+        Err(kind) => Err(ReadError::at(kind, text)),
+    }
+}
+
+#[cfg(test)]
+mod tests;

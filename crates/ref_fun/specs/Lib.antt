@@ -1,0 +1,4 @@
+pub mod Cause
+pub mod Meaning
+pub mod Integers
+pub mod Core

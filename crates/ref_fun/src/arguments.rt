@@ -1,0 +1,60 @@
+//! The arguments of a function.
+ghost use Rattle.std.specs.Prelude.{◌≡◌, ◌≤◌, length, vec_len, IfOk};
+
+use ref_edn::Value;
+use std::alloc::{AllocError, Global};
+use std::marker::Model;
+use std::sync::Arc;
+
+/// How many arguments a function may have.
+pub const MOST_ARGUMENTS: usize = 8;
+
+/// At most 8 arguments; they may have several owners. Contracts see a list.
+#[derive(Drop)]
+pub struct Args {
+    values: Arc<Vec<Value>>,
+}
+
+impl Model for Args {
+    ghost use Rattle.std.specs.Prelude.{List, length, ◌≤◌};
+    ghost use Rattle.std.specs.Coded.{coded_list};
+    ghost use Rattle.ref_edn.specs.Edn.{Edn};
+    ghost use Rattle.ref_edn.specs.Code.{edn_code};
+
+    ghost Value = { List Edn };
+
+    ghost coded = { coded_list edn_code };
+
+    ghost view = { λ a. a.values.value.items };
+
+    ghost invariant = { λ a. length a.values.value.items ≤ 8 };
+}
+
+impl Args {
+    /// The arguments that a `Vec` holds, which isn't copied.
+    pub fn of(alloc: Global, values: Vec<Value>) -> Result<Args, AllocError>
+        requires { vec_len values ≤ 8 }
+        ensures { IfOk result (λ a. a ≡ values.items) }
+    {
+        Ok(Args {
+            values: Arc::new(alloc, values)?,
+        })
+    }
+
+    /// The arguments in order, as a function takes them.
+    pub fn as_slice(&self) -> &[Value]
+        ensures value { result.now ≡ self.now }
+        ensures few { length result.now ≤ 8 }
+    {
+        self.values.as_slice()
+    }
+
+    /// One more owner. It takes no memory; only the count of owners can refuse.
+    pub fn share(&self) -> Result<Args, AllocError>
+        ensures { IfOk result (λ a. a ≡ self.now) }
+    {
+        Ok(Args {
+            values: Arc::try_clone(&self.values)?,
+        })
+    }
+}

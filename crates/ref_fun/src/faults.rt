@@ -1,0 +1,54 @@
+//! Why a function gives no value.
+ghost use Rattle.std.specs.Prelude.{◌≡◌};
+ghost use Rattle.ref_fun.specs.Cause.{cause_number};
+ghost use Rattle.ref_fun.specs.declared.faults.FunFault.TheVariants.{Refused};
+
+use thiserror::Error;
+
+/// Why a function refuses. A refusal follows from the state and the arguments alone.
+#[derive(Clone, Copy, Debug, Drop, PartialEq, Eq, Error)]
+pub enum Cause {
+    /// The state or an argument is a value of another kind than the function takes.
+    #[error("wrong kind of value")]
+    WrongKind,
+    /// The function doesn't take this number of arguments, or no function has this code.
+    #[error("wrong number of arguments")]
+    WrongArity,
+    /// A number leaves the integers of 64 bits.
+    #[error("integer overflow")]
+    Overflow,
+    /// The value would be nested too deep.
+    #[error("nested too deep")]
+    TooDeep,
+}
+
+impl Cause {
+    /// The number of the cause, from 1 to 4 in the order of the variants.
+    pub fn number(&self) -> u8
+        ensures { result ≡ cause_number self.now }
+    {
+        match self {
+            Cause::WrongKind => 1,
+            Cause::WrongArity => 2,
+            Cause::Overflow => 3,
+            Cause::TooDeep => 4,
+        }
+    }
+}
+
+/// Why a call gave no value.
+#[derive(Clone, Copy, Debug, Drop, PartialEq, Eq, Error)]
+pub enum FunFault {
+    #[error("refused: {0}")]
+    Refused(Cause),
+    #[error("out of memory")]
+    Memory,
+}
+
+impl From<Cause> for FunFault {
+    ghost from_gives = { λ c f. f ≡ Refused c };
+
+    fn from(cause: Cause) -> FunFault {
+        FunFault::Refused(cause)
+    }
+}

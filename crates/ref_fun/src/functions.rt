@@ -1,0 +1,20 @@
+//! The functions of Core.
+ghost use Rattle.std.specs.Prelude.{◌≤◌, length};
+ghost use Rattle.ref_fun.specs.Core.{core_means};
+ghost use Rattle.ref_fun.specs.Meaning.{Answers};
+
+use crate::faults::{Cause, FunFault};
+use crate::integers::plus;
+use ref_edn::Value;
+use std::alloc::Global;
+
+/// Calls the function of Core that has this code. It is linear in the number of arguments.
+pub fn core_fun(alloc: Global, code: u32, state: &Value, args: &[Value]) -> Result<Value, FunFault>
+    requires { length args.now ≤ 8 }
+    ensures { Answers (core_means code args.now state.now) result }
+{
+    match code {
+        1 => Ok(plus(state, args)?),
+        _ => Err(FunFault::Refused(Cause::WrongArity)),
+    }
+}

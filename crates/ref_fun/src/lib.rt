@@ -1,0 +1,19 @@
+//! Functions named by codes, and what they mean.
+//!
+//! A [`Meaning`] says, for each code, which value the function gives or why it refuses. [`Core`] is the meaning of the
+//! functions that come with this project, and [`core_fun`] calls one of them. A function takes a state and at most 8
+//! arguments, all of them EDN values.
+#![tactic(auto)]
+
+pub mod arguments;
+pub mod faults;
+pub mod functions;
+mod integers;
+pub mod meanings;
+#[cfg(test)]
+mod tests;
+
+pub use arguments::{Args, MOST_ARGUMENTS};
+pub use faults::{Cause, FunFault};
+pub use functions::core_fun;
+pub use meanings::{Core, Meaning};

@@ -1,0 +1,3 @@
+pub mod AuditFault
+pub mod Replay
+pub mod Laws

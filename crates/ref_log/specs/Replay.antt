@@ -1,0 +1,81 @@
+-- The replay of a log: its entries are applied in order, and their operations in order, to plain finite maps. The map of
+-- the refs is the list of their values by number, since numbers begin at 0 and leave no gap. What the functions mean is
+-- handed in.
+--
+-- In each operation it is asked, in this order: whether the ref is there; whether the function gives a value; whether
+-- that value is the kept answer. The first fault ends the replay, and names the point of its entry.
+use Rattle.std.specs.Prelude.{ℕ, ◌+◌, Bool, if◌then◌else◌, Result, Ok, Err, Option, None, Some, List, [], ◌∷◌, length, slice_get, slice_set, ◌≡◌}
+use Rattle.std.specs.Ordering.{eq_by_cmp}
+use Rattle.ref_edn.specs.Edn.{Edn}
+use Rattle.ref_edn.specs.Order.{edn_cmp}
+use Rattle.ref_fun.specs.declared.faults.Cause.{Cause}
+use Rattle.ref_fun.specs.Meaning.{Means}
+use Rattle.ref_log.specs.declared.faults.AuditFault.{AuditFault}
+use Rattle.ref_log.specs.declared.faults.AuditFault.TheVariants.{Answer, Refuses, NoSuch, Memory}
+use Rattle.ref_log.specs.declared.operations.Op.{Op}
+use Rattle.ref_log.specs.declared.operations.Op.TheVariants.{Alter}
+use Rattle.ref_log.specs.declared.operations.Done.{Done}
+use Rattle.ref_log.specs.declared.entries.Entry.{Entry}
+use Rattle.ref_log.specs.declared.entries.Entry.TheVariants.{Trans}
+use Rattle.ref_log.specs.declared.states.Base.{Base}
+
+-- What an operation makes of a value, or the cause for which its function refuses. Clojure's page on refs: `alter` sets
+-- the ref to the function of its value and the arguments.
+abbrev pub place : Means → Op → Edn → Result Edn Cause
+place means (Alter code args) v = means code args v
+
+-- Whether a kept answer is the value that its operation gave.
+abbrev pub is_kept : Done → Edn → Bool
+is_kept d v = eq_by_cmp edn_cmp v d.answer
+
+-- The values after an operation whose function answered.
+abbrev pub after_place : ℕ → Done → List Edn → Result Edn Cause → Result (List Edn) AuditFault
+after_place point d values (Ok v) = if is_kept d v then Ok (slice_set values d.r v) else Err (Answer point)
+after_place point d values (Err c) = Err (Refuses point)
+
+-- The values after an operation on what was found under the number of its ref.
+abbrev pub after_found : Means → ℕ → Done → List Edn → Option Edn → Result (List Edn) AuditFault
+after_found means point d values (Some v) = after_place point d values (place means d.op v)
+after_found means point d values None = Err (NoSuch point)
+
+-- The values after one operation of the entry at a point.
+abbrev pub after_done : Means → ℕ → Done → List Edn → Result (List Edn) AuditFault
+after_done means point d values = after_found means point d values (slice_get values d.r)
+
+abbrev pub and_done : Means → ℕ → Done → Result (List Edn) AuditFault → Result (List Edn) AuditFault
+and_done means point d (Ok values) = after_done means point d values
+and_done means point d (Err fault) = Err fault
+
+-- The values after these operations, one at a time.
+abbrev pub after_dones : Means → ℕ → List Done → Result (List Edn) AuditFault → Result (List Edn) AuditFault
+after_dones means point [] values = values
+after_dones means point (d ∷ ds) values = after_dones means point ds (and_done means point d values)
+
+-- The values after the entry at a point.
+abbrev pub step : Means → ℕ → Entry → List Edn → Result (List Edn) AuditFault
+step means point (Trans t) values = after_dones means point t.dones (Ok values)
+
+abbrev pub and_step : Means → ℕ → Entry → Result (List Edn) AuditFault → Result (List Edn) AuditFault
+and_step means point e (Ok values) = step means point e values
+and_step means point e (Err fault) = Err fault
+
+-- The values after these entries, one at a time, the first of them at the point after this one.
+abbrev pub replay_from : Means → ℕ → List Entry → Result (List Edn) AuditFault → Result (List Edn) AuditFault
+replay_from means point [] values = values
+replay_from means point (e ∷ es) values = replay_from means (point + 1) es (and_step means (point + 1) e values)
+
+-- The point of the last of these entries after the base: the k-th entry, from 1 on, has the base's point plus k. The
+-- base is at point 0.
+abbrev pub point_after : Base → List Entry → ℕ
+point_after base entries = length entries
+
+-- The values after these entries on the base, or the first fault.
+abbrev pub replay : Means → Base → List Entry → Result (List Edn) AuditFault
+replay means base entries = replay_from means (point_after base []) entries (Ok base.refs)
+
+-- A program's fault is that of the replay. Want of memory is the program's own.
+abbrev pub FaultComes : Result (List Edn) AuditFault → AuditFault → Type 0
+FaultComes meant (Answer point) = meant ≡ Err (Answer point)
+FaultComes meant (Refuses point) = meant ≡ Err (Refuses point)
+FaultComes meant (NoSuch point) = meant ≡ Err (NoSuch point)
+FaultComes meant Memory = Unit {0}

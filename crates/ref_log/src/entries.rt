@@ -1,0 +1,25 @@
+//! What a log is made of.
+use crate::lists::SharedVec;
+use crate::operations::Done;
+
+/// Who made a commit: the number of the worker, and of the step in its work.
+#[derive(Clone, Copy, Debug, Drop, PartialEq, Eq)]
+pub struct Stamp {
+    pub worker: u32,
+    pub step: u32,
+}
+
+/// One committed change.
+#[derive(Drop)]
+pub enum Entry {
+    Trans(Transaction),
+}
+
+/// A committed transaction. All that it read is as of its read point, the point of the last entry before it began.
+#[derive(Drop)]
+pub struct Transaction {
+    pub stamp: Stamp,
+    pub read_point: u64,
+    /// The operations in the order in which they were made.
+    pub dones: SharedVec<Done>,
+}

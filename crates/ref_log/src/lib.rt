@@ -1,0 +1,23 @@
+//! The log of a world of references, and its replay.
+//!
+//! An [`Entry`] is one committed change and has a point: the entries after a [`Base`] have the points after the base's,
+//! one by one. [`replay_plain`] applies the entries to the base's values, slowly and plainly, and so tells what the
+//! values at the end of a log are, or the first entry whose kept answers can't be right.
+#![tactic(auto)]
+
+pub mod entries;
+pub mod faults;
+pub mod lists;
+pub mod operations;
+pub mod replay;
+pub mod states;
+#[cfg(test)]
+mod tests;
+
+pub use entries::{Entry, Stamp, Transaction};
+pub use faults::AuditFault;
+pub use lists::SharedVec;
+pub use operations::{Done, Op};
+pub use ref_fun::Args;
+pub use replay::replay_plain;
+pub use states::{Base, PlainState};

@@ -1,0 +1,133 @@
+//! A list with several owners.
+ghost use Rattle.std.specs.Prelude.{◌≡◌, ◌<◌, ◌↔◌, [], ◌^◌, IsTrue, length, IfOk, slice_get, slice_index_or, option_copied};
+ghost use Rattle.std.specs.Slice.{IsItemAt};
+ghost use Rattle.std.specs.Iterator.{YieldsFirstRef, item_count};
+
+use std::alloc::{AllocError, Global};
+use std::marker::Model;
+use std::sync::Arc;
+
+/// The items of a `Vec`, which may have several owners and doesn't change. Contracts see a list.
+#[derive(Drop)]
+pub struct SharedVec<T> {
+    inside: Arc<Vec<T>>,
+}
+
+impl<T> Model for SharedVec<T> {
+    ghost use Rattle.std.specs.Prelude.{List};
+    ghost use Rattle.std.specs.Coded.{coded_list};
+
+    ghost Value = { List T };
+
+    ghost coded = { coded_list T.code };
+
+    ghost view = { λ a. a.inside.value.items };
+}
+
+impl<T: Drop> SharedVec<T> {
+    /// The items that a `Vec` holds, which isn't copied.
+    pub fn of(alloc: Global, items: Vec<T>) -> Result<SharedVec<T>, AllocError>
+        ensures { IfOk result (λ xs. xs ≡ items.items) }
+    {
+        Ok(SharedVec {
+            inside: Arc::new(alloc, items)?,
+        })
+    }
+
+    pub fn len(&self) -> usize
+        ensures { result ≡ length self.now }
+    {
+        self.inside.len()
+    }
+
+    pub fn is_empty(&self) -> bool
+        ensures { IsTrue result ↔ (self.now ≡ []) }
+    {
+        self.inside.is_empty()
+    }
+
+    pub fn at(&self, i: usize) -> &T
+        requires { i < length self.now }
+        ensures { result.now ≡ slice_index_or self.now i result.now }
+    {
+        &self.inside[i]
+    }
+
+    pub fn get(&self, i: usize) -> Option<&T>
+        ensures value { option_copied result ≡ slice_get self.now i }
+        ensures item { IsItemAt self.now i result }
+    {
+        self.inside.get(i)
+    }
+
+    /// The items from the first on.
+    pub fn iter(&self) -> Iter<'_, T>
+        ensures value { result ≡ self.now }
+        ensures fits { length result < 2 ^ 64 }
+    {
+        Iter {
+            items: self,
+            at: 0,
+            end: self.len(),
+        }
+    }
+
+    /// One more owner. It takes no memory; only the count of owners can refuse.
+    pub fn share(&self) -> Result<SharedVec<T>, AllocError>
+        ensures { IfOk result (λ xs. xs ≡ self.now) }
+    {
+        Ok(SharedVec {
+            inside: Arc::try_clone(&self.inside)?,
+        })
+    }
+}
+
+/// The items from a place on. Contracts see those that are left.
+#[derive(Drop)]
+pub struct Iter<'a, T> {
+    items: &'a SharedVec<T>,
+    at: usize,
+    end: usize,
+}
+
+impl<'a, T> Model for Iter<'a, T> {
+    ghost use Rattle.std.specs.Prelude.{List, ◌≡◌, ◌≤◌, length, drop};
+    ghost use Rattle.std.specs.Coded.{coded_list};
+
+    ghost Value = { List T };
+
+    ghost coded = { coded_list T.code };
+
+    ghost view = { λ a. drop a.at a.items.now };
+
+    ghost invariant = { λ a. (a.at ≤ a.end) × (a.end ≡ length a.items.now) };
+}
+
+impl<'a, T: Drop> Iterator for Iter<'a, T> {
+    type Item = &'a T;
+
+    ghost next_gives = { YieldsFirstRef (λ s. s) };
+
+    ghost remaining = { item_count (λ s. s) };
+
+    fn next(&mut self) -> Option<&'a T> {
+        if self.at >= self.end {
+            return None;
+        }
+        let x = self.items.at(self.at);
+        self.at += 1;
+        Some(x)
+    }
+}
+
+impl<'a, T: Drop> IntoIterator for &'a SharedVec<T> {
+    type Item = &'a T;
+
+    type IntoIter = Iter<'a, T>;
+
+    ghost into_iter_gives = { λ items it. (it ≡ items.now) × (length it < 2 ^ 64) };
+
+    fn into_iter(self) -> Iter<'a, T> {
+        self.iter()
+    }
+}

@@ -1,0 +1,204 @@
+-- A plan whose first steps were run, one step after another.
+use Rattle.std.proofs.Common.{◌≡◌, ℕ, zero, suc, ◌+◌, ◌<◌, ◌≤◌, Bool, true, false, cond, List, [], ◌∷◌, ◌++◌, Option, Some, None, Result, Ok, Err, refl, sym, ap, subst, ◌∙◌, arith, get_or, length, add-one, inl, inr}
+use Rattle.std.specs.Prelude.{◌==◌, ◌&&◌, ◌⊎◌, All, AllPairs, IsSome, count_by, map, slice_get, slice_set, slice_index_or}
+use Rattle.std.proofs.lemmas.Bool.Decides.{nat_tests}
+use Rattle.std.proofs.lemmas.List.{length_push, get_or_append_left}
+use Rattle.std.proofs.lemmas.List.Elements.{All-push}
+use Rattle.std.proofs.lemmas.List.Quantifiers.{all_pairs_push}
+use Rattle.std.proofs.lemmas.List.Sums.{sum_by_push}
+use Rattle.std.proofs.Math.Seq.{get_or-append_seam}
+use Rattle.ref_edn.specs.Edn.{Edn}
+use Rattle.ref_fun.specs.Core.{core_means}
+use Rattle.ref_fun.specs.declared.faults.Cause.{Cause}
+use Rattle.ref_log.specs.Replay.{place}
+use Rattle.ref_log.specs.declared.entries.Entry.{Entry}
+use Rattle.ref_log.specs.declared.entries.Entry.TheVariants.{Trans}
+use Rattle.ref_log.specs.declared.entries.Stamp.{Stamp}
+use Rattle.ref_log.specs.declared.operations.Done.{Done}
+use Rattle.refrun.specs.declared.path.plans.Planned.{Planned}
+use Rattle.refrun.specs.declared.path.report.Refusal.{Refusal}
+use Rattle.refrun.specs.declared.path.transactions.TxFault.{TxFault}
+use Rattle.refrun.specs.Plan.{PlanSeen, values_of}
+use Rattle.refrun.specs.World.{WorldSeen, IsCommitted, entry_of, answers, answer, and_then_rest, with_first, done_of}
+use Rattle.refrun.specs.Orderly.{IsOrderly, stamp_of, read_point_of, dones_of, asked, step_of, is_stamp, entries_with, refusals_with, Follows, IsBefore}
+use Rattle.refrun.specs.Steps.{StepRan, IsRefused}
+
+-- the stamp of a step of the one worker
+abbrev pub stamp_at : ℕ → Stamp
+stamp_at k = record { worker = 0; step = k }
+
+-- The steps before k were run in order, and no other was.
+pub record HasRunTo (plan : PlanSeen) (k : ℕ) (world : WorldSeen) (refused : List Refusal) : Type 0 where
+  pub base : world.base.refs ≡ values_of plan.refs
+  pub entries : All (λ e. step_of plan (stamp_of e) ≡ Some (asked (dones_of e))) world.log
+  pub refusals : All (λ r. IsSome (step_of plan r.stamp)) refused
+  pub entry_steps : All (λ e. ((stamp_of e).worker ≡ 0) × ((stamp_of e).step < k)) world.log
+  pub refusal_steps : All (λ r. (r.stamp.worker ≡ 0) × (r.stamp.step < k)) refused
+  pub once : (stamp : Stamp) → stamp.worker ≡ 0 → stamp.step < k → entries_with stamp world.log + refusals_with stamp refused ≡ 1
+  pub read_points : (i : ℕ) (e : Entry) → i < length world.log → read_point_of (slice_index_or world.log i e) ≡ i
+  pub rise : AllPairs (λ e later. (stamp_of e).step < (stamp_of later).step) world.log
+  pub listed : AllPairs IsBefore refused
+
+-- ---- what was asked for
+
+asked_first : (p : Planned) (r : Result Edn TxFault) (rest : Edn → Result (List Done) TxFault) (ps : List Planned) (ds : List Done)
+    → ((v : Edn) (es : List Done) → rest v ≡ Ok es → asked es ≡ ps) → and_then_rest p r rest ≡ Ok ds → asked ds ≡ p ∷ ps
+asked_first p (Err f) rest ps ds how e = absurd cc
+asked_first p (Ok v) rest ps ds how e = by (rest v) refl e
+  where
+    by : (q : Result (List Done) TxFault) → rest v ≡ q → with_first (done_of p v) q ≡ Ok ds → asked ds ≡ p ∷ ps
+    by (Err f) is h = absurd cc
+    by (Ok es) is h = let same : ds ≡ done_of p v ∷ es = cc in rw same (ap (λ (qs : List Planned). p ∷ qs) (how v es is))
+
+-- The operations with their answers are those that were asked for.
+pub asked_answers : (ps : List Planned) (values : List Edn) (ds : List Done) → answers core_means ps values ≡ Ok ds → asked ds ≡ ps
+asked_answers [] values ds e = let none : ds ≡ [] = cc in rw none refl
+asked_answers (p ∷ ps) values ds e =
+    asked_first p (answer core_means p (slice_get values p.r)) (λ v. answers core_means ps (slice_set values p.r v)) ps ds (λ v es. asked_answers ps (slice_set values p.r v) es) e
+
+-- ---- counts
+
+one_if : Bool → ℕ
+one_if b = cond b 1 0
+
+count_more : {X : Type 0} (p : X → Bool) (xs : List X) (x : X) → count_by p (xs ++ x ∷ []) ≡ count_by p xs + cond (p x) 1 0
+count_more p xs x = sum_by_push (λ y. cond (p y) 1 0) xs x
+
+none_of : {X : Type 0} (p : X → Bool) (xs : List X) → ((i : ℕ) (d : X) → i < length xs → p (get_or xs i d) ≡ false) → count_by p xs ≡ 0
+none_of p [] h = refl
+none_of p (x ∷ xs) h =
+    let first : p x ≡ false = h 0 x (omega arith) in
+    let rest : count_by p xs ≡ 0 = none_of p xs (λ i d l. h (suc i) d (omega arith)) in
+    rw first rest
+
+is_stamp_same : (k : ℕ) (s : Stamp) → s.worker ≡ 0 → s.step ≡ k → is_stamp s (stamp_at k) ≡ true
+is_stamp_same k s w e = grind (arith, nat_tests)
+
+is_stamp_not : (s t : Stamp) → (s.step < t.step) ⊎ (t.step < s.step) → is_stamp s t ≡ false
+is_stamp_not s t (inl h) = grind (arith, nat_tests)
+is_stamp_not s t (inr h) = grind (arith, nat_tests)
+
+-- the element at a place of a list that got one more
+abbrev Pushed : {X : Type 0} → List X → X → ℕ → X → Type 0
+Pushed xs x i d = ((i < length xs) × (get_or (xs ++ x ∷ []) i d ≡ get_or xs i d)) ⊎ ((i ≡ length xs) × (get_or (xs ++ x ∷ []) i d ≡ x))
+
+pushed : {X : Type 0} (xs : List X) (x : X) (i : ℕ) (d : X) → i < length (xs ++ x ∷ []) → Pushed xs x i d
+pushed [] x zero d h = inr (refl, refl)
+pushed [] x (suc i) d h = absurd (omega arith)
+pushed (y ∷ ys) x zero d h = inl (omega arith, refl)
+pushed (y ∷ ys) x (suc i) d h = elim (pushed ys x i d (omega arith)) [
+  | inl p ↦ inl (omega (arith, p.0), p.1)
+  | inr p ↦ inr (omega (arith, p.0), p.1)
+]
+
+-- ---- one more step
+
+module _ (plan : PlanSeen) (k : ℕ) (world : WorldSeen) (refused : List Refusal) (done : HasRunTo plan k world refused) where
+  -- No entry and no refusal has the stamp of a later step.
+  no_entry : (s : Stamp) → k ≤ s.step → entries_with s world.log ≡ 0
+  no_entry s h = none_of (λ e. is_stamp s (stamp_of e)) world.log (λ i d l. is_stamp_not s (stamp_of (get_or world.log i d)) (inr (omega (arith, (done.entry_steps i d l).1))))
+
+  no_refusal : (s : Stamp) → k ≤ s.step → refusals_with s refused ≡ 0
+  no_refusal s h = none_of (λ r. is_stamp s r.stamp) refused (λ i d l. is_stamp_not s (get_or refused i d).stamp (inr (omega (arith, (done.refusal_steps i d l).1))))
+
+  -- the count where one more has the stamp of step k
+  once_more : (counted old : ℕ) (s : Stamp) → s.worker ≡ 0 → s.step < k + 1 → counted ≡ old + cond (is_stamp s (stamp_at k)) 1 0 → (s.step < k → old ≡ 1) → (k ≤ s.step → old ≡ 0) → counted ≡ 1
+  once_more counted old s w h more before after = elim (cases s.step k (omega arith)) [
+    | inl p ↦ let isnt : is_stamp s (stamp_at k) ≡ false = is_stamp_not s (stamp_at k) (inl p) in let e = rw isnt at more in omega (arith, e, before p)
+    | inr p ↦ let is : is_stamp s (stamp_at k) ≡ true = is_stamp_same k s w p in let e = rw is at more in omega (arith, e, after (omega arith))
+  ]
+    where
+      cases : (i j : ℕ) → i < j + 1 → (i < j) ⊎ (i ≡ j)
+      cases zero zero l = inr refl
+      cases zero (suc j) l = inl (omega arith)
+      cases (suc i) zero l = absurd (omega arith)
+      cases (suc i) (suc j) l = elim (cases i j (omega arith)) [ inl p ↦ inl (omega arith) | inr p ↦ inr (omega arith) ]
+
+  later : (j : ℕ) → j < k → j < k + 1
+  later j h = omega arith
+
+  pub committed : (world' : WorldSeen) (ops : List Planned) → slice_get plan.steps k ≡ Some ops → IsCommitted (stamp_at k) ops world world' → HasRunTo plan (k + 1) world' refused
+  committed world' ops step is =
+      let e : Entry = entry_of (stamp_at k) (length world.log) is.dones in
+      let log : world'.log ≡ world.log ++ e ∷ [] = is.log in
+      let named : asked is.dones ≡ ops = asked_answers ops world.values is.dones is.answered in
+      record {
+        base = rw is.base done.base;
+        entries = rw log (All-push (λ f. step_of plan (stamp_of f) ≡ Some (asked (dones_of f))) world.log e done.entries (step ∙ ap Some (sym named)));
+        refusals = done.refusals;
+        entry_steps = rw log (All-push (λ f. ((stamp_of f).worker ≡ 0) × ((stamp_of f).step < k + 1)) world.log e (λ i d l. let p = done.entry_steps i d l in (p.0, later _ p.1)) (refl, omega arith));
+        refusal_steps = λ i d l. let p = done.refusal_steps i d l in (p.0, later _ p.1);
+        once = λ s w h.
+            let more : entries_with s world'.log ≡ entries_with s world.log + cond (is_stamp s (stamp_at k)) 1 0 = rw log (count_more (λ f. is_stamp s (stamp_of f)) world.log e) in
+            once_more (entries_with s world'.log + refusals_with s refused) (entries_with s world.log + refusals_with s refused) s w h (omega (arith, more)) (λ p. done.once s w p)
+            (λ p. omega (arith, no_entry s p, no_refusal s p));
+        read_points = λ i d l. rw log (elim (pushed world.log e i d (rw log at l)) as (λ _. read_point_of (get_or (world.log ++ e ∷ []) i d) ≡ i) [
+          | inl p ↦ rw p.1 (done.read_points i d p.0)
+          | inr p ↦ rw p.1 (sym p.0)
+        ]);
+        rise = rw log (all_pairs_push (λ f g. (stamp_of f).step < (stamp_of g).step) world.log e done.rise (λ i d l. (done.entry_steps i d l).1));
+        listed = done.listed;
+      }
+
+  pub turned_down : (world' : WorldSeen) (refused' : List Refusal) (ops : List Planned) → slice_get plan.steps k ≡ Some ops → IsRefused (stamp_at k) ops world refused world' refused' → HasRunTo plan (k + 1) world' refused'
+  turned_down world' refused' ops step is =
+      let r : Refusal = record { stamp = stamp_at k; reason = is.reason } in
+      let listed : refused' ≡ refused ++ r ∷ [] = is.listed in
+      rw is.stays (record {
+        base = done.base;
+        entries = done.entries;
+        refusals = rw listed (All-push (λ q. IsSome (step_of plan q.stamp)) refused r done.refusals (rw step refl));
+        entry_steps = λ i d l. let p = done.entry_steps i d l in (p.0, later _ p.1);
+        refusal_steps = rw listed (All-push (λ q. (q.stamp.worker ≡ 0) × (q.stamp.step < k + 1)) refused r (λ i d l. let p = done.refusal_steps i d l in (p.0, later _ p.1)) (refl, omega arith));
+        once = λ s w h.
+            let more : refusals_with s refused' ≡ refusals_with s refused + cond (is_stamp s (stamp_at k)) 1 0 = rw listed (count_more (λ q. is_stamp s q.stamp) refused r) in
+            once_more (entries_with s world.log + refusals_with s refused') (entries_with s world.log + refusals_with s refused) s w h (omega (arith, more)) (λ p. done.once s w p)
+            (λ p. omega (arith, no_entry s p, no_refusal s p));
+        read_points = done.read_points;
+        rise = done.rise;
+        listed = rw listed (all_pairs_push IsBefore refused r done.listed (λ i d l. let p = done.refusal_steps i d l in (omega (arith, p.0), λ _. p.1)));
+      })
+
+  pub one_step : (world' : WorldSeen) (refused' : List Refusal) (ops : List Planned) → slice_get plan.steps k ≡ Some ops → StepRan (stamp_at k) ops world refused world' refused' → HasRunTo plan (k + 1) world' refused'
+  one_step world' refused' ops step (inl p) = rw p.1 (committed world' ops step p.0)
+  one_step world' refused' ops step (inr p) = turned_down world' refused' ops step p
+
+-- ---- before the first step, and behind the last
+
+pub at_start : (plan : PlanSeen) (world : WorldSeen) → world.base.refs ≡ values_of plan.refs → world.log ≡ [] → HasRunTo plan 0 world []
+at_start plan world base none =
+    record {
+      base = base;
+      entries = rw none (λ i d l. absurd (omega arith));
+      refusals = λ i d l. absurd (omega arith);
+      entry_steps = rw none (λ i d l. absurd (omega arith));
+      refusal_steps = λ i d l. absurd (omega arith);
+      once = λ s w h. absurd (omega arith);
+      read_points = rw none (λ i d l. absurd (omega arith));
+      rise = rw none (λ i j d l h. absurd (omega arith));
+      listed = λ i j d l h. absurd (omega arith);
+    }
+
+some_below : {X : Type 0} (xs : List X) (i : ℕ) → IsSome (slice_get xs i) → i < length xs
+some_below [] i h = absurd cc
+some_below (x ∷ xs) zero h = omega arith
+some_below (x ∷ xs) (suc i) h = omega (arith, some_below xs i h)
+
+-- a step of the plan is one of the one worker
+step_is : (plan : PlanSeen) (s : Stamp) → IsSome (step_of plan s) → (s.worker ≡ 0) × (s.step < length plan.steps)
+step_is plan s h = by (s.worker == 0) refl
+  where
+    by : (b : Bool) → (s.worker == 0) ≡ b → (s.worker ≡ 0) × (s.step < length plan.steps)
+    by true is = (grind (arith, nat_tests), some_below plan.steps s.step (let there = rw is at h in there))
+    by false is = let nowhere = rw is at h in absurd cc
+
+pub at_end : (plan : PlanSeen) (k : ℕ) (world : WorldSeen) (refused : List Refusal) → length plan.steps ≤ k → HasRunTo plan k world refused → IsOrderly plan world refused
+at_end plan k world refused h done =
+    record {
+      base = done.base;
+      entries = done.entries;
+      refusals = done.refusals;
+      once = λ s there. let p = step_is plan s there in done.once s p.0 (omega (arith, p.1));
+      rise = λ i j e l b. λ same. (done.rise i j e l b, omega (arith, done.read_points j e b));
+      listed = done.listed;
+    }

@@ -1,0 +1,34 @@
+-- What the faults of a run say of the text.
+use Rattle.std.proofs.Common.{◌≡◌, ℕ, ◌≤◌, List, [], ◌∷◌, refl, ap, arith, length}
+use Rattle.std.specs.Prelude.{◌≢◌}
+use Rattle.std.specs.List.{AllZip}
+use Rattle.ref_edn.specs.Edn.{Edn}
+use Rattle.ref_edn.specs.Grammar.{IsText}
+use Rattle.ref_edn.specs.declared.faults.ReadFault.{ReadFault}
+use Rattle.ref_edn.specs.declared.faults.ReadFault.TheVariants as reads
+use Rattle.refrun.specs.declared.path.faults.PlanFault.{PlanFault}
+use Rattle.refrun.specs.declared.path.faults.PlanFault.TheVariants as plans
+use Rattle.refrun.specs.Plan.{PlanSeen}
+use Rattle.refrun.specs.Run.{IsAtFault, IsOfText, edn_fault_of, plan_fault_of}
+use Rattle.refrun.specs.Workload.{IsWorkload}
+
+pub not_edn : (text : List ℕ) (f : ReadFault) → (f ≢ reads.Memory → (v : Edn) → IsText text v → ⊥) → IsAtFault text (edn_fault_of f) × IsOfText (edn_fault_of f)
+not_edn text reads.Memory none = (tt, tt)
+not_edn text f none = ((λ e. cc, none (λ e. cc)), tt)
+
+pub no_plan : (text : List ℕ) (v : Edn) (f : PlanFault) → IsText text v → (f ≢ plans.Memory → (p : PlanSeen) → IsWorkload v p → ⊥) → IsAtFault text (plan_fault_of f) × IsOfText (plan_fault_of f)
+no_plan text v plans.Memory is none = (tt, tt)
+no_plan text v f is none = ((λ e. cc, (v, is, none (λ e. cc))), tt)
+
+zipped : {A B : Type 0} (R : A → B → Type 0) (xs : List A) (ys : List B) → AllZip R xs ys → length xs ≡ length ys
+zipped R [] [] h = refl
+zipped R [] (y ∷ ys) h = absurd h
+zipped R (x ∷ xs) [] h = absurd h
+zipped R (x ∷ xs) (y ∷ ys) h = let rest : length xs ≡ length ys = zipped R xs ys h.1 in omega arith
+
+-- A workload has no more refs and steps than its limits.
+pub few_refs : (v : Edn) (p : PlanSeen) → IsWorkload v p → length p.refs ≤ 4096
+few_refs v p w = omega (arith, zipped _ _ _ w.references, w.forms.few_refs)
+
+pub few_steps : (v : Edn) (p : PlanSeen) → IsWorkload v p → length p.steps ≤ 10000
+few_steps v p w = omega (arith, zipped _ _ _ w.transactions, w.forms.few_steps)

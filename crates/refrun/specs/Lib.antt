@@ -1,0 +1,10 @@
+pub mod Plan
+pub mod Workload
+pub mod Kinds
+pub mod References
+pub mod World
+pub mod Report
+pub mod Orderly
+pub mod Run
+pub mod Steps
+pub mod Lines

@@ -1,0 +1,97 @@
+//! `refrun` runs EDN workloads on Clojure's reference types, and reports what came of them.
+#![tactic(auto)]
+
+mod lines;
+pub mod path;
+
+use clap::error::ErrorKind;
+use clap::{ArgMatches, Command, Error};
+use lines::{Line, status};
+use path::faults::RunFault;
+use path::run::run_workload;
+use ref_edn::Counted;
+use std::alloc::{AllocError, Global};
+use std::env::Env;
+use std::io;
+use std::process::ExitCode;
+
+// The status where the words are no command.
+const USAGE: u8 = 2;
+
+fn main(rt: HostRuntime) -> ExitCode {
+    ExitCode::from(answer(&rt))
+}
+
+// Does what the words ask for, and answers the status.
+fn answer<R: AllocGlobal + Env + Input + Print + Eprint>(rt: &R) -> u8 {
+    let words = match arguments(rt) {
+        Ok(words) => words,
+        Err(error) => return no_arguments(rt, &error),
+    };
+    match matches_of(rt.alloc(), words.as_slice()) {
+        Ok(matches) => run(rt, &matches),
+        Err(error) => no_matches(rt, &error),
+    }
+}
+
+fn arguments<R: AllocGlobal + Env>(rt: &R) -> io::Result<Vec<String>> {
+    Ok(std::env::args(rt)?.collect(rt.alloc())?)
+}
+
+fn matches_of<'a>(alloc: Global, words: &'a [String]) -> Result<ArgMatches<'a>, Error> {
+    command(alloc)?.try_get_matches_from(words)
+}
+
+// What the program takes.
+fn command<'a>(alloc: Global) -> Result<Command<'a>, AllocError> {
+    let run = Command::new(alloc, "run").about(
+        "Reads a workload from standard input, runs it, and prints a report",
+    );
+    Command::new(alloc, "refrun")
+        .about("Runs EDN workloads on Clojure's reference types, and reports what came of them")
+        .subcommand_required(true)
+        .subcommand(run)
+}
+
+// `run` is the one command.
+fn run<R: AllocGlobal + Input + Print + Eprint>(rt: &R, _matches: &ArgMatches) -> u8 {
+    let mut reader = Counted::new(rt.reader());
+    let mut writer = Counted::new(io::writer(rt));
+    match run_workload(rt.alloc(), &mut reader, &mut writer) {
+        Ok(_) => 0,
+        Err(fault) => say(rt, fault),
+    }
+}
+
+// ---- what ends a run early
+
+// Says what went wrong, and answers the status. Where standard error can't be written, the status alone tells.
+fn say<R: Eprint>(rt: &R, fault: RunFault) -> u8 {
+    let line = Line(fault);
+    let _said = eprintln!(rt; "refrun: {line}");
+    status(fault)
+}
+
+// The words can't be had: one of them isn't UTF-8, or there is no memory for them.
+fn no_arguments<R: Eprint>(rt: &R, error: &io::Error) -> u8 {
+    if error.kind() == io::ErrorKind::OutOfMemory {
+        return say(rt, RunFault::Memory);
+    }
+    let _said = eprintln!(rt; "error: an argument is not UTF-8");
+    USAGE
+}
+
+// The words are no command, or they ask for help.
+fn no_matches<R: Print + Eprint>(rt: &R, error: &Error) -> u8 {
+    if error.kind() == ErrorKind::OutOfMemory {
+        return say(rt, RunFault::Memory);
+    }
+    let printed = error.print(rt);
+    if error.use_stderr() {
+        USAGE
+    } else if printed.is_err() {
+        say(rt, RunFault::Write)
+    } else {
+        0
+    }
+}

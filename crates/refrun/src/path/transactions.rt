@@ -1,0 +1,93 @@
+//! Operations on plain values, one after another.
+ghost use Rattle.std.specs.Prelude.{◌≡◌, ◌≢◌, ℕ, Ok, Err, IfOk, IfErr, slice_get, slice_set};
+ghost use Rattle.ref_fun.specs.Core.{core_means};
+ghost use Rattle.ref_log.specs.Replay.{after_dones};
+ghost use Rattle.refrun.specs.World.{answer, answers, done_of};
+ghost use Rattle.refrun.specs.declared.path.transactions.TxFault.TheVariants.{Memory};
+
+use crate::path::plans::Planned;
+use ref_edn::Value;
+use ref_fun::{Cause, FunFault};
+use ref_log::{Done, Op};
+use std::alloc::{AllocError, AllocFailed, Global};
+use thiserror::Error;
+
+/// Why a transaction was refused. Nothing of it stands.
+#[derive(Clone, Copy, Debug, Drop, PartialEq, Eq, Error)]
+pub enum TxFault {
+    #[error("no such ref")]
+    NoSuchRef,
+    /// The function of an operation refused.
+    #[error("refused: {0}")]
+    Refused(Cause),
+    #[error("out of memory")]
+    Memory,
+}
+
+impl From<AllocError> for TxFault {
+    ghost from_gives = { λ _ f. f ≡ Memory };
+
+    fn from(_e: AllocError) -> TxFault {
+        TxFault::Memory
+    }
+}
+
+impl<T: Drop> From<AllocFailed<T>> for TxFault {
+    ghost from_gives = { λ _ f. f ≡ Memory };
+
+    fn from(_e: AllocFailed<T>) -> TxFault {
+        TxFault::Memory
+    }
+}
+
+fn share_op(op: &Op) -> Result<Op, AllocError>
+    ensures { IfOk result (λ o. o ≡ op.now) }
+{
+    match op {
+        Op::Alter(code, args) => Ok(Op::Alter(*code, args.share()?)),
+    }
+}
+
+// Applies an operation, and puts its answer in place of its ref's value. The last step is the only one that changes
+// the values.
+fn apply(alloc: Global, planned: &Planned, values: &mut Vec<Value>) -> Result<Done, TxFault>
+    ensures done { IfOk result (λ d. d ≡ done_of planned.now d.answer) }
+    ensures answer { IfOk result (λ d. answer core_means planned.now (slice_get values.old.items planned.now.r) ≡ Ok d.answer) }
+    ensures values { IfOk result (λ d. values.new.items ≡ slice_set values.old.items planned.now.r d.answer) }
+    ensures fault { IfErr result (λ f. f ≢ TxFault.Memory → answer core_means planned.now (slice_get values.old.items planned.now.r) ≡ Err f) }
+{
+    let at = planned.r as usize;
+    let Some(value) = values.get(at) else {
+        return Err(TxFault::NoSuchRef);
+    };
+    let answer = match planned.op.place(alloc, value) {
+        Ok(answer) => answer,
+        Err(FunFault::Refused(cause)) => return Err(TxFault::Refused(cause)),
+        Err(FunFault::Memory) => return Err(TxFault::Memory),
+    };
+    let done = Done {
+        r: planned.r,
+        op: share_op(&planned.op)?,
+        answer: answer.share()?,
+    };
+    values[at] = answer;
+    Ok(done)
+}
+
+/// Applies the operations in order. After a fault the values may be those of any of them.
+pub(crate) fn apply_all(
+    alloc: Global,
+    ops: &[Planned],
+    values: &mut Vec<Value>,
+) -> Result<Vec<Done>, TxFault>
+    ensures answers { IfOk result (λ dones. answers core_means ops.now values.old.items ≡ Ok dones.items) }
+    ensures values { IfOk result (λ dones. (point : ℕ) → after_dones core_means point dones.items (Ok values.old.items) ≡ Ok values.new.items) }
+    ensures fault { IfErr result (λ f. f ≢ TxFault.Memory → answers core_means ops.now values.old.items ≡ Err f) }
+{
+    let mut dones = Vec::new(alloc);
+    for planned in ops {
+        let done = apply(alloc, planned, values)?;
+        dones.push(done)?;
+    }
+    Ok(dones)
+}
