@@ -212,7 +212,13 @@ impl Entries {
     }
 
     // These entries, with this one at a place.
-    fn inserted(&self, alloc: Global, i: usize, key: Value, value: Value) -> Result<Entries, AllocError>
+    fn inserted(
+        &self,
+        alloc: Global,
+        i: usize,
+        key: Value,
+        value: Value,
+    ) -> Result<Entries, AllocError>
         requires in_range { i ≤ length self.now }
         requires ascends { IsTrue (keys_ascend (entries_of (insert self.now i (key, value)))) }
         ensures { IfOk result (λ es. es ≡ insert self.now i (key, value)) }
@@ -226,7 +232,13 @@ impl Entries {
     }
 
     // These entries, with this one in the place of another.
-    fn replaced(&self, alloc: Global, i: usize, key: Value, value: Value) -> Result<Entries, AllocError>
+    fn replaced(
+        &self,
+        alloc: Global,
+        i: usize,
+        key: Value,
+        value: Value,
+    ) -> Result<Entries, AllocError>
         requires in_range { i < length self.now }
         requires ascends { IsTrue (keys_ascend (entries_of (take i self.now ++ (key, value) ∷ drop (i + 1) self.now))) }
         ensures { IfOk result (λ es. es ≡ take i self.now ++ (key, value) ∷ drop (i + 1) self.now) }

@@ -330,7 +330,13 @@ fn said_of(rt: &HostRuntime, workload: &[u8]) -> Result<String, Fail> {
     }
 }
 
-fn with_parts(rt: &HostRuntime, begin: &str, part: &str, times: usize, end: &str) -> Result<String, Fail> {
+fn with_parts(
+    rt: &HostRuntime,
+    begin: &str,
+    part: &str,
+    times: usize,
+    end: &str,
+) -> Result<String, Fail> {
     let mut text = String::from_str(rt.alloc(), begin)?;
     for _ in 0..times {
         text.push_str(part)?;
@@ -391,7 +397,10 @@ fn with_refs(rt: &HostRuntime, count: usize) -> Result<String, Fail> {
 #[test]
 fn takes_4096_refs_and_not_one_more(rt: HostRuntime) -> Result<(), Fail> {
     let said = said_of(&rt, with_refs(&rt, 4_096)?.as_bytes())?;
-    assert!(rt; said.as_str().ends_with("ref r4095 4095\ncommits 0\naudit ok\n"));
+    assert!(rt;
+        said.as_str()
+            .ends_with("ref r4095 4095\ncommits 0\naudit ok\n")
+    );
     assert!(rt; said.as_str().matches('\n').count() == 4_098);
     let said = said_of(&rt, with_refs(&rt, 4_097)?.as_bytes())?;
     assert!(rt; said.as_str() == "TooMany");
@@ -418,7 +427,10 @@ fn takes_48_levels_and_not_one_more(rt: HostRuntime) -> Result<(), Fail> {
         let mut want = String::from_str(rt.alloc(), "ref a ")?;
         want.push_str(value.as_str())?;
         want.push_str("\ncommits 0\naudit ok\n")?;
-        assert!(rt; said.as_str() == fault.unwrap_or(want.as_str()), "{levels} levels");
+        assert!(rt;
+            said.as_str() == fault.unwrap_or(want.as_str()),
+            "{levels} levels"
+        );
     }
     Ok(())
 }
@@ -436,7 +448,10 @@ fn refuses_each_front_of_a_workload(rt: HostRuntime) -> Result<(), Fail> {
             Some(b':') => write!(want, "BadName at {}", n.saturating_sub(1))?,
             Some(_) => write!(want, "EndsEarly at {n}")?,
         }
-        assert!(rt; said.as_str() == want.as_str(), "a front of {n} bytes: {said}");
+        assert!(rt;
+            said.as_str() == want.as_str(),
+            "a front of {n} bytes: {said}"
+        );
         last = Some(*byte);
     }
     Ok(())
