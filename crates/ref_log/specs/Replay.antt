@@ -3,8 +3,10 @@
 -- handed in.
 --
 -- In each operation it is asked, in this order: whether the ref is there; whether the function gives a value; whether
--- that value is the kept answer. The first fault ends the replay, and names the point of its entry.
-use Rattle.std.specs.Prelude.{ℕ, ◌+◌, Bool, if◌then◌else◌, Result, Ok, Err, Option, None, Some, List, [], ◌∷◌, length, slice_get, slice_set, ◌≡◌}
+-- that value is the kept answer, where the transaction protects the ref. The first fault ends the replay, and names the
+-- point of its entry.
+use Rattle.std.specs.Prelude.{ℕ, ◌+◌, Bool, true, false, not, ◌&&◌, ◌||◌, ◌==◌, if◌then◌else◌, Result, Ok, Err, Option, None, Some, List, [], ◌∷◌, length, slice_get, slice_set, ◌≡◌}
+use Rattle.std.specs.List.{list_any}
 use Rattle.std.specs.Ordering.{eq_by_cmp}
 use Rattle.ref_edn.specs.Edn.{Edn}
 use Rattle.ref_edn.specs.Order.{edn_cmp}
@@ -13,47 +15,74 @@ use Rattle.ref_fun.specs.Meaning.{Means}
 use Rattle.ref_log.specs.declared.faults.AuditFault.{AuditFault}
 use Rattle.ref_log.specs.declared.faults.AuditFault.TheVariants.{Answer, Refuses, NoSuch, Memory}
 use Rattle.ref_log.specs.declared.operations.Op.{Op}
-use Rattle.ref_log.specs.declared.operations.Op.TheVariants.{Alter}
+use Rattle.ref_log.specs.declared.operations.Op.TheVariants.{Set, Alter, Commute, Ensure}
 use Rattle.ref_log.specs.declared.operations.Done.{Done}
 use Rattle.ref_log.specs.declared.entries.Entry.{Entry}
 use Rattle.ref_log.specs.declared.entries.Entry.TheVariants.{Trans}
 use Rattle.ref_log.specs.declared.states.Base.{Base}
 
--- What an operation makes of a value, or the cause for which its function refuses. Clojure's page on refs: `alter` sets
--- the ref to the function of its value and the arguments.
+-- What an operation makes of a value, or the cause for which its function refuses. Clojure's page on refs: `ref-set` sets
+-- the ref to a value; `alter` sets it to the function of its value and the arguments; `commute` does so once more at the
+-- commit, with the latest value; `ensure` changes nothing.
 abbrev pub place : Means → Op → Edn → Result Edn Cause
+place means (Set w) v = Ok w
 place means (Alter code args) v = means code args v
+place means (Commute code args) v = means code args v
+place means Ensure v = Ok v
+
+abbrev pub is_commute : Op → Bool
+is_commute (Set w) = false
+is_commute (Alter code args) = false
+is_commute (Commute code args) = true
+is_commute Ensure = false
+
+abbrev pub is_ensure : Op → Bool
+is_ensure (Set w) = false
+is_ensure (Alter code args) = false
+is_ensure (Commute code args) = false
+is_ensure Ensure = true
+
+-- A transaction protects the refs that it set, altered or ensured: nobody else has changed them since its read point.
+abbrev pub is_protected : List Done → ℕ → Bool
+is_protected ds r = list_any (λ d. d.r == r && not (is_commute d.op)) ds
+
+-- It touches the refs that it set, altered or commuted.
+abbrev pub is_touched : List Done → ℕ → Bool
+is_touched ds r = list_any (λ d. d.r == r && not (is_ensure d.op)) ds
 
 -- Whether a kept answer is the value that its operation gave.
 abbrev pub is_kept : Done → Edn → Bool
 is_kept d v = eq_by_cmp edn_cmp v d.answer
 
--- The values after an operation whose function answered.
-abbrev pub after_place : ℕ → Done → List Edn → Result Edn Cause → Result (List Edn) AuditFault
-after_place point d values (Ok v) = if is_kept d v then Ok (slice_set values d.r v) else Err (Answer point)
-after_place point d values (Err c) = Err (Refuses point)
+-- The values after an operation whose function answered. The answer is free where the transaction doesn't protect the ref.
+abbrev pub after_place : Bool → ℕ → Done → List Edn → Result Edn Cause → Result (List Edn) AuditFault
+after_place free point d values (Ok v) = if free || is_kept d v then Ok (slice_set values d.r v) else Err (Answer point)
+after_place free point d values (Err c) = Err (Refuses point)
 
 -- The values after an operation on what was found under the number of its ref.
-abbrev pub after_found : Means → ℕ → Done → List Edn → Option Edn → Result (List Edn) AuditFault
-after_found means point d values (Some v) = after_place point d values (place means d.op v)
-after_found means point d values None = Err (NoSuch point)
+abbrev pub after_found : Means → Bool → ℕ → Done → List Edn → Option Edn → Result (List Edn) AuditFault
+after_found means free point d values (Some v) = after_place free point d values (place means d.op v)
+after_found means free point d values None = Err (NoSuch point)
 
--- The values after one operation of the entry at a point.
-abbrev pub after_done : Means → ℕ → Done → List Edn → Result (List Edn) AuditFault
-after_done means point d values = after_found means point d values (slice_get values d.r)
+abbrev pub after_one : Means → Bool → ℕ → Done → List Edn → Result (List Edn) AuditFault
+after_one means free point d values = after_found means free point d values (slice_get values d.r)
 
-abbrev pub and_done : Means → ℕ → Done → Result (List Edn) AuditFault → Result (List Edn) AuditFault
-and_done means point d (Ok values) = after_done means point d values
-and_done means point d (Err fault) = Err fault
+-- The values after one operation of the entry at a point. The first list has all operations of its transaction.
+abbrev pub after_done : Means → List Done → ℕ → Done → List Edn → Result (List Edn) AuditFault
+after_done means all point d values = after_one means (not (is_protected all d.r)) point d values
+
+abbrev pub and_done : Means → List Done → ℕ → Done → Result (List Edn) AuditFault → Result (List Edn) AuditFault
+and_done means all point d (Ok values) = after_done means all point d values
+and_done means all point d (Err fault) = Err fault
 
 -- The values after these operations, one at a time.
-abbrev pub after_dones : Means → ℕ → List Done → Result (List Edn) AuditFault → Result (List Edn) AuditFault
-after_dones means point [] values = values
-after_dones means point (d ∷ ds) values = after_dones means point ds (and_done means point d values)
+abbrev pub after_dones : Means → List Done → ℕ → List Done → Result (List Edn) AuditFault → Result (List Edn) AuditFault
+after_dones means all point [] values = values
+after_dones means all point (d ∷ ds) values = after_dones means all point ds (and_done means all point d values)
 
 -- The values after the entry at a point.
 abbrev pub step : Means → ℕ → Entry → List Edn → Result (List Edn) AuditFault
-step means point (Trans t) values = after_dones means point t.dones (Ok values)
+step means point (Trans t) values = after_dones means t.dones point t.dones (Ok values)
 
 abbrev pub and_step : Means → ℕ → Entry → Result (List Edn) AuditFault → Result (List Edn) AuditFault
 and_step means point e (Ok values) = step means point e values
@@ -72,6 +101,20 @@ point_after base entries = length entries
 -- The values after these entries on the base, or the first fault.
 abbrev pub replay : Means → Base → List Entry → Result (List Edn) AuditFault
 replay means base entries = replay_from means (point_after base []) entries (Ok base.refs)
+
+-- Whether an entry touched a ref.
+abbrev pub is_touched_by : Entry → ℕ → Bool
+is_touched_by (Trans t) r = is_touched t.dones r
+
+-- The point of the last change of a ref after these entries, the first of them at the point after this one: that of the
+-- last entry which touched it, and `before` where none did.
+abbrev pub last_change_from : ℕ → List Entry → ℕ → ℕ → ℕ
+last_change_from point [] r before = before
+last_change_from point (e ∷ es) r before = last_change_from (point + 1) es r (if is_touched_by e r then point + 1 else before)
+
+-- The point of the last change of a ref; 0 where no entry touched it.
+abbrev pub last_change : Base → List Entry → ℕ → ℕ
+last_change base entries r = last_change_from (point_after base []) entries r 0
 
 -- A program's fault is that of the replay. Want of memory is the program's own.
 abbrev pub FaultComes : Result (List Edn) AuditFault → AuditFault → Type 0
