@@ -1,3 +1,4 @@
 pub mod AuditFault
 pub mod Replay
+pub mod Tally
 pub mod Laws

@@ -30,6 +30,12 @@ place means (Alter code args) v = means code args v
 place means (Commute code args) v = means code args v
 place means Ensure v = Ok v
 
+abbrev pub is_set : Op → Bool
+is_set (Set w) = true
+is_set (Alter code args) = true
+is_set (Commute code args) = false
+is_set Ensure = false
+
 abbrev pub is_commute : Op → Bool
 is_commute (Set w) = false
 is_commute (Alter code args) = false

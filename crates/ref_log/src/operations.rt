@@ -2,9 +2,10 @@
 ghost use Rattle.std.specs.Prelude.{◌≡◌, IfOk};
 ghost use Rattle.ref_fun.specs.Core.{core_means};
 ghost use Rattle.ref_fun.specs.Meaning.{Answers};
-ghost use Rattle.ref_log.specs.Replay.{place, is_commute, is_ensure};
+ghost use Rattle.ref_log.specs.Replay.{place, is_set, is_commute, is_ensure};
+ghost use Rattle.ref_log.specs.Tally.{fits_tally, is_count};
 
-use ref_edn::Value;
+use ref_edn::{Node, Value};
 use ref_fun::{Args, FunFault, core_fun};
 use std::alloc::{AllocError, Global};
 
@@ -56,6 +57,24 @@ impl Op {
         matches!(self, Op::Ensure)
     }
 
+    /// Whether it sets the ref in the transaction: `ref-set` and `alter` do.
+    pub fn is_set(&self) -> bool
+        ensures { result ≡ is_set self.now }
+    {
+        matches!(self, Op::Set(_) | Op::Alter(_, _))
+    }
+
+    /// Whether it may be made on the tally: `commute` of `+` with one integer of 0 or more, and `ensure`.
+    pub fn fits_tally(&self) -> bool
+        ensures { result ≡ fits_tally self.now }
+    {
+        match self {
+            Op::Commute(code, args) => *code == 1 && is_count(args.as_slice()),
+            Op::Ensure => true,
+            Op::Set(_) | Op::Alter(_, _) => false,
+        }
+    }
+
     /// One more owner of all that the operation holds. It takes no memory; only the count of owners can refuse.
     pub fn share(&self) -> Result<Op, AllocError>
         ensures { IfOk result (λ op. op ≡ self.now) }
@@ -79,5 +98,18 @@ impl Done {
             op: self.op.share()?,
             answer: self.answer.share()?,
         })
+    }
+}
+
+// Whether the arguments are one integer of 0 or more.
+fn is_count(args: &[Value]) -> bool
+    ensures { result ≡ is_count args.now }
+{
+    match args {
+        [by] => match by.node() {
+            Node::Int(n) => *n >= 0,
+            _ => false,
+        },
+        _ => false,
     }
 }

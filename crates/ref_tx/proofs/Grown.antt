@@ -1,0 +1,128 @@
+-- A transaction with one operation more is a transaction.
+use Rattle.std.proofs.Common.{◌≡◌, ℕ, ◌==◌, ◌&&◌, ◌||◌, not, Bool, true, false, if◌then◌else◌, cond, List, [], ◌∷◌, ◌++◌, Option, None, Some, slice_get, refl, sym, ap, ◌∙◌}
+use Rattle.std.specs.BTreeMap.{BTreeMap, get, is_at}
+use Rattle.std.specs.Map.{lookup}
+use Rattle.std.specs.Cmp.{unsigned_tied}
+use Rattle.std.specs.List.{list_any, list_all}
+use Rattle.std.specs.Ordering.{eq_by_cmp, nat_cmp}
+use Rattle.std.proofs.lemmas.Bool.{eqb-true, eq-eqb}
+use Rattle.std.proofs.lemmas.List.Folds.{list_any-append, list_all-append}
+use Rattle.ref_edn.specs.Edn.{Edn}
+use Rattle.ref_fun.specs.Meaning.{Means}
+use Rattle.ref_log.specs.Replay.{is_set, is_commute}
+use Rattle.ref_log.specs.Tally.{fits_tally}
+use Rattle.ref_log.specs.declared.operations.Op.{Op}
+use Rattle.ref_log.specs.declared.operations.Done.{Done}
+use Rattle.ref_tx.specs.declared.faults.TxFault.{TxFault}
+use Rattle.ref_tx.specs.declared.faults.TxFault.TheVariants.{NoSuchRef, SetAfterCommute, TallyOnly}
+use Rattle.ref_tx.specs.declared.owns.Own.{Own}
+use Rattle.ref_tx.specs.Seen.{TxSeen}
+use Rattle.ref_tx.specs.Inner.{has_ref, is_tally, is_commuted, fit_tally, refusal, inner_value, value_after, and_place, AreAnswers, IsTx}
+use Rattle.ref_tx.specs.Own.{own_value, own_commuted, IsTableOf}
+use Rattle.ref_tx.specs.Laws.{value_after-here, value_after-elsewhere, AreAnswers-append}
+
+-- ---- the tally
+
+-- Where nothing is refused, the last test of three failed.
+last_failed : (a b c : Bool) (x y z : TxFault) → (if a then Some x else if b then Some y else if c then Some z else None) ≡ None → c ≡ false
+last_failed true b c x y z e = absurd cc
+last_failed false true c x y z e = absurd cc
+last_failed false false true x y z e = absurd cc
+last_failed false false false x y z e = refl
+
+fits_here : (tally fits : Bool) → (tally && not fits) ≡ false → (not tally || fits) ≡ true
+fits_here true true e = refl
+fits_here true false e = absurd cc
+fits_here false fits e = refl
+
+and_true : (a : Bool) → a ≡ true → (a && true) ≡ true
+and_true a e = rw e refl
+
+pub fits_more : (tally : Option ℕ) (ds : List Done) (d : Done) → fit_tally tally ds ≡ true → (is_tally tally d.r && not (fits_tally d.op)) ≡ false → fit_tally tally (ds ++ d ∷ []) ≡ true
+fits_more tally ds d so_far here =
+    let fits : Done → Bool = λ x. not (is_tally tally x.r) || fits_tally x.op in
+    list_all-append fits ds (d ∷ []) ∙ rw (so_far, fits_here (is_tally tally d.r) (fits_tally d.op) here) refl
+
+-- ---- the table
+
+own_here : (b : Bool) (o : Own) (former : Option Own) (began after : Option Edn) → (b ≡ true → Some o.value ≡ after) → (b ≡ false → own_value former began ≡ after) → own_value (cond b (Some o) former) began ≡ after
+own_here true o former began after here elsewhere = here refl
+own_here false o former began after here elsewhere = elsewhere refl
+
+or_false : (b : Bool) → (b || false) ≡ b
+or_false true = refl
+or_false false = refl
+
+commuted_here : (b commute : Bool) (before : Bool) (o : Own) (former : Option Own) → own_commuted former ≡ before → (b ≡ true → o.commuted ≡ (before || commute)) → own_commuted (cond b (Some o) former) ≡ (before || (b && commute))
+commuted_here true commute before o former is here = here refl
+commuted_here false commute before o former is here = is ∙ sym (or_false before)
+
+is_commuted_more : (ds : List Done) (d : Done) (q : ℕ) → is_commuted (ds ++ d ∷ []) q ≡ (is_commuted ds q || (d.r == q && is_commute d.op))
+is_commuted_more ds d q =
+    let on : Done → Bool = λ x. x.r == q && is_commute x.op in
+    list_any-append on ds (d ∷ []) ∙ ap (λ b. is_commuted ds q || b) (or_false (d.r == q && is_commute d.op))
+
+-- the table after one operation more
+pub table_more : (means : Means) (began : List Edn) (ds : List Done) (d : Done) (commuted : Bool) (own new : ℕ → Option Own) → IsTableOf means began ds own
+    → and_place means d.op (value_after means began ds d.r) ≡ Some d.answer
+    → commuted ≡ (is_commuted ds d.r || is_commute d.op)
+    → ((q : ℕ) → new q ≡ cond (d.r == q) (Some (record { value = d.answer; commuted = commuted })) (own q))
+    → IsTableOf means began (ds ++ d ∷ []) new
+table_more means began ds d commuted own new is gives commutes updates = record
+    { values = λ q. ap (λ o. own_value o (slice_get began q)) (updates q)
+        ∙ own_here (d.r == q) (record { value = d.answer; commuted = commuted }) (own q) (slice_get began q) (value_after means began (ds ++ d ∷ []) q)
+        (λ here. sym (value_after-here means began ds d q here ∙ ap (λ r. and_place means d.op (value_after means began ds r)) (sym (eqb-true d.r q here)) ∙ gives))
+        (λ elsewhere. is.values q ∙ sym (value_after-elsewhere means began ds d q elsewhere))
+    ; commuted = λ q. ap own_commuted (updates q)
+        ∙ commuted_here (d.r == q) (is_commute d.op) (is_commuted ds q) (record { value = d.answer; commuted = commuted }) (own q) (is.commuted q)
+        (λ here. commutes ∙ ap (λ r. is_commuted ds r || is_commute d.op) (eqb-true d.r q here))
+        ∙ sym (is_commuted_more ds d q) }
+
+-- ---- both
+
+allowed_fits : (tx : TxSeen) (r : ℕ) (op : Op) → refusal tx r op ≡ None → (is_tally tx.tally r && not (fits_tally op)) ≡ false
+allowed_fits tx r op e = last_failed (not (has_ref tx r)) (is_set op && is_commuted tx.dones r) (is_tally tx.tally r && not (fits_tally op)) NoSuchRef SetAfterCommute TallyOnly e
+
+pub tx_more : (means : Means) (read_point : ℕ) (began : List Edn) (ds : List Done) (tally : Option ℕ) (d : Done) → IsTx means began ds tally
+    → refusal (record { read_point = read_point; began = began; dones = ds; tally = tally }) d.r d.op ≡ None
+    → and_place means d.op (value_after means began ds d.r) ≡ Some d.answer
+    → IsTx means began (ds ++ d ∷ []) tally
+tx_more means read_point began ds tally d is allowed gives = record
+    { answered = AreAnswers-append means began [] ds d is.answered (value_after-here means began ds d d.r (eq-eqb d.r d.r refl) ∙ gives)
+    ; tallied = fits_more tally ds d is.tallied (allowed_fits (record { read_point = read_point; began = began; dones = ds; tally = tally }) d.r d.op allowed) }
+
+pub value_more : (means : Means) (began : List Edn) (ds : List Done) (r : ℕ) (op : Op) (v : Edn) → and_place means op (value_after means began ds r) ≡ Some v
+    → value_after means began (ds ++ (record { r = r; op = op; answer = v }) ∷ []) r ≡ Some v
+value_more means began ds r op v gives = value_after-here means began ds (record { r = r; op = op; answer = v }) r (eq-eqb r r refl) ∙ gives
+
+-- the order of numbers tells apart what differs
+pub tied : (x y : ℕ) → eq_by_cmp nat_cmp x y ≡ (x == y)
+tied x y = unsigned_tied x y
+
+-- a table with the same entries
+pub table_same : (means : Means) (began : List Edn) (ds : List Done) (m n : BTreeMap ℕ Own) → n.entries ≡ m.entries → IsTableOf means began ds (get nat_cmp m) → IsTableOf means began ds (get nat_cmp n)
+table_same means began ds m n same is = record
+    { values = λ q. ap (λ es. own_value (lookup (is_at (nat_cmp q)) es) (slice_get began q)) same ∙ is.values q
+    ; commuted = λ q. ap (λ es. own_commuted (lookup (is_at (nat_cmp q)) es)) same ∙ is.commuted q }
+
+-- What a transaction keeps, after one operation more.
+pub kept_more : (means : Means) (tx : TxSeen) (read_point : ℕ) (began : List Edn) (ds new : List Done) (tally : Option ℕ) (own after : ℕ → Option Own) (r : ℕ) (op : Op) (v kept answer : Edn) (commuted : Bool)
+    → tx ≡ record { read_point = read_point; began = began; dones = ds; tally = tally }
+    → IsTx means began ds tally × IsTableOf means began ds own
+    → refusal tx r op ≡ None
+    → and_place means op (inner_value means tx r) ≡ Some v
+    → commuted ≡ (is_commuted tx.dones r || is_commute op)
+    → kept ≡ v
+    → answer ≡ v
+    → new ≡ ds ++ (record { r = r; op = op; answer = answer }) ∷ []
+    → ((q : ℕ) → after q ≡ cond (r == q) (Some (record { value = kept; commuted = commuted })) (own q))
+    → IsTx means began new tally × IsTableOf means began new after
+kept_more means tx read_point began ds new tally own after r op v kept answer commuted seen is allowed gives commutes keeps answers adds updates =
+    let before : TxSeen = record { read_point = read_point; began = began; dones = ds; tally = tally } in
+    let d : Done = record { r = r; op = op; answer = v } in
+    let placed : and_place means op (value_after means began ds r) ≡ Some v = ap (λ t. and_place means op (inner_value means t r)) (sym seen) ∙ gives in
+    let more : new ≡ ds ++ d ∷ [] = adds ∙ ap (λ x. ds ++ (record { r = r; op = op; answer = x }) ∷ []) answers in
+    rw more
+    ( tx_more means read_point began ds tally d is.0 (ap (λ t. refusal t r op) (sym seen) ∙ allowed) placed
+    , table_more means began ds d commuted own after is.1 placed (commutes ∙ ap (λ t. is_commuted t.dones r || is_commute op) seen)
+      (λ q. updates q ∙ ap (λ x. cond (r == q) (Some (record { value = x; commuted = commuted })) (own q)) keeps) )

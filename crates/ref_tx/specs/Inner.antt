@@ -1,0 +1,114 @@
+-- In-transaction values, and what a transaction answers.
+use Rattle.std.specs.Prelude.{ℕ, ◌+◌, ◌==◌, ◌<◌, Bool, true, false, not, ◌&&◌, ◌||◌, if◌then◌else◌, nat_lt, List, [], ◌∷◌, ◌++◌, length, Option, None, Some, Result, Ok, Err, slice_get, ◌≡◌}
+use Rattle.std.specs.List.{list_any, list_all}
+use Rattle.ref_edn.specs.Edn.{Edn}
+use Rattle.ref_fun.specs.declared.faults.Cause.{Cause}
+use Rattle.ref_fun.specs.Meaning.{Means}
+use Rattle.ref_log.specs.Replay.{place, is_set, is_commute}
+use Rattle.ref_log.specs.Tally.{fits_tally}
+use Rattle.ref_log.specs.declared.operations.Done.{Done}
+use Rattle.ref_log.specs.declared.operations.Op.{Op}
+use Rattle.ref_log.specs.declared.operations.Op.TheVariants.{Set, Alter, Commute, Ensure}
+use Rattle.ref_tx.specs.Seen.{TxSeen}
+use Rattle.ref_tx.specs.declared.faults.TxFault.{TxFault}
+use Rattle.ref_tx.specs.declared.faults.TxFault.TheVariants.{NoSuchRef, SetAfterCommute, TallyOnly, Refused, NoSuchFun}
+
+-- ---- in-transaction values
+
+-- The operations on a ref, in order.
+abbrev pub ops_on : ℕ → List Done → List Op
+ops_on r [] = []
+ops_on r (d ∷ ds) = if d.r == r then d.op ∷ ops_on r ds else ops_on r ds
+
+abbrev pub given : Result Edn Cause → Option Edn
+given (Ok v) = Some v
+given (Err c) = None
+
+abbrev pub and_place : Means → Op → Option Edn → Option Edn
+and_place means op (Some v) = given (place means op v)
+and_place means op None = None
+
+-- A value after these operations, one at a time.
+abbrev pub after_ops : Means → List Op → Option Edn → Option Edn
+after_ops means [] v = v
+after_ops means (op ∷ ops) v = after_ops means ops (and_place means op v)
+
+abbrev pub value_after : Means → List Edn → List Done → ℕ → Option Edn
+value_after means began dones r = after_ops means (ops_on r dones) (slice_get began r)
+
+-- The in-transaction value of a ref: the value as of the read point, after the transaction's own operations on it.
+-- There is none where there was no such ref.
+abbrev pub inner_value : Means → TxSeen → ℕ → Option Edn
+inner_value means tx r = value_after means tx.began tx.dones r
+
+-- Each of these operations, which come after the former ones, answered the in-transaction value.
+abbrev pub AreAnswers : Means → List Edn → List Done → List Done → Type 0
+AreAnswers means began former [] = Unit {0}
+AreAnswers means began former (d ∷ ds) = (value_after means began (former ++ d ∷ []) d.r ≡ Some d.answer) × AreAnswers means began (former ++ d ∷ []) ds
+
+-- ---- what an operation meets
+
+abbrev pub has_ref : TxSeen → ℕ → Bool
+has_ref tx r = nat_lt r (length tx.began)
+
+abbrev pub is_commuted : List Done → ℕ → Bool
+is_commuted ds r = list_any (λ d. d.r == r && is_commute d.op) ds
+
+abbrev pub is_tally : Option ℕ → ℕ → Bool
+is_tally (Some t) r = t == r
+is_tally None r = false
+
+-- Each operation on the tally is one that the tally takes.
+abbrev pub fit_tally : Option ℕ → List Done → Bool
+fit_tally tally ds = list_all (λ d. not (is_tally tally d.r) || fits_tally d.op) ds
+
+-- the code that an operation calls and no function has
+abbrev pub unknown_code : (ℕ → Bool) → Op → Option ℕ
+unknown_code knows (Set w) = None
+unknown_code knows (Alter code args) = if knows code then None else Some code
+unknown_code knows (Commute code args) = if knows code then None else Some code
+unknown_code knows Ensure = None
+
+abbrev pub told : Result Edn Cause → Result Edn TxFault
+told (Ok v) = Ok v
+told (Err c) = Err (Refused c)
+
+abbrev pub placed : Means → Op → Option Edn → Result Edn TxFault
+placed means op (Some v) = told (place means op v)
+placed means op None = Err NoSuchRef
+
+-- what a call by a code answers, where a function has the code or not
+abbrev pub called_as : Bool → ℕ → Result Edn Cause → Result Edn TxFault
+called_as has code meant = if has then told meant else Err (NoSuchFun code)
+
+abbrev pub called : Means → Op → Option Edn → Option ℕ → Result Edn TxFault
+called means op v (Some code) = Err (NoSuchFun code)
+called means op v None = placed means op v
+
+-- The first fault of an operation before its function is asked for. Clojure's page on refs: a ref that was commuted
+-- can't be set in the same transaction.
+abbrev pub refusal : TxSeen → ℕ → Op → Option TxFault
+refusal tx r op =
+    if not (has_ref tx r) then Some NoSuchRef else
+    if is_set op && is_commuted tx.dones r then Some SetAfterCommute else
+    if is_tally tx.tally r && not (fits_tally op) then Some TallyOnly else
+    None
+
+abbrev pub or_refusal : Option TxFault → Result Edn TxFault → Result Edn TxFault
+or_refusal (Some fault) answer = Err fault
+or_refusal None answer = answer
+
+-- What an operation answers: its first fault, or what it makes of the in-transaction value.
+abbrev pub answer_of : Means → (ℕ → Bool) → TxSeen → ℕ → Op → Result Edn TxFault
+answer_of means knows tx r op = or_refusal (refusal tx r op) (called means op (inner_value means tx r) (unknown_code knows op))
+
+-- The transaction with one operation more.
+abbrev pub with_done : TxSeen → ℕ → Op → Edn → TxSeen
+with_done tx r op v = record { read_point = tx.read_point; began = tx.began; dones = tx.dones ++ (record { r = r; op = op; answer = v }) ∷ []; tally = tx.tally }
+
+-- ---- what the type keeps
+
+-- What a transaction is: each operation answered the in-transaction value, and those on the tally fit it.
+pub record IsTx (means : Means) (began : List Edn) (dones : List Done) (tally : Option ℕ) : Type 0 where
+  pub answered : AreAnswers means began [] dones
+  pub tallied : fit_tally tally dones ≡ true

@@ -1,0 +1,21 @@
+-- How a transaction keeps its in-transaction values: a table of the refs that it has operated on.
+use Rattle.std.specs.Prelude.{ℕ, Bool, false, Option, None, Some, List, ◌≡◌, slice_get}
+use Rattle.ref_edn.specs.Edn.{Edn}
+use Rattle.ref_fun.specs.Meaning.{Means}
+use Rattle.ref_log.specs.declared.operations.Done.{Done}
+use Rattle.ref_tx.specs.declared.owns.Own.{Own}
+use Rattle.ref_tx.specs.Inner.{value_after, is_commuted}
+
+-- The value in the table; that of the beginning where the table has none.
+abbrev pub own_value : Option Own → Option Edn → Option Edn
+own_value (Some own) began = Some own.value
+own_value None began = began
+
+abbrev pub own_commuted : Option Own → Bool
+own_commuted (Some own) = own.commuted
+own_commuted None = false
+
+-- The table, as a function, has the in-transaction values, and tells which refs were commuted.
+pub record IsTableOf (means : Means) (began : List Edn) (dones : List Done) (own : ℕ → Option Own) : Type 0 where
+  pub values : (r : ℕ) → own_value (own r) (slice_get began r) ≡ value_after means began dones r
+  pub commuted : (r : ℕ) → own_commuted (own r) ≡ is_commuted dones r

@@ -1,0 +1,70 @@
+//! Why a transaction refuses a call.
+ghost use Rattle.std.specs.Prelude.{◌≡◌};
+ghost use Rattle.ref_tx.specs.TxFault.{tx_fault_number};
+ghost use Rattle.ref_tx.specs.declared.faults.TxFault.TheVariants.{Memory};
+
+use ref_fun::Cause;
+use std::alloc::{AllocError, AllocFailed};
+use thiserror::Error;
+
+/// Why a call was refused. The transaction is as it was before the call.
+#[derive(Clone, Copy, Debug, Drop, PartialEq, Eq, Error)]
+pub enum TxFault {
+    /// There was no ref of this number when the transaction began.
+    #[error("no such ref")]
+    NoSuchRef,
+    /// The ref was commuted in this transaction, and can't be set in it any more.
+    #[error("set after commute")]
+    SetAfterCommute,
+    /// The ref is the tally, which only `commute` of `+` with one integer of 0 or more may change.
+    #[error("the tally can only be added to")]
+    TallyOnly,
+    /// The function refused.
+    #[error("refused: {0}")]
+    Refused(Cause),
+    /// The table has no function of this code.
+    #[error("no function has code {0}")]
+    NoSuchFun(u32),
+    /// There was no agent of this number when the transaction began.
+    #[error("no such agent")]
+    NoSuchAgent,
+    /// The rule doesn't accept the in-transaction value.
+    #[error("the requirement is not met")]
+    NotMet,
+    #[error("out of memory")]
+    Memory,
+}
+
+impl TxFault {
+    /// The number of the fault, from 1 to 8 in the order of the variants.
+    pub fn number(&self) -> u8
+        ensures { result ≡ tx_fault_number self.now }
+    {
+        match self {
+            TxFault::NoSuchRef => 1,
+            TxFault::SetAfterCommute => 2,
+            TxFault::TallyOnly => 3,
+            TxFault::Refused(_) => 4,
+            TxFault::NoSuchFun(_) => 5,
+            TxFault::NoSuchAgent => 6,
+            TxFault::NotMet => 7,
+            TxFault::Memory => 8,
+        }
+    }
+}
+
+impl From<AllocError> for TxFault {
+    ghost from_gives = { λ _ f. f ≡ Memory };
+
+    fn from(_e: AllocError) -> TxFault {
+        TxFault::Memory
+    }
+}
+
+impl<T: Drop> From<AllocFailed<T>> for TxFault {
+    ghost from_gives = { λ _ f. f ≡ Memory };
+
+    fn from(_e: AllocFailed<T>) -> TxFault {
+        TxFault::Memory
+    }
+}

@@ -1,0 +1,9 @@
+//! What a transaction keeps of a ref that it has operated on.
+use ref_edn::Value;
+
+/// The in-transaction value of a ref, and whether it was commuted.
+#[derive(Drop)]
+pub(crate) struct Own {
+    pub(crate) value: Value,
+    pub(crate) commuted: bool,
+}

@@ -1,0 +1,271 @@
+//! An open transaction.
+ghost use Rattle.std.specs.BTreeMap.{get};
+ghost use Rattle.std.specs.Ordering.{nat_cmp};
+ghost use Rattle.std.specs.Prelude.{◌==◌, ◌||◌, cond, ◌≡◌, ◌≢◌, ◌≤◌, ℕ, [], true, false, Ok, Err, Some, None, IfOk, IfErr, OnOk, OnErr, option_copied, slice_get};
+ghost use Rattle.ref_log.specs.Replay.{is_commute};
+ghost use Rattle.ref_log.specs.declared.operations.Op.TheVariants.{Set, Alter, Commute, Ensure};
+ghost use Rattle.ref_tx.specs.Inner.{inner_value, has_ref, is_commuted, is_tally, refusal, answer_of, and_place, called_as, with_done};
+ghost use Rattle.ref_tx.specs.declared.faults.TxFault.TheVariants.{NoSuchRef, Memory};
+
+use crate::faults::TxFault;
+use crate::owns::Own;
+use ref_edn::Value;
+use ref_fun::{CallFault, Functions, Meaning};
+use ref_log::{Args, Done, Op, SharedVec};
+use std::alloc::{AllocError, Global};
+use std::collections::BTreeMap;
+use std::marker::{Model, PhantomData};
+
+/// A transaction that is open. Contracts see its read point, the values that it began with, its operations with their
+/// answers, and the number of the tally.
+///
+/// A call costs a look-up among the refs that the transaction has operated on, and its function.
+#[derive(Drop)]
+pub struct Tx<M: Meaning> {
+    read_point: u64,
+    began: SharedVec<Value>,
+    dones: Vec<Done>,
+    tally: Option<u32>,
+    own: BTreeMap<u32, Own>,
+    of: PhantomData<M>,
+}
+
+impl<M: Meaning> Model for Tx<M> {
+    ghost use Rattle.std.specs.BTreeMap.{get};
+    ghost use Rattle.std.specs.Coded.{codes};
+    ghost use Rattle.std.specs.Ordering.{nat_cmp};
+    ghost use Rattle.ref_edn.specs.Code.{edn_code};
+    ghost use Rattle.ref_tx.specs.Inner.{IsTx};
+    ghost use Rattle.ref_tx.specs.Own.{IsTableOf};
+    ghost use Rattle.ref_tx.specs.Seen.{TxSeen};
+
+    ghost Value = { TxSeen };
+
+    ghost coded = { Prim.hlevel (codes, edn_code) };
+
+    ghost view = { λ a. record { read_point = a.read_point; began = a.began; dones = a.dones.items; tally = a.tally } };
+
+    ghost invariant = { λ a. IsTx M.means a.began a.dones.items a.tally × IsTableOf M.means a.began a.dones.items (get nat_cmp a.own) };
+}
+
+impl<M: Meaning> Tx<M> {
+    /// A transaction that has done nothing. It reads the values as of this point; the tally is the ref of this number.
+    /// It takes no memory.
+    pub fn start(
+        alloc: Global,
+        read_point: u64,
+        began: SharedVec<Value>,
+        tally: Option<u32>,
+    ) -> Tx<M>
+        ensures { result ≡ record { read_point = read_point; began = began; dones = []; tally = tally } }
+    {
+        Tx {
+            read_point,
+            began,
+            dones: Vec::new(alloc),
+            tally,
+            own: BTreeMap::new(alloc),
+            of: PhantomData,
+        }
+    }
+
+    /// The point as of which it reads.
+    pub fn read_point(&self) -> u64
+        ensures { result ≡ self.now.read_point }
+    {
+        self.read_point
+    }
+
+    /// The values of all refs as of the read point, by number.
+    pub fn began(&self) -> &SharedVec<Value>
+        ensures { result.now ≡ self.now.began }
+    {
+        &self.began
+    }
+
+    /// The operations so far, each with its answer.
+    pub fn dones(&self) -> &[Done]
+        ensures { result.now ≡ self.now.dones }
+    {
+        self.dones.as_slice()
+    }
+
+    /// The in-transaction value of a ref. It takes no memory.
+    pub fn deref(&self, r: u32) -> Result<&Value, TxFault>
+        ensures ok { IfOk result (λ v. inner_value M.means self.now r ≡ Some v.now) }
+        ensures there { IfOk result (λ v. has_ref self.now r ≡ true) }
+        ensures err { IfErr result (λ f. (f ≡ NoSuchRef) × (has_ref self.now r ≡ false)) }
+    {
+        match self.began.get(r as usize) {
+            None => Err(TxFault::NoSuchRef),
+            Some(value) => match self.own.get(&r) {
+                Some(own) => Ok(&own.value),
+                None => Ok(value),
+            },
+        }
+    }
+
+    /// Sets a ref to a value, and answers it: Clojure's `ref-set`.
+    pub fn ref_set(&mut self, alloc: Global, r: u32, value: Value) -> Result<Value, TxFault>
+        ensures ok { IfOk result (λ v. answer_of M.means (λ code. true) self.old r (Set value) ≡ Ok v) }
+        ensures adds { IfOk result (λ v. self.new ≡ with_done self.old r (Set value) v) }
+        ensures inner { IfOk result (λ v. inner_value M.means self.new r ≡ Some v) }
+        ensures fault { IfErr result (λ f. f ≢ Memory → answer_of M.means (λ code. true) self.old r (Set value) ≡ Err f) }
+        ensures err { OnErr result (self.new ≡ self.old) }
+    {
+        let op = Op::Set(value.share()?);
+        self.check(r, &op)?;
+        self.record(alloc, r, op, value)
+    }
+
+    /// Sets a ref to what a function makes of the in-transaction value and the arguments, and answers it: Clojure's
+    /// `alter`.
+    pub fn alter<F: Functions<M>>(
+        &mut self,
+        alloc: Global,
+        funs: &F,
+        r: u32,
+        code: u32,
+        args: Args,
+    ) -> Result<Value, TxFault>
+        ensures ok { IfOk result (λ v. answer_of M.means (F.knows_fun funs.now) self.old r (Alter code args) ≡ Ok v) }
+        ensures adds { IfOk result (λ v. self.new ≡ with_done self.old r (Alter code args) v) }
+        ensures inner { IfOk result (λ v. inner_value M.means self.new r ≡ Some v) }
+        ensures fault { IfErr result (λ f. f ≢ Memory → answer_of M.means (F.knows_fun funs.now) self.old r (Alter code args) ≡ Err f) }
+        ensures err { OnErr result (self.new ≡ self.old) }
+    {
+        let op = Op::Alter(code, args.share()?);
+        let value = called(alloc, funs, code, &args, self.check(r, &op)?)?;
+        self.record(alloc, r, op, value)
+    }
+
+    /// Sets a ref to what a function makes of the in-transaction value and the arguments, and answers it; at the commit
+    /// the function is called again, with the latest value: Clojure's `commute`.
+    pub fn commute<F: Functions<M>>(
+        &mut self,
+        alloc: Global,
+        funs: &F,
+        r: u32,
+        code: u32,
+        args: Args,
+    ) -> Result<Value, TxFault>
+        ensures ok { IfOk result (λ v. answer_of M.means (F.knows_fun funs.now) self.old r (Commute code args) ≡ Ok v) }
+        ensures adds { IfOk result (λ v. self.new ≡ with_done self.old r (Commute code args) v) }
+        ensures inner { IfOk result (λ v. inner_value M.means self.new r ≡ Some v) }
+        ensures fault { IfErr result (λ f. f ≢ Memory → answer_of M.means (F.knows_fun funs.now) self.old r (Commute code args) ≡ Err f) }
+        ensures err { OnErr result (self.new ≡ self.old) }
+    {
+        let op = Op::Commute(code, args.share()?);
+        let value = called(alloc, funs, code, &args, self.check(r, &op)?)?;
+        self.record(alloc, r, op, value)
+    }
+
+    /// Protects a ref until the commit, and answers its in-transaction value: Clojure's `ensure`.
+    pub fn ensure(&mut self, alloc: Global, r: u32) -> Result<Value, TxFault>
+        ensures ok { IfOk result (λ v. answer_of M.means (λ code. true) self.old r Ensure ≡ Ok v) }
+        ensures adds { IfOk result (λ v. self.new ≡ with_done self.old r Ensure v) }
+        ensures inner { IfOk result (λ v. inner_value M.means self.new r ≡ Some v) }
+        ensures fault { IfErr result (λ f. f ≢ Memory → answer_of M.means (λ code. true) self.old r Ensure ≡ Err f) }
+        ensures err { OnErr result (self.new ≡ self.old) }
+    {
+        let value = self.check(r, &Op::Ensure)?.share()?;
+        self.record(alloc, r, Op::Ensure, value)
+    }
+
+    // The in-transaction value of a ref, where the operation isn't refused before its function is asked for.
+    fn check(&self, r: u32, op: &Op) -> Result<&Value, TxFault>
+        ensures ok { OnOk result (refusal self.now r op.now ≡ None) }
+        ensures value { IfOk result (λ v. inner_value M.means self.now r ≡ Some v.now) }
+        ensures fault { IfErr result (λ f. refusal self.now r op.now ≡ Some f) }
+    {
+        let value = self.deref(r)?;
+        if op.is_set() && self.is_commuted(r) {
+            return Err(TxFault::SetAfterCommute);
+        }
+        if self.is_tally(r) && !op.fits_tally() {
+            return Err(TxFault::TallyOnly);
+        }
+        Ok(value)
+    }
+
+    fn is_commuted(&self, r: u32) -> bool
+        ensures { result ≡ is_commuted self.now.dones r }
+    {
+        match self.own.get(&r) {
+            Some(own) => own.commuted,
+            None => false,
+        }
+    }
+
+    // Whether the ref is commuted once this operation is made on it.
+    fn is_commuted_with(&self, r: u32, op: &Op) -> bool
+        ensures { result ≡ (is_commuted self.now.dones r || is_commute op.now) }
+    {
+        self.is_commuted(r) || op.is_commute()
+    }
+
+    fn is_tally(&self, r: u32) -> bool
+        ensures { result ≡ is_tally self.now.tally r }
+    {
+        match self.tally {
+            Some(tally) => tally == r,
+            None => false,
+        }
+    }
+
+    // Adds an operation, whose answer is this value. The growths come first, and the last step can't fail.
+    #[tactic(auto, using(crate::proofs::Grown::tx_more, crate::proofs::Grown::table_same, crate::proofs::Grown::value_more))]
+    fn record(&mut self, alloc: Global, r: u32, op: Op, value: Value) -> Result<Value, TxFault>
+        requires allowed { refusal self.old r op ≡ None }
+        requires answer { and_place M.means op (inner_value M.means self.old r) ≡ Some value }
+        ensures ok { IfOk result (λ v. v ≡ value) }
+        ensures adds { OnOk result (self.new ≡ with_done self.old r op value) }
+        ensures fault { IfErr result (λ f. f ≡ Memory) }
+        ensures inner { IfOk result (λ v. inner_value M.means self.new r ≡ Some v) }
+        ensures err { OnErr result (self.new ≡ self.old) }
+    {
+        let commuted = self.is_commuted_with(r, &op);
+        let kept = value.share()?;
+        let answer = value.share()?;
+        self.dones.reserve(1)?;
+        put(&mut self.own, r, kept, commuted)?;
+        match self.dones.push(Done { r, op, answer }) {
+            Ok(()) => Ok(value),
+            Err(_) => unreachable!(),
+        }
+    }
+}
+
+// Keeps what stands for a ref from now on.
+#[tactic(auto, using(crate::proofs::Grown::tied))]
+fn put(
+    own: &mut BTreeMap<u32, Own>,
+    r: u32,
+    value: Value,
+    commuted: bool,
+) -> Result<(), AllocError>
+    ensures ok { OnOk result ((q : ℕ) → get nat_cmp own.new q ≡ cond (r == q) (Some (record { value = value; commuted = commuted })) (get nat_cmp own.old q)) }
+    ensures err { OnErr result (own.new.entries ≡ own.old.entries) }
+{
+    own.insert(r, Own { value, commuted })?;
+    Ok(())
+}
+
+// What a function makes of a value.
+fn called<M: Meaning, F: Functions<M>>(
+    alloc: Global,
+    funs: &F,
+    code: u32,
+    args: &Args,
+    value: &Value,
+) -> Result<Value, TxFault>
+    ensures ok { IfOk result (λ v. (F.knows_fun funs.now code ≡ true) × (M.means code args.now value.now ≡ Ok v)) }
+    ensures fault { IfErr result (λ f. f ≢ Memory → called_as (F.knows_fun funs.now code) code (M.means code args.now value.now) ≡ Err f) }
+{
+    match funs.call(alloc, code, value, args.as_slice()) {
+        Ok(value) => Ok(value),
+        Err(CallFault::NoSuchFun(code)) => Err(TxFault::NoSuchFun(code)),
+        Err(CallFault::Refused(cause)) => Err(TxFault::Refused(cause)),
+        Err(CallFault::Memory) => Err(TxFault::Memory),
+    }
+}
