@@ -72,7 +72,7 @@ fn deepest_of(pairs: &[(Value, Value)]) -> u8
 }
 
 #[tactic(auto, using(crate::proofs::Ascending::keys_at, crate::proofs::Ascending::keys_end))]
-pub(crate) fn do_keys_ascend(pairs: &[(Value, Value)]) -> bool
+fn do_keys_ascend(pairs: &[(Value, Value)]) -> bool
     ensures { result ≡ keys_ascend (entries_of pairs.now) }
 {
     for i in 1..pairs.len() {
@@ -264,7 +264,8 @@ impl Entries {
         Entries::built(alloc, pairs)
     }
 
-    fn built(alloc: Global, pairs: Pairs) -> Result<Entries, AllocError>
+    // Members that ascend, as a collection.
+    pub(crate) fn built(alloc: Global, pairs: Pairs) -> Result<Entries, AllocError>
         requires { IsTrue (keys_ascend (entries_of pairs)) }
         ensures { IfOk result (λ es. es ≡ pairs) }
     {

@@ -59,7 +59,7 @@ impl Model for Elements {
 }
 
 #[tactic(auto, using(crate::proofs::Ascending::ascending_at, crate::proofs::Ascending::ascending_end))]
-pub(crate) fn do_elements_ascend(values: &[Value]) -> bool
+fn do_elements_ascend(values: &[Value]) -> bool
     ensures { result ≡ elements_ascend (items_of values.now) }
 {
     for i in 1..values.len() {
@@ -223,7 +223,8 @@ impl Elements {
         Elements::built(alloc, values)
     }
 
-    fn built(alloc: Global, values: Values) -> Result<Elements, AllocError>
+    // Members that ascend, as a collection.
+    pub(crate) fn built(alloc: Global, values: Values) -> Result<Elements, AllocError>
         requires { IsTrue (elements_ascend (items_of values)) }
         ensures { IfOk result (λ xs. xs ≡ values) }
     {
