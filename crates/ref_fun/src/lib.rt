@@ -6,10 +6,13 @@
 #![tactic(auto)]
 
 pub mod arguments;
+mod collections;
 pub mod faults;
 pub mod functions;
 mod integers;
+mod kinds;
 pub mod meanings;
+pub mod predicates;
 #[cfg(test)]
 mod tests;
 
@@ -17,3 +20,4 @@ pub use arguments::{Args, MOST_ARGUMENTS};
 pub use faults::{Cause, FunFault};
 pub use functions::core_fun;
 pub use meanings::{Core, Meaning};
+pub use predicates::core_test;
