@@ -5,3 +5,5 @@ pub mod Integers
 pub mod Collections
 pub mod Predicates
 pub mod Core
+pub mod Names
+pub mod Rule

@@ -12,7 +12,9 @@ pub mod functions;
 mod integers;
 mod kinds;
 pub mod meanings;
+pub mod names;
 pub mod predicates;
+pub mod rules;
 #[cfg(test)]
 mod tests;
 
@@ -20,4 +22,6 @@ pub use arguments::{Args, MOST_ARGUMENTS};
 pub use faults::{Cause, FunFault};
 pub use functions::core_fun;
 pub use meanings::{Core, Meaning};
+pub use names::{code_of, name_of};
 pub use predicates::core_test;
+pub use rules::Rule;
