@@ -120,6 +120,7 @@ between l m n e f same = by (edn_cmp n.0 m.0) refl
         equal_of Less h = absurd cc
         equal_of Equal h = refl
         equal_of Greater h = absurd cc
+
     by : (r : Ordering) → edn_cmp n.0 m.0 ≡ r → is_eq r ≡ true
     by Less g = let back = edn_cmp_total.antisymm m.0 n.0 ∙ ap ordering_reverse g in absurd (not_less (edn_cmp m.0 n.0) back f)
       where
@@ -210,10 +211,12 @@ module _ {X : Type 0} (c : X → X → Ordering) (p : X → Bool) (alike : (x y 
       absorbs : (a b : Bool) → (a || b) ≡ (a || (a || b))
       absorbs true b = refl
       absorbs false b = refl
+
       turns : (a b d : Bool) → (a || (b || d)) ≡ (b || (a || d))
       turns true true d = refl
       turns true false d = refl
       turns false b d = refl
+
       by : (r : Ordering) → c x y ≡ r → list_any p (insert_key c ys x) ≡ (p x || list_any p ys) → list_any p (match_ordering r (x ∷ y ∷ ys) (y ∷ ys) (y ∷ insert_key c ys x)) ≡ (p x || (p y || list_any p ys))
       by Less e k = refl
       by Equal e k = rw (alike x y e) (absorbs (p y) (list_any p ys))
@@ -272,7 +275,7 @@ twins_from n known seen (m ∷ ms) sorted same above under falls s d p u =
     let higher : AllByRecursion (λ k. left_at m ≤ left_at k) seen = weaker (λ k h. omega (arith, under.0)) seen above in
     let strictly : AllByRecursion (λ k. left_at m < left_at k) seen = weaker (λ k h. omega (arith, under.0)) seen above in
     let rest = twins_from (left_at m) (insert_key edn_cmp known m.0) (insert_key mark_cmp seen m) ms sorted (same_more known seen m same) (all_more (λ k. left_at m ≤ left_at k) seen m higher (omega arith)) falls.1 falls.2
-        (insert_sorted mark_total seen m s) q.1 moved u in
+    (insert_sorted mark_total seen m s) q.1 moved u in
     let here = one_more m seen s strictly in
     let e : twin_left sorted ≡ max (max (twin_left seen) (cond (is_among m.0 known) (left_at m) 0)) (first_twice (insert_key edn_cmp known m.0) ms) = rw (same m.0) (rw here at rest) in
     meets (is_among m.0 known) (twin_left seen) (twin_left sorted) (left_at m) (first_twice (insert_key edn_cmp known m.0) ms) (below (insert_key edn_cmp known m.0) ms (left_at m) falls.1) e

@@ -18,3 +18,4 @@ pub mod Sorting
 pub mod ReadParts
 pub mod Collections
 pub mod Marks
+pub mod Deepest

@@ -8,6 +8,7 @@
 mod blanks;
 mod building;
 mod bytes;
+mod changing;
 pub mod data;
 mod elements;
 pub mod faults;

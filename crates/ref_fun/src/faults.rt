@@ -1,8 +1,9 @@
 //! Why a function gives no value.
 ghost use Rattle.std.specs.Prelude.{◌≡◌};
 ghost use Rattle.ref_fun.specs.Cause.{cause_number};
-ghost use Rattle.ref_fun.specs.declared.faults.FunFault.TheVariants.{Refused};
+ghost use Rattle.ref_fun.specs.declared.faults.FunFault.TheVariants.{Refused, Memory};
 
+use std::alloc::AllocError;
 use thiserror::Error;
 
 /// Why a function refuses. A refusal follows from the state and the arguments alone.
@@ -50,5 +51,13 @@ impl From<Cause> for FunFault {
 
     fn from(cause: Cause) -> FunFault {
         FunFault::Refused(cause)
+    }
+}
+
+impl From<AllocError> for FunFault {
+    ghost from_gives = { λ _ f. f ≡ Memory };
+
+    fn from(_e: AllocError) -> FunFault {
+        FunFault::Memory
     }
 }
