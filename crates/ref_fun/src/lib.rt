@@ -10,10 +10,14 @@ pub mod faults;
 pub mod functions;
 mod integers;
 pub mod meanings;
+pub mod stored;
+pub mod tables;
 #[cfg(test)]
 mod tests;
 
 pub use arguments::{Args, MOST_ARGUMENTS};
-pub use faults::{Cause, FunFault};
+pub use faults::{AddFault, CallFault, Cause, FunFault};
 pub use functions::core_fun;
 pub use meanings::{Core, Meaning};
+pub use stored::{Fun, Pred, StoredFun, StoredPred};
+pub use tables::{FunTable, Functions, MOST_FUNCTIONS};
