@@ -1,6 +1,9 @@
 pub mod Cause
 pub mod Meaning
+pub mod Kinds
 pub mod Integers
+pub mod Collections
+pub mod Predicates
 pub mod Core
 pub mod Calls
 pub mod Table

@@ -2,8 +2,9 @@
 ghost use Rattle.std.specs.Prelude.{◌≡◌};
 ghost use Rattle.ref_fun.specs.Calls.{add_fault_number, call_fault_number};
 ghost use Rattle.ref_fun.specs.Cause.{cause_number};
-ghost use Rattle.ref_fun.specs.declared.faults.FunFault.TheVariants.{Refused};
+ghost use Rattle.ref_fun.specs.declared.faults.FunFault.TheVariants.{Refused, Memory};
 
+use std::alloc::AllocError;
 use thiserror::Error;
 
 /// Why a function refuses. A refusal follows from the state and the arguments alone.
@@ -51,6 +52,14 @@ impl From<Cause> for FunFault {
 
     fn from(cause: Cause) -> FunFault {
         FunFault::Refused(cause)
+    }
+}
+
+impl From<AllocError> for FunFault {
+    ghost from_gives = { λ _ f. f ≡ Memory };
+
+    fn from(_e: AllocError) -> FunFault {
+        FunFault::Memory
     }
 }
 

@@ -6,10 +6,13 @@
 #![tactic(auto)]
 
 pub mod arguments;
+mod collections;
 pub mod faults;
 pub mod functions;
 mod integers;
+mod kinds;
 pub mod meanings;
+pub mod predicates;
 pub mod stored;
 pub mod tables;
 #[cfg(test)]
@@ -19,5 +22,6 @@ pub use arguments::{Args, MOST_ARGUMENTS};
 pub use faults::{AddFault, CallFault, Cause, FunFault};
 pub use functions::core_fun;
 pub use meanings::{Core, Meaning};
+pub use predicates::core_test;
 pub use stored::{Fun, Pred, StoredFun, StoredPred};
 pub use tables::{FunTable, Functions, MOST_FUNCTIONS};
