@@ -1,4 +1,5 @@
 pub mod Depths
+pub mod Edited
 pub mod Ordered
 pub mod Ascending
 pub mod NameParts

@@ -17,3 +17,4 @@ pub mod Streams
 pub mod Sorting
 pub mod ReadParts
 pub mod Collections
+pub mod Deepest

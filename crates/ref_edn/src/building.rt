@@ -1,135 +1,137 @@
-//! Members on their way into a collection, with the depth of the deepest.
-ghost use Rattle.std.specs.Prelude.{◌≡◌, ◌≤◌, ◌++◌, ◌∷◌, [], IfOk, OnOk, OnErr};
-ghost use Rattle.ref_edn.specs.Edn.{Edn, items_of, items_depth, entries_of, entries_depth};
-ghost use Rattle.ref_edn.specs.Lawful.{AreLawful, AreLawfulEntries};
+//! The members of a collection, and beside them the depth of the deepest: a copy, one more and one less.
+ghost use Rattle.std.specs.Prelude.{◌≡◌, ◌≤◌, ◌<◌, length, slice_set, insert, remove, max, IfOk, OnOk, OnErr};
+ghost use Rattle.ref_edn.specs.Deepest.{IsDeepest, IsDeepestEntry};
+ghost use Rattle.ref_edn.specs.Edn.{nesting};
+ghost use Rattle.ref_edn.specs.Lawful.{IsLawful};
 
 use crate::data::Value;
-use crate::vectors::larger;
+use crate::maps::deepest_of as deepest_entry_of;
+use crate::vectors::{deepest_of, larger};
 use std::alloc::{AllocError, Global};
-use std::marker::Model;
 
-/// Values, one behind another. Contracts see a list.
-#[derive(Drop)]
-pub(crate) struct Values {
-    deepest: u8,
-    values: Vec<Value>,
+/// One more owner of each value, in a list with room for so many.
+pub(crate) fn shared_values(
+    alloc: Global,
+    values: &[Value],
+    capacity: usize,
+) -> Result<Vec<Value>, AllocError>
+    ensures { IfOk result (λ v. v.items ≡ values.now) }
+{
+    let mut all = Vec::with_capacity(alloc, capacity)?;
+    for x in values {
+        all.push(x.share()?)?;
+    }
+    Ok(all)
 }
 
-impl Model for Values {
-    ghost use Rattle.std.specs.Prelude.{List, ◌≡◌, ◌≤◌};
-    ghost use Rattle.std.specs.Coded.{coded_list};
-    ghost use Rattle.ref_edn.specs.Edn.{Edn, items_of, items_depth};
-    ghost use Rattle.ref_edn.specs.Code.{edn_code};
-    ghost use Rattle.ref_edn.specs.Lawful.{AreLawful};
-
-    ghost Value = { List Edn };
-
-    ghost coded = { coded_list edn_code };
-
-    ghost view = { λ a. a.values.items };
-
-    ghost invariant = { λ a. (a.deepest ≡ items_depth (items_of a.values.items)) × (a.deepest ≤ 64) × AreLawful (items_of a.values.items) };
+/// Puts one more value at a place.
+pub(crate) fn insert_value(
+    deepest: &mut u8,
+    values: &mut Vec<Value>,
+    i: usize,
+    x: Value,
+) -> Result<(), AllocError>
+    requires in_range { i ≤ length values.old.items }
+    requires deepest { IsDeepest deepest.old values.old.items }
+    ensures ok { OnOk result (values.new.items ≡ insert values.old.items i x) }
+    ensures err { OnErr result (values.new.items ≡ values.old.items) }
+    ensures deepest { IsDeepest deepest.new values.new.items }
+{
+    let depth = x.depth();
+    values.insert(i, x)?;
+    *deepest = larger(*deepest, depth);
+    Ok(())
 }
 
-impl Values {
-    /// None yet, with room for so many.
-    pub(crate) fn with_capacity(alloc: Global, capacity: usize) -> Result<Values, AllocError>
-        ensures { IfOk result (λ xs. xs ≡ []) }
-    {
-        Ok(Values {
-            deepest: 0,
-            values: Vec::with_capacity(alloc, capacity)?,
-        })
-    }
-
-    pub(crate) fn push(&mut self, x: Value) -> Result<(), AllocError>
-        ensures ok { OnOk result (self.new ≡ self.old ++ x ∷ []) }
-    {
-        let depth = x.depth();
-        self.values.push(x)?;
-        self.deepest = larger(self.deepest, depth);
-        Ok(())
-    }
-
-    /// One more owner of each of these.
-    pub(crate) fn share_all(&mut self, values: &[Value]) -> Result<(), AllocError>
-        ensures ok { OnOk result (self.new ≡ self.old ++ values.now) }
-    {
-        for x in values {
-            self.push(x.share()?)?;
-        }
-        Ok(())
-    }
-
-    pub(crate) fn into_parts(self) -> (u8, Vec<Value>)
-        ensures values { result.1.items ≡ self }
-        ensures depth { result.0 ≡ items_depth (items_of self) }
-        ensures bound { result.0 ≤ 64 }
-        ensures lawful { AreLawful (items_of self) }
-    {
-        (self.deepest, self.values)
+/// Takes the value at a place out. The others are looked at only where it was the deepest.
+pub(crate) fn remove_value(deepest: &mut u8, values: &mut Vec<Value>, i: usize)
+    requires in_range { i < length values.old.items }
+    requires deepest { IsDeepest deepest.old values.old.items }
+    ensures values { values.new.items ≡ remove values.old.items i }
+    ensures deepest { IsDeepest deepest.new values.new.items }
+{
+    let gone = values[i].depth();
+    values.remove(i);
+    if gone > 0 && gone >= *deepest {
+        *deepest = deepest_of(values);
     }
 }
 
-/// Pairs of a key and its value, one behind another. Contracts see a list of pairs.
-#[derive(Drop)]
-pub(crate) struct Pairs {
-    deepest: u8,
-    pairs: Vec<(Value, Value)>,
+/// One more owner of each key and value, in a list with room for so many.
+pub(crate) fn shared_pairs(
+    alloc: Global,
+    pairs: &[(Value, Value)],
+    capacity: usize,
+) -> Result<Vec<(Value, Value)>, AllocError>
+    ensures { IfOk result (λ v. v.items ≡ pairs.now) }
+{
+    let mut all = Vec::with_capacity(alloc, capacity)?;
+    for (key, value) in pairs {
+        all.push((key.share()?, value.share()?))?;
+    }
+    Ok(all)
 }
 
-impl Model for Pairs {
-    ghost use Rattle.std.specs.Prelude.{List, ◌≡◌, ◌≤◌};
-    ghost use Rattle.std.specs.Coded.{coded_list, coded×};
-    ghost use Rattle.ref_edn.specs.Edn.{Edn, entries_of, entries_depth};
-    ghost use Rattle.ref_edn.specs.Code.{edn_code};
-    ghost use Rattle.ref_edn.specs.Lawful.{AreLawfulEntries};
-
-    ghost Value = { List (Edn × Edn) };
-
-    ghost coded = { coded_list (coded× edn_code edn_code) };
-
-    ghost view = { λ a. a.pairs.items };
-
-    ghost invariant = { λ a. (a.deepest ≡ entries_depth (entries_of a.pairs.items)) × (a.deepest ≤ 64) × AreLawfulEntries (entries_of a.pairs.items) };
+// The depth of the deeper of a key and its value.
+fn depth_of(pair: &(Value, Value)) -> u8
+    ensures depth { result ≡ max (nesting pair.now.0) (nesting pair.now.1) }
+    ensures key { IsLawful pair.now.0 }
+    ensures value { IsLawful pair.now.1 }
+{
+    larger(pair.0.depth(), pair.1.depth())
 }
 
-impl Pairs {
-    /// None yet, with room for so many.
-    pub(crate) fn with_capacity(alloc: Global, capacity: usize) -> Result<Pairs, AllocError>
-        ensures { IfOk result (λ es. es ≡ []) }
-    {
-        Ok(Pairs {
-            deepest: 0,
-            pairs: Vec::with_capacity(alloc, capacity)?,
-        })
-    }
+/// Puts one more pair at a place.
+pub(crate) fn insert_pair(
+    deepest: &mut u8,
+    pairs: &mut Vec<(Value, Value)>,
+    i: usize,
+    pair: (Value, Value),
+) -> Result<(), AllocError>
+    requires in_range { i ≤ length pairs.old.items }
+    requires deepest { IsDeepestEntry deepest.old pairs.old.items }
+    ensures ok { OnOk result (pairs.new.items ≡ insert pairs.old.items i pair) }
+    ensures err { OnErr result (pairs.new.items ≡ pairs.old.items) }
+    ensures deepest { IsDeepestEntry deepest.new pairs.new.items }
+{
+    let depth = depth_of(&pair);
+    pairs.insert(i, pair)?;
+    *deepest = larger(*deepest, depth);
+    Ok(())
+}
 
-    pub(crate) fn push(&mut self, key: Value, value: Value) -> Result<(), AllocError>
-        ensures ok { let entry : Edn × Edn = (key, value) in OnOk result (self.new ≡ self.old ++ entry ∷ []) }
-    {
-        let depth = larger(key.depth(), value.depth());
-        self.pairs.push((key, value))?;
-        self.deepest = larger(self.deepest, depth);
-        Ok(())
+/// Puts a pair in the place of another. The others are looked at only where that was the deepest and this is not.
+pub(crate) fn replace_pair(
+    deepest: &mut u8,
+    pairs: &mut Vec<(Value, Value)>,
+    i: usize,
+    pair: (Value, Value),
+)
+    requires in_range { i < length pairs.old.items }
+    requires deepest { IsDeepestEntry deepest.old pairs.old.items }
+    ensures pairs { pairs.new.items ≡ slice_set pairs.old.items i pair }
+    ensures deepest { IsDeepestEntry deepest.new pairs.new.items }
+{
+    let depth = depth_of(&pair);
+    let gone = depth_of(&pairs[i]);
+    pairs[i] = pair;
+    if depth < *deepest && gone >= *deepest {
+        *deepest = deepest_entry_of(pairs);
+    } else {
+        *deepest = larger(*deepest, depth);
     }
+}
 
-    /// One more owner of each key and value of these.
-    pub(crate) fn share_all(&mut self, pairs: &[(Value, Value)]) -> Result<(), AllocError>
-        ensures ok { OnOk result (self.new ≡ self.old ++ pairs.now) }
-    {
-        for (key, value) in pairs {
-            self.push(key.share()?, value.share()?)?;
-        }
-        Ok(())
-    }
-
-    pub(crate) fn into_parts(self) -> (u8, Vec<(Value, Value)>)
-        ensures pairs { result.1.items ≡ self }
-        ensures depth { result.0 ≡ entries_depth (entries_of self) }
-        ensures bound { result.0 ≤ 64 }
-        ensures lawful { AreLawfulEntries (entries_of self) }
-    {
-        (self.deepest, self.pairs)
+/// Takes the pair at a place out. The others are looked at only where it was the deepest.
+pub(crate) fn remove_pair(deepest: &mut u8, pairs: &mut Vec<(Value, Value)>, i: usize)
+    requires in_range { i < length pairs.old.items }
+    requires deepest { IsDeepestEntry deepest.old pairs.old.items }
+    ensures pairs { pairs.new.items ≡ remove pairs.old.items i }
+    ensures deepest { IsDeepestEntry deepest.new pairs.new.items }
+{
+    let gone = depth_of(&pairs[i]);
+    pairs.remove(i);
+    if gone > 0 && gone >= *deepest {
+        *deepest = deepest_entry_of(pairs);
     }
 }

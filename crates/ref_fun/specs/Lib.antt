@@ -5,5 +5,7 @@ pub mod Integers
 pub mod Collections
 pub mod Predicates
 pub mod Core
+pub mod Names
+pub mod Rule
 pub mod Calls
 pub mod Table

@@ -2,8 +2,8 @@
 //!
 //! Each shares the state's collection and changes the share, so that the elements are copied once however many
 //! arguments there are, and not at all where nothing changes.
-ghost use Rattle.std.specs.Prelude.{◌≡◌, ◌≤◌, ◌<◌, ◌++◌, ◌&&◌, [], IfOk, OnOk, IsTrue, fold, length};
-ghost use Rattle.ref_edn.specs.Collections.{elements_with, elements_without, entries_with, entries_without};
+ghost use Rattle.std.specs.Prelude.{◌≡◌, ◌≤◌, ◌<◌, ◌++◌, ◌&&◌, [], IfOk, IsTrue, fold, length};
+ghost use Rattle.ref_edn.specs.Collections.{elements_without, entries_without};
 ghost use Rattle.ref_edn.specs.Edn.{vector, map, set, items_of, items_depth, entries_of, entries_depth};
 ghost use Rattle.ref_edn.specs.Lawful.{IsLawful};
 ghost use Rattle.ref_edn.specs.Order.{elements_ascend, keys_ascend};
@@ -161,7 +161,7 @@ fn appended(alloc: Global, items: &Items, args: &[Value]) -> Result<Items, Alloc
 {
     let mut all = items.share()?;
     for x in args {
-        all = all.with(alloc, x.share()?)?;
+        all.push(alloc, x.share()?)?;
     }
     Ok(all)
 }
@@ -173,7 +173,7 @@ fn with_all(alloc: Global, elements: &Elements, args: &[Value]) -> Result<Elemen
 {
     let mut all = elements.share()?;
     for x in args {
-        all = all.with(alloc, x.share()?)?;
+        all.insert(alloc, x.share()?)?;
     }
     Ok(all)
 }
@@ -185,7 +185,7 @@ fn without_all(alloc: Global, elements: &Elements, args: &[Value]) -> Result<Ele
 {
     let mut left = elements.share()?;
     for x in args {
-        left = left.without(alloc, x)?;
+        left.remove(alloc, x)?;
     }
     Ok(left)
 }
@@ -199,19 +199,10 @@ fn with_pairs(alloc: Global, entries: &Entries, args: &[Value]) -> Result<Entrie
     let mut all = entries.share()?;
     let mut rest = args;
     while let [key, value, more @ ..] = rest {
-        put(alloc, &mut all, key, value)?;
+        all.insert(alloc, key.share()?, value.share()?)?;
         rest = more;
     }
     Ok(all)
-}
-
-fn put(alloc: Global, entries: &mut Entries, key: &Value, value: &Value) -> Result<(), AllocError>
-    requires { IsTrue (keys_ascend (entries_of entries.old)) }
-    ensures entries { OnOk result (entries.new ≡ entries_with entries.old key.now value.now) }
-    ensures ascends { OnOk result (IsTrue (keys_ascend (entries_of entries.new))) }
-{
-    *entries = entries.with(alloc, key.share()?, value.share()?)?;
-    Ok(())
 }
 
 fn without_keys(alloc: Global, entries: &Entries, args: &[Value]) -> Result<Entries, AllocError>
@@ -221,7 +212,7 @@ fn without_keys(alloc: Global, entries: &Entries, args: &[Value]) -> Result<Entr
 {
     let mut left = entries.share()?;
     for key in args {
-        left = left.without(alloc, key)?;
+        left.remove(alloc, key)?;
     }
     Ok(left)
 }
