@@ -17,6 +17,8 @@ pub mod names;
 pub mod order;
 pub mod printer;
 pub mod reader;
+#[cfg(test)]
+mod reader_table;
 pub mod sets;
 pub mod streams;
 mod string_reader;

@@ -2,6 +2,7 @@ pub mod NamesFound
 pub mod InTurn
 pub mod Landed
 pub mod ReportLines
+pub mod PrintedLines
 pub mod OrderlyRun
 pub mod Forms
 pub mod References

@@ -4,7 +4,7 @@ ghost use Rattle.std.specs.Bool.{OnTrue};
 ghost use Rattle.refrun.specs.Run.{IsOfPlan};
 ghost use Rattle.refrun.specs.World.{IsReplayed};
 
-use crate::path::faults::RunFault;
+use crate::faults::RunFault;
 use crate::path::report::Verdict;
 use crate::path::world::World;
 use ref_edn::Value;

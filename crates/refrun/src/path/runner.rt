@@ -5,7 +5,7 @@ ghost use Rattle.refrun.specs.Plan.{values_of};
 ghost use Rattle.refrun.specs.Run.{IsOfPlan};
 ghost use Rattle.refrun.specs.Steps.{StepRan};
 
-use crate::path::faults::RunFault;
+use crate::faults::RunFault;
 use crate::path::plans::{Declared, Plan, Planned};
 use crate::path::report::Refusal;
 use crate::path::transactions::TxFault;

@@ -113,3 +113,6 @@ impl World {
         self.log.as_slice()
     }
 }
+
+#[cfg(test)]
+mod tests;

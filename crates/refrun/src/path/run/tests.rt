@@ -1,73 +1,11 @@
 //! Whole runs: workloads and their reports, each fault with its line and its status, readers and writers that fail.
-ghost use Rattle.std.specs.Prelude.{None};
-
 use super::run_workload;
+use crate::fakes::{Pieces, make_narrow};
+use crate::faults::RunFault;
 use crate::lines::{Line, status};
-use crate::path::faults::RunFault;
 use crate::path::report::Verdict;
-use ref_edn::{Counted, Failed, Sink, Source};
+use ref_edn::Counted;
 use std::test::Fail;
-
-// Gives at most `piece` bytes at a read, and fails once `good` reads have been given.
-#[derive(Drop)]
-struct Pieces<'a> {
-    bytes: &'a [u8],
-    piece: usize,
-    good: u64,
-    failures: u64,
-}
-
-impl<'a> Source for Pieces<'a> {
-    ghost left = { λ _. None };
-
-    ghost failures = { λ s. s.failures };
-
-    fn read(&mut self, buf: &mut [u8]) -> Result<usize, Failed> {
-        if self.good == 0 {
-            self.failures = self.failures.saturating_add(1);
-            return Err(Failed);
-        }
-        self.good -= 1;
-        let n = buf.len().min(self.piece).min(self.bytes.len());
-        buf[..n].copy_from_slice(&self.bytes[..n]);
-        self.bytes = &self.bytes[n..];
-        Ok(n)
-    }
-}
-
-// Takes at most `piece` bytes at a write, and fails once it has `room` bytes.
-#[derive(Drop)]
-struct Narrow {
-    taken: Vec<u8>,
-    piece: usize,
-    room: usize,
-    failures: u64,
-}
-
-impl Sink for Narrow {
-    ghost written = { λ _. None };
-
-    ghost failures = { λ s. s.failures };
-
-    fn write(&mut self, buf: &[u8]) -> Result<usize, Failed> {
-        let n = buf.len().min(self.piece).min(self.room);
-        if n == 0 || self.taken.extend_from_slice(&buf[..n]).is_err() {
-            self.failures = self.failures.saturating_add(1);
-            return Err(Failed);
-        }
-        self.room -= n;
-        Ok(n)
-    }
-}
-
-fn make_narrow(rt: &HostRuntime, piece: usize, room: usize) -> Narrow {
-    Narrow {
-        taken: Vec::new(rt.alloc()),
-        piece,
-        room,
-        failures: 0,
-    }
-}
 
 const REPORTS: [(&str, &str); 8] = [
     (
