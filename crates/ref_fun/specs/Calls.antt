@@ -1,5 +1,5 @@
 -- What calls of stored functions and predicates may answer.
-use Rattle.std.specs.Prelude.{◌≡◌, ◌==◌, ◌<◌, ℕ, Bool, true, false, cond, if◌then◌else◌, Option, None, Some, Result, Ok, Err, refl}
+use Rattle.std.specs.Prelude.{◌≡◌, ◌==◌, ◌<◌, ◌≤◌, ℕ, Bool, true, false, cond, if◌then◌else◌, Option, None, Some, Result, Ok, Err, refl}
 use Rattle.std.specs.Coded.{Coded, Coded-set, Unit-prop, code_by, coded_result, coded_ℕ}
 use Rattle.ref_edn.specs.Edn.{Edn}
 use Rattle.ref_edn.specs.Code.{edn_code}
@@ -70,3 +70,10 @@ abbrev pub AddFaultComes : Bool → ℕ → AddFault → Type 0
 AddFaultComes taken count adds.Taken = taken ≡ true
 AddFaultComes taken count adds.Full = (taken ≡ false) × (count ≡ 64)
 AddFaultComes taken count adds.Memory = HasRoom taken count
+
+-- ---- a table of Core
+
+-- A table has all functions of Core, and all its predicates.
+pub record HasCore (knows_fun knows_pred : ℕ → Bool) : Type 0 where
+  pub funs : (code : ℕ) → 1 ≤ code → code ≤ 10 → knows_fun code ≡ true
+  pub preds : (code : ℕ) → 101 ≤ code → code ≤ 109 → knows_pred code ≡ true
