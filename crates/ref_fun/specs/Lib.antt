@@ -7,3 +7,5 @@ pub mod Predicates
 pub mod Core
 pub mod Names
 pub mod Rule
+pub mod Calls
+pub mod Table

@@ -16,13 +16,17 @@ pub mod meanings;
 pub mod names;
 pub mod predicates;
 pub mod rules;
+pub mod stored;
+pub mod tables;
 #[cfg(test)]
 mod tests;
 
 pub use arguments::{Args, MOST_ARGUMENTS};
-pub use faults::{Cause, FunFault};
+pub use faults::{AddFault, CallFault, Cause, FunFault};
 pub use functions::core_fun;
 pub use meanings::{Core, Meaning};
 pub use names::{code_of, name_of};
 pub use predicates::core_test;
 pub use rules::Rule;
+pub use stored::{Fun, Pred, StoredFun, StoredPred};
+pub use tables::{FunTable, Functions, MOST_FUNCTIONS};

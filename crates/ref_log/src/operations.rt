@@ -1,10 +1,8 @@
 //! What a transaction does to a ref.
-ghost use Rattle.ref_fun.specs.Core.{core_means};
-ghost use Rattle.ref_fun.specs.Meaning.{Answers};
-ghost use Rattle.ref_log.specs.Replay.{place};
+ghost use Rattle.ref_log.specs.Replay.{PlaceAnswers, codes_of, missing, place};
 
 use ref_edn::Value;
-use ref_fun::{Args, FunFault, core_fun};
+use ref_fun::{Args, CallFault, Functions, Meaning};
 use std::alloc::Global;
 
 /// An operation on one ref.
@@ -23,12 +21,17 @@ pub struct Done {
 }
 
 impl Op {
-    /// What the operation makes of a ref's value.
-    pub fn place(&self, alloc: Global, value: &Value) -> Result<Value, FunFault>
-        ensures { Answers (place core_means self.now value.now) result }
+    /// What the operation makes of a ref's value, by the functions of a table.
+    pub fn place<M: Meaning, F: Functions<M>>(
+        &self,
+        alloc: Global,
+        funs: &F,
+        value: &Value,
+    ) -> Result<Value, CallFault>
+        ensures { PlaceAnswers (missing (F.knows_fun funs.now) (codes_of self.now)) (place M.means self.now value.now) result }
     {
         match self {
-            Op::Alter(code, args) => core_fun(alloc, *code, value, args.as_slice()),
+            Op::Alter(code, args) => funs.call(alloc, *code, value, args.as_slice()),
         }
     }
 }

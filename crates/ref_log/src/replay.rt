@@ -1,7 +1,6 @@
 //! The slow replay.
-ghost use Rattle.std.specs.Prelude.{◌≡◌, ◌+◌, Ok, Err, IfOk, IfErr, OnOk, slice_get};
-ghost use Rattle.ref_fun.specs.Core.{core_means};
-ghost use Rattle.ref_log.specs.Replay.{after_done, step, replay, FaultComes};
+ghost use Rattle.std.specs.Prelude.{◌≡◌, ◌+◌, None, Ok, Err, IfOk, IfErr, OnOk, slice_get};
+ghost use Rattle.ref_log.specs.Replay.{FaultComes, after_done, missing, needed, needed_of_done, needed_of_entry, replay, step};
 
 use crate::entries::{Entry, Transaction};
 use crate::faults::AuditFault;
@@ -9,19 +8,26 @@ use crate::lists::SharedVec;
 use crate::operations::Done;
 use crate::states::{Base, PlainState};
 use ref_edn::Value;
-use ref_fun::FunFault;
+use ref_fun::{CallFault, Functions, Meaning};
 use std::alloc::{AllocError, Global};
 
-/// The values after these entries, applied to the base one by one, or the first fault on the way. Linear in the
-/// number of refs and operations.
-pub fn replay_plain(alloc: Global, base: &Base, entries: &[Entry]) -> Result<PlainState, AuditFault>
-    ensures ok { IfOk result (λ state. replay core_means base.now entries.now ≡ Ok state.refs) }
-    ensures err { IfErr result (λ fault. FaultComes (replay core_means base.now entries.now) fault) }
+/// The values after these entries, applied to the base one by one, or the first fault on the way. The table has to have
+/// the functions of the operations up to there. Linear in the number of refs and operations, but for the look-ups in the
+/// table.
+pub fn replay_plain<M: Meaning, F: Functions<M>>(
+    alloc: Global,
+    funs: &F,
+    base: &Base,
+    entries: &[Entry],
+) -> Result<PlainState, AuditFault>
+    ensures ok { IfOk result (λ state. replay M.means base.now entries.now ≡ Ok state.refs) }
+    ensures served { OnOk result (missing (F.knows_fun funs.now) (needed M.means base.now entries.now) ≡ None) }
+    ensures err { IfErr result (λ fault. FaultComes (missing (F.knows_fun funs.now) (needed M.means base.now entries.now)) (replay M.means base.now entries.now) fault) }
 {
     let mut values = share_all(alloc, &base.refs)?;
     for (i, entry) in entries.iter().enumerate() {
         let point = i as u64 + 1;
-        apply_entry(alloc, point, entry, &mut values)?;
+        apply_entry(alloc, funs, point, entry, &mut values)?;
     }
     let refs = SharedVec::of(alloc, values)?;
     Ok(PlainState { refs })
@@ -38,39 +44,44 @@ fn share_all(alloc: Global, values: &SharedVec<Value>) -> Result<Vec<Value>, All
     Ok(all)
 }
 
-fn apply_entry(
+fn apply_entry<M: Meaning, F: Functions<M>>(
     alloc: Global,
+    funs: &F,
     point: u64,
     entry: &Entry,
     values: &mut Vec<Value>,
 ) -> Result<(), AuditFault>
-    ensures ok { OnOk result (step core_means point entry.now values.old.items ≡ Ok values.new.items) }
-    ensures err { IfErr result (λ fault. FaultComes (step core_means point entry.now values.old.items) fault) }
+    ensures ok { OnOk result (step M.means point entry.now values.old.items ≡ Ok values.new.items) }
+    ensures served { OnOk result (missing (F.knows_fun funs.now) (needed_of_entry M.means point entry.now (Ok values.old.items)) ≡ None) }
+    ensures err { IfErr result (λ fault. FaultComes (missing (F.knows_fun funs.now) (needed_of_entry M.means point entry.now (Ok values.old.items))) (step M.means point entry.now values.old.items) fault) }
 {
     let Entry::Trans(Transaction { dones, .. }) = entry;
     for done in dones {
-        apply_done(alloc, point, done, values)?;
+        apply_done(alloc, funs, point, done, values)?;
     }
     Ok(())
 }
 
-fn apply_done(
+fn apply_done<M: Meaning, F: Functions<M>>(
     alloc: Global,
+    funs: &F,
     point: u64,
     done: &Done,
     values: &mut Vec<Value>,
 ) -> Result<(), AuditFault>
-    ensures ok { OnOk result (after_done core_means point done.now values.old.items ≡ Ok values.new.items) }
-    ensures err { IfErr result (λ fault. FaultComes (after_done core_means point done.now values.old.items) fault) }
+    ensures ok { OnOk result (after_done M.means point done.now values.old.items ≡ Ok values.new.items) }
+    ensures served { OnOk result (missing (F.knows_fun funs.now) (needed_of_done done.now (Ok values.old.items)) ≡ None) }
+    ensures err { IfErr result (λ fault. FaultComes (missing (F.knows_fun funs.now) (needed_of_done done.now (Ok values.old.items))) (after_done M.means point done.now values.old.items) fault) }
 {
     let at = done.r as usize;
     if at >= values.len() {
         return Err(AuditFault::NoSuch(point));
     }
-    let value = match done.op.place(alloc, &values[at]) {
+    let value = match done.op.place(alloc, funs, &values[at]) {
         Ok(value) => value,
-        Err(FunFault::Refused(_)) => return Err(AuditFault::Refuses(point)),
-        Err(FunFault::Memory) => return Err(AuditFault::Memory),
+        Err(CallFault::NoSuchFun(code)) => return Err(AuditFault::NoSuchFun(code)),
+        Err(CallFault::Refused(_)) => return Err(AuditFault::Refuses(point)),
+        Err(CallFault::Memory) => return Err(AuditFault::Memory),
     };
     if value != done.answer {
         return Err(AuditFault::Answer(point));

@@ -12,3 +12,4 @@ pub mod Words
 pub mod Steps
 pub mod Parts
 pub mod Workloads
+pub mod Served

@@ -8,18 +8,19 @@ mod lines;
 pub mod path;
 pub mod printing;
 mod streams;
+mod table;
 
 use clap::error::ErrorKind;
 use clap::{ArgMatches, Command, Error};
 use faults::RunFault;
 use lines::{Line, status};
-use path::run::run_workload;
 use printing::print_text;
 use ref_edn::Counted;
 use std::alloc::{AllocError, Global};
 use std::env::Env;
 use std::io;
 use std::process::ExitCode;
+use table::run_by_core;
 
 // The status where the words are no command.
 const USAGE: u8 = 2;
@@ -68,7 +69,7 @@ fn obey<R: AllocGlobal + Input + Print + Eprint>(rt: &R, matches: &ArgMatches) -
     let mut reader = Counted::new(rt.reader());
     let mut writer = Counted::new(io::writer(rt));
     match matches.subcommand_name() {
-        Some("run") => end(rt, run_workload(rt.alloc(), &mut reader, &mut writer)),
+        Some("run") => end(rt, run_by_core(rt.alloc(), &mut reader, &mut writer)),
         Some("print") => end(rt, print_text(rt.alloc(), &mut reader, &mut writer)),
         // The parser lets no other word pass.
         _ => USAGE,

@@ -3,6 +3,6 @@ use Rattle.ref_log.proofs.FirstFaults.{entry_fails}
 use Rattle.ref_log.proofs.replay.apply_entry.Goals as goal
 
 pub returns-in_err-apply_done-clause-err : goal.returns-in_err-apply_done-clause-err
-returns-in_err-apply_done-clause-err c =
+returns-in_err-apply_done-clause-err g c =
     let p = err_from_is_err_and c.from_residual.result c.from_residual.ensures.1 in
-    rw (p.1, p.2) (entry_fails _ _ _ _ _ _ _ _ c.loop-done.invariant c.in-Some.ensures.steps c.in_err-apply_done.ensures.err)
+    rw (p.1, p.2) (entry_fails _ _ _ _ _ _ _ _ _ _ c.loop-done.invariant.stepped c.loop-done.invariant.needed c.in-Some.ensures.steps c.in_err-apply_done.ensures.err)

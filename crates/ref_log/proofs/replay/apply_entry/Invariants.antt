@@ -1,8 +1,12 @@
 use Rattle.std.proofs.Common.{◌≡◌, Ok}
-use Rattle.ref_fun.specs.Core.{core_means}
-use Rattle.ref_log.specs.Replay.{after_dones, step}
+use Rattle.ref_log.specs.Replay.{after_dones, missing, needed_of_dones, needed_of_entry, step}
 use Rattle.ref_log.proofs.replay.apply_entry.Given as goal
 
 abbrev pub invariant-loop-done : goal.invariant-loop-done
-invariant-loop-done l =
-    after_dones core_means l.point l.done-iterator (Ok l.values.items) ≡ step core_means l.point l.entry l.fn.values.items
+invariant-loop-done g l =
+    let means = g.M.Meaning.means in
+    let knows = g.F.Functions.knows_fun l.funs in
+    record {
+      stepped : after_dones means l.point l.done-iterator (Ok l.values.items) ≡ step means l.point l.entry l.fn.values.items;
+      needed : missing knows (needed_of_dones means l.point l.done-iterator (Ok l.values.items)) ≡ missing knows (needed_of_entry means l.point l.entry (Ok l.fn.values.items));
+    }

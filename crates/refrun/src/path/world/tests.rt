@@ -1,9 +1,11 @@
 //! Worlds by themselves: what transactions leave in the values and in the log, and what refused ones don't.
+ghost use Rattle.std.specs.Prelude.{◌≤◌, length};
+
 use super::World;
 use crate::path::plans::Planned;
-use crate::path::transactions::TxFault;
+use crate::path::transactions::{TxFault, serves};
 use ref_edn::{Node, Value, print};
-use ref_fun::{Cause, MOST_ARGUMENTS};
+use ref_fun::{Cause, Fun, FunFault, FunTable, MOST_ARGUMENTS, StoredFun, core_fun};
 use ref_log::{Args, Done, Entry, Op, Stamp};
 use std::alloc::{AllocError, Global};
 use std::test::Fail;
@@ -111,6 +113,17 @@ fn begins_with_its_refs_and_no_commit(rt: HostRuntime) -> Result<(), Fail> {
 #[test]
 fn transactions_commit_whole_or_leave_nothing(rt: HostRuntime) -> Result<(), Fail> {
     let alloc = rt.alloc();
+    // Code 99 means nothing.
+    let mut funs = FunTable::empty(alloc);
+    for code in [1u32, 99] {
+        let run: Fun = Box::new(
+            alloc,
+            move |a: Global, state: &Value, args: &[Value]| -> Result<Value, FunFault>
+                requires { length args.now ≤ 8 }
+            { core_fun(a, code, state, args) },
+        )?;
+        assert!(rt; funs.add_fun(StoredFun::new(code, run)).is_ok());
+    }
     let mut world = start(alloc)?;
     let first = "6 10 nil from 0 10 nil | 0.0 at 0: r0 f1 5 = 5 r0 f1 1 = 6";
     let second = "6 10 nil from 0 10 nil | 0.0 at 0: r0 f1 5 = 5 r0 f1 1 = 6 | 2.7 at 1:";
@@ -136,11 +149,13 @@ fn transactions_commit_whole_or_leave_nothing(rt: HostRuntime) -> Result<(), Fai
     ];
     for (worker, step, ops, want, commits, text) in rows {
         let ops = planned_all(alloc, ops)?;
-        let ran = world.run_tx(alloc, Stamp { worker, step }, &ops);
+        assert!(rt; serves(&funs, &ops));
+        let ran = world.run_tx(alloc, &funs, Stamp { worker, step }, &ops);
         assert!(rt; ran == want, "{worker}.{step}");
         assert_eq!(rt; world.commits(), commits, "{worker}.{step}");
         assert_eq!(rt; world.log().len() as u64, commits, "{worker}.{step}");
         assert_eq!(rt; seen(alloc, &world)?.as_str(), text, "{worker}.{step}");
     }
+    assert!(rt; !serves(&funs, &planned_all(alloc, &[(0, 1, 1), (0, 2, 1)])?));
     Ok(())
 }

@@ -5,7 +5,7 @@ use Rattle.refrun.proofs.Landed.{landed}
 use Rattle.refrun.proofs.path.world.World.run_tx.Goals as goal
 
 pub invariant_of-self-2 : goal.invariant_of-self-2
-invariant_of-self-2 c =
+invariant_of-self-2 g c =
     let log = c.self.inside.log.items in
     let values = c.self.inside.values.items in
     let copied : c.in_ok-values.values.items ≡ values = c.in_ok-values.ensures ∙ c.as_slice.ensures.value in
