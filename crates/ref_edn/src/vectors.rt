@@ -224,3 +224,6 @@ impl<'a> IntoIterator for &'a Items {
         self.iter()
     }
 }
+
+#[cfg(test)]
+mod tests;
