@@ -12,7 +12,7 @@ import subprocess
 import sys
 import time
 
-from generate import ALL_BYTES, ALL_MEMBERS, SHAPES
+from generate import arguments
 
 HERE = os.path.dirname(os.path.abspath(__file__))
 MIB = 1024 * 1024
@@ -132,22 +132,16 @@ def main():
     said = argparse.ArgumentParser(description=__doc__)
     said.add_argument("program")
     said.add_argument("folder")
-    said.add_argument("shapes", nargs="*", metavar="SHAPE", help=", ".join(SHAPES))
     said.add_argument("--rounds", type=int, default=7, help="of reading and printing in one process")
     said.add_argument("--seconds", type=float, default=10, help="that Clojure gets for each measurement")
-    said.add_argument("--bytes", type=int, default=ALL_BYTES)
-    said.add_argument("--members", type=int, default=ALL_MEMBERS)
-    given = said.parse_intermixed_args()
-    for shape in given.shapes:
-        if shape not in SHAPES:
-            said.error(f"there is no shape {shape}")
+    given = arguments(said)
     print(f"best of {given.rounds} rounds; {os.cpu_count()} processors, load {os.getloadavg()[0]:.1f}")
     print("'times as long' is the other's best time over that of ref_edn, so above 1 ref_edn is faster")
     for peer in ("clojure", "jq"):
         if not shutil.which(peer):
             print(f"{peer} is not installed: its figures are skipped")
     refused = 0
-    for shape in given.shapes or SHAPES:
+    for shape in given.shapes:
         try:
             measure(shape, given)
         except Refused as why:

@@ -125,11 +125,8 @@ def generate(folder, shape, size=ALL_BYTES, members=ALL_MEMBERS):
     return paths
 
 
-if __name__ == "__main__":
-    said = argparse.ArgumentParser(
-        description=__doc__, formatter_class=argparse.RawDescriptionHelpFormatter
-    )
-    said.add_argument("folder")
+def arguments(said):
+    """Adds the shapes and their sizes to the arguments of a parser, and reads all of them. No shape means all."""
     said.add_argument("shapes", nargs="*", metavar="SHAPE", help=", ".join(SHAPES))
     said.add_argument("--bytes", type=int, default=ALL_BYTES)
     said.add_argument("--members", type=int, default=ALL_MEMBERS)
@@ -137,7 +134,17 @@ if __name__ == "__main__":
     for shape in given.shapes:
         if shape not in SHAPES:
             said.error(f"there is no shape {shape}")
-    for shape in given.shapes or SHAPES:
+    given.shapes = given.shapes or list(SHAPES)
+    return given
+
+
+if __name__ == "__main__":
+    said = argparse.ArgumentParser(
+        description=__doc__, formatter_class=argparse.RawDescriptionHelpFormatter
+    )
+    said.add_argument("folder")
+    given = arguments(said)
+    for shape in given.shapes:
         for path in generate(given.folder, shape, given.bytes, given.members):
             if path:
                 print(f"{os.path.getsize(path):>10} {path}")

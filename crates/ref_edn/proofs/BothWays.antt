@@ -14,21 +14,11 @@ use Rattle.ref_edn.specs.declared.faults.ReadFault.TheVariants as faults
 use Rattle.ref_edn.specs.Edn.{Edn}
 use Rattle.ref_edn.specs.Grammar.{IsText, AreTexts}
 use Rattle.ref_edn.specs.Faults.{Gives, Answers, fault, fault_at, public_fault}
-use Rattle.ref_edn.specs.ReadParts.{GivesAs, whole_at, series_at, public_error}
+use Rattle.ref_edn.specs.ReadParts.{whole_at, series_at, public_error}
 use Rattle.ref_edn.specs.Reading.{checked, one, all}
 use Rattle.ref_edn.proofs.Outcomes.{ok_is}
 use Rattle.ref_edn.proofs.Sound.{one_takes, all_takes}
 use Rattle.ref_edn.proofs.Complete.{one_again, all_again, checked_again}
-
--- ---- the two readers
-
-pub quick_gives : {X Y : Type 0} (view : X → Y) (x : X) (read : Result Y Fault) → GivesAs false view (Ok x) read → Gives view (Ok x) read
-quick_gives view x read h = h
-
-pub exact_gives : {X Y : Type 0} (view : X → Y) (r : Result X ReadError) (read : Result Y Fault) → GivesAs true view r read → Gives view r read
-exact_gives view (Ok x) read h = h
-exact_gives view (Err errors.Memory) read h = tt
-exact_gives view (Err (errors.Fault f)) read h = h refl
 
 -- ---- public faults
 

@@ -1,6 +1,6 @@
 -- What the proofs on sets and on maps share: two values compared, and what a call that may fail gives.
 use Rattle.std.proofs.Common.{◌≡◌, true, false, refl, sym, ap, ◌∙◌, subst}
-use Rattle.std.specs.Prelude.{◌≢◌, IfOk, Result, Ok, Err}
+use Rattle.std.specs.Prelude.{◌≢◌, IfOk, OnOk, OnErr, Result, Ok, Err}
 use Rattle.std.specs.Ordering.{is_eq, ordering_reverse}
 use Rattle.std.specs.declared.cmp.Ordering.{Ordering}
 use Rattle.std.specs.declared.cmp.Ordering.TheVariants.{Less, Equal, Greater}
@@ -27,3 +27,13 @@ turned x y r e = edn_cmp_total.antisymm x y ∙ ap ordering_reverse e
 pub gives : {X E : Type 0} (r : Result X E) (y : X) (P : X → Type 0) → IfOk r (λ x. x ≡ y) → P y → IfOk r P
 gives (Ok x) y P e p = subst P (sym e) p
 gives (Err e) y P h p = tt
+
+-- What follows from what a call that went well did.
+pub went_on : {X E : Type 0} {P Q : Type 0} (r : Result X E) → OnOk r P → (P → Q) → OnOk r Q
+went_on (Ok x) p f = f p
+went_on (Err e) p f = tt
+
+-- A call that gives this new value, or leaves the old one.
+pub either_way : {X E Y : Type 0} (r : Result X E) (P : Y → Type 0) (old new now : Y) → OnOk r (now ≡ new) → OnErr r (now ≡ old) → P old → P new → P now
+either_way (Ok x) P old new now is kept p q = subst P (sym is) q
+either_way (Err e) P old new now is kept p q = subst P (sym kept) p

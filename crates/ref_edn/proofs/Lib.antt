@@ -1,4 +1,5 @@
 pub mod Depths
+pub mod Edited
 pub mod Ordered
 pub mod Ascending
 pub mod NameParts
@@ -11,10 +12,12 @@ pub mod Tokens
 pub mod Strings
 pub mod SortedLists
 pub mod Sorting
+pub mod Twins
 pub mod Spaces
 pub mod Turns
 pub mod CollectionTurns
 pub mod Loops
+pub mod Marked
 pub mod Unsorted
 pub mod Extents
 pub mod Sound

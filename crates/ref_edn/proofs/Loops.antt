@@ -7,9 +7,9 @@ use Rattle.ref_edn.specs.declared.faults.Kind.TheVariants.{EndsEarly, Duplicate}
 use Rattle.ref_edn.specs.declared.faults.ReadError.{ReadError}
 use Rattle.ref_edn.specs.Edn.{Edn}
 use Rattle.ref_edn.specs.Order.{edn_cmp}
-use Rattle.ref_edn.specs.Faults.{◌>>=◌, fault}
+use Rattle.ref_edn.specs.Faults.{◌>>=◌, Fails, fault}
 use Rattle.ref_edn.specs.Sorting.{is_among, is_key_among}
-use Rattle.ref_edn.specs.ReadParts.{FailsAs, items_at, set_at, map_at, next_at, value_at, pairs_step, pairs_with, pairs_at}
+use Rattle.ref_edn.specs.ReadParts.{items_at, set_at, map_at, next_at, value_at, pairs_step, pairs_with, pairs_at}
 use Rattle.ref_edn.specs.Reading.{skip, read, items_with, set_with, map_with}
 use Rattle.ref_edn.proofs.Turns.{fails_so}
 use Rattle.ref_edn.proofs.CollectionTurns.{items_after, set_after, map_after, items_turn, items_last, set_turn, set_last, map_turn, map_last, pairs_turn, pairs_last}
@@ -42,11 +42,11 @@ module _ (room : ℕ) where
   items_some close zero rest = (λ at. fault EndsEarly [], items_last room close rest)
   items_some close (suc turns) rest = (items_with (skip room) (read room) close turns, items_turn room close turns rest)
 
-  pub items_fails : (close : ℕ) (found : List Edn) (rest : List ℕ) (total : Result (List Edn × List ℕ) Fault) (exact : Bool) (e : ReadError) → FailsAs exact e (next_at room close rest)
-      → ReadsItems close found rest total → FailsAs exact e total
-  items_fails close found rest total exact e failed r =
+  pub items_fails : (close : ℕ) (found : List Edn) (rest : List ℕ) (total : Result (List Edn × List ℕ) Fault) (e : ReadError) → Fails e (next_at room close rest)
+      → ReadsItems close found rest total → Fails e total
+  items_fails close found rest total e failed r =
       let p = items_some close r.turns rest in
-      fails_so exact e (next_at room close rest) total
+      fails_so e (next_at room close rest) total
       (λ f at. let fault : items_with (skip room) (read room) close r.turns rest ≡ Err f = p.1 ∙ rw at refl in sym r.same ∙ ap (with_front found) fault)
       failed
 
@@ -87,10 +87,10 @@ module _ (room : ℕ) where
   set_some zero seen rest = (λ s at. fault EndsEarly [], set_last room seen rest)
   set_some (suc turns) seen rest = (set_with (skip room) (read room) turns, set_turn room turns seen rest)
 
-  pub set_fails : (seen : List Edn) (rest : List ℕ) (total : Result (List Edn × List ℕ) Fault) (exact : Bool) (e : ReadError) → FailsAs exact e (next_at room 125 rest) → ReadsSet seen rest total → FailsAs exact e total
-  set_fails seen rest total exact e failed r =
+  pub set_fails : (seen : List Edn) (rest : List ℕ) (total : Result (List Edn × List ℕ) Fault) (e : ReadError) → Fails e (next_at room 125 rest) → ReadsSet seen rest total → Fails e total
+  set_fails seen rest total e failed r =
       let p = set_some r.turns seen rest in
-      fails_so exact e (next_at room 125 rest) total (λ f at. sym r.same ∙ p.1 ∙ rw at refl) failed
+      fails_so e (next_at room 125 rest) total (λ f at. sym r.same ∙ p.1 ∙ rw at refl) failed
 
   pub set_closed : (seen : List Edn) (rest start behind : List ℕ) (total : Result (List Edn × List ℕ) Fault) → next_at room 125 rest ≡ Ok (start, None, behind) → ReadsSet seen rest total → total ≡ Ok (seen, behind)
   set_closed seen rest start behind total at r =
@@ -127,11 +127,11 @@ module _ (room : ℕ) where
   map_some zero seen rest = (λ s at. fault EndsEarly [], map_last room seen rest)
   map_some (suc turns) seen rest = (map_with (skip room) (read room) turns, map_turn room turns seen rest)
 
-  pub map_fails : (seen : List (Edn × Edn)) (rest : List ℕ) (total : Result (List (Edn × Edn) × List ℕ) Fault) (exact : Bool) (e : ReadError) → FailsAs exact e (next_at room 125 rest)
-      → ReadsMap seen rest total → FailsAs exact e total
-  map_fails seen rest total exact e failed r =
+  pub map_fails : (seen : List (Edn × Edn)) (rest : List ℕ) (total : Result (List (Edn × Edn) × List ℕ) Fault) (e : ReadError) → Fails e (next_at room 125 rest)
+      → ReadsMap seen rest total → Fails e total
+  map_fails seen rest total e failed r =
       let p = map_some r.turns seen rest in
-      fails_so exact e (next_at room 125 rest) total (λ f at. sym r.same ∙ p.1 ∙ rw at refl) failed
+      fails_so e (next_at room 125 rest) total (λ f at. sym r.same ∙ p.1 ∙ rw at refl) failed
 
   pub map_closed : (seen : List (Edn × Edn)) (rest start behind : List ℕ) (total : Result (List (Edn × Edn) × List ℕ) Fault) → next_at room 125 rest ≡ Ok (start, None, behind) → ReadsMap seen rest total → total ≡ Ok (seen, behind)
   map_closed seen rest start behind total at r =
@@ -144,10 +144,10 @@ module _ (room : ℕ) where
         let p = map_some r.turns seen rest in
         sym r.same ∙ p.1 ∙ rw (at, is) refl
 
-    pub map_value_fails : (exact : Bool) (e : ReadError) → is_key_among k seen ≡ false → FailsAs exact e (value_at room second) → ReadsMap seen rest total → FailsAs exact e total
-    map_value_fails exact e new failed r =
+    pub map_value_fails : (e : ReadError) → is_key_among k seen ≡ false → Fails e (value_at room second) → ReadsMap seen rest total → Fails e total
+    map_value_fails e new failed r =
         let p = map_some r.turns seen rest in
-        fails_so exact e (value_at room second) total (λ f value. sym r.same ∙ p.1 ∙ rw (at, new, value) refl) failed
+        fails_so e (value_at room second) total (λ f value. sym r.same ∙ p.1 ∙ rw (at, new, value) refl) failed
 
     pub map_more : (x : Edn) (behind : List ℕ) → is_key_among k seen ≡ false → value_at room second ≡ Ok (x, behind) → length behind < length rest → ReadsMap seen rest total → ReadsMap (insert_entry edn_cmp seen k x) behind total
     map_more x behind new value shorter r = by r.turns r.enough r.same
@@ -155,40 +155,3 @@ module _ (room : ℕ) where
         by : (turns : ℕ) → length rest ≤ turns → map_with (skip room) (read room) turns seen rest ≡ total → ReadsMap (insert_entry edn_cmp seen k x) behind total
         by zero enough same = absurd (omega arith)
         by (suc turns) enough same = record { turns = turns; enough = omega arith; same = sym (map_turn room turns seen rest ∙ rw (at, new, value) refl) ∙ same }
-
-  -- ---- a map's keys and values in the order of reading
-
-  pub record ReadsPairs (found : List (Edn × Edn)) (rest : List ℕ) (total : Result (List (Edn × Edn) × List ℕ) Fault) : Type 0 where
-    pub turns : ℕ
-    pub enough : length rest ≤ turns
-    pub same : with_front found (pairs_with room turns rest) ≡ total
-
-  pub pairs_start : (text : List ℕ) → ReadsPairs [] text (pairs_at room text)
-  unfolding pairs_at
-  pairs_start text = record { turns = length text; enough = omega arith; same = with_nothing (pairs_with room (length text) text) }
-
-  pairs_some : (turns : ℕ) (rest : List ℕ) → (more : List ℕ → Result (List (Edn × Edn) × List ℕ) Fault) × (pairs_with room turns rest ≡ (next_at room 125 rest >>= λ m. pairs_step room more m.1 m.2))
-  pairs_some zero rest = (λ at. fault EndsEarly [], pairs_last room rest)
-  pairs_some (suc turns) rest = (pairs_with room turns, pairs_turn room turns rest)
-
-  pub pairs_closed : (found : List (Edn × Edn)) (rest start behind : List ℕ) (total : Result (List (Edn × Edn) × List ℕ) Fault) → next_at room 125 rest ≡ Ok (start, None, behind) → ReadsPairs found rest total → total ≡ Ok (found, behind)
-  unfolding pairs_step
-  pairs_closed found rest start behind total at r =
-      let p = pairs_some r.turns rest in
-      let e : pairs_with room r.turns rest ≡ Ok ([], behind) = p.1 ∙ rw at refl in
-      sym r.same ∙ ap (with_front found) e ∙ rw append-nil refl
-
-  pub pairs_more : (found : List (Edn × Edn)) (rest start : List ℕ) (k : Edn) (second : List ℕ) (x : Edn) (behind : List ℕ) (total : Result (List (Edn × Edn) × List ℕ) Fault) → next_at room 125 rest ≡ Ok (start, Some k, second)
-      → value_at room second ≡ Ok (x, behind) → length behind < length rest → ReadsPairs found rest total → ReadsPairs (found ++ (k, x) ∷ []) behind total
-  unfolding pairs_step
-  pairs_more found rest start k second x behind total at value shorter r = by r.turns r.enough r.same
-    where
-      by : (turns : ℕ) → length rest ≤ turns → with_front found (pairs_with room turns rest) ≡ total → ReadsPairs (found ++ (k, x) ∷ []) behind total
-      by zero enough same = absurd (omega arith)
-      by (suc turns) enough same =
-          let e : pairs_with room (suc turns) rest ≡ (pairs_with room turns behind >>= λ es. Ok ((k, x) ∷ es.0, es.1)) = pairs_turn room turns rest ∙ rw (at, value) refl in
-          record {
-            turns = turns;
-            enough = omega arith;
-            same = sym (ap (with_front found) e ∙ with_one_more found (k, x) (pairs_with room turns behind)) ∙ same;
-          }

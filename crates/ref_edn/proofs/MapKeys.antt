@@ -1,6 +1,6 @@
 -- Entries in the order of their keys, with one more or one less, and what stands at a key.
-use Rattle.std.proofs.Common.{◌≡◌, ℕ, zero, suc, ◌+◌, ◌<◌, Bool, List, [], ◌∷◌, ◌++◌, refl, sym, ap, ◌∙◌, subst, arith, add-one, cond, take, drop, get_or, length}
-use Rattle.std.specs.Prelude.{◌≢◌, IsTrue, Some, None, insert, remove}
+use Rattle.std.proofs.Common.{◌≡◌, ℕ, zero, suc, ◌<◌, Bool, List, [], ◌∷◌, refl, sym, ap, ◌∙◌, subst, arith, cond, get_or, length}
+use Rattle.std.specs.Prelude.{◌≢◌, IsTrue, Some, None, insert, remove, slice_set}
 use Rattle.std.specs.List.{AllByRecursion}
 use Rattle.std.specs.List.Sorted.{IsStrictlySortedBy}
 use Rattle.std.specs.Ordering.{is_eq, match_ordering}
@@ -39,10 +39,10 @@ with_gap (f ∷ fs) k x (suc i) h =
     let e = with_gap fs k x i (gap_tail (order_of k) f fs i h) in
     rw (turned k f.0 Less (gap_head (order_of k) f fs i h)) (ap (λ l. f ∷ l) e)
 
-pub with_found : (es : List (Edn × Edn)) (k x : Edn) (i : ℕ) → IsTrue (keys_ascend (entries_of es)) → IsFoundAt (order_of k) es i → entries_with es k x ≡ take i es ++ (k, x) ∷ drop (i + 1) es
-with_found es k x i up h = rw add-one (by es i (sorted_from_keys_ascend es up) h)
+pub with_found : (es : List (Edn × Edn)) (k x : Edn) (i : ℕ) → IsTrue (keys_ascend (entries_of es)) → IsFoundAt (order_of k) es i → entries_with es k x ≡ slice_set es i (k, x)
+with_found es k x i up h = by es i (sorted_from_keys_ascend es up) h
   where
-    by : (es : List (Edn × Edn)) (i : ℕ) → IsStrictlySortedBy by_key es → IsFoundAt (order_of k) es i → entries_with es k x ≡ take i es ++ (k, x) ∷ drop (suc i) es
+    by : (es : List (Edn × Edn)) (i : ℕ) → IsStrictlySortedBy by_key es → IsFoundAt (order_of k) es i → entries_with es k x ≡ slice_set es i (k, x)
     by [] i s h = let in_range = h.in_range in absurd (omega arith)
     by (f ∷ fs) zero s h =
         let equal = found_here (order_of k) f fs h in

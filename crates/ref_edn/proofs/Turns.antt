@@ -9,7 +9,7 @@ use Rattle.ref_edn.specs.declared.faults.ReadError.TheVariants as errors
 use Rattle.ref_edn.specs.Bytes.{is_space}
 use Rattle.ref_edn.specs.Grammar.{from_newline}
 use Rattle.ref_edn.specs.Faults.{◌>>=◌, Fails, Gives, fault}
-use Rattle.ref_edn.specs.ReadParts.{FailsAs, GivesAs, after_spaces, front_is_discard, discarded_at, vector_at, mapping_at, collection_at, single_at}
+use Rattle.ref_edn.specs.ReadParts.{after_spaces, front_is_discard, discarded_at, vector_at, mapping_at, collection_at, single_at}
 use Rattle.ref_edn.specs.Reading.{is_discard, opens_set, skip_with, skip, read, read_with, vector_with, mapping_with, collection_with}
 
 nonzero : (n : ℕ) → (suc n == 0) ≡ false
@@ -70,18 +70,9 @@ single_is room (b ∷ text) some square round curly hash = read_is room (b ∷ t
 
 -- ---- faults of a part
 
-pub fails_so : {X Y : Type 0} (exact : Bool) (e : ReadError) (part : Result X Fault) (total : Result Y Fault) → ((f : Fault) → part ≡ Err f → total ≡ Err f) → FailsAs exact e part → FailsAs exact e total
-fails_so exact errors.Memory part total so failed = tt
-fails_so exact (errors.Fault f) part total so failed = λ is. so f (failed is)
-
-pub gives_either : {X Y : Type 0} (view : X → Y) (exact : Bool) (r : Result X ReadError) (total : Result Y Fault) → Gives view r total → GivesAs exact view r total
-gives_either view exact (Ok x) total h = h
-gives_either view exact (Err errors.Memory) total h = tt
-gives_either view exact (Err (errors.Fault f)) total h = λ is. h
-
-pub exactly : {X : Type 0} (e : ReadError) (total : Result X Fault) → FailsAs true e total → Fails e total
-exactly errors.Memory total failed = tt
-exactly (errors.Fault f) total failed = failed refl
+pub fails_so : {X Y : Type 0} (e : ReadError) (part : Result X Fault) (total : Result Y Fault) → ((f : Fault) → part ≡ Err f → total ≡ Err f) → Fails e part → Fails e total
+fails_so errors.Memory part total so failed = tt
+fails_so (errors.Fault f) part total so failed = so f failed
 
 -- ---- blanks
 
@@ -148,10 +139,10 @@ skips_discard room (b ∷ text) total after isnt is read_so shorter s = by s.tur
     by zero enough same = absurd (omega arith)
     by (suc turns) enough same = passes room after total turns (omega arith) (sym (step room turns b text ∙ rw (s.solid, isnt, is, read_so) refl) ∙ same)
 
-pub skips_fails : (room : ℕ) (rest : List ℕ) (total : Result (List ℕ) Fault) (exact : Bool) (e : ReadError) → (get_or rest 0 0 == 59) ≡ false → front_is_discard rest ≡ true → FailsAs exact e (discarded_at room rest)
-    → Skips room rest total → FailsAs exact e total
-skips_fails room [] total exact e isnt is failed s = absurd cc
-skips_fails room (b ∷ text) total exact e isnt is failed s = fails_so exact e (discarded_at room (b ∷ text)) total (λ f at. by f at s.turns s.enough s.same) failed
+pub skips_fails : (room : ℕ) (rest : List ℕ) (total : Result (List ℕ) Fault) (e : ReadError) → (get_or rest 0 0 == 59) ≡ false → front_is_discard rest ≡ true → Fails e (discarded_at room rest)
+    → Skips room rest total → Fails e total
+skips_fails room [] total e isnt is failed s = absurd cc
+skips_fails room (b ∷ text) total e isnt is failed s = fails_so e (discarded_at room (b ∷ text)) total (λ f at. by f at s.turns s.enough s.same) failed
   where
     by : (f : Fault) → discarded_at room (b ∷ text) ≡ Err f → (turns : ℕ) → length (b ∷ text) ≤ turns → skip_with (discarded_at room) turns (b ∷ text) ≡ total → total ≡ Err f
     by f at zero enough same = absurd (omega arith)

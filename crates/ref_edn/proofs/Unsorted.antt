@@ -74,13 +74,6 @@ items_of_set room (suc turns) seen text y e =
     let p = items_step_of (items_with (skip room) (read room) 125 turns) (set_with (skip room) (read room) turns) (items_of_set room turns) (next_at room 125 text) seen y (sym (set_turn room turns seen text) ∙ e) in
     (p.0, items_turn room 125 turns text ∙ p.1, p.2, p.3)
 
--- Elements that were sorted, and then found to ascend.
-pub sorted_set : (room : ℕ) (text : List ℕ) (xs ys : List Edn) (rest : List ℕ) → items_at room 125 text ≡ Ok (xs, rest) → IsPermutation xs ys → IsTrue (elements_ascend (items_of ys)) → set_at room text ≡ Ok (ys, rest)
-unfolding items_at set_at
-sorted_set room text xs ys rest e same up =
-    let p = sorted_is xs ys same up in
-    set_of_items room (length text) [] text (xs, rest) e p.0 ∙ ap (λ zs. Ok (zs, rest)) p.1
-
 -- ---- maps
 
 abbrev SortsPairsAfter : ℕ → ReadsList (Edn × Edn) → ReadsOn (Edn × Edn) → Type 0
@@ -141,10 +134,3 @@ pairs_of_map room zero seen text y e =
 pairs_of_map room (suc turns) seen text y e =
     let p = pairs_step_of room (pairs_with room turns) (map_with (skip room) (read room) turns) (pairs_of_map room turns) (next_at room 125 text) seen y (sym (map_turn room turns seen text) ∙ e) in
     (p.0, pairs_turn room turns text ∙ p.1, p.2, p.3)
-
--- Entries that were sorted, and then found to ascend.
-pub sorted_map : (room : ℕ) (text : List ℕ) (es fs : List (Edn × Edn)) (rest : List ℕ) → pairs_at room text ≡ Ok (es, rest) → IsPermutation es fs → IsTrue (keys_ascend (entries_of fs)) → map_at room text ≡ Ok (fs, rest)
-unfolding pairs_at map_at
-sorted_map room text es fs rest e same up =
-    let p = sorted_entries_is es fs same up in
-    map_of_pairs room (length text) [] text (es, rest) e p.0 ∙ ap (λ gs. Ok (gs, rest)) p.1

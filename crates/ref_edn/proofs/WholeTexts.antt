@@ -3,8 +3,8 @@ use Rattle.std.proofs.Common.{◌≡◌, ℕ, zero, suc, ◌<◌, ◌≤◌, Boo
 use Rattle.ref_edn.specs.declared.faults.Fault.{Fault}
 use Rattle.ref_edn.specs.declared.faults.ReadError.{ReadError}
 use Rattle.ref_edn.specs.Edn.{Edn}
-use Rattle.ref_edn.specs.Faults.{◌>>=◌}
-use Rattle.ref_edn.specs.ReadParts.{FailsAs, series_at}
+use Rattle.ref_edn.specs.Faults.{◌>>=◌, Fails}
+use Rattle.ref_edn.specs.ReadParts.{series_at}
 use Rattle.ref_edn.specs.Reading.{skip, read, all_step, all_with}
 use Rattle.ref_edn.proofs.Turns.{fails_so}
 
@@ -35,10 +35,10 @@ some_turns zero rest = (λ at. Ok [], refl)
 some_turns (suc turns) rest = (all_with turns, refl)
 
 module _ (found : List Edn) (rest : List ℕ) (total : Result (List Edn) Fault) (r : ReadsSeries found rest total) where
-  pub series_skip_fails : (exact : Bool) (e : ReadError) → FailsAs exact e (skip 64 rest) → FailsAs exact e total
-  series_skip_fails exact e failed =
+  pub series_skip_fails : (e : ReadError) → Fails e (skip 64 rest) → Fails e total
+  series_skip_fails e failed =
       let p = some_turns r.turns rest in
-      fails_so exact e (skip 64 rest) total (λ f at. let fault : all_with r.turns rest ≡ Err f = p.1 ∙ rw at refl in sym r.same ∙ ap (with_found found) fault) failed
+      fails_so e (skip 64 rest) total (λ f at. let fault : all_with r.turns rest ≡ Err f = p.1 ∙ rw at refl in sym r.same ∙ ap (with_found found) fault) failed
 
   pub series_ends : (start : List ℕ) → skip 64 rest ≡ Ok start → length start ≡ 0 → total ≡ Ok found
   series_ends (b ∷ start) at none = absurd (omega arith)
@@ -47,11 +47,11 @@ module _ (found : List Edn) (rest : List ℕ) (total : Result (List Edn) Fault) 
       let ends : all_with r.turns rest ≡ Ok [] = p.1 ∙ rw at refl in
       sym r.same ∙ ap (with_found found) ends ∙ rw append-nil refl
 
-  pub series_fails : (start : List ℕ) (exact : Bool) (e : ReadError) → skip 64 rest ≡ Ok start → 0 < length start → FailsAs exact e (read 64 start) → FailsAs exact e total
-  series_fails [] exact e at some failed = absurd (omega arith)
-  series_fails (b ∷ start) exact e at some failed =
+  pub series_fails : (start : List ℕ) (e : ReadError) → skip 64 rest ≡ Ok start → 0 < length start → Fails e (read 64 start) → Fails e total
+  series_fails [] e at some failed = absurd (omega arith)
+  series_fails (b ∷ start) e at some failed =
       let p = some_turns r.turns rest in
-      fails_so exact e (read 64 (b ∷ start)) total
+      fails_so e (read 64 (b ∷ start)) total
       (λ f read_so. let fault : all_with r.turns rest ≡ Err f = p.1 ∙ rw (at, read_so) refl in sym r.same ∙ ap (with_found found) fault)
       failed
 

@@ -17,3 +17,5 @@ pub mod Streams
 pub mod Sorting
 pub mod ReadParts
 pub mod Collections
+pub mod Marks
+pub mod Deepest

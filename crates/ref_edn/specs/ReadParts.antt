@@ -1,4 +1,4 @@
--- What each part of the reader reads at the front of a text, and how much of it a quick reader must tell.
+-- What each part of the reader reads at the front of a text.
 use Rattle.std.specs.Prelude.{◌≡◌, ◌-◌, ℕ, zero, suc, Bool, false, IsTrue, List, [], ◌∷◌, length, drop, Option, Some, None, Result, Ok, Err, cond, ◌==◌, ◌||◌}
 use Rattle.ref_edn.specs.declared.faults.Fault.{Fault}
 use Rattle.ref_edn.specs.declared.faults.Kind.TheVariants.{EndsEarly, BadByte, WrongClose, TooDeep, LeftOut}
@@ -11,16 +11,6 @@ use Rattle.ref_edn.specs.declared.faults.ReadFault.TheVariants as faults
 use Rattle.ref_edn.specs.Faults.{◌>>=◌, fault, public_fault}
 use Rattle.ref_edn.specs.ReadTokens.{starts_token, token_at, string_at}
 use Rattle.ref_edn.specs.Reading.{is_discard, opens_set, skip, read, items_with, set_with, map_with, value_step, vector_with, mapping_with, collection_with, first, last, all_with}
-
--- What a function returned, seen by view, is what reading gives, unless memory ran out. A fault is the first one where
--- the reader is exact, and any fault where it isn't.
-abbrev pub FailsAs : {Y : Type 0} → Bool → ReadError → Result Y Fault → Type 0
-FailsAs exact errors.Memory read = Unit {0}
-FailsAs exact (errors.Fault f) read = IsTrue exact → read ≡ Err f
-
-abbrev pub GivesAs : {X Y : Type 0} → Bool → (X → Y) → Result X ReadError → Result Y Fault → Type 0
-GivesAs exact view (Ok x) read = read ≡ Ok (view x)
-GivesAs exact view (Err e) read = FailsAs exact e read
 
 -- what stands behind whitespace
 abbrev pub after_spaces : List ℕ → List ℕ

@@ -51,16 +51,6 @@ impl Values {
         Ok(())
     }
 
-    /// One more owner of each of these.
-    pub(crate) fn share_all(&mut self, values: &[Value]) -> Result<(), AllocError>
-        ensures ok { OnOk result (self.new ≡ self.old ++ values.now) }
-    {
-        for x in values {
-            self.push(x.share()?)?;
-        }
-        Ok(())
-    }
-
     pub(crate) fn into_parts(self) -> (u8, Vec<Value>)
         ensures values { result.1.items ≡ self }
         ensures depth { result.0 ≡ items_depth (items_of self) }
@@ -111,16 +101,6 @@ impl Pairs {
         let depth = larger(key.depth(), value.depth());
         self.pairs.push((key, value))?;
         self.deepest = larger(self.deepest, depth);
-        Ok(())
-    }
-
-    /// One more owner of each key and value of these.
-    pub(crate) fn share_all(&mut self, pairs: &[(Value, Value)]) -> Result<(), AllocError>
-        ensures ok { OnOk result (self.new ≡ self.old ++ pairs.now) }
-    {
-        for (key, value) in pairs {
-            self.push(key.share()?, value.share()?)?;
-        }
         Ok(())
     }
 

@@ -48,6 +48,16 @@ impl ReadError {
             left: rest.len(),
         })
     }
+
+    /// The fault that a key or an element is there already, where so many bytes were left.
+    pub fn duplicate(left: usize) -> ReadError
+        ensures { result ≡ ReadError.Fault (record { kind = Kind.Duplicate; left = left }) }
+    {
+        ReadError::Fault(Fault {
+            kind: Kind::Duplicate,
+            left,
+        })
+    }
 }
 
 impl From<AllocError> for ReadError {

@@ -8,6 +8,7 @@
 mod blanks;
 mod building;
 mod bytes;
+mod changing;
 pub mod data;
 mod elements;
 pub mod faults;
@@ -17,6 +18,8 @@ pub mod names;
 pub mod order;
 pub mod printer;
 pub mod reader;
+#[cfg(test)]
+mod reader_table;
 pub mod sets;
 pub mod streams;
 mod string_reader;

@@ -1,5 +1,5 @@
 //! The entries of a map.
-ghost use Rattle.std.specs.Prelude.{◌≡◌, ◌≤◌, ◌<◌, ◌↔◌, ◌^◌, ◌+◌, [], ◌∷◌, ◌++◌, IsTrue, length, IfOk, IfErr, take, drop, insert, remove, slice_index_or, option_copied};
+ghost use Rattle.std.specs.Prelude.{◌≡◌, ◌≤◌, ◌<◌, ◌↔◌, ◌^◌, [], IsTrue, length, IfOk, IfErr, OnOk, OnErr, insert, remove, slice_set, slice_index_or, option_copied};
 ghost use Rattle.std.specs.Iterator.{YieldsFirstBy, item_count};
 ghost use Rattle.ref_edn.specs.Collections.{value_at, entries_with, entries_without, ChangesKey, IsFoundAt, IsGapAt};
 ghost use Rattle.ref_edn.specs.Edn.{Edn, entries_of, entries_depth};
@@ -7,6 +7,7 @@ ghost use Rattle.ref_edn.specs.Lawful.{AreLawfulEntries};
 ghost use Rattle.ref_edn.specs.Order.{edn_cmp, keys_ascend};
 
 use crate::building::Pairs;
+use crate::changing::{insert_pair, remove_pair, replace_pair, shared_pairs};
 use crate::data::Value;
 use crate::order::compare;
 use crate::vectors::larger;
@@ -59,7 +60,7 @@ impl Model for Entries {
 
 // The depth of the deepest of these keys and values.
 #[tactic(auto, using(crate::proofs::Depths::entries_depth_at))]
-fn deepest_of(pairs: &[(Value, Value)]) -> u8
+pub(crate) fn deepest_of(pairs: &[(Value, Value)]) -> u8
     ensures value { result ≡ entries_depth (entries_of pairs.now) }
     ensures bound { result ≤ 64 }
     ensures lawful { AreLawfulEntries (entries_of pairs.now) }
@@ -72,7 +73,7 @@ fn deepest_of(pairs: &[(Value, Value)]) -> u8
 }
 
 #[tactic(auto, using(crate::proofs::Ascending::keys_at, crate::proofs::Ascending::keys_end))]
-pub(crate) fn do_keys_ascend(pairs: &[(Value, Value)]) -> bool
+fn do_keys_ascend(pairs: &[(Value, Value)]) -> bool
     ensures { result ≡ keys_ascend (entries_of pairs.now) }
 {
     for i in 1..pairs.len() {
@@ -180,10 +181,9 @@ impl Entries {
         ensures ascends { IfOk result (λ es. IsTrue (keys_ascend (entries_of es))) }
         ensures map { IfOk result (λ es. ChangesKey self.now es key (Some value)) }
     {
-        match self.search(&key) {
-            Ok(i) => self.replaced(alloc, i, key, value),
-            Err(i) => self.inserted(alloc, i, key, value),
-        }
+        let mut all = self.share()?;
+        all.insert(alloc, key, value)?;
+        Ok(all)
     }
 
     /// The entries of other keys; these themselves where the key isn't there. Keys and values are shared; their list is
@@ -194,9 +194,41 @@ impl Entries {
         ensures ascends { IfOk result (λ es. IsTrue (keys_ascend (entries_of es))) }
         ensures map { IfOk result (λ es. ChangesKey self.now es key.now None) }
     {
+        let mut all = self.share()?;
+        all.remove(alloc, key)?;
+        Ok(all)
+    }
+
+    /// Puts this entry among these, in the place of one with an equal key. It takes log n comparisons, and moves what
+    /// stands behind; where it takes the place of the deepest and is less deep, all the others are looked at. Where the
+    /// entries have other owners, which keep the old ones, their list is copied first, in linear time. A refusal
+    /// changes nothing.
+    pub fn insert(&mut self, alloc: Global, key: Value, value: Value) -> Result<(), AllocError>
+        requires { IsTrue (keys_ascend (entries_of self.old)) }
+        ensures entries { OnOk result (self.new ≡ entries_with self.old key value) }
+        ensures map { OnOk result (ChangesKey self.old self.new key (Some value)) }
+        ensures err { OnErr result (self.new ≡ self.old) }
+        ensures ascends { IsTrue (keys_ascend (entries_of self.new)) }
+    {
+        match self.search(&key) {
+            Ok(i) => self.replace_at(alloc, i, key, value),
+            Err(i) => self.insert_at(alloc, i, key, value),
+        }
+    }
+
+    /// Takes the entry of a key out; where the key isn't there, nothing changes. It takes log n comparisons, and moves
+    /// what stands behind; where the entry was the deepest, all the others are looked at. Where the entries have other
+    /// owners, which keep the old ones, their list is copied first, in linear time. A refusal changes nothing.
+    pub fn remove(&mut self, alloc: Global, key: &Value) -> Result<(), AllocError>
+        requires { IsTrue (keys_ascend (entries_of self.old)) }
+        ensures entries { OnOk result (self.new ≡ entries_without self.old key.now) }
+        ensures map { OnOk result (ChangesKey self.old self.new key.now None) }
+        ensures err { OnErr result (self.new ≡ self.old) }
+        ensures ascends { IsTrue (keys_ascend (entries_of self.new)) }
+    {
         match self.search(key) {
-            Ok(i) => self.removed(alloc, i),
-            Err(_) => self.share(),
+            Ok(i) => self.remove_at(alloc, i),
+            Err(_) => Ok(()),
         }
     }
 
@@ -211,60 +243,90 @@ impl Entries {
             .binary_search_by(|(other, _)| compare(other, key))
     }
 
-    // These entries, with this one at a place.
-    fn inserted(
-        &self,
+    fn insert_at(
+        &mut self,
         alloc: Global,
         i: usize,
         key: Value,
         value: Value,
-    ) -> Result<Entries, AllocError>
-        requires in_range { i ≤ length self.now }
-        requires ascends { IsTrue (keys_ascend (entries_of (insert self.now i (key, value)))) }
-        ensures { IfOk result (λ es. es ≡ insert self.now i (key, value)) }
+    ) -> Result<(), AllocError>
+        requires in_range { i ≤ length self.old }
+        requires sorted { IsTrue (keys_ascend (entries_of self.old)) }
+        requires ascends { IsTrue (keys_ascend (entries_of (insert self.old i (key, value)))) }
+        ensures ok { OnOk result (self.new ≡ insert self.old i (key, value)) }
+        ensures err { OnErr result (self.new ≡ self.old) }
     {
-        let old = &self.inside.pairs;
-        let mut pairs = Pairs::with_capacity(alloc, old.len() + 1)?;
-        pairs.share_all(&old[..i])?;
-        pairs.push(key, value)?;
-        pairs.share_all(&old[i..])?;
-        Entries::built(alloc, pairs)
+        self.unshare(alloc)?;
+        match Arc::get_mut(&mut self.inside) {
+            Some(inside) => { insert_pair(&mut inside.deepest, &mut inside.pairs, i, (key, value)) }
+            None => Err(AllocError),
+        }
     }
 
-    // These entries, with this one in the place of another.
-    fn replaced(
-        &self,
+    fn replace_at(
+        &mut self,
         alloc: Global,
         i: usize,
         key: Value,
         value: Value,
-    ) -> Result<Entries, AllocError>
-        requires in_range { i < length self.now }
-        requires ascends { IsTrue (keys_ascend (entries_of (take i self.now ++ (key, value) ∷ drop (i + 1) self.now))) }
-        ensures { IfOk result (λ es. es ≡ take i self.now ++ (key, value) ∷ drop (i + 1) self.now) }
+    ) -> Result<(), AllocError>
+        requires in_range { i < length self.old }
+        requires sorted { IsTrue (keys_ascend (entries_of self.old)) }
+        requires ascends { IsTrue (keys_ascend (entries_of (slice_set self.old i (key, value)))) }
+        ensures ok { OnOk result (self.new ≡ slice_set self.old i (key, value)) }
+        ensures err { OnErr result (self.new ≡ self.old) }
     {
-        let old = &self.inside.pairs;
-        let mut pairs = Pairs::with_capacity(alloc, old.len())?;
-        pairs.share_all(&old[..i])?;
-        pairs.push(key, value)?;
-        pairs.share_all(&old[i + 1..])?;
-        Entries::built(alloc, pairs)
+        self.unshare(alloc)?;
+        match Arc::get_mut(&mut self.inside) {
+            Some(inside) => {
+                replace_pair(&mut inside.deepest, &mut inside.pairs, i, (key, value));
+                Ok(())
+            }
+            None => Err(AllocError),
+        }
     }
 
-    // These entries, without the one at a place.
-    fn removed(&self, alloc: Global, i: usize) -> Result<Entries, AllocError>
-        requires in_range { i < length self.now }
-        requires ascends { IsTrue (keys_ascend (entries_of (remove self.now i))) }
-        ensures { IfOk result (λ es. es ≡ remove self.now i) }
+    fn remove_at(&mut self, alloc: Global, i: usize) -> Result<(), AllocError>
+        requires in_range { i < length self.old }
+        requires sorted { IsTrue (keys_ascend (entries_of self.old)) }
+        requires ascends { IsTrue (keys_ascend (entries_of (remove self.old i))) }
+        ensures ok { OnOk result (self.new ≡ remove self.old i) }
+        ensures err { OnErr result (self.new ≡ self.old) }
     {
-        let old = &self.inside.pairs;
-        let mut pairs = Pairs::with_capacity(alloc, old.len() - 1)?;
-        pairs.share_all(&old[..i])?;
-        pairs.share_all(&old[i + 1..])?;
-        Entries::built(alloc, pairs)
+        self.unshare(alloc)?;
+        match Arc::get_mut(&mut self.inside) {
+            Some(inside) => {
+                remove_pair(&mut inside.deepest, &mut inside.pairs, i);
+                Ok(())
+            }
+            None => Err(AllocError),
+        }
     }
 
-    fn built(alloc: Global, pairs: Pairs) -> Result<Entries, AllocError>
+    // Where the list has other owners, copies it, with room for one more.
+    fn unshare(&mut self, alloc: Global) -> Result<(), AllocError>
+        ensures { self.new ≡ self.old }
+    {
+        if let Some(_) = Arc::get_mut(&mut self.inside) {
+            return Ok(());
+        }
+        let old = &*self.inside;
+        let deepest = old.deepest;
+        let ascends = old.ascends;
+        let pairs = shared_pairs(alloc, &old.pairs, old.pairs.len() + 1)?;
+        self.inside = Arc::new(
+            alloc,
+            Inside {
+                deepest,
+                ascends,
+                pairs,
+            },
+        )?;
+        Ok(())
+    }
+
+    // Members that ascend, as a collection.
+    pub(crate) fn built(alloc: Global, pairs: Pairs) -> Result<Entries, AllocError>
         requires { IsTrue (keys_ascend (entries_of pairs)) }
         ensures { IfOk result (λ es. es ≡ pairs) }
     {

@@ -1,85 +1,100 @@
-//! Members of a set or a map while it is read: sorted at its end, or kept in order from the first on.
-ghost use Rattle.std.specs.Prelude.{◌≡◌, IsPermutation, IfOk, OnOk};
-ghost use Rattle.std.specs.BTreeMap.{insert_entry};
-ghost use Rattle.std.specs.BTreeSet.{insert_key};
+//! Members of a set or a map in the order of reading, each with how many bytes were left where it began.
+ghost use Rattle.std.specs.Prelude.{◌≡◌, [], cond, IsTrue, IsPermutation, IfOk};
+ghost use Rattle.std.specs.Ordering.{is_lt};
 ghost use Rattle.ref_edn.specs.Edn.{items_of, entries_of};
+ghost use Rattle.ref_edn.specs.Marks.{Falls, elements_of, first_twice, keys_of, pairs_of, twin_left};
 ghost use Rattle.ref_edn.specs.Order.{edn_cmp, elements_ascend, keys_ascend};
-ghost use Rattle.ref_edn.specs.Sorting.{is_among, is_key_among};
 
+use crate::building::{Pairs, Values};
 use crate::data::Value;
-use crate::maps::do_keys_ascend;
 use crate::order::compare;
-use crate::sets::do_elements_ascend;
 use std::alloc::{AllocError, Global};
-use std::collections::{BTreeMap, BTreeSet};
+use std::cmp::{Ordering, Reverse};
 
-/// Puts elements into value order, and says whether no two are equal. It takes no memory, and linear time where they
-/// ascend already.
-pub(crate) fn sort_elements(values: &mut Vec<Value>) -> bool
-    ensures permutation { IsPermutation values.old.items values.new.items }
-    ensures ascends { result ≡ elements_ascend (items_of values.new.items) }
+// How many bytes are left at the second, where it doesn't stand behind the first in value order, and else 0.
+fn twin(x: &Value, y: &Value, left: usize) -> usize
+    ensures { result ≡ cond (is_lt (edn_cmp x.now y.now)) 0 left }
 {
-    if do_elements_ascend(values) {
-        return true;
+    if compare(x, y) == Ordering::Less {
+        0
+    } else {
+        left
     }
-    values.sort_unstable();
-    do_elements_ascend(values)
 }
 
-/// Puts entries into value order by their keys, and says whether no two keys are equal. It takes no memory, and linear
-/// time where the keys ascend already.
-pub(crate) fn sort_entries(pairs: &mut Vec<(Value, Value)>) -> bool
-    ensures permutation { IsPermutation pairs.old.items pairs.new.items }
-    ensures ascends { result ≡ keys_ascend (entries_of pairs.new.items) }
+// The most bytes that are left at an element that doesn't stand behind the one before it in value order, or 0.
+#[tactic(auto, using(crate::proofs::Twins::twin_end))]
+fn most_left(sorted: &[(Value, Reverse<usize>)]) -> usize
+    ensures { result ≡ twin_left sorted.now }
 {
-    if do_keys_ascend(pairs) {
-        return true;
+    let mut most = 0;
+    for i in 1..sorted.len() {
+        let (y, left) = &sorted[i];
+        most = most.max(twin(&sorted[i - 1].0, y, left.0));
     }
-    pairs.sort_unstable_by(|a, b| compare(&a.0, &b.0));
-    do_keys_ascend(pairs)
+    most
 }
 
-pub(crate) fn has_element(set: &BTreeSet<Value>, x: &Value) -> bool
-    ensures { result ≡ is_among x.now set.now.keys }
+// The same of keys.
+#[tactic(auto, using(crate::proofs::Twins::key_twin_end))]
+fn most_left_of_keys(sorted: &[((Value, Reverse<usize>), Value)]) -> usize
+    ensures { result ≡ twin_left (keys_of sorted.now) }
 {
-    set.contains(x)
+    let mut most = 0;
+    for i in 1..sorted.len() {
+        let ((key, left), _) = &sorted[i];
+        most = most.max(twin(&sorted[i - 1].0.0, key, left.0));
+    }
+    most
 }
 
-pub(crate) fn insert_element(set: &mut BTreeSet<Value>, x: Value) -> Result<(), AllocError>
-    ensures { OnOk result (set.new.keys ≡ insert_key edn_cmp set.old.keys x) }
+/// Puts elements into value order, and tells how many bytes were left at the first that equals an earlier one, or 0. It
+/// takes no memory, and linear time where they ascend already.
+pub(crate) fn sort_elements(found: &mut Vec<(Value, Reverse<usize>)>) -> usize
+    requires { Falls found.old.items }
+    ensures permutation { IsPermutation found.old.items found.new.items }
+    ensures first { result ≡ first_twice [] found.old.items }
+    ensures ascends { result ≡ 0 → IsTrue (elements_ascend (items_of (elements_of found.new.items))) }
 {
-    set.insert(x)?;
-    Ok(())
+    found.sort_unstable();
+    most_left(found)
 }
 
-pub(crate) fn into_elements(alloc: Global, set: BTreeSet<Value>) -> Result<Vec<Value>, AllocError>
-    ensures { IfOk result (λ values. values.items ≡ set.keys) }
+/// The same of entries by their keys.
+pub(crate) fn sort_entries(found: &mut Vec<((Value, Reverse<usize>), Value)>) -> usize
+    requires { Falls (keys_of found.old.items) }
+    ensures permutation { IsPermutation found.old.items found.new.items }
+    ensures first { result ≡ first_twice [] (keys_of found.old.items) }
+    ensures ascends { result ≡ 0 → IsTrue (keys_ascend (entries_of (pairs_of found.new.items))) }
 {
-    set.into_iter().collect(alloc)
+    found.sort_unstable();
+    most_left_of_keys(found)
 }
 
-pub(crate) fn has_key(map: &BTreeMap<Value, Value>, key: &Value) -> bool
-    ensures { result ≡ is_key_among key.now map.now.entries }
+/// The elements alone.
+pub(crate) fn into_values(
+    alloc: Global,
+    found: Vec<(Value, Reverse<usize>)>,
+) -> Result<Values, AllocError>
+    ensures { IfOk result (λ xs. xs ≡ elements_of found.items) }
 {
-    map.contains_key(key)
+    let mut values = Values::with_capacity(alloc, found.len())?;
+    for (x, _) in found {
+        values.push(x)?;
+    }
+    Ok(values)
 }
 
-pub(crate) fn put_entry(
-    map: &mut BTreeMap<Value, Value>,
-    key: Value,
-    value: Value,
-) -> Result<(), AllocError>
-    ensures { OnOk result (map.new.entries ≡ insert_entry edn_cmp map.old.entries key value) }
-{
-    map.insert(key, value)?;
-    Ok(())
-}
-
+/// The entries alone.
 pub(crate) fn into_pairs(
     alloc: Global,
-    map: BTreeMap<Value, Value>,
-) -> Result<Vec<(Value, Value)>, AllocError>
-    ensures { IfOk result (λ pairs. pairs.items ≡ map.entries) }
+    found: Vec<((Value, Reverse<usize>), Value)>,
+) -> Result<Pairs, AllocError>
+    ensures { IfOk result (λ es. es ≡ pairs_of found.items) }
 {
-    map.into_iter().collect(alloc)
+    let mut pairs = Pairs::with_capacity(alloc, found.len())?;
+    for ((key, _), value) in found {
+        pairs.push(key, value)?;
+    }
+    Ok(pairs)
 }

@@ -3,7 +3,7 @@ ghost use Rattle.std.specs.Prelude.{◌≡◌, ◌≢◌, ℕ, List, IfOk, IfErr
 ghost use Rattle.ref_edn.specs.Edn.{Edn};
 ghost use Rattle.ref_edn.specs.Faults.{Answers, Gives};
 ghost use Rattle.ref_edn.specs.Grammar.{IsText, AreTexts};
-ghost use Rattle.ref_edn.specs.ReadParts.{GivesAs, whole_at, series_at, public_error};
+ghost use Rattle.ref_edn.specs.ReadParts.{whole_at, series_at, public_error};
 ghost use Rattle.ref_edn.specs.Reading.{one, all};
 
 use crate::data::{MOST_NESTED, Value};
@@ -66,52 +66,33 @@ fn public(text: &[u8], error: ReadError) -> ReadFault
     }
 }
 
-// The quick reader tells no fault for sure, so the exact one reads again where it has found one.
+#[tactic(auto, unfolding(crate::specs::ReadParts::whole_at))]
 fn whole(alloc: Global, text: &[u8]) -> Result<Value, ReadError>
     ensures { Gives (λ v. v) result (whole_at text.now) }
 {
-    match whole_as(alloc, text, false) {
-        Err(ReadError::Fault(_)) => whole_as(alloc, text, true),
-        result => result,
-    }
-}
-
-fn series(alloc: Global, text: &[u8]) -> Result<Vec<Value>, ReadError>
-    ensures { Gives (λ v. v.items) result (series_at text.now) }
-{
-    match series_as(alloc, text, false) {
-        Err(ReadError::Fault(_)) => series_as(alloc, text, true),
-        result => result,
-    }
-}
-
-#[tactic(auto, unfolding(crate::specs::ReadParts::whole_at))]
-fn whole_as(alloc: Global, text: &[u8], exact: bool) -> Result<Value, ReadError>
-    ensures { GivesAs exact (λ v. v) result (whole_at text.now) }
-{
-    let start = skip(alloc, text, MOST_NESTED, exact)?;
+    let start = skip(alloc, text, MOST_NESTED)?;
     if start.is_empty() {
         return Err(ReadError::at(Kind::Nothing, start));
     }
-    let (value, after) = read(alloc, start, MOST_NESTED, exact)?;
-    let rest = skip(alloc, after, MOST_NESTED, exact)?;
+    let (value, after) = read(alloc, start, MOST_NESTED)?;
+    let rest = skip(alloc, after, MOST_NESTED)?;
     if !rest.is_empty() {
         return Err(ReadError::at(Kind::Trailing, rest));
     }
     Ok(value)
 }
 
-fn series_as(alloc: Global, text: &[u8], exact: bool) -> Result<Vec<Value>, ReadError>
-    ensures { GivesAs exact (λ v. v.items) result (series_at text.now) }
+fn series(alloc: Global, text: &[u8]) -> Result<Vec<Value>, ReadError>
+    ensures { Gives (λ v. v.items) result (series_at text.now) }
 {
     let mut found = Vec::new(alloc);
     let mut rest = text;
     loop {
-        let start = skip(alloc, rest, MOST_NESTED, exact)?;
+        let start = skip(alloc, rest, MOST_NESTED)?;
         if start.is_empty() {
             return Ok(found);
         }
-        let (value, behind) = read(alloc, start, MOST_NESTED, exact)?;
+        let (value, behind) = read(alloc, start, MOST_NESTED)?;
         found.push(value)?;
         rest = behind;
     }

@@ -1,5 +1,5 @@
 //! The elements of a set.
-ghost use Rattle.std.specs.Prelude.{◌≡◌, ◌≤◌, ◌<◌, ◌↔◌, ◌^◌, [], true, false, IsTrue, length, IfOk, IfErr, insert, remove, slice_index_or, slice_get, option_copied};
+ghost use Rattle.std.specs.Prelude.{◌≡◌, ◌≤◌, ◌<◌, ◌↔◌, ◌^◌, [], true, false, IsTrue, length, IfOk, IfErr, OnOk, OnErr, insert, remove, slice_index_or, slice_get, option_copied};
 ghost use Rattle.std.specs.Iterator.{YieldsFirstRef, item_count};
 ghost use Rattle.std.specs.Slice.{IsItemAt};
 ghost use Rattle.ref_edn.specs.Collections.{has_element, elements_with, elements_without, ChangesElement, IsFoundAt, IsGapAt};
@@ -8,6 +8,7 @@ ghost use Rattle.ref_edn.specs.Lawful.{AreLawful};
 ghost use Rattle.ref_edn.specs.Order.{edn_cmp, elements_ascend};
 
 use crate::building::Values;
+use crate::changing::{insert_value, remove_value, shared_values};
 use crate::data::Value;
 use crate::order::compare;
 use crate::vectors::deepest_of;
@@ -59,7 +60,7 @@ impl Model for Elements {
 }
 
 #[tactic(auto, using(crate::proofs::Ascending::ascending_at, crate::proofs::Ascending::ascending_end))]
-pub(crate) fn do_elements_ascend(values: &[Value]) -> bool
+fn do_elements_ascend(values: &[Value]) -> bool
     ensures { result ≡ elements_ascend (items_of values.now) }
 {
     for i in 1..values.len() {
@@ -167,10 +168,9 @@ impl Elements {
         ensures ascends { IfOk result (λ xs. IsTrue (elements_ascend (items_of xs))) }
         ensures set { IfOk result (λ xs. ChangesElement self.now xs x true) }
     {
-        match self.search(&x) {
-            Ok(_) => self.share(),
-            Err(i) => self.inserted(alloc, i, x),
-        }
+        let mut all = self.share()?;
+        all.insert(alloc, x)?;
+        Ok(all)
     }
 
     /// These elements without this one; themselves where no equal one is there. The elements are shared; their list is
@@ -181,9 +181,40 @@ impl Elements {
         ensures ascends { IfOk result (λ xs. IsTrue (elements_ascend (items_of xs))) }
         ensures set { IfOk result (λ xs. ChangesElement self.now xs x.now false) }
     {
+        let mut all = self.share()?;
+        all.remove(alloc, x)?;
+        Ok(all)
+    }
+
+    /// Puts this element among these; where an equal one is there, nothing changes. It takes log n comparisons, and
+    /// moves what stands behind. Where the elements have other owners, which keep the old ones, their list is copied
+    /// first, in linear time. A refusal changes nothing.
+    pub fn insert(&mut self, alloc: Global, x: Value) -> Result<(), AllocError>
+        requires { IsTrue (elements_ascend (items_of self.old)) }
+        ensures elements { OnOk result (self.new ≡ elements_with self.old x) }
+        ensures set { OnOk result (ChangesElement self.old self.new x true) }
+        ensures err { OnErr result (self.new ≡ self.old) }
+        ensures ascends { IsTrue (elements_ascend (items_of self.new)) }
+    {
+        match self.search(&x) {
+            Ok(_) => Ok(()),
+            Err(i) => self.insert_at(alloc, i, x),
+        }
+    }
+
+    /// Takes this element out; where no equal one is there, nothing changes. It takes log n comparisons, and moves what
+    /// stands behind; where the element was the deepest, all the others are looked at. Where the elements have other
+    /// owners, which keep the old ones, their list is copied first, in linear time. A refusal changes nothing.
+    pub fn remove(&mut self, alloc: Global, x: &Value) -> Result<(), AllocError>
+        requires { IsTrue (elements_ascend (items_of self.old)) }
+        ensures elements { OnOk result (self.new ≡ elements_without self.old x.now) }
+        ensures set { OnOk result (ChangesElement self.old self.new x.now false) }
+        ensures err { OnErr result (self.new ≡ self.old) }
+        ensures ascends { IsTrue (elements_ascend (items_of self.new)) }
+    {
         match self.search(x) {
-            Ok(i) => self.removed(alloc, i),
-            Err(_) => self.share(),
+            Ok(i) => self.remove_at(alloc, i),
+            Err(_) => Ok(()),
         }
     }
 
@@ -196,34 +227,61 @@ impl Elements {
         self.inside.values.binary_search(x)
     }
 
-    // These elements, with this one at a place.
-    fn inserted(&self, alloc: Global, i: usize, x: Value) -> Result<Elements, AllocError>
-        requires in_range { i ≤ length self.now }
-        requires ascends { IsTrue (elements_ascend (items_of (insert self.now i x))) }
-        ensures { IfOk result (λ xs. xs ≡ insert self.now i x) }
+    fn insert_at(&mut self, alloc: Global, i: usize, x: Value) -> Result<(), AllocError>
+        requires in_range { i ≤ length self.old }
+        requires sorted { IsTrue (elements_ascend (items_of self.old)) }
+        requires ascends { IsTrue (elements_ascend (items_of (insert self.old i x))) }
+        ensures ok { OnOk result (self.new ≡ insert self.old i x) }
+        ensures err { OnErr result (self.new ≡ self.old) }
     {
-        let old = &self.inside.values;
-        let mut values = Values::with_capacity(alloc, old.len() + 1)?;
-        values.share_all(&old[..i])?;
-        values.push(x)?;
-        values.share_all(&old[i..])?;
-        Elements::built(alloc, values)
+        self.unshare(alloc)?;
+        match Arc::get_mut(&mut self.inside) {
+            Some(inside) => insert_value(&mut inside.deepest, &mut inside.values, i, x),
+            None => Err(AllocError),
+        }
     }
 
-    // These elements, without the one at a place.
-    fn removed(&self, alloc: Global, i: usize) -> Result<Elements, AllocError>
-        requires in_range { i < length self.now }
-        requires ascends { IsTrue (elements_ascend (items_of (remove self.now i))) }
-        ensures { IfOk result (λ xs. xs ≡ remove self.now i) }
+    fn remove_at(&mut self, alloc: Global, i: usize) -> Result<(), AllocError>
+        requires in_range { i < length self.old }
+        requires sorted { IsTrue (elements_ascend (items_of self.old)) }
+        requires ascends { IsTrue (elements_ascend (items_of (remove self.old i))) }
+        ensures ok { OnOk result (self.new ≡ remove self.old i) }
+        ensures err { OnErr result (self.new ≡ self.old) }
     {
-        let old = &self.inside.values;
-        let mut values = Values::with_capacity(alloc, old.len() - 1)?;
-        values.share_all(&old[..i])?;
-        values.share_all(&old[i + 1..])?;
-        Elements::built(alloc, values)
+        self.unshare(alloc)?;
+        match Arc::get_mut(&mut self.inside) {
+            Some(inside) => {
+                remove_value(&mut inside.deepest, &mut inside.values, i);
+                Ok(())
+            }
+            None => Err(AllocError),
+        }
     }
 
-    fn built(alloc: Global, values: Values) -> Result<Elements, AllocError>
+    // Where the list has other owners, copies it, with room for one more.
+    fn unshare(&mut self, alloc: Global) -> Result<(), AllocError>
+        ensures { self.new ≡ self.old }
+    {
+        if let Some(_) = Arc::get_mut(&mut self.inside) {
+            return Ok(());
+        }
+        let old = &*self.inside;
+        let deepest = old.deepest;
+        let ascends = old.ascends;
+        let values = shared_values(alloc, &old.values, old.values.len() + 1)?;
+        self.inside = Arc::new(
+            alloc,
+            Inside {
+                deepest,
+                ascends,
+                values,
+            },
+        )?;
+        Ok(())
+    }
+
+    // Members that ascend, as a collection.
+    pub(crate) fn built(alloc: Global, values: Values) -> Result<Elements, AllocError>
         requires { IsTrue (elements_ascend (items_of values)) }
         ensures { IfOk result (λ xs. xs ≡ values) }
     {

@@ -1,11 +1,11 @@
 //! The elements of a vector.
-ghost use Rattle.std.specs.Prelude.{◌≡◌, ◌≤◌, ◌<◌, ◌↔◌, ◌++◌, ◌∷◌, [], ◌^◌, IsTrue, length, IfOk, slice_index_or, slice_get, option_copied, max};
+ghost use Rattle.std.specs.Prelude.{◌≡◌, ◌≤◌, ◌<◌, ◌↔◌, ◌++◌, ◌∷◌, [], ◌^◌, IsTrue, length, IfOk, OnOk, OnErr, slice_index_or, slice_get, option_copied, max};
 ghost use Rattle.std.specs.Slice.{IsItemAt};
 ghost use Rattle.std.specs.Iterator.{YieldsFirstRef, item_count};
 ghost use Rattle.ref_edn.specs.Edn.{Edn, items_of, items_depth};
 ghost use Rattle.ref_edn.specs.Lawful.{AreLawful};
 
-use crate::building::Values;
+use crate::changing::{insert_value, shared_values};
 use crate::data::Value;
 use std::alloc::{AllocError, Global};
 use std::marker::Model;
@@ -137,18 +137,39 @@ impl Items {
     pub fn with(&self, alloc: Global, x: Value) -> Result<Items, AllocError>
         ensures { IfOk result (λ xs. xs ≡ self.now ++ x ∷ []) }
     {
-        let mut values = Values::with_capacity(alloc, self.inside.values.len() + 1)?;
-        values.share_all(&self.inside.values)?;
-        values.push(x)?;
-        Items::built(alloc, values)
+        let mut all = self.share()?;
+        all.push(alloc, x)?;
+        Ok(all)
     }
 
-    fn built(alloc: Global, values: Values) -> Result<Items, AllocError>
-        ensures { IfOk result (λ xs. xs ≡ values) }
+    /// Puts one more element behind these, in constant time, taken over many calls. Where they have other owners,
+    /// which keep the old ones, their list is copied first, in linear time. A refusal changes nothing.
+    pub fn push(&mut self, alloc: Global, x: Value) -> Result<(), AllocError>
+        ensures ok { OnOk result (self.new ≡ self.old ++ x ∷ []) }
+        ensures err { OnErr result (self.new ≡ self.old) }
     {
-        let (deepest, values) = values.into_parts();
-        let inside = Arc::new(alloc, Inside { deepest, values })?;
-        Ok(Items { inside })
+        self.unshare(alloc)?;
+        match Arc::get_mut(&mut self.inside) {
+            Some(inside) => {
+                let end = inside.values.len();
+                insert_value(&mut inside.deepest, &mut inside.values, end, x)
+            }
+            None => Err(AllocError),
+        }
+    }
+
+    // Where the list has other owners, copies it, with room for one more.
+    fn unshare(&mut self, alloc: Global) -> Result<(), AllocError>
+        ensures { self.new ≡ self.old }
+    {
+        if let Some(_) = Arc::get_mut(&mut self.inside) {
+            return Ok(());
+        }
+        let old = &*self.inside;
+        let deepest = old.deepest;
+        let values = shared_values(alloc, &old.values, old.values.len() + 1)?;
+        self.inside = Arc::new(alloc, Inside { deepest, values })?;
+        Ok(())
     }
 }
 
@@ -203,3 +224,6 @@ impl<'a> IntoIterator for &'a Items {
         self.iter()
     }
 }
+
+#[cfg(test)]
+mod tests;

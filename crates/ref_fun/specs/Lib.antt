@@ -1,4 +1,11 @@
 pub mod Cause
 pub mod Meaning
+pub mod Kinds
 pub mod Integers
+pub mod Collections
+pub mod Predicates
 pub mod Core
+pub mod Names
+pub mod Rule
+pub mod Calls
+pub mod Table

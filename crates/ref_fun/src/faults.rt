@@ -1,8 +1,10 @@
 //! Why a function gives no value.
 ghost use Rattle.std.specs.Prelude.{◌≡◌};
+ghost use Rattle.ref_fun.specs.Calls.{add_fault_number, call_fault_number};
 ghost use Rattle.ref_fun.specs.Cause.{cause_number};
-ghost use Rattle.ref_fun.specs.declared.faults.FunFault.TheVariants.{Refused};
+ghost use Rattle.ref_fun.specs.declared.faults.FunFault.TheVariants.{Refused, Memory};
 
+use std::alloc::AllocError;
 use thiserror::Error;
 
 /// Why a function refuses. A refusal follows from the state and the arguments alone.
@@ -50,5 +52,64 @@ impl From<Cause> for FunFault {
 
     fn from(cause: Cause) -> FunFault {
         FunFault::Refused(cause)
+    }
+}
+
+impl From<AllocError> for FunFault {
+    ghost from_gives = { λ _ f. f ≡ Memory };
+
+    fn from(_e: AllocError) -> FunFault {
+        FunFault::Memory
+    }
+}
+
+/// Why a call by a code gave no value.
+#[derive(Clone, Copy, Debug, Drop, PartialEq, Eq, Error)]
+pub enum CallFault {
+    /// The table has no function of this code.
+    #[error("no function has code {0}")]
+    NoSuchFun(u32),
+    #[error("refused: {0}")]
+    Refused(Cause),
+    #[error("out of memory")]
+    Memory,
+}
+
+impl CallFault {
+    /// The number of the fault, from 1 to 3 in the order of the variants.
+    pub fn number(&self) -> u8
+        ensures { result ≡ call_fault_number self.now }
+    {
+        match self {
+            CallFault::NoSuchFun(_) => 1,
+            CallFault::Refused(_) => 2,
+            CallFault::Memory => 3,
+        }
+    }
+}
+
+/// Why a table didn't take a function or a predicate.
+#[derive(Clone, Copy, Debug, Drop, PartialEq, Eq, Error)]
+pub enum AddFault {
+    /// One of its kind has its code.
+    #[error("the code is taken")]
+    Taken,
+    /// The table has 64 of its kind.
+    #[error("the table is full")]
+    Full,
+    #[error("out of memory")]
+    Memory,
+}
+
+impl AddFault {
+    /// The number of the fault, from 1 to 3 in the order of the variants.
+    pub fn number(&self) -> u8
+        ensures { result ≡ add_fault_number self.now }
+    {
+        match self {
+            AddFault::Taken => 1,
+            AddFault::Full => 2,
+            AddFault::Memory => 3,
+        }
     }
 }

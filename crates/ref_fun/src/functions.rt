@@ -3,18 +3,31 @@ ghost use Rattle.std.specs.Prelude.{◌≤◌, length};
 ghost use Rattle.ref_fun.specs.Core.{core_means};
 ghost use Rattle.ref_fun.specs.Meaning.{Answers};
 
+use crate::collections::{assoc, conj, disj, dissoc};
 use crate::faults::{Cause, FunFault};
-use crate::integers::plus;
+use crate::integers::{dec, greatest, inc, least, minus, plus};
 use ref_edn::Value;
 use std::alloc::Global;
 
-/// Calls the function of Core that has this code. It is linear in the number of arguments.
+/// Calls the function of Core that has this code. A function of a collection copies the list of its members once where
+/// something changes, however many arguments there are; the members themselves are shared. The others take constant time
+/// for each argument.
+#[tactic(auto, unfolding(crate::specs::Core::core_means))]
 pub fn core_fun(alloc: Global, code: u32, state: &Value, args: &[Value]) -> Result<Value, FunFault>
     requires { length args.now ≤ 8 }
     ensures { Answers (core_means code args.now state.now) result }
 {
     match code {
         1 => Ok(plus(state, args)?),
+        2 => Ok(minus(state, args)?),
+        3 => Ok(inc(state, args)?),
+        4 => Ok(dec(state, args)?),
+        5 => Ok(greatest(state, args)?),
+        6 => Ok(least(state, args)?),
+        7 => conj(alloc, state, args),
+        8 => assoc(alloc, state, args),
+        9 => dissoc(alloc, state, args),
+        10 => disj(alloc, state, args),
         _ => Err(FunFault::Refused(Cause::WrongArity)),
     }
 }

@@ -1,30 +1,89 @@
--- The first fault of a part is that of the whole.
-use Rattle.std.proofs.Common.{◌≡◌, ℕ, ◌+◌, ◌<◌, Bool, not, Result, Ok, Err, List, ◌∷◌, drop, length, get_or, sym, ◌∙◌, ap, suc, add-one, drop-cons}
+-- The first fault of a part is that of the whole, and so is the first code that a table lacks.
+use Rattle.std.proofs.Common.{◌≡◌, ℕ, ◌+◌, ◌<◌, Bool, not, Result, Ok, Err, Option, None, Some, List, [], ◌∷◌, ◌++◌, drop, find, length, get_or, refl, sym, ◌∙◌, ap, suc, add-one, drop-cons}
+use Rattle.std.specs.Option.{option_or}
+use Rattle.std.proofs.lemmas.List.Folds.{find-append}
 use Rattle.ref_edn.specs.Edn.{Edn}
 use Rattle.ref_fun.specs.Meaning.{Means}
 use Rattle.ref_log.specs.declared.faults.AuditFault.{AuditFault}
-use Rattle.ref_log.specs.declared.faults.AuditFault.TheVariants.{Answer, Refuses, NoSuch, Memory}
+use Rattle.ref_log.specs.declared.faults.AuditFault.TheVariants.{Answer, Refuses, NoSuch, Memory, NoSuchFun}
 use Rattle.ref_log.specs.declared.operations.Done.{Done}
 use Rattle.ref_log.specs.declared.entries.Entry.{Entry}
-use Rattle.ref_log.specs.Replay.{is_protected, after_one, after_dones, step, replay_from, FaultComes}
+use Rattle.ref_log.specs.declared.entries.Entry.TheVariants.{Trans}
+use Rattle.ref_log.specs.Replay.{is_protected, after_one, after_done, after_dones, and_done, step, and_step, replay_from, missing, needed_of_done, needed_of_dones, needed_of_entry, needed_from, FaultComes}
 use Rattle.ref_log.specs.Laws.{after_dones-Err, replay_from-Err}
 
-fault_lifts : (part whole : Result (List Edn) AuditFault) (fault : AuditFault) → ((f : AuditFault) → part ≡ Err f → whole ≡ Err f) → FaultComes part fault → FaultComes whole fault
-fault_lifts part whole (Answer point) lifts here = lifts (Answer point) here
-fault_lifts part whole (Refuses point) lifts here = lifts (Refuses point) here
-fault_lifts part whole (NoSuch point) lifts here = lifts (NoSuch point) here
-fault_lifts part whole Memory lifts here = tt
+first_left : (es : List Entry) (i : ℕ) (e : Entry) → i < length es → e ≡ get_or es i e → drop i es ≡ e ∷ drop (i + 1) es
+first_left es i e below is =
+    rw (add-one) (drop-cons es i e below ∙ ap (λ x. x ∷ drop (suc i) es) (sym is))
 
--- an operation that fails, in its entry
-pub entry_fails : (means : Means) (all : List Done) (free : Bool) (point : ℕ) (left ds : List Done) (d : Done) (values : List Edn) (whole : Result (List Edn) AuditFault) (fault : AuditFault) → after_dones means all point left (Ok values) ≡ whole → left ≡ d ∷ ds → free ≡ not (is_protected all d.r) → FaultComes (after_one means free point d values) fault → FaultComes whole fault
-entry_fails means all free point left ds d values whole fault so_far first is here =
-    fault_lifts (after_one means free point d values) whole fault
-    (λ f e. sym so_far ∙ (ap (λ l. after_dones means all point l (Ok values)) first ∙ (ap (after_dones means all point ds) (ap (λ b. after_one means b point d values) (sym is) ∙ e) ∙ after_dones-Err means all point ds f))) here
+module _ (means : Means) where
+  -- ---- nothing is needed behind a fault
 
--- an entry that fails, in its log
-pub log_fails : (means : Means) (es : List Entry) (i : ℕ) (e : Entry) (values : List Edn) (whole : Result (List Edn) AuditFault) (fault : AuditFault) → replay_from means i (drop i es) (Ok values) ≡ whole → i < length es → e ≡ get_or es i e → FaultComes (step means (i + 1) e values) fault → FaultComes whole fault
-log_fails means es i e values whole fault so_far below is here =
-    let first : drop i es ≡ e ∷ drop (i + 1) es = rw (add-one) (drop-cons es i e below ∙ ap (λ x. x ∷ drop (suc i) es) (sym is)) in
-    let rest = drop (i + 1) es in
-    fault_lifts (step means (i + 1) e values) whole fault
-    (λ f p. sym so_far ∙ (ap (λ l. replay_from means i l (Ok values)) first ∙ (ap (replay_from means (i + 1) rest) p ∙ replay_from-Err means (i + 1) rest f))) here
+  needed_of_dones-Err : (all : List Done) (point : ℕ) (ds : List Done) (fault : AuditFault) → needed_of_dones means all point ds (Err fault) ≡ []
+  needed_of_dones-Err all point [] fault = refl
+  needed_of_dones-Err all point (d ∷ ds) fault = needed_of_dones-Err all point ds fault
+
+  needed_of_entry-Err : (point : ℕ) (e : Entry) (fault : AuditFault) → needed_of_entry means point e (Err fault) ≡ []
+  needed_of_entry-Err point (Trans t) fault = needed_of_dones-Err t.dones point t.dones fault
+
+  needed_from-Err : (point : ℕ) (es : List Entry) (fault : AuditFault) → needed_from means point es (Err fault) ≡ []
+  needed_from-Err point [] fault = refl
+  needed_from-Err point (e ∷ es) fault = rw (needed_of_entry-Err (point + 1) e fault) (needed_from-Err (point + 1) es fault)
+
+  -- an entry that doesn't fail, in its log
+  pub replay_of_later : (es : List Entry) (i : ℕ) (e : Entry) (values after : List Edn) → i < length es → e ≡ get_or es i e → step means (i + 1) e values ≡ Ok after → replay_from means i (drop i es) (Ok values) ≡ replay_from means (i + 1) (drop (i + 1) es) (Ok after)
+  replay_of_later es i e values after below is ok =
+      ap (λ l. replay_from means i l (Ok values)) (first_left es i e below is) ∙ ap (replay_from means (i + 1) (drop (i + 1) es)) ok
+
+module _ (knows : ℕ → Bool) where
+  -- ---- codes that are missing, in two lists of codes
+
+  pub missing-append : (codes others : List ℕ) → missing knows codes ≡ None → missing knows (codes ++ others) ≡ missing knows others
+  missing-append codes others none = find-append (λ c. not (knows c)) codes others ∙ ap (λ o. option_or o (missing knows others)) none
+
+  missing_first : (codes others : List ℕ) (c : ℕ) → missing knows codes ≡ Some c → missing knows (codes ++ others) ≡ Some c
+  missing_first codes others c some = find-append (λ c. not (knows c)) codes others ∙ ap (λ o. option_or o (missing knows others)) some
+
+  missing_none : (codes others : List ℕ) → missing knows codes ≡ None → others ≡ [] → missing knows (codes ++ others) ≡ None
+  missing_none codes others none empty = missing-append codes others none ∙ ap (missing knows) empty
+
+  -- ---- what comes of a part, comes of the whole
+
+  fault_lifts : (codes others : List ℕ) (part whole : Result (List Edn) AuditFault) (lacks : Option ℕ) (fault : AuditFault) → missing knows (codes ++ others) ≡ lacks → ((f : AuditFault) → part ≡ Err f → (others ≡ []) × (whole ≡ Err f)) → FaultComes (missing knows codes) part fault → FaultComes lacks whole fault
+  fault_lifts codes others part whole lacks (Answer point) so_far lifts here =
+      (sym so_far ∙ missing_none codes others here.0 (lifts (Answer point) here.1).0, (lifts (Answer point) here.1).1)
+  fault_lifts codes others part whole lacks (Refuses point) so_far lifts here =
+      (sym so_far ∙ missing_none codes others here.0 (lifts (Refuses point) here.1).0, (lifts (Refuses point) here.1).1)
+  fault_lifts codes others part whole lacks (NoSuch point) so_far lifts here =
+      (sym so_far ∙ missing_none codes others here.0 (lifts (NoSuch point) here.1).0, (lifts (NoSuch point) here.1).1)
+  fault_lifts codes others part whole lacks Memory so_far lifts here = tt
+  fault_lifts codes others part whole lacks (NoSuchFun code) so_far lifts here = sym so_far ∙ missing_first codes others code here
+
+  module _ (means : Means) where
+    -- an operation that fails, in its entry
+    pub entry_fails : (all : List Done) (free : Bool) (point : ℕ) (left ds : List Done) (d : Done) (values : List Edn) (whole : Result (List Edn) AuditFault) (lacks : Option ℕ) (fault : AuditFault) → after_dones means all point left (Ok values) ≡ whole → missing knows (needed_of_dones means all point left (Ok values)) ≡ lacks → left ≡ d ∷ ds → free ≡ not (is_protected all d.r) → FaultComes (missing knows (needed_of_done d (Ok values))) (after_one means free point d values) fault → FaultComes lacks whole fault
+    entry_fails all free point left ds d values whole lacks fault so_far lacks_so_far first is here =
+        let others = needed_of_dones means all point ds (after_done means all point d values) in
+        fault_lifts (needed_of_done d (Ok values)) others (after_one means free point d values) whole lacks fault
+        (ap (λ l. missing knows (needed_of_dones means all point l (Ok values))) (sym first) ∙ lacks_so_far)
+        (λ f e. let fails : after_done means all point d values ≡ Err f = ap (λ b. after_one means b point d values) (sym is) ∙ e in (ap (needed_of_dones means all point ds) fails ∙ needed_of_dones-Err means all point ds f, sym so_far ∙ (ap (λ l. after_dones means all point l (Ok values)) first ∙ (ap (after_dones means all point ds) fails ∙ after_dones-Err means all point ds f)))) here
+
+    -- and one that doesn't
+    pub needed_of_rest : (all : List Done) (free : Bool) (point : ℕ) (left ds : List Done) (d : Done) (values after : List Edn) → left ≡ d ∷ ds → free ≡ not (is_protected all d.r) → after_one means free point d values ≡ Ok after → missing knows (needed_of_done d (Ok values)) ≡ None → missing knows (needed_of_dones means all point left (Ok values)) ≡ missing knows (needed_of_dones means all point ds (Ok after))
+    needed_of_rest all free point left ds d values after first is ok none =
+        let done : after_done means all point d values ≡ Ok after = ap (λ b. after_one means b point d values) (sym is) ∙ ok in
+        ap (λ l. missing knows (needed_of_dones means all point l (Ok values))) first ∙ (missing-append (needed_of_done d (Ok values)) (needed_of_dones means all point ds (after_done means all point d values)) none ∙ ap (λ v. missing knows (needed_of_dones means all point ds v)) done)
+
+    -- an entry that fails, in its log
+    pub log_fails : (es : List Entry) (i : ℕ) (e : Entry) (values : List Edn) (whole : Result (List Edn) AuditFault) (lacks : Option ℕ) (fault : AuditFault) → replay_from means i (drop i es) (Ok values) ≡ whole → missing knows (needed_from means i (drop i es) (Ok values)) ≡ lacks → i < length es → e ≡ get_or es i e → FaultComes (missing knows (needed_of_entry means (i + 1) e (Ok values))) (step means (i + 1) e values) fault → FaultComes lacks whole fault
+    log_fails es i e values whole lacks fault so_far lacks_so_far below is here =
+        let first : drop i es ≡ e ∷ drop (i + 1) es = first_left es i e below is in
+        let rest = drop (i + 1) es in
+        fault_lifts (needed_of_entry means (i + 1) e (Ok values)) (needed_from means (i + 1) rest (step means (i + 1) e values)) (step means (i + 1) e values) whole lacks fault
+        (ap (λ l. missing knows (needed_from means i l (Ok values))) (sym first) ∙ lacks_so_far)
+        (λ f p. (ap (needed_from means (i + 1) rest) p ∙ needed_from-Err means (i + 1) rest f, sym so_far ∙ (ap (λ l. replay_from means i l (Ok values)) first ∙ (ap (replay_from means (i + 1) rest) p ∙ replay_from-Err means (i + 1) rest f)))) here
+
+    -- and one that doesn't
+    pub needed_of_later : (es : List Entry) (i : ℕ) (e : Entry) (values after : List Edn) → i < length es → e ≡ get_or es i e → step means (i + 1) e values ≡ Ok after → missing knows (needed_of_entry means (i + 1) e (Ok values)) ≡ None → missing knows (needed_from means i (drop i es) (Ok values)) ≡ missing knows (needed_from means (i + 1) (drop (i + 1) es) (Ok after))
+    needed_of_later es i e values after below is ok none =
+        ap (λ l. missing knows (needed_from means i l (Ok values))) (first_left es i e below is) ∙ (missing-append (needed_of_entry means (i + 1) e (Ok values)) (needed_from means (i + 1) (drop (i + 1) es) (step means (i + 1) e values)) none ∙ ap (λ v. missing knows (needed_from means (i + 1) (drop (i + 1) es) v)) ok)

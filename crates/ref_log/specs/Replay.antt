@@ -5,15 +5,17 @@
 -- In each operation it is asked, in this order: whether the ref is there; whether the function gives a value; whether
 -- that value is the kept answer, where the transaction protects the ref. The first fault ends the replay, and names the
 -- point of its entry.
-use Rattle.std.specs.Prelude.{ℕ, ◌+◌, Bool, true, false, not, ◌&&◌, ◌||◌, ◌==◌, if◌then◌else◌, Result, Ok, Err, Option, None, Some, List, [], ◌∷◌, length, slice_get, slice_set, ◌≡◌}
+use Rattle.std.specs.Prelude.{ℕ, ◌+◌, Bool, true, false, not, ◌&&◌, ◌||◌, ◌==◌, if◌then◌else◌, Result, Ok, Err, Option, None, Some, List, [], ◌∷◌, ◌++◌, find, length, slice_get, slice_set, ◌≡◌}
 use Rattle.std.specs.List.{list_any}
 use Rattle.std.specs.Ordering.{eq_by_cmp}
 use Rattle.ref_edn.specs.Edn.{Edn}
 use Rattle.ref_edn.specs.Order.{edn_cmp}
 use Rattle.ref_fun.specs.declared.faults.Cause.{Cause}
+use Rattle.ref_fun.specs.declared.faults.CallFault.{CallFault}
+use Rattle.ref_fun.specs.declared.faults.CallFault.TheVariants as calls
 use Rattle.ref_fun.specs.Meaning.{Means}
 use Rattle.ref_log.specs.declared.faults.AuditFault.{AuditFault}
-use Rattle.ref_log.specs.declared.faults.AuditFault.TheVariants.{Answer, Refuses, NoSuch, Memory}
+use Rattle.ref_log.specs.declared.faults.AuditFault.TheVariants.{Answer, Refuses, NoSuch, Memory, NoSuchFun}
 use Rattle.ref_log.specs.declared.operations.Op.{Op}
 use Rattle.ref_log.specs.declared.operations.Op.TheVariants.{Set, Alter, Commute, Ensure}
 use Rattle.ref_log.specs.declared.operations.Done.{Done}
@@ -108,6 +110,8 @@ point_after base entries = length entries
 abbrev pub replay : Means → Base → List Entry → Result (List Edn) AuditFault
 replay means base entries = replay_from means (point_after base []) entries (Ok base.refs)
 
+-- ---- last changes
+
 -- Whether an entry touched a ref.
 abbrev pub is_touched_by : Entry → ℕ → Bool
 is_touched_by (Trans t) r = is_touched t.dones r
@@ -122,9 +126,59 @@ last_change_from point (e ∷ es) r before = last_change_from (point + 1) es r (
 abbrev pub last_change : Base → List Entry → ℕ → ℕ
 last_change base entries r = last_change_from (point_after base []) entries r 0
 
--- A program's fault is that of the replay. Want of memory is the program's own.
-abbrev pub FaultComes : Result (List Edn) AuditFault → AuditFault → Type 0
-FaultComes meant (Answer point) = meant ≡ Err (Answer point)
-FaultComes meant (Refuses point) = meant ≡ Err (Refuses point)
-FaultComes meant (NoSuch point) = meant ≡ Err (NoSuch point)
-FaultComes meant Memory = Unit {0}
+-- ---- the codes that a replay needs
+
+-- the functions that an operation calls, by their codes
+abbrev pub codes_of : Op → List ℕ
+codes_of (Set w) = []
+codes_of (Alter code args) = code ∷ []
+codes_of (Commute code args) = code ∷ []
+codes_of Ensure = []
+
+-- An operation on a ref that isn't there calls nothing.
+abbrev pub needed_of_found : Done → Option Edn → List ℕ
+needed_of_found d (Some v) = codes_of d.op
+needed_of_found d None = []
+
+-- Nothing behind a fault is called.
+abbrev pub needed_of_done : Done → Result (List Edn) AuditFault → List ℕ
+needed_of_done d (Ok values) = needed_of_found d (slice_get values d.r)
+needed_of_done d (Err fault) = []
+
+abbrev pub needed_of_dones : Means → List Done → ℕ → List Done → Result (List Edn) AuditFault → List ℕ
+needed_of_dones means all point [] values = []
+needed_of_dones means all point (d ∷ ds) values = needed_of_done d values ++ needed_of_dones means all point ds (and_done means all point d values)
+
+abbrev pub needed_of_entry : Means → ℕ → Entry → Result (List Edn) AuditFault → List ℕ
+needed_of_entry means point (Trans t) values = needed_of_dones means t.dones point t.dones values
+
+abbrev pub needed_from : Means → ℕ → List Entry → Result (List Edn) AuditFault → List ℕ
+needed_from means point [] values = []
+needed_from means point (e ∷ es) values = needed_of_entry means (point + 1) e values ++ needed_from means (point + 1) es (and_step means (point + 1) e values)
+
+-- The functions that a replay calls, in order, up to its first fault.
+abbrev pub needed : Means → Base → List Entry → List ℕ
+needed means base entries = needed_from means (point_after base []) entries (Ok base.refs)
+
+-- the first of these codes that a table doesn't know
+abbrev pub missing : (ℕ → Bool) → List ℕ → Option ℕ
+missing knows codes = find (λ code. not (knows code)) codes
+
+-- ---- what a program answers
+
+-- An operation's call by a table that lacks this code, or none that is needed: it gives the operation's place or refuses
+-- for its cause; want of memory may stand in place of either.
+abbrev pub PlaceAnswers : Option ℕ → Result Edn Cause → Result Edn CallFault → Type 0
+PlaceAnswers lacks meant (Ok v) = (lacks ≡ None) × (meant ≡ Ok v)
+PlaceAnswers lacks meant (Err (calls.NoSuchFun code)) = lacks ≡ Some code
+PlaceAnswers lacks meant (Err (calls.Refused c)) = (lacks ≡ None) × (meant ≡ Err c)
+PlaceAnswers lacks meant (Err calls.Memory) = lacks ≡ None
+
+-- A program's fault is that of the replay, or the first code that is needed and missing. In one operation a missing code
+-- comes after a missing ref, and before what the function says. Want of memory is the program's own.
+abbrev pub FaultComes : Option ℕ → Result (List Edn) AuditFault → AuditFault → Type 0
+FaultComes lacks meant (Answer point) = (lacks ≡ None) × (meant ≡ Err (Answer point))
+FaultComes lacks meant (Refuses point) = (lacks ≡ None) × (meant ≡ Err (Refuses point))
+FaultComes lacks meant (NoSuch point) = (lacks ≡ None) × (meant ≡ Err (NoSuch point))
+FaultComes lacks meant Memory = Unit {0}
+FaultComes lacks meant (NoSuchFun code) = lacks ≡ Some code

@@ -6,7 +6,7 @@ ghost use Rattle.ref_log.specs.declared.faults.AuditFault.TheVariants.{Memory};
 use std::alloc::AllocError;
 use thiserror::Error;
 
-/// Why entries have no replay. The number in each is the point of the first entry at fault.
+/// Why entries have no replay. A point is that of the first entry at fault.
 #[derive(Clone, Copy, Debug, Drop, PartialEq, Eq, Error)]
 pub enum AuditFault {
     /// The kept answer of an operation isn't the value that it gives.
@@ -20,10 +20,13 @@ pub enum AuditFault {
     NoSuch(u64),
     #[error("out of memory")]
     Memory,
+    /// The table has no function of this code, which an operation calls.
+    #[error("no function has code {0}")]
+    NoSuchFun(u32),
 }
 
 impl AuditFault {
-    /// The number of the fault, from 1 to 4 in the order of the variants.
+    /// The number of the fault. Where a table lacks a function, it is 9 in each kind of fault.
     pub fn number(&self) -> u8
         ensures { result ≡ audit_fault_number self.now }
     {
@@ -32,6 +35,7 @@ impl AuditFault {
             AuditFault::Refuses(_) => 2,
             AuditFault::NoSuch(_) => 3,
             AuditFault::Memory => 4,
+            AuditFault::NoSuchFun(_) => 9,
         }
     }
 }

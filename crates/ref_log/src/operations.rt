@@ -1,12 +1,12 @@
 //! What a transaction does to a ref.
-ghost use Rattle.std.specs.Prelude.{◌≡◌, IfOk};
-ghost use Rattle.ref_fun.specs.Core.{core_means};
-ghost use Rattle.ref_fun.specs.Meaning.{Answers};
-ghost use Rattle.ref_log.specs.Replay.{place, is_set, is_commute, is_ensure};
+ghost use Rattle.std.specs.Bool.{OnFalse, OnTrue};
+ghost use Rattle.std.specs.Prelude.{◌≡◌, ◌≢◌, None, IfOk, IfErr};
+ghost use Rattle.ref_fun.specs.declared.faults.CallFault.TheVariants.{Memory};
+ghost use Rattle.ref_log.specs.Replay.{PlaceAnswers, codes_of, is_commute, is_ensure, is_set, missing, place};
 ghost use Rattle.ref_log.specs.Tally.{fits_tally, is_count};
 
 use ref_edn::{Node, Value};
-use ref_fun::{Args, FunFault, core_fun};
+use ref_fun::{Args, CallFault, Functions, Meaning};
 use std::alloc::{AllocError, Global};
 
 /// An operation on one ref.
@@ -32,25 +32,43 @@ pub struct Done {
 }
 
 impl Op {
-    /// What the operation makes of a ref's value.
-    pub fn place(&self, alloc: Global, value: &Value) -> Result<Value, FunFault>
-        ensures { Answers (place core_means self.now value.now) result }
+    /// What the operation makes of a ref's value, by the functions of a table.
+    pub fn place<M: Meaning, F: Functions<M>>(
+        &self,
+        alloc: Global,
+        funs: &F,
+        value: &Value,
+    ) -> Result<Value, CallFault>
+        ensures { PlaceAnswers (missing (F.knows_fun funs.now) (codes_of self.now)) (place M.means self.now value.now) result }
     {
         match self {
-            Op::Set(new) => new.share().map_err(|_| FunFault::Memory),
+            Op::Set(new) => shared(new),
             Op::Alter(code, args) | Op::Commute(code, args) => {
-                core_fun(alloc, *code, value, args.as_slice())
+                funs.call(alloc, *code, value, args.as_slice())
             }
-            Op::Ensure => value.share().map_err(|_| FunFault::Memory),
+            Op::Ensure => shared(value),
         }
     }
 
+    /// Whether a table has the function that the operation calls, if it calls one.
+    pub fn is_served<M: Meaning, F: Functions<M>>(&self, funs: &F) -> bool
+        ensures yes { OnTrue result (missing (F.knows_fun funs.now) (codes_of self.now) ≡ None) }
+        ensures no { OnFalse result (missing (F.knows_fun funs.now) (codes_of self.now) ≢ None) }
+    {
+        match self {
+            Op::Alter(code, _) | Op::Commute(code, _) => funs.has_fun(*code),
+            Op::Set(_) | Op::Ensure => true,
+        }
+    }
+
+    /// Whether it is called again at the commit: `commute` is.
     pub fn is_commute(&self) -> bool
         ensures { result ≡ is_commute self.now }
     {
         matches!(self, Op::Commute(_, _))
     }
 
+    /// Whether it changes nothing: `ensure` doesn't.
     pub fn is_ensure(&self) -> bool
         ensures { result ≡ is_ensure self.now }
     {
@@ -98,6 +116,16 @@ impl Done {
             op: self.op.share()?,
             answer: self.answer.share()?,
         })
+    }
+}
+
+fn shared(value: &Value) -> Result<Value, CallFault>
+    ensures ok { IfOk result (λ v. v ≡ value.now) }
+    ensures err { IfErr result (λ f. f ≡ Memory) }
+{
+    match value.share() {
+        Ok(value) => Ok(value),
+        Err(_) => Err(CallFault::Memory),
     }
 }
 

@@ -1,6 +1,8 @@
+ghost use Rattle.std.specs.Prelude.{◌≤◌, length};
+
 use crate::{Args, AuditFault, Base, Done, Entry, Op, SharedVec, Stamp, Transaction, replay_plain};
 use ref_edn::{Node, Value};
-use ref_fun::MOST_ARGUMENTS;
+use ref_fun::{Fun, FunFault, FunTable, MOST_ARGUMENTS, StoredFun, core_fun};
 use std::alloc::{AllocError, Global};
 use std::test::Fail;
 
@@ -55,6 +57,16 @@ fn base(alloc: Global) -> Result<Base, AllocError> {
 #[test]
 fn a_log_ends_with_its_values(rt: HostRuntime) -> Result<(), Fail> {
     let alloc = rt.alloc();
+    let mut funs = FunTable::empty(alloc);
+    for code in [1u32, 3] {
+        let run: Fun = Box::new(
+            alloc,
+            move |a: Global, state: &Value, args: &[Value]| -> Result<Value, FunFault>
+                requires { length args.now ≤ 8 }
+            { core_fun(a, code, state, args) },
+        )?;
+        assert!(rt; funs.add_fun(StoredFun::new(code, run)).is_ok());
+    }
     let rows: [(&[Row], &[Row], i64, i64); 4] = [
         (&[], &[], 0, 10),
         (&[(0, 1, 5, 5)], &[(0, 1, 1, 6)], 6, 10),
@@ -63,7 +75,7 @@ fn a_log_ends_with_its_values(rt: HostRuntime) -> Result<(), Fail> {
     ];
     for (first, second, a, b) in rows {
         let entries = log(alloc, first, second)?;
-        match replay_plain(alloc, &base(alloc)?, &entries) {
+        match replay_plain(alloc, &funs, &base(alloc)?, &entries) {
             Ok(state) => {
                 assert_eq!(rt; state.refs.len(), 2);
                 assert!(rt; state.refs.get(0) == Some(&int(a)?), "{first:?} {second:?}");
@@ -78,27 +90,44 @@ fn a_log_ends_with_its_values(rt: HostRuntime) -> Result<(), Fail> {
 #[test]
 fn the_first_fault_ends_the_replay(rt: HostRuntime) -> Result<(), Fail> {
     let alloc = rt.alloc();
-    let rows: [(&[Row], &[Row], AuditFault); 8] = [
+    // A table that has `+` and `inc` alone.
+    let mut funs = FunTable::empty(alloc);
+    for code in [1u32, 3] {
+        let run: Fun = Box::new(
+            alloc,
+            move |a: Global, state: &Value, args: &[Value]| -> Result<Value, FunFault>
+                requires { length args.now ≤ 8 }
+            { core_fun(a, code, state, args) },
+        )?;
+        assert!(rt; funs.add_fun(StoredFun::new(code, run)).is_ok());
+    }
+    let rows: [(&[Row], &[Row], AuditFault); 13] = [
         // A kept answer that isn't the sum.
         (&[(0, 1, 5, 6)], &[], AuditFault::Answer(1)),
         (&[(0, 1, 5, 5)], &[(0, 1, 1, 1)], AuditFault::Answer(2)),
-        // A sum that no i64 holds, and a code without a function.
+        // A sum that no i64 holds, and `inc` with an argument.
         (
             &[(0, 1, 5, 5), (0, 1, i64::MAX, 0)],
             &[],
             AuditFault::Refuses(1),
         ),
-        (&[], &[(0, 2, 5, 5)], AuditFault::Refuses(2)),
-        // A ref that isn't there, where the function would refuse as well.
-        (&[(2, 1, 5, 5)], &[], AuditFault::NoSuch(1)),
+        (&[], &[(0, 3, 5, 5)], AuditFault::Refuses(2)),
+        // A ref that isn't there, where the function would refuse, or isn't there as well.
+        (&[(2, 3, 5, 5)], &[], AuditFault::NoSuch(1)),
         (&[], &[(u32::MAX, 2, 5, 5)], AuditFault::NoSuch(2)),
+        // A function that isn't there, where it would give the answer, or none means anything by its code.
+        (&[], &[(0, 2, 5, -5)], AuditFault::NoSuchFun(2)),
+        (&[(0, 11, 5, 5)], &[], AuditFault::NoSuchFun(11)),
         // Of two faults the first in order.
         (&[(0, 1, 1, 2), (2, 1, 1, 1)], &[], AuditFault::Answer(1)),
-        (&[(0, 2, 1, 1)], &[(2, 1, 1, 1)], AuditFault::Refuses(1)),
+        (&[(0, 3, 1, 1)], &[(2, 1, 1, 1)], AuditFault::Refuses(1)),
+        (&[(0, 1, 1, 2), (0, 2, 1, 1)], &[], AuditFault::Answer(1)),
+        (&[(0, 2, 1, 1), (2, 1, 1, 1)], &[], AuditFault::NoSuchFun(2)),
+        (&[(0, 2, 1, 1)], &[(0, 4, 1, 1)], AuditFault::NoSuchFun(2)),
     ];
     for (first, second, fault) in rows {
         let entries = log(alloc, first, second)?;
-        let got = replay_plain(alloc, &base(alloc)?, &entries).err();
+        let got = replay_plain(alloc, &funs, &base(alloc)?, &entries).err();
         assert_eq!(rt; got, Some(fault), "{first:?} {second:?}");
     }
     Ok(())
@@ -123,6 +152,7 @@ fn faults_say_where_they_are(rt: HostRuntime) -> Result<(), Fail> {
             "the entry at point 3 is about a ref that isn't there",
         ),
         (AuditFault::Memory, 4, "out of memory"),
+        (AuditFault::NoSuchFun(7), 9, "no function has code 7"),
     ];
     for (fault, number, text) in rows {
         assert_eq!(rt; fault.number(), number);

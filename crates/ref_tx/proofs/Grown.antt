@@ -17,7 +17,7 @@ use Rattle.ref_tx.specs.declared.faults.TxFault.{TxFault}
 use Rattle.ref_tx.specs.declared.faults.TxFault.TheVariants.{NoSuchRef, SetAfterCommute, TallyOnly}
 use Rattle.ref_tx.specs.declared.owns.Own.{Own}
 use Rattle.ref_tx.specs.Seen.{TxSeen}
-use Rattle.ref_tx.specs.Inner.{has_ref, is_tally, is_commuted, fit_tally, refusal, inner_value, value_after, and_place, AreAnswers, IsTx}
+use Rattle.ref_tx.specs.Inner.{after_ops, has_ref, is_tally, is_commuted, fit_tally, refusal, inner_value, value_after, and_place, AreAnswers, IsTx}
 use Rattle.ref_tx.specs.Own.{own_value, own_commuted, IsTableOf}
 use Rattle.ref_tx.specs.Laws.{value_after-here, value_after-elsewhere, AreAnswers-append}
 
@@ -68,15 +68,16 @@ pub table_more : (means : Means) (began : List Edn) (ds : List Done) (d : Done) 
     → commuted ≡ (is_commuted ds d.r || is_commute d.op)
     → ((q : ℕ) → new q ≡ cond (d.r == q) (Some (record { value = d.answer; commuted = commuted })) (own q))
     → IsTableOf means began (ds ++ d ∷ []) new
-table_more means began ds d commuted own new is gives commutes updates = record
-    { values = λ q. ap (λ o. own_value o (slice_get began q)) (updates q)
-        ∙ own_here (d.r == q) (record { value = d.answer; commuted = commuted }) (own q) (slice_get began q) (value_after means began (ds ++ d ∷ []) q)
-        (λ here. sym (value_after-here means began ds d q here ∙ ap (λ r. and_place means d.op (value_after means began ds r)) (sym (eqb-true d.r q here)) ∙ gives))
-        (λ elsewhere. is.values q ∙ sym (value_after-elsewhere means began ds d q elsewhere))
-    ; commuted = λ q. ap own_commuted (updates q)
-        ∙ commuted_here (d.r == q) (is_commute d.op) (is_commuted ds q) (record { value = d.answer; commuted = commuted }) (own q) (is.commuted q)
-        (λ here. commutes ∙ ap (λ r. is_commuted ds r || is_commute d.op) (eqb-true d.r q here))
-        ∙ sym (is_commuted_more ds d q) }
+table_more means began ds d commuted own new is gives commutes updates = record {
+  values = λ q. ap (λ o. own_value o (slice_get began q)) (updates q)
+      ∙ own_here (d.r == q) (record { value = d.answer; commuted = commuted }) (own q) (slice_get began q) (value_after means began (ds ++ d ∷ []) q)
+      (λ here. sym (value_after-here means began ds d q here ∙ ap (λ r. and_place means d.op (value_after means began ds r)) (sym (eqb-true d.r q here)) ∙ gives))
+      (λ elsewhere. is.values q ∙ sym (value_after-elsewhere means began ds d q elsewhere));
+  commuted = λ q. ap own_commuted (updates q)
+      ∙ commuted_here (d.r == q) (is_commute d.op) (is_commuted ds q) (record { value = d.answer; commuted = commuted }) (own q) (is.commuted q)
+      (λ here. commutes ∙ ap (λ r. is_commuted ds r || is_commute d.op) (eqb-true d.r q here))
+      ∙ sym (is_commuted_more ds d q);
+}
 
 -- ---- both
 
@@ -87,9 +88,10 @@ pub tx_more : (means : Means) (read_point : ℕ) (began : List Edn) (ds : List D
     → refusal (record { read_point = read_point; began = began; dones = ds; tally = tally }) d.r d.op ≡ None
     → and_place means d.op (value_after means began ds d.r) ≡ Some d.answer
     → IsTx means began (ds ++ d ∷ []) tally
-tx_more means read_point began ds tally d is allowed gives = record
-    { answered = AreAnswers-append means began [] ds d is.answered (value_after-here means began ds d d.r (eq-eqb d.r d.r refl) ∙ gives)
-    ; tallied = fits_more tally ds d is.tallied (allowed_fits (record { read_point = read_point; began = began; dones = ds; tally = tally }) d.r d.op allowed) }
+tx_more means read_point began ds tally d is allowed gives = record {
+  answered = AreAnswers-append means began [] ds d is.answered (value_after-here means began ds d d.r (eq-eqb d.r d.r refl) ∙ gives);
+  tallied = fits_more tally ds d is.tallied (allowed_fits (record { read_point = read_point; began = began; dones = ds; tally = tally }) d.r d.op allowed);
+}
 
 pub value_more : (means : Means) (began : List Edn) (ds : List Done) (r : ℕ) (op : Op) (v : Edn) → and_place means op (value_after means began ds r) ≡ Some v
     → value_after means began (ds ++ (record { r = r; op = op; answer = v }) ∷ []) r ≡ Some v
@@ -101,9 +103,10 @@ tied x y = unsigned_tied x y
 
 -- a table with the same entries
 pub table_same : (means : Means) (began : List Edn) (ds : List Done) (m n : BTreeMap ℕ Own) → n.entries ≡ m.entries → IsTableOf means began ds (get nat_cmp m) → IsTableOf means began ds (get nat_cmp n)
-table_same means began ds m n same is = record
-    { values = λ q. ap (λ es. own_value (lookup (is_at (nat_cmp q)) es) (slice_get began q)) same ∙ is.values q
-    ; commuted = λ q. ap (λ es. own_commuted (lookup (is_at (nat_cmp q)) es)) same ∙ is.commuted q }
+table_same means began ds m n same is = record {
+  values = λ q. ap (λ es. own_value (lookup (is_at (nat_cmp q)) es) (slice_get began q)) same ∙ is.values q;
+  commuted = λ q. ap (λ es. own_commuted (lookup (is_at (nat_cmp q)) es)) same ∙ is.commuted q;
+}
 
 -- What a transaction keeps, after one operation more.
 pub kept_more : (means : Means) (tx : TxSeen) (read_point : ℕ) (began : List Edn) (ds new : List Done) (tally : Option ℕ) (own after : ℕ → Option Own) (r : ℕ) (op : Op) (v kept answer : Edn) (commuted : Bool)
@@ -122,7 +125,13 @@ kept_more means tx read_point began ds new tally own after r op v kept answer co
     let d : Done = record { r = r; op = op; answer = v } in
     let placed : and_place means op (value_after means began ds r) ≡ Some v = ap (λ t. and_place means op (inner_value means t r)) (sym seen) ∙ gives in
     let more : new ≡ ds ++ d ∷ [] = adds ∙ ap (λ x. ds ++ (record { r = r; op = op; answer = x }) ∷ []) answers in
-    rw more
-    ( tx_more means read_point began ds tally d is.0 (ap (λ t. refusal t r op) (sym seen) ∙ allowed) placed
-    , table_more means began ds d commuted own after is.1 placed (commutes ∙ ap (λ t. is_commuted t.dones r || is_commute op) seen)
-      (λ q. updates q ∙ ap (λ x. cond (r == q) (Some (record { value = x; commuted = commuted })) (own q)) keeps) )
+    rw more (
+      tx_more means read_point began ds tally d is.0 (ap (λ t. refusal t r op) (sym seen) ∙ allowed) placed,
+      table_more means began ds d commuted own after is.1 placed (commutes ∙ ap (λ t. is_commuted t.dones r || is_commute op) seen)
+          (λ q. updates q ∙ ap (λ x. cond (r == q) (Some (record { value = x; commuted = commuted })) (own q)) keeps),
+    )
+
+-- Where there is no ref, there is no value after any operations.
+pub none_stays : (means : Means) (ops : List Op) → after_ops means ops None ≡ None
+none_stays means [] = refl
+none_stays means (op ∷ ops) = none_stays means ops

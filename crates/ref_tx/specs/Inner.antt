@@ -4,6 +4,8 @@ use Rattle.std.specs.List.{list_any, list_all}
 use Rattle.ref_edn.specs.Edn.{Edn}
 use Rattle.ref_fun.specs.declared.faults.Cause.{Cause}
 use Rattle.ref_fun.specs.Meaning.{Means}
+use Rattle.ref_fun.specs.Rule.{is_accepted}
+use Rattle.ref_fun.specs.declared.rules.Rule.{Rule}
 use Rattle.ref_log.specs.Replay.{place, is_set, is_commute}
 use Rattle.ref_log.specs.Tally.{fits_tally}
 use Rattle.ref_log.specs.declared.operations.Done.{Done}
@@ -11,7 +13,7 @@ use Rattle.ref_log.specs.declared.operations.Op.{Op}
 use Rattle.ref_log.specs.declared.operations.Op.TheVariants.{Set, Alter, Commute, Ensure}
 use Rattle.ref_tx.specs.Seen.{TxSeen}
 use Rattle.ref_tx.specs.declared.faults.TxFault.{TxFault}
-use Rattle.ref_tx.specs.declared.faults.TxFault.TheVariants.{NoSuchRef, SetAfterCommute, TallyOnly, Refused, NoSuchFun}
+use Rattle.ref_tx.specs.declared.faults.TxFault.TheVariants.{NoSuchRef, SetAfterCommute, TallyOnly, Refused, NoSuchFun, NotMet}
 
 -- ---- in-transaction values
 
@@ -101,6 +103,18 @@ or_refusal None answer = answer
 -- What an operation answers: its first fault, or what it makes of the in-transaction value.
 abbrev pub answer_of : Means → (ℕ → Bool) → TxSeen → ℕ → Op → Result Edn TxFault
 answer_of means knows tx r op = or_refusal (refusal tx r op) (called means op (inner_value means tx r) (unknown_code knows op))
+
+-- ---- what is required
+
+-- Why a rule isn't met by a value, if it isn't there or isn't accepted.
+abbrev pub unmet : (ℕ → List Edn → Edn → Bool) → (ℕ → Bool) → Rule → Option Edn → Option TxFault
+unmet accepts knows rule None = Some NoSuchRef
+unmet accepts knows rule (Some v) =
+    if not (knows rule.code) then Some (NoSuchFun rule.code) else
+    if is_accepted accepts rule v then None else
+    Some NotMet
+
+-- ---- one operation more
 
 -- The transaction with one operation more.
 abbrev pub with_done : TxSeen → ℕ → Op → Edn → TxSeen

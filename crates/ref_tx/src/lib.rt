@@ -10,6 +10,8 @@
 
 pub mod faults;
 mod owns;
+#[cfg(test)]
+mod tests;
 pub mod transactions;
 
 pub use faults::TxFault;

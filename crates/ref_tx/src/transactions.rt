@@ -4,13 +4,13 @@ ghost use Rattle.std.specs.Ordering.{nat_cmp};
 ghost use Rattle.std.specs.Prelude.{◌==◌, ◌||◌, cond, ◌≡◌, ◌≢◌, ◌≤◌, ℕ, [], true, false, Ok, Err, Some, None, IfOk, IfErr, OnOk, OnErr, option_copied, slice_get};
 ghost use Rattle.ref_log.specs.Replay.{is_commute};
 ghost use Rattle.ref_log.specs.declared.operations.Op.TheVariants.{Set, Alter, Commute, Ensure};
-ghost use Rattle.ref_tx.specs.Inner.{inner_value, has_ref, is_commuted, is_tally, refusal, answer_of, and_place, called_as, with_done};
+ghost use Rattle.ref_tx.specs.Inner.{inner_value, has_ref, is_commuted, is_tally, refusal, answer_of, and_place, called_as, unmet, with_done};
 ghost use Rattle.ref_tx.specs.declared.faults.TxFault.TheVariants.{NoSuchRef, Memory};
 
 use crate::faults::TxFault;
 use crate::owns::Own;
 use ref_edn::Value;
-use ref_fun::{CallFault, Functions, Meaning};
+use ref_fun::{CallFault, Functions, Meaning, Rule};
 use ref_log::{Args, Done, Op, SharedVec};
 use std::alloc::{AllocError, Global};
 use std::collections::BTreeMap;
@@ -90,11 +90,13 @@ impl<M: Meaning> Tx<M> {
         self.dones.as_slice()
     }
 
-    /// The in-transaction value of a ref. It takes no memory.
+    /// The in-transaction value of a ref: Clojure's `deref`. It takes no memory.
+    #[tactic(auto, using(crate::proofs::Grown::none_stays))]
     pub fn deref(&self, r: u32) -> Result<&Value, TxFault>
         ensures ok { IfOk result (λ v. inner_value M.means self.now r ≡ Some v.now) }
         ensures there { IfOk result (λ v. has_ref self.now r ≡ true) }
         ensures err { IfErr result (λ f. (f ≡ NoSuchRef) × (has_ref self.now r ≡ false)) }
+        ensures none { OnErr result (inner_value M.means self.now r ≡ None) }
     {
         match self.began.get(r as usize) {
             None => Err(TxFault::NoSuchRef),
@@ -172,6 +174,19 @@ impl<M: Meaning> Tx<M> {
         self.record(alloc, r, Op::Ensure, value)
     }
 
+    /// Asks whether a rule accepts the in-transaction value of a ref. It adds no operation and takes no memory.
+    pub fn require<F: Functions<M>>(&self, funs: &F, r: u32, rule: &Rule) -> Result<(), TxFault>
+        ensures ok { OnOk result (unmet M.accepts (F.knows_pred funs.now) rule.now (inner_value M.means self.now r) ≡ None) }
+        ensures err { IfErr result (λ f. unmet M.accepts (F.knows_pred funs.now) rule.now (inner_value M.means self.now r) ≡ Some f) }
+    {
+        let value = self.deref(r)?;
+        match funs.test(rule.code, value, rule.args.as_slice()) {
+            None => Err(TxFault::NoSuchFun(rule.code)),
+            Some(true) => Ok(()),
+            Some(false) => Err(TxFault::NotMet),
+        }
+    }
+
     // The in-transaction value of a ref, where the operation isn't refused before its function is asked for.
     fn check(&self, r: u32, op: &Op) -> Result<&Value, TxFault>
         ensures ok { OnOk result (refusal self.now r op.now ≡ None) }
@@ -238,12 +253,7 @@ impl<M: Meaning> Tx<M> {
 
 // Keeps what stands for a ref from now on.
 #[tactic(auto, using(crate::proofs::Grown::tied))]
-fn put(
-    own: &mut BTreeMap<u32, Own>,
-    r: u32,
-    value: Value,
-    commuted: bool,
-) -> Result<(), AllocError>
+fn put(own: &mut BTreeMap<u32, Own>, r: u32, value: Value, commuted: bool) -> Result<(), AllocError>
     ensures ok { OnOk result ((q : ℕ) → get nat_cmp own.new q ≡ cond (r == q) (Some (record { value = value; commuted = commuted })) (get nat_cmp own.old q)) }
     ensures err { OnErr result (own.new.entries ≡ own.old.entries) }
 {

@@ -48,9 +48,9 @@ answered : (means : Means) (p : Planned) (there : Option Edn) (v : Edn) → answ
 answered means p None v e = cc
 answered means p (Some x) v e = record { found = x; is = refl; gives = gave (place means p.op x) v e }
 
-pub values_more : (means : Means) (p : Planned) (start s t : List Edn) (ds : List Done) (d : Done) (point : ℕ) → after_dones means point ds (Ok start) ≡ Ok s → answer means p (slice_get s p.r) ≡ Ok d.answer → d ≡ done_of p d.answer
-    → t ≡ slice_set s p.r d.answer → after_dones means point (ds ++ d ∷ []) (Ok start) ≡ Ok t
-values_more means p start s t ds d point so_far gives done set =
+pub values_more : (means : Means) (p : Planned) (start s t : List Edn) (all ds : List Done) (d : Done) (point : ℕ) → after_dones means all point ds (Ok start) ≡ Ok s → answer means p (slice_get s p.r) ≡ Ok d.answer → d ≡ done_of p d.answer
+    → t ≡ slice_set s p.r d.answer → after_dones means all point (ds ++ d ∷ []) (Ok start) ≡ Ok t
+values_more means p start s t all ds d point so_far gives done set =
     let a = answered means p (slice_get s p.r) d.answer gives in
-    let kept : and_done means point (done_of p d.answer) (Ok s) ≡ Ok (slice_set s p.r d.answer) = after_done-kept means point (done_of p d.answer) s a.found a.is a.gives in
-    after_dones-append means point ds d (Ok start) ∙ (ap (and_done means point d) so_far ∙ (ap (λ x. and_done means point x (Ok s)) done ∙ (kept ∙ ap Ok (sym set))))
+    let kept : and_done means all point (done_of p d.answer) (Ok s) ≡ Ok (slice_set s p.r d.answer) = after_done-kept means all point (done_of p d.answer) s a.found a.is a.gives in
+    after_dones-append means all point ds d (Ok start) ∙ (ap (and_done means all point d) so_far ∙ (ap (λ x. and_done means all point x (Ok s)) done ∙ (kept ∙ ap Ok (sym set))))

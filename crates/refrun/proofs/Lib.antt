@@ -2,6 +2,7 @@ pub mod NamesFound
 pub mod InTurn
 pub mod Landed
 pub mod ReportLines
+pub mod PrintedLines
 pub mod OrderlyRun
 pub mod Forms
 pub mod References
@@ -11,3 +12,4 @@ pub mod Words
 pub mod Steps
 pub mod Parts
 pub mod Workloads
+pub mod Served

@@ -4,7 +4,7 @@ use Rattle.std.proofs.lemmas.Option.{slice_get_within, get_or_from_slice_get}
 use Rattle.std.specs.List.{AllZip}
 use Rattle.ref_edn.specs.Edn.{Edn, keyword, symbol, vector, items_of}
 use Rattle.refrun.specs.declared.path.plans.Planned.{Planned}
-use Rattle.refrun.specs.Workload.{IsShallow, IsAlter, IsStep, alter_word, plus_word, tx_word}
+use Rattle.refrun.specs.Workload.{IsAlter, IsFunction, IsShallow, IsStep, alter_word, tx_word}
 use Rattle.refrun.specs.declared.path.steps.Wrong.{Wrong}
 use Rattle.refrun.specs.declared.path.steps.Wrong.TheVariants.{Memory}
 use Rattle.refrun.proofs.Forms.{GoesOn, SaysNothing, one_more, next_fails}
@@ -18,14 +18,20 @@ too_long x xs forms most e long short f =
 
 -- the parts of an operation are those of its form
 module _ (names : List (List ℕ)) (x : Edn) (name function : List ℕ) (arguments : List Edn) (form : x ≡ vector (items_of (keyword alter_word ∷ symbol name ∷ symbol function ∷ arguments))) (p : Planned) (a : IsAlter names x p) where
-  same : keyword alter_word ∷ symbol name ∷ symbol function ∷ arguments ≡ keyword alter_word ∷ symbol a.name ∷ symbol plus_word ∷ a.arguments
-  same = same_elements (keyword alter_word ∷ symbol name ∷ symbol function ∷ arguments) (keyword alter_word ∷ symbol a.name ∷ symbol plus_word ∷ a.arguments) (sym form ∙ a.form)
+  same : keyword alter_word ∷ symbol name ∷ symbol function ∷ arguments ≡ keyword alter_word ∷ symbol a.name ∷ symbol a.function ∷ a.arguments
+  same = same_elements (keyword alter_word ∷ symbol name ∷ symbol function ∷ arguments) (keyword alter_word ∷ symbol a.name ∷ symbol a.function ∷ a.arguments) (sym form ∙ a.form)
 
   same_arguments : a.arguments ≡ arguments
   same_arguments = let e = same in cc
 
   same_name : a.name ≡ name
   same_name = let e = same in cc
+
+  pub is_function : IsFunction function a.code
+  is_function =
+      let e = same in
+      let same_function : a.function ≡ function = cc in
+      subst (λ f. IsFunction f a.code) same_function a.means
 
   pub few_arguments : length arguments ≤ 8
   few_arguments = subst (λ l. length l ≤ 8) same_arguments a.few

@@ -5,6 +5,8 @@ pub mod References
 pub mod World
 pub mod Report
 pub mod Orderly
+pub mod Streams
+pub mod Printing
 pub mod Run
 pub mod Steps
 pub mod Lines

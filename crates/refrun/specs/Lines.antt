@@ -2,8 +2,8 @@
 use Rattle.std.specs.Prelude.{ℕ}
 use Rattle.refrun.specs.declared.path.faults.PlanFault.{PlanFault}
 use Rattle.refrun.specs.declared.path.faults.PlanFault.TheVariants as plans
-use Rattle.refrun.specs.declared.path.faults.RunFault.{RunFault}
-use Rattle.refrun.specs.declared.path.faults.RunFault.TheVariants.{Read, InputTooLong, NotEdn, Plan, Write, Memory, Internal}
+use Rattle.refrun.specs.declared.faults.RunFault.{RunFault}
+use Rattle.refrun.specs.declared.faults.RunFault.TheVariants.{Read, InputTooLong, NotEdn, Plan, Write, Memory, Internal}
 
 abbrev pub plan_number_of : PlanFault → ℕ
 plan_number_of plans.NotWorkload = 1

@@ -12,10 +12,8 @@ use Rattle.ref_fun.specs.declared.faults.Cause.TheVariants.{WrongKind, WrongArit
 use Rattle.refrun.specs.declared.path.report.Refusal.{Refusal}
 use Rattle.refrun.specs.declared.path.report.Verdict.{Verdict}
 use Rattle.refrun.specs.declared.path.report.Verdict.TheVariants as verdicts
+use Rattle.refrun.specs.Printing.{newline}
 use Rattle.refrun.specs.World.{WorldSeen}
-
-abbrev pub newline : List ℕ
-newline = 10 ∷ []
 
 abbrev pub ref_line : List ℕ → Edn → List ℕ
 ref_line name value = codes "ref " ++ name ++ codes " " ++ printed value ++ newline

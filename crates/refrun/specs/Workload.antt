@@ -2,13 +2,14 @@
 --
 --   {:version 1
 --    :refs [[NAME VALUE] ..]
---    :workers [[[:tx [:alter NAME + ARGUMENT ..] ..] ..]]}
+--    :workers [[[:tx [:alter NAME FUNCTION ARGUMENT ..] ..] ..]]}
 --
 -- Names are symbols. `:refs` and `:workers` may be left out, and are empty then. There is at most one worker.
 use Rattle.std.specs.Prelude.{◌≡◌, ◌≢◌, ◌≤◌, ℕ, pos, Bool, true, false, ◌||◌, ◌&&◌, List, [], ◌∷◌, Option, None, Some, IsTrue, All, AllPairs, cond, codes, length, slice_get}
 use Rattle.std.specs.List.{AllZip, list_all}
 use Rattle.ref_edn.specs.Edn.{Edn, int, keyword, symbol, vector, map, items_of, entries_of, nesting}
 use Rattle.ref_edn.specs.Names.{bytes_eq}
+use Rattle.ref_fun.specs.Names.{code_in, core_names}
 use Rattle.ref_log.specs.declared.operations.Op.TheVariants.{Alter}
 use Rattle.refrun.specs.declared.path.plans.Declared.{Declared}
 use Rattle.refrun.specs.declared.path.plans.Planned.{Planned}
@@ -31,23 +32,28 @@ tx_word = codes "tx"
 abbrev pub alter_word : List ℕ
 alter_word = codes "alter"
 
-abbrev pub plus_word : List ℕ
-plus_word = codes "+"
-
 -- ---- operations and steps
 
 -- The value of a workload may nest as deep as the result of a function.
 abbrev pub IsShallow : Edn → Type 0
 IsShallow x = nesting x ≤ 48
 
--- `[:alter NAME + ARGUMENT ..]`, with at most 8 arguments, alters the ref of that name by the function of code 1. The
--- names are those of the refs, by number.
+-- The name is that of a function of Core, and this is its code. The codes of functions are 1 to 10, and those of
+-- predicates are greater.
+abbrev pub IsFunction : List ℕ → ℕ → Type 0
+IsFunction function code = (code_in core_names function ≡ Some code) × (code ≤ 10)
+
+-- `[:alter NAME FUNCTION ARGUMENT ..]`, with at most 8 arguments, alters the ref of that name by the function of that
+-- name. The names of the refs stand by number.
 pub record IsAlter (names : List (List ℕ)) (x : Edn) (planned : Planned) : Type 0 where
   pub name : List ℕ
+  pub function : List ℕ
+  pub code : ℕ
   pub arguments : List Edn
-  pub form : x ≡ vector (items_of (keyword alter_word ∷ symbol name ∷ symbol plus_word ∷ arguments))
+  pub form : x ≡ vector (items_of (keyword alter_word ∷ symbol name ∷ symbol function ∷ arguments))
   pub declared : slice_get names planned.r ≡ Some name
-  pub op : planned.op ≡ Alter 1 arguments
+  pub means : IsFunction function code
+  pub op : planned.op ≡ Alter code arguments
   pub few : length arguments ≤ 8
   pub shallow : All IsShallow arguments
 

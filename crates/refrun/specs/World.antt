@@ -1,10 +1,10 @@
 -- Worlds of refs, and what a transaction does to one.
-use Rattle.std.specs.Prelude.{◌≡◌, ℕ, ◌+◌, List, [], ◌∷◌, ◌++◌, Option, None, Some, Result, Ok, Err, length, slice_get, slice_set}
+use Rattle.std.specs.Prelude.{◌≡◌, ℕ, ◌+◌, Bool, List, [], ◌∷◌, ◌++◌, Option, None, Some, Result, Ok, Err, length, slice_get, slice_set}
 use Rattle.ref_edn.specs.Edn.{Edn}
 use Rattle.ref_fun.specs.Core.{core_means}
 use Rattle.ref_fun.specs.Meaning.{Means}
 use Rattle.ref_fun.specs.declared.faults.Cause.{Cause}
-use Rattle.ref_log.specs.Replay.{place, replay, step}
+use Rattle.ref_log.specs.Replay.{codes_of, missing, place, replay, step}
 use Rattle.ref_log.specs.declared.entries.Entry.{Entry}
 use Rattle.ref_log.specs.declared.entries.Entry.TheVariants.{Trans}
 use Rattle.ref_log.specs.declared.entries.Stamp.{Stamp}
@@ -25,6 +25,10 @@ abbrev pub IsReplayed : WorldSeen → Type 0
 IsReplayed world = replay core_means world.base world.log ≡ Ok world.values
 
 -- ---- what operations answer
+
+-- A table has the functions that an operation calls.
+abbrev pub IsServed : (ℕ → Bool) → Planned → Type 0
+IsServed knows planned = missing knows (codes_of planned.op) ≡ None
 
 abbrev pub done_of : Planned → Edn → Done
 done_of planned v = record { r = planned.r; op = planned.op; answer = v }

@@ -2,7 +2,8 @@
 ghost use Rattle.std.specs.Prelude.{◌≡◌};
 ghost use Rattle.refrun.specs.Lines.{status_of};
 
-use crate::path::faults::{PlanFault, RunFault};
+use crate::faults::RunFault;
+use crate::path::faults::PlanFault;
 use ref_edn::ReadFault;
 use std::fmt;
 

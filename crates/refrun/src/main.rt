@@ -1,19 +1,26 @@
-//! `refrun` runs EDN workloads on Clojure's reference types, and reports what came of them.
+//! `refrun` runs EDN workloads on Clojure's reference types, reports what came of them, and prints EDN.
 #![tactic(auto)]
 
+#[cfg(test)]
+mod fakes;
+pub mod faults;
 mod lines;
 pub mod path;
+pub mod printing;
+mod streams;
+mod table;
 
 use clap::error::ErrorKind;
 use clap::{ArgMatches, Command, Error};
+use faults::RunFault;
 use lines::{Line, status};
-use path::faults::RunFault;
-use path::run::run_workload;
+use printing::print_text;
 use ref_edn::Counted;
 use std::alloc::{AllocError, Global};
 use std::env::Env;
 use std::io;
 use std::process::ExitCode;
+use table::run_by_core;
 
 // The status where the words are no command.
 const USAGE: u8 = 2;
@@ -29,7 +36,7 @@ fn answer<R: AllocGlobal + Env + Input + Print + Eprint>(rt: &R) -> u8 {
         Err(error) => return no_arguments(rt, &error),
     };
     match matches_of(rt.alloc(), words.as_slice()) {
-        Ok(matches) => run(rt, &matches),
+        Ok(matches) => obey(rt, &matches),
         Err(error) => no_matches(rt, &error),
     }
 }
@@ -47,23 +54,37 @@ fn command<'a>(alloc: Global) -> Result<Command<'a>, AllocError> {
     let run = Command::new(alloc, "run").about(
         "Reads a workload from standard input, runs it, and prints a report",
     );
+    let print = Command::new(alloc, "print").about(
+        "Reads EDN from standard input, and prints each element on a line",
+    );
     Command::new(alloc, "refrun")
         .about("Runs EDN workloads on Clojure's reference types, and reports what came of them")
         .subcommand_required(true)
-        .subcommand(run)
+        .subcommand(run)?
+        .subcommand(print)
 }
 
-// `run` is the one command.
-fn run<R: AllocGlobal + Input + Print + Eprint>(rt: &R, _matches: &ArgMatches) -> u8 {
+// Does what the command says, from standard input to standard output.
+fn obey<R: AllocGlobal + Input + Print + Eprint>(rt: &R, matches: &ArgMatches) -> u8 {
     let mut reader = Counted::new(rt.reader());
     let mut writer = Counted::new(io::writer(rt));
-    match run_workload(rt.alloc(), &mut reader, &mut writer) {
+    match matches.subcommand_name() {
+        Some("run") => end(rt, run_by_core(rt.alloc(), &mut reader, &mut writer)),
+        Some("print") => end(rt, print_text(rt.alloc(), &mut reader, &mut writer)),
+        // The parser lets no other word pass.
+        _ => USAGE,
+    }
+}
+
+// Says what went wrong, if anything did, and answers the status.
+fn end<R: Eprint, T: Drop>(rt: &R, ended: Result<T, RunFault>) -> u8 {
+    match ended {
         Ok(_) => 0,
         Err(fault) => say(rt, fault),
     }
 }
 
-// ---- what ends a run early
+// ---- what ends a command early
 
 // Says what went wrong, and answers the status. Where standard error can't be written, the status alone tells.
 fn say<R: Eprint>(rt: &R, fault: RunFault) -> u8 {

@@ -94,3 +94,58 @@ fn the_deepest_comes_and_goes(rt: HostRuntime) -> Result<(), Fail> {
     assert_eq!(rt; deeper.deepest(), 1);
     Ok(())
 }
+
+// Puts integers under keys, and takes keys out (`None`), one after another.
+fn change(
+    alloc: Global,
+    made: &mut Entries,
+    changes: &[(i64, Option<i64>)],
+) -> Result<(), AllocError> {
+    for (key, x) in changes {
+        if !made.ascends() {
+            return Err(AllocError);
+        }
+        match x {
+            Some(n) => made.insert(alloc, int(*key)?, int(*n)?)?,
+            None => made.remove(alloc, &int(*key)?)?,
+        }
+    }
+    Ok(())
+}
+
+#[test]
+fn insert_and_remove_leave_another_owner_the_old_entries(rt: HostRuntime) -> Result<(), Fail> {
+    let rows: [(&[(i64, i64)], &[(i64, Option<i64>)], &[(i64, i64)]); 5] = [
+        (&[], &[(2, Some(20)), (1, Some(10))], &[(1, 10), (2, 20)]),
+        (
+            &[(1, 10), (3, 30)],
+            &[(3, Some(31)), (2, Some(20)), (1, Some(11))],
+            &[(1, 11), (2, 20), (3, 31)],
+        ),
+        (
+            &[(1, 10), (2, 20), (3, 30)],
+            &[(2, None), (5, None)],
+            &[(1, 10), (3, 30)],
+        ),
+        (
+            &[(1, 10), (2, 20)],
+            &[(2, None), (2, Some(22)), (1, None)],
+            &[(2, 22)],
+        ),
+        (&[(1, 10)], &[(1, None)], &[]),
+    ];
+    for (before, changes, want) in rows {
+        let mut alone = entries(rt.alloc(), before)?;
+        change(rt.alloc(), &mut alone, changes)?;
+        let got = integers(rt.alloc(), &alone)?;
+        assert_eq!(rt; got.as_slice(), want);
+        let mut shared = entries(rt.alloc(), before)?;
+        let old = shared.share()?;
+        change(rt.alloc(), &mut shared, changes)?;
+        let got = integers(rt.alloc(), &shared)?;
+        assert_eq!(rt; got.as_slice(), want);
+        let kept = integers(rt.alloc(), &old)?;
+        assert_eq!(rt; kept.as_slice(), before);
+    }
+    Ok(())
+}

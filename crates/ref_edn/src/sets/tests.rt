@@ -68,3 +68,47 @@ fn contains_and_without_look_at_one_element(rt: HostRuntime) -> Result<(), Fail>
     }
     Ok(())
 }
+
+// Puts integers in (`true`) and takes them out, one after another.
+fn change(alloc: Global, made: &mut Elements, changes: &[(bool, i64)]) -> Result<(), AllocError> {
+    for (put, n) in changes {
+        if !made.ascends() {
+            return Err(AllocError);
+        }
+        if *put {
+            made.insert(alloc, int(*n)?)?;
+        } else {
+            made.remove(alloc, &int(*n)?)?;
+        }
+    }
+    Ok(())
+}
+
+#[test]
+fn insert_and_remove_leave_another_owner_the_old_elements(rt: HostRuntime) -> Result<(), Fail> {
+    let rows: [(&[i64], &[(bool, i64)], &[i64]); 5] = [
+        (&[], &[(true, 2), (true, 1), (true, 2)], &[1, 2]),
+        (
+            &[1, 3],
+            &[(true, 2), (true, 4), (true, 0)],
+            &[0, 1, 2, 3, 4],
+        ),
+        (&[1, 2, 3], &[(false, 2), (false, 5)], &[1, 3]),
+        (&[1, 2, 3], &[(false, 3), (true, 3), (false, 1)], &[2, 3]),
+        (&[1], &[(false, 1)], &[]),
+    ];
+    for (before, changes, want) in rows {
+        let mut alone = elements(rt.alloc(), before)?;
+        change(rt.alloc(), &mut alone, changes)?;
+        let got = integers(rt.alloc(), &alone)?;
+        assert_eq!(rt; got.as_slice(), want);
+        let mut shared = elements(rt.alloc(), before)?;
+        let old = shared.share()?;
+        change(rt.alloc(), &mut shared, changes)?;
+        let got = integers(rt.alloc(), &shared)?;
+        assert_eq!(rt; got.as_slice(), want);
+        let kept = integers(rt.alloc(), &old)?;
+        assert_eq!(rt; kept.as_slice(), before);
+    }
+    Ok(())
+}

@@ -4,20 +4,25 @@ ghost use Rattle.std.specs.Bool.{OnTrue};
 ghost use Rattle.refrun.specs.Run.{IsOfPlan};
 ghost use Rattle.refrun.specs.World.{IsReplayed};
 
-use crate::path::faults::RunFault;
+use crate::faults::RunFault;
 use crate::path::report::Verdict;
 use crate::path::world::World;
 use ref_edn::Value;
+use ref_fun::{Core, Functions};
 use ref_log::{AuditFault, SharedVec, replay_plain};
 use std::alloc::Global;
 
 /// Replays the log of a world on its base, and compares what that gives with the values. Anything else than equal
 /// values is what a right program never meets. Linear in the number of refs and operations.
-pub(crate) fn audit(alloc: Global, world: &World) -> Result<Verdict, RunFault>
+pub(crate) fn audit<F: Functions<Core>>(
+    alloc: Global,
+    funs: &F,
+    world: &World,
+) -> Result<Verdict, RunFault>
     ensures ok { OnOk result (IsReplayed world.now) }
     ensures fault { IfErr result IsOfPlan }
 {
-    match replay_plain(alloc, world.base(), world.log()) {
+    match replay_plain(alloc, funs, world.base(), world.log()) {
         Ok(state) => {
             if has_values(world, &state.refs) {
                 Ok(Verdict::Ok)

@@ -1,9 +1,10 @@
 //! Why a value is no workload.
 ghost use Rattle.std.specs.Prelude.{◌≡◌};
 ghost use Rattle.refrun.specs.declared.path.faults.PlanFault.TheVariants.{Memory};
-ghost use Rattle.refrun.specs.Lines.{plan_number_of, run_number_of};
+ghost use Rattle.refrun.specs.Lines.{plan_number_of};
+ghost use Rattle.refrun.specs.Run.{plan_fault_of};
 
-use ref_edn::ReadFault;
+use crate::faults::RunFault;
 use std::alloc::{AllocError, AllocFailed};
 use thiserror::Error;
 
@@ -73,35 +74,13 @@ impl<T: Drop> From<AllocFailed<T>> for PlanFault {
     }
 }
 
-/// Why a workload wasn't run to its end.
-#[derive(Clone, Copy, Debug, Drop, PartialEq, Eq)]
-pub enum RunFault {
-    /// The reader failed.
-    Read,
-    /// The input has more than 16,777,216 bytes.
-    InputTooLong,
-    NotEdn(ReadFault),
-    Plan(PlanFault),
-    /// The writer failed, or took nothing. A part of the report may be written.
-    Write,
-    Memory,
-    /// What a right program never meets.
-    Internal,
-}
+impl From<PlanFault> for RunFault {
+    ghost from_gives = { λ e f. f ≡ plan_fault_of e };
 
-impl RunFault {
-    /// The number of the fault, from 1 to 7 in the order of the variants.
-    pub fn number(&self) -> u8
-        ensures { result ≡ run_number_of self.now }
-    {
-        match self {
-            RunFault::Read => 1,
-            RunFault::InputTooLong => 2,
-            RunFault::NotEdn(_) => 3,
-            RunFault::Plan(_) => 4,
-            RunFault::Write => 5,
-            RunFault::Memory => 6,
-            RunFault::Internal => 7,
+    fn from(fault: PlanFault) -> RunFault {
+        match fault {
+            PlanFault::Memory => RunFault::Memory,
+            fault => RunFault::Plan(fault),
         }
     }
 }

@@ -1,23 +1,30 @@
 //! The steps of a plan, run one after another.
-ghost use Rattle.std.specs.Prelude.{◌≡◌, ◌≤◌, ◌⊎◌, ◌++◌, ◌∷◌, [], IfOk, IfErr, OnOk, length};
+ghost use Rattle.std.specs.Prelude.{◌≡◌, ◌≤◌, ◌⊎◌, ◌++◌, ◌∷◌, [], All, IfOk, IfErr, OnOk, length};
 ghost use Rattle.refrun.specs.Orderly.{IsOrderly};
 ghost use Rattle.refrun.specs.Plan.{values_of};
 ghost use Rattle.refrun.specs.Run.{IsOfPlan};
 ghost use Rattle.refrun.specs.Steps.{StepRan};
+ghost use Rattle.refrun.specs.World.{IsServed};
 
-use crate::path::faults::RunFault;
+use crate::faults::RunFault;
 use crate::path::plans::{Declared, Plan, Planned};
 use crate::path::report::Refusal;
 use crate::path::transactions::TxFault;
 use crate::path::world::World;
 use ref_edn::Value;
+use ref_fun::{Core, Functions};
 use ref_log::Stamp;
 use std::alloc::{AllocError, Global};
 
 /// Runs the steps of a plan in order, each as one transaction, and answers the world and the steps that were refused.
 /// It costs what the transactions cost.
-pub(crate) fn run_plan(alloc: Global, plan: &Plan) -> Result<(World, Vec<Refusal>), RunFault>
-    requires { length plan.now.steps ≤ 10000 }
+pub(crate) fn run_plan<F: Functions<Core>>(
+    alloc: Global,
+    funs: &F,
+    plan: &Plan,
+) -> Result<(World, Vec<Refusal>), RunFault>
+    requires few { length plan.now.steps ≤ 10000 }
+    requires served { All (All (IsServed (F.knows_fun funs.now))) plan.now.steps }
     ensures ok { IfOk result (λ ran. IsOrderly plan.now ran.0 ran.1.items) }
     ensures fault { IfErr result IsOfPlan }
 {
@@ -33,7 +40,7 @@ pub(crate) fn run_plan(alloc: Global, plan: &Plan) -> Result<(World, Vec<Refusal
             worker: 0,
             step: i as u32,
         };
-        run_step(alloc, &mut world, &mut refused, stamp, step.ops())?;
+        run_step(alloc, funs, &mut world, &mut refused, stamp, step.ops())?;
     }
     Ok((world, refused))
 }
@@ -50,17 +57,19 @@ fn declared_values(alloc: Global, refs: &[Declared]) -> Result<Vec<Value>, Alloc
 }
 
 // Runs a step. It is committed, or it is refused and the world stays.
-fn run_step(
+fn run_step<F: Functions<Core>>(
     alloc: Global,
+    funs: &F,
     world: &mut World,
     refused: &mut Vec<Refusal>,
     stamp: Stamp,
     ops: &[Planned],
 ) -> Result<(), RunFault>
+    requires { All (IsServed (F.knows_fun funs.now)) ops.now }
     ensures fault { IfErr result IsOfPlan }
     ensures ok { OnOk result (StepRan stamp ops.now world.old refused.old.items world.new refused.new.items) }
 {
-    match world.run_tx(alloc, stamp, ops) {
+    match world.run_tx(alloc, funs, stamp, ops) {
         Ok(()) => Ok(()),
         Err(TxFault::Refused(reason)) => match refused.push(Refusal { stamp, reason }) {
             Ok(()) => Ok(()),

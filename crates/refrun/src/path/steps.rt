@@ -4,16 +4,20 @@ ghost use Rattle.std.specs.List.{AllZip};
 ghost use Rattle.ref_edn.specs.Edn.{Edn, keyword, symbol, vector, items_of};
 ghost use Rattle.refrun.specs.declared.path.plans.Planned.{Planned as PlannedOp};
 ghost use Rattle.refrun.specs.declared.path.steps.Wrong.TheVariants.{Memory};
-ghost use Rattle.refrun.specs.Workload.{IsShallow, IsAlter, IsStep, alter_word, tx_word};
+ghost use Rattle.refrun.specs.Workload.{IsAlter, IsFunction, IsShallow, IsStep, alter_word, tx_word};
 
 use crate::path::faults::PlanFault;
-use crate::path::forms::{is_same, is_shallow, is_word, symbol_in, vector_in};
+use crate::path::forms::{is_shallow, is_word, symbol_in, vector_in};
 use crate::path::names::Names;
 use crate::path::plans::{Planned, Step};
 use ref_edn::vectors::Iter;
 use ref_edn::{Items, Text, Value};
+use ref_fun::code_of;
 use ref_log::{Args, Op};
 use std::alloc::{AllocError, AllocFailed, Global};
+
+// The greatest code of a function of Core. Those of predicates are greater.
+const LAST_FUNCTION: u32 = 10;
 
 /// How many operations a transaction may have.
 pub const MOST_OPERATIONS: usize = 256;
@@ -84,6 +88,18 @@ fn arguments(alloc: Global, parts: Iter<'_>) -> Result<Args, Wrong>
     Ok(Args::of(alloc, values)?)
 }
 
+// The code of the function of Core that has this name.
+fn function_of(name: &Text) -> Option<u32>
+    ensures some { IfSome result (λ code. IsFunction name.now code) }
+    ensures none { IfNone result ((code : ℕ) → IsFunction name.now code → ⊥) }
+{
+    let code = code_of(name.as_bytes())?;
+    if code > LAST_FUNCTION {
+        return None;
+    }
+    Some(code)
+}
+
 fn operation(alloc: Global, names: &Names, form: &Value) -> Result<Planned, Wrong>
     ensures ok { IfOk result (λ p. IsAlter names.now form.now p) }
     ensures wrong { IfErr result (λ e. e ≢ Wrong.Memory → (p : PlannedOp) → IsAlter names.now form.now p → ⊥) }
@@ -99,12 +115,12 @@ fn operation(alloc: Global, names: &Names, form: &Value) -> Result<Planned, Wron
         Some(r) => r,
         None => return Err(Wrong::Name),
     };
-    if !is_same(alter.function.as_bytes(), b"+") {
+    let Some(code) = function_of(alter.function) else {
         return Err(Wrong::Function);
-    }
+    };
     Ok(Planned {
         r,
-        op: Op::Alter(1, args),
+        op: Op::Alter(code, args),
     })
 }
 

@@ -1,12 +1,13 @@
 //! A world of refs: their values, and the log that leads to them.
-ghost use Rattle.std.specs.Prelude.{◌≡◌, ◌≢◌, [], Err, IfOk, IfErr, OnOk, OnErr, length, slice_get};
+ghost use Rattle.std.specs.Prelude.{◌≡◌, ◌≢◌, [], All, Err, IfOk, IfErr, OnOk, OnErr, length, slice_get};
 ghost use Rattle.std.specs.Option.{option_copied};
 ghost use Rattle.ref_fun.specs.Core.{core_means};
-ghost use Rattle.refrun.specs.World.{IsCommitted, IsReplayed, answers};
+ghost use Rattle.refrun.specs.World.{IsCommitted, IsReplayed, IsServed, answers};
 
 use crate::path::plans::Planned;
 use crate::path::transactions::{TxFault, apply_all};
 use ref_edn::Value;
+use ref_fun::{Core, Functions};
 use ref_log::{Base, Entry, SharedVec, Stamp, Transaction};
 use std::alloc::{AllocError, Global};
 use std::marker::Model;
@@ -65,14 +66,21 @@ impl World {
 
     /// Runs a transaction alone and commits it. Where an operation refuses, nothing of it stands. Linear in the number
     /// of refs and operations.
-    pub fn run_tx(&mut self, alloc: Global, stamp: Stamp, ops: &[Planned]) -> Result<(), TxFault>
+    pub fn run_tx<F: Functions<Core>>(
+        &mut self,
+        alloc: Global,
+        funs: &F,
+        stamp: Stamp,
+        ops: &[Planned],
+    ) -> Result<(), TxFault>
+        requires { All (IsServed (F.knows_fun funs.now)) ops.now }
         ensures ok { OnOk result (IsCommitted stamp ops.now self.old self.new) }
         // The fault is the first refusal; want of memory may stand in place of anything.
         ensures fault { IfErr result (λ f. f ≢ TxFault.Memory → answers core_means ops.now self.old.values ≡ Err f) }
         ensures err { OnErr result (self.new ≡ self.old) }
     {
         let mut values = share_all(alloc, self.values.as_slice())?;
-        let dones = apply_all(alloc, ops, &mut values)?;
+        let dones = apply_all(alloc, funs, ops, &mut values)?;
         let entry = Entry::Trans(Transaction {
             stamp,
             read_point: self.commits(),
@@ -113,3 +121,6 @@ impl World {
         self.log.as_slice()
     }
 }
+
+#[cfg(test)]
+mod tests;

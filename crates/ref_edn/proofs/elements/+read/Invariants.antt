@@ -1,8 +1,9 @@
 use Rattle.std.proofs.Common.{◌+◌, ◌*◌, ◌≤◌, length}
-use Rattle.ref_edn.specs.ReadParts.{items_at, set_at, map_at, pairs_at}
+use Rattle.ref_edn.specs.ReadParts.{items_at, set_at, map_at}
 use Rattle.ref_edn.specs.Reading.{skip}
 use Rattle.ref_edn.proofs.Turns.{Skips}
-use Rattle.ref_edn.proofs.Loops.{ReadsItems, ReadsSet, ReadsMap, ReadsPairs}
+use Rattle.ref_edn.proofs.Loops.{ReadsItems}
+use Rattle.ref_edn.proofs.Marked.{MarksSet, MarksMap}
 use Rattle.ref_edn.proofs.elements.+read.Given as goal
 
 abbrev pub decreases-discarded : goal.decreases-discarded
@@ -33,19 +34,10 @@ abbrev pub decreases-items : goal.decreases-items
 decreases-items l = 8 * l.room + 3
 
 abbrev pub decreases-elements : goal.decreases-elements
-decreases-elements l = 8 * l.room + 3
-
-abbrev pub decreases-pairs : goal.decreases-pairs
-decreases-pairs l = 8 * l.room + 3
+decreases-elements l = 8 * l.room + 4
 
 abbrev pub decreases-entries : goal.decreases-entries
-decreases-entries l = 8 * l.room + 3
-
-abbrev pub decreases-sorted_elements : goal.decreases-sorted_elements
-decreases-sorted_elements l = 8 * l.room + 4
-
-abbrev pub decreases-sorted_entries : goal.decreases-sorted_entries
-decreases-sorted_entries l = 8 * l.room + 4
+decreases-entries l = 8 * l.room + 4
 
 abbrev pub invariant-skip-loop-alloc : goal.invariant-skip-loop-alloc
 invariant-skip-loop-alloc l = record { reads : Skips l.room l.rest (skip l.room l.text); shorter : length l.rest ≤ length l.text }
@@ -59,20 +51,20 @@ invariant-items-loop-found l = record { reads : ReadsItems l.room l.close l.foun
 abbrev pub decreases-items-loop-found : goal.decreases-items-loop-found
 decreases-items-loop-found l = length l.rest
 
-abbrev pub invariant-elements-loop-found : goal.invariant-elements-loop-found
-invariant-elements-loop-found l = record { reads : ReadsSet l.room l.found.keys l.rest (set_at l.room l.text); shorter : length l.rest ≤ length l.text }
+abbrev pub decreases-marked_elements : goal.decreases-marked_elements
+decreases-marked_elements l = 8 * l.room + 3
 
-abbrev pub decreases-elements-loop-found : goal.decreases-elements-loop-found
-decreases-elements-loop-found l = length l.rest
+abbrev pub decreases-marked_entries : goal.decreases-marked_entries
+decreases-marked_entries l = 8 * l.room + 3
 
-abbrev pub invariant-pairs-loop-found : goal.invariant-pairs-loop-found
-invariant-pairs-loop-found l = record { reads : ReadsPairs l.room l.found.items l.rest (pairs_at l.room l.text); shorter : length l.rest ≤ length l.text }
+abbrev pub invariant-marked_elements-loop-start : goal.invariant-marked_elements-loop-start
+invariant-marked_elements-loop-start l = record { reads : MarksSet l.room l.found.items l.rest (set_at l.room l.text); shorter : length l.rest ≤ length l.text }
 
-abbrev pub decreases-pairs-loop-found : goal.decreases-pairs-loop-found
-decreases-pairs-loop-found l = length l.rest
+abbrev pub decreases-marked_elements-loop-start : goal.decreases-marked_elements-loop-start
+decreases-marked_elements-loop-start l = length l.rest
 
-abbrev pub invariant-entries-loop-found : goal.invariant-entries-loop-found
-invariant-entries-loop-found l = record { reads : ReadsMap l.room l.found.entries l.rest (map_at l.room l.text); shorter : length l.rest ≤ length l.text }
+abbrev pub invariant-marked_entries-loop-start : goal.invariant-marked_entries-loop-start
+invariant-marked_entries-loop-start l = record { reads : MarksMap l.room l.found.items l.rest (map_at l.room l.text); shorter : length l.rest ≤ length l.text }
 
-abbrev pub decreases-entries-loop-found : goal.decreases-entries-loop-found
-decreases-entries-loop-found l = length l.rest
+abbrev pub decreases-marked_entries-loop-start : goal.decreases-marked_entries-loop-start
+decreases-marked_entries-loop-start l = length l.rest

@@ -4,6 +4,7 @@ use Rattle.ref_log.proofs.FirstFaults.{entry_fails}
 use Rattle.ref_log.proofs.replay.apply_dones.Goals as goal
 
 pub returns-in_err-apply_done-clause-err : goal.returns-in_err-apply_done-clause-err
-returns-in_err-apply_done-clause-err c =
+returns-in_err-apply_done-clause-err g c =
     let p = err_from_is_err_and c.from_residual-in_err-apply_done.result c.from_residual-in_err-apply_done.ensures.1 in
-    rw (p.1, p.2) (entry_fails _ _ _ _ _ _ _ _ _ _ c.loop-done.invariant c.in-Some.ensures.steps (ap not (c.contains-is_free.ensures ∙ c.in_ok-protected.ensures c.in-Some.done.now.r)) c.in_err-apply_done.ensures.err)
+    let free = ap not (c.contains-is_free.ensures ∙ c.in_ok-protected.ensures c.in-Some.done.now.r) in
+    rw (p.1, p.2) (entry_fails _ _ _ _ _ _ _ _ _ _ _ _ c.loop-done.invariant.stepped c.loop-done.invariant.needed c.in-Some.ensures.steps free c.in_err-apply_done.ensures.err)

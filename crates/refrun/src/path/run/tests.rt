@@ -1,75 +1,13 @@
 //! Whole runs: workloads and their reports, each fault with its line and its status, readers and writers that fail.
-ghost use Rattle.std.specs.Prelude.{None};
-
-use super::run_workload;
+use crate::fakes::{Pieces, make_narrow};
+use crate::faults::RunFault;
 use crate::lines::{Line, status};
-use crate::path::faults::RunFault;
 use crate::path::report::Verdict;
-use ref_edn::{Counted, Failed, Sink, Source};
+use crate::table::run_by_core;
+use ref_edn::Counted;
 use std::test::Fail;
 
-// Gives at most `piece` bytes at a read, and fails once `good` reads have been given.
-#[derive(Drop)]
-struct Pieces<'a> {
-    bytes: &'a [u8],
-    piece: usize,
-    good: u64,
-    failures: u64,
-}
-
-impl<'a> Source for Pieces<'a> {
-    ghost left = { λ _. None };
-
-    ghost failures = { λ s. s.failures };
-
-    fn read(&mut self, buf: &mut [u8]) -> Result<usize, Failed> {
-        if self.good == 0 {
-            self.failures = self.failures.saturating_add(1);
-            return Err(Failed);
-        }
-        self.good -= 1;
-        let n = buf.len().min(self.piece).min(self.bytes.len());
-        buf[..n].copy_from_slice(&self.bytes[..n]);
-        self.bytes = &self.bytes[n..];
-        Ok(n)
-    }
-}
-
-// Takes at most `piece` bytes at a write, and fails once it has `room` bytes.
-#[derive(Drop)]
-struct Narrow {
-    taken: Vec<u8>,
-    piece: usize,
-    room: usize,
-    failures: u64,
-}
-
-impl Sink for Narrow {
-    ghost written = { λ _. None };
-
-    ghost failures = { λ s. s.failures };
-
-    fn write(&mut self, buf: &[u8]) -> Result<usize, Failed> {
-        let n = buf.len().min(self.piece).min(self.room);
-        if n == 0 || self.taken.extend_from_slice(&buf[..n]).is_err() {
-            self.failures = self.failures.saturating_add(1);
-            return Err(Failed);
-        }
-        self.room -= n;
-        Ok(n)
-    }
-}
-
-fn make_narrow(rt: &HostRuntime, piece: usize, room: usize) -> Narrow {
-    Narrow {
-        taken: Vec::new(rt.alloc()),
-        piece,
-        room,
-        failures: 0,
-    }
-}
-
-const REPORTS: [(&str, &str); 8] = [
+const REPORTS: [(&str, &str); 12] = [
     (
         "{:version 1 :refs [[a 0]] :workers [[[:tx [:alter a + 5] [:alter a + 1]]]]}",
         "ref a 6\ncommits 1\naudit ok\n",
@@ -93,6 +31,26 @@ const REPORTS: [(&str, &str); 8] = [
         "{:version 1 :refs [[a 1] [b nil]] :workers [[[:tx [:alter a + 1] [:alter b + 1]] [:tx [:alter a +]]]]}",
         "ref a 1\nref b nil\nrefused 0 0 wrong-kind\ncommits 1\naudit ok\n",
     ),
+    // Each function of integers.
+    (
+        "{:version 1 :refs [[a 4] [b 4] [c 4] [d 4] [e 4] [f 4]] :workers [[[:tx [:alter a + 3 2]] [:tx [:alter b - 3 2]] [:tx [:alter c inc]] [:tx [:alter d dec]] [:tx [:alter e max 3 9]] [:tx [:alter f min 3 9]]]]}",
+        "ref a 9\nref b -1\nref c 5\nref d 3\nref e 9\nref f 3\ncommits 6\naudit ok\n",
+    ),
+    // Each function of collections.
+    (
+        "{:version 1 :refs [[a [1]] [b #{1}] [c nil] [d {1 2 3 4}] [e #{1 2}]] :workers [[[:tx [:alter a conj 1 nil]] [:tx [:alter b conj 0 1]] [:tx [:alter c assoc :k 1 :j 2]] [:tx [:alter d dissoc 1 5]] [:tx [:alter e disj 2 3]]]]}",
+        "ref a [1 1 nil]\nref b #{0 1}\nref c {:j 2, :k 1}\nref d {3 4}\nref e #{1}\ncommits 5\naudit ok\n",
+    ),
+    // Each cause of a refusal.
+    (
+        "{:version 1 :refs [[a 1]] :workers [[[:tx [:alter a conj 1]] [:tx [:alter a inc 1]] [:tx [:alter a - -9223372036854775808]]]]}",
+        "ref a 1\nrefused 0 0 wrong-kind\nrefused 0 1 wrong-arity\nrefused 0 2 overflow\ncommits 0\naudit ok\n",
+    ),
+    // 48 collections, one in another, are as deep as a result may be.
+    (
+        "{:version 1 :refs [[a []]] :workers [[[:tx [:alter a conj [[[[[[[[[[[[[[[[[[[[[[[[[[[[[[[[[[[[[[[[[[[[[[[[]]]]]]]]]]]]]]]]]]]]]]]]]]]]]]]]]]]]]]]]]]]]]]]]]]]]}",
+        "ref a []\nrefused 0 0 too-deep\ncommits 0\naudit ok\n",
+    ),
     // A partial sum that doesn't fit is an overflow, whatever follows.
     (
         "{:version 1 :refs [[a 9223372036854775807]] :workers [[[:tx [:alter a + 1 -1]] [:tx [:alter a + -1 1]]]]}",
@@ -106,7 +64,7 @@ fn reports(rt: HostRuntime) -> Result<(), Fail> {
         let mut reader = Counted::new(workload.as_bytes());
         let mut out = Vec::new(rt.alloc());
         let mut writer = Counted::new(&mut out);
-        let ran = run_workload(rt.alloc(), &mut reader, &mut writer);
+        let ran = run_by_core(rt.alloc(), &mut reader, &mut writer);
         assert!(rt; ran == Ok(Verdict::Ok), "{workload}");
         assert!(rt; out.as_slice() == want.as_bytes(), "{workload}");
     }
@@ -183,7 +141,7 @@ const FAULTS: [(&str, &str, u8); 43] = [
         3,
     ),
     (
-        "{:version 1 :refs [[a 0]] :workers [[[:tx] [:tx [:alter a inc]]]]}",
+        "{:version 1 :refs [[a 0]] :workers [[[:tx] [:tx [:alter a incr]]]]}",
         "UnknownFun 0 1",
         3,
     ),
@@ -228,7 +186,7 @@ fn refuses_what_is_no_workload(rt: HostRuntime) -> Result<(), Fail> {
         let mut reader = Counted::new(workload.as_bytes());
         let mut out = Vec::new(rt.alloc());
         let mut writer = Counted::new(&mut out);
-        match run_workload(rt.alloc(), &mut reader, &mut writer) {
+        match run_by_core(rt.alloc(), &mut reader, &mut writer) {
             Ok(_) => assert!(rt; false, "{workload}"),
             Err(fault) => {
                 let said = Line(fault).to_string(rt.alloc())?;
@@ -252,7 +210,7 @@ fn tells_of_a_reader_that_fails(rt: HostRuntime) -> Result<(), Fail> {
             failures: 0,
         };
         let mut writer = make_narrow(&rt, 100, 100);
-        let ran = run_workload(rt.alloc(), &mut reader, &mut writer);
+        let ran = run_by_core(rt.alloc(), &mut reader, &mut writer);
         assert!(rt; ran == Err(RunFault::Read), "after {good} reads");
         assert!(rt; writer.taken.is_empty());
     }
@@ -263,7 +221,7 @@ fn tells_of_a_reader_that_fails(rt: HostRuntime) -> Result<(), Fail> {
         failures: 0,
     };
     let mut writer = make_narrow(&rt, 3, 100);
-    assert!(rt; run_workload(rt.alloc(), &mut reader, &mut writer) == Ok(Verdict::Ok));
+    assert!(rt; run_by_core(rt.alloc(), &mut reader, &mut writer) == Ok(Verdict::Ok));
     assert!(rt; writer.taken.as_slice() == want.as_bytes());
     Ok(())
 }
@@ -274,7 +232,7 @@ fn writes_a_front_of_the_report_until_the_writer_fails(rt: HostRuntime) -> Resul
     for room in 0..want.len() {
         let mut reader = Counted::new(workload.as_bytes());
         let mut writer = make_narrow(&rt, 4, room);
-        let ran = run_workload(rt.alloc(), &mut reader, &mut writer);
+        let ran = run_by_core(rt.alloc(), &mut reader, &mut writer);
         assert!(rt; ran == Err(RunFault::Write), "with room for {room}");
         assert!(rt; writer.taken.len() == room);
         assert!(rt; want.as_bytes().starts_with(writer.taken.as_slice()));
@@ -291,7 +249,7 @@ fn refuses_an_input_that_is_too_long(rt: HostRuntime) -> Result<(), Fail> {
     ] {
         let mut reader = Counted::new(spaces.as_slice().get(..len).unwrap_or(&[]));
         let mut writer = make_narrow(&rt, 100, 100);
-        match run_workload(rt.alloc(), &mut reader, &mut writer) {
+        match run_by_core(rt.alloc(), &mut reader, &mut writer) {
             Ok(_) => assert!(rt; false),
             Err(fault) => {
                 let said = Line(fault).to_string(rt.alloc())?;
@@ -324,7 +282,7 @@ fn said_of(rt: &HostRuntime, workload: &[u8]) -> Result<String, Fail> {
     let mut reader = Counted::new(workload);
     let mut out = Vec::new(rt.alloc());
     let mut writer = Counted::new(&mut out);
-    match run_workload(rt.alloc(), &mut reader, &mut writer) {
+    match run_by_core(rt.alloc(), &mut reader, &mut writer) {
         Ok(_) => Ok(String::from_utf8_lossy(rt.alloc(), out.as_slice())?),
         Err(fault) => Ok(Line(fault).to_string(rt.alloc())?),
     }

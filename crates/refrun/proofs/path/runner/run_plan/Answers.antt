@@ -6,7 +6,7 @@ use Rattle.refrun.proofs.OrderlyRun.{one_step, at_end}
 use Rattle.refrun.proofs.path.runner.run_plan.Goals as goal
 
 pub loop-i-preserved : goal.loop-i-preserved
-loop-i-preserved c =
+loop-i-preserved g c =
     let item : slice_get c.steps-step-items.result.now c.loop-i.i ≡ Some c.step-item.result =
     slice_get_read c.steps-step-items.result.now (length c.steps-step-items.result.now) c.loop-i.i c.step-item.result refl c.loop-i-test.true c.step-item.is in
     let step : slice_get c.args.plan.now.steps c.loop-i.i ≡ Some c.ops.result.now =
@@ -14,6 +14,6 @@ loop-i-preserved c =
     one_step c.args.plan.now c.loop-i.i c.loop-i.world c.loop-i.refused.items c.loop-i.invariant c.run_step.new.world c.run_step.new.refused.items c.ops.result.now step c.in_ok-run_step.ensures.ok
 
 pub returns-clause-ok : goal.returns-clause-ok
-returns-clause-ok c =
+returns-clause-ok g c =
     let same = ap (λ (steps : List (List Planned)). length steps) c.steps-step-items.ensures in
     at_end c.args.plan.now c.loop-i.i c.loop-i.world c.loop-i.refused.items (omega (arith, same)) c.loop-i.invariant

@@ -1,0 +1,70 @@
+//! The names of the functions and predicates of Core.
+ghost use Rattle.std.specs.Prelude.{◌≡◌, map, option_copied};
+ghost use Rattle.ref_edn.specs.Names.{bytes_eq};
+ghost use Rattle.ref_fun.specs.Names.{core_names, code_in, name_in};
+
+const NAMES: [(u32, &str); 19] = [
+    (1, "+"),
+    (2, "-"),
+    (3, "inc"),
+    (4, "dec"),
+    (5, "max"),
+    (6, "min"),
+    (7, "conj"),
+    (8, "assoc"),
+    (9, "dissoc"),
+    (10, "disj"),
+    (101, ">="),
+    (102, "<="),
+    (103, "="),
+    (104, "int?"),
+    (105, "string?"),
+    (106, "vector?"),
+    (107, "map?"),
+    (108, "set?"),
+    (109, "some?"),
+];
+
+/// The code of the function or predicate of Core that has this name.
+#[tactic(auto, unfolding(crate::specs::Names::core_names))]
+pub fn code_of(name: &[u8]) -> Option<u32>
+    ensures { result ≡ code_in core_names name.now }
+{
+    code_in(&NAMES, name)
+}
+
+/// The name of the function or predicate of Core that has this code.
+#[tactic(auto, unfolding(crate::specs::Names::core_names))]
+pub fn name_of(code: u32) -> Option<&'static str>
+    ensures { option_copied result ≡ name_in core_names code }
+{
+    name_in(&NAMES, code)
+}
+
+fn is_same(a: &[u8], b: &[u8]) -> bool
+    ensures { result ≡ bytes_eq a.now b.now }
+{
+    a == b
+}
+
+fn code_in(names: &[(u32, &str)], name: &[u8]) -> Option<u32>
+    ensures { result ≡ code_in (map (λ e. (e.0, e.1.now)) names.now) name.now }
+{
+    for (code, other) in names {
+        if is_same(other.as_bytes(), name) {
+            return Some(*code);
+        }
+    }
+    None
+}
+
+fn name_in(names: &[(u32, &'static str)], code: u32) -> Option<&'static str>
+    ensures { option_copied result ≡ name_in (map (λ e. (e.0, e.1.now)) names.now) code }
+{
+    for (other, name) in names {
+        if *other == code {
+            return Some(*name);
+        }
+    }
+    None
+}

@@ -1,0 +1,32 @@
+-- What is printed of a text: each of its elements on a line.
+use Rattle.std.specs.Prelude.{◌≡◌, List, ℕ, [], ◌∷◌, ◌++◌}
+use Rattle.ref_edn.specs.Edn.{Edn}
+use Rattle.ref_edn.specs.Grammar.{AreTexts}
+use Rattle.ref_edn.specs.Printed.{printed}
+use Rattle.refrun.specs.declared.faults.RunFault.{RunFault}
+use Rattle.refrun.specs.declared.faults.RunFault.TheVariants as faults
+
+abbrev pub newline : List ℕ
+newline = 10 ∷ []
+
+-- Each value stands on a line of its own.
+abbrev pub printed_lines : List Edn → List ℕ
+printed_lines [] = []
+printed_lines (value ∷ values) = printed value ++ newline ++ printed_lines values
+
+-- The text is these elements, one after another, and the output is what is printed of them.
+pub record IsPrintOf (text output : List ℕ) : Type 0 where
+  pub values : List Edn
+  pub belongs : AreTexts text values
+  pub output_is : output ≡ printed_lines values
+
+-- faults that come from a text whose elements are printed, and those of printing it besides: nothing is planned or run
+abbrev pub IsOfElements : RunFault → Type 0
+IsOfElements (faults.NotEdn fault) = Unit {0}
+IsOfElements faults.Memory = Unit {0}
+IsOfElements fault = ⊥
+
+abbrev pub IsOfPrinting : RunFault → Type 0
+IsOfPrinting (faults.Plan fault) = ⊥
+IsOfPrinting faults.Internal = ⊥
+IsOfPrinting fault = Unit {0}
