@@ -8,5 +8,5 @@ invariant-loop-code g l = (code : ℕ) → 1 ≤ code → code < l.code → know
 abbrev pub invariant-loop-code-2 : goal.invariant-loop-code-2
 invariant-loop-code-2 g l = record {
   funs : (code : ℕ) → 1 ≤ code → code ≤ 10 → knows_fun_of l.table code ≡ true;
-  preds : (code : ℕ) → 101 ≤ code → code < l.code → knows_pred_of l.table code ≡ true
+  preds : (code : ℕ) → 101 ≤ code → code < l.code → knows_pred_of l.table code ≡ true;
 }
