@@ -13,3 +13,4 @@ pub mod Steps
 pub mod Parts
 pub mod Workloads
 pub mod Served
+pub mod Known

@@ -1,6 +1,7 @@
 -- The functions that a workload names are functions of Core, which the table of its run has.
 use Rattle.std.proofs.Common.{◌≡◌, ℕ, ◌≤◌, Bool, true, false, not, ◌&&◌, cond, nat_le, List, [], ◌∷◌, Option, None, Some, All, refl, ap, arith, ◌∙◌}
 use Rattle.std.proofs.lemmas.Bool.Decides.{nat_tests}
+use Rattle.std.proofs.lemmas.List.Elements.{All-cons, All-nil}
 use Rattle.std.specs.List.{AllZip, list_all}
 use Rattle.ref_edn.specs.Edn.{Edn}
 use Rattle.ref_edn.specs.Names.{bytes_eq}
@@ -44,16 +45,16 @@ module _ (knows : ℕ → Bool) (funs : (code : ℕ) → 1 ≤ code → code ≤
       ap (λ op. missing knows (codes_of op)) a.op ∙ ap (λ b. cond (not b) (Some a.code) None) known
 
   ops_served : (names : List (List ℕ)) (xs : List Edn) (ops : List Planned) → AllZip (IsAlter names) xs ops → All (IsServed knows) ops
-  ops_served names [] [] each = tt
+  ops_served names [] [] each = All-nil (IsServed knows)
   ops_served names [] (p ∷ ps) each = absurd each
   ops_served names (x ∷ xs) [] each = absurd each
-  ops_served names (x ∷ xs) (p ∷ ps) each = (alter_served names x p each.0, ops_served names xs ps each.1)
+  ops_served names (x ∷ xs) (p ∷ ps) each = All-cons (IsServed knows) p ps (alter_served names x p each.0) (ops_served names xs ps each.1)
 
   steps_served : (names : List (List ℕ)) (xs : List Edn) (steps : List (List Planned)) → AllZip (IsStep names) xs steps → All (All (IsServed knows)) steps
-  steps_served names [] [] each = tt
+  steps_served names [] [] each = All-nil (All (IsServed knows))
   steps_served names [] (s ∷ ss) each = absurd each
   steps_served names (x ∷ xs) [] each = absurd each
-  steps_served names (x ∷ xs) (s ∷ ss) each = (ops_served names each.0.forms s each.0.each, steps_served names xs ss each.1)
+  steps_served names (x ∷ xs) (s ∷ ss) each = All-cons (All (IsServed knows)) s ss (ops_served names each.0.forms s each.0.each) (steps_served names xs ss each.1)
 
   pub plan_served : (x : Edn) (plan : PlanSeen) → IsWorkload x plan → All (All (IsServed knows)) plan.steps
   plan_served x plan w = steps_served (names_of plan.refs) w.steps plan.steps w.transactions

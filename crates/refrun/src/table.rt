@@ -26,9 +26,9 @@ pub(crate) fn run_by_core<R: Source, W: Sink>(
             Err(_) => return Err(RunFault::Memory),
         };
         // The codes differ and there are few, so that nothing but memory can be wanting.
-        if table.add_fun(StoredFun::new(code, run)).is_err() {
+        let Ok(()) = table.add_fun(StoredFun::new(code, run)) else {
             return Err(RunFault::Memory);
-        }
+        };
     }
     for code in 101..110u32 {
         let run: Pred = match Box::new(alloc, move |state: &Value, args: &[Value]| {
@@ -37,9 +37,9 @@ pub(crate) fn run_by_core<R: Source, W: Sink>(
             Ok(run) => run,
             Err(_) => return Err(RunFault::Memory),
         };
-        if table.add_pred(StoredPred::new(code, run)).is_err() {
+        let Ok(()) = table.add_pred(StoredPred::new(code, run)) else {
             return Err(RunFault::Memory);
-        }
+        };
     }
     run_workload(alloc, &table, reader, writer)
 }

@@ -46,11 +46,17 @@ pub fn serves<F: Functions<Core>>(funs: &F, ops: &[Planned]) -> bool
     ensures { OnTrue result (All (IsServed (F.knows_fun funs.now)) ops.now) }
 {
     for planned in ops {
-        if !planned.op.is_served::<Core, F>(funs) {
+        if !is_served(funs, planned) {
             return false;
         }
     }
     true
+}
+
+fn is_served<F: Functions<Core>>(funs: &F, planned: &Planned) -> bool
+    ensures { OnTrue result (IsServed (F.knows_fun funs.now) planned.now) }
+{
+    planned.op.is_served::<Core, F>(funs)
 }
 
 // Applies an operation, and puts its answer in place of its ref's value. The last step is the only one that changes

@@ -5,7 +5,9 @@ use Rattle.refrun.proofs.InTurn.{told_more, values_more}
 use Rattle.refrun.proofs.path.transactions.apply_all.Goals as goal
 
 pub apply-requires : goal.apply-requires
-apply-requires g c = subst (IsServed (g.F.Functions.knows_fun c.args.funs.now)) (sym c.planned-item.is) (All-get_or _ _ _ _ c.loop-planned-test.true c.requires)
+apply-requires g c =
+    let served = IsServed (g.F.Functions.knows_fun c.args.funs.now) in
+    subst served (sym c.planned-item.is) (All-get_or served _ _ c.planned-item.result c.loop-planned-test.true c.requires)
 
 pub loop-planned-preserved : goal.loop-planned-preserved
 loop-planned-preserved g c =
