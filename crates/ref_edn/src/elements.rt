@@ -51,11 +51,7 @@ fn single(alloc: Global, text: &[u8]) -> Result<(Value, &[u8]), ReadError>
 
 // What stands behind whitespace, comments and discards.
 #[cycle(read)]
-pub(crate) fn skip<'a>(
-    alloc: Global,
-    text: &'a [u8],
-    room: u8,
-) -> Result<&'a [u8], ReadError>
+pub(crate) fn skip<'a>(alloc: Global, text: &'a [u8], room: u8) -> Result<&'a [u8], ReadError>
     requires { room ≤ 64 }
     ensures value { Gives (λ r. r.now) result (skip_of room text.now) }
     ensures shorter { IfOk result (λ r. length r.now ≤ length text.now) }
@@ -76,11 +72,7 @@ pub(crate) fn skip<'a>(
 // What stands behind a discard, which is at the front, and its element.
 #[cycle(read)]
 #[tactic(auto, unfolding(crate::specs::ReadParts::discarded_at))]
-fn discarded<'a>(
-    alloc: Global,
-    text: &'a [u8],
-    room: u8,
-) -> Result<&'a [u8], ReadError>
+fn discarded<'a>(alloc: Global, text: &'a [u8], room: u8) -> Result<&'a [u8], ReadError>
     requires room { room ≤ 64 }
     requires two { 2 ≤ length text.now }
     ensures value { Gives (λ r. r.now) result (discarded_at room text.now) }
@@ -146,11 +138,7 @@ fn vector<'a>(
 
 #[cycle(read)]
 #[tactic(auto, unfolding(crate::specs::ReadParts::mapping_at, crate::specs::ReadParts::map_at, crate::specs::Reading::mapping_with))]
-fn mapping<'a>(
-    alloc: Global,
-    text: &'a [u8],
-    room: u8,
-) -> Result<(Value, &'a [u8]), ReadError>
+fn mapping<'a>(alloc: Global, text: &'a [u8], room: u8) -> Result<(Value, &'a [u8]), ReadError>
     requires room { room ≤ 64 }
     requires some { 0 < length text.now }
     ensures value { Gives (λ r. (r.0, r.1.now)) result (mapping_at room text.now) }
@@ -167,11 +155,7 @@ fn mapping<'a>(
 
 #[cycle(read)]
 #[tactic(auto, unfolding(crate::specs::ReadParts::collection_at, crate::specs::ReadParts::set_at, crate::specs::Reading::collection_with))]
-fn collection<'a>(
-    alloc: Global,
-    text: &'a [u8],
-    room: u8,
-) -> Result<(Value, &'a [u8]), ReadError>
+fn collection<'a>(alloc: Global, text: &'a [u8], room: u8) -> Result<(Value, &'a [u8]), ReadError>
     requires room { room ≤ 64 }
     requires two { 2 ≤ length text.now }
     ensures value { Gives (λ r. (r.0, r.1.now)) result (collection_at room text.now) }
@@ -215,11 +199,7 @@ fn next<'a>(
 // The value of a key that has just been read.
 #[cycle(read)]
 #[tactic(auto, unfolding(crate::specs::ReadParts::value_at, crate::specs::Reading::value_step))]
-fn value<'a>(
-    alloc: Global,
-    text: &'a [u8],
-    room: u8,
-) -> Result<(Value, &'a [u8]), ReadError>
+fn value<'a>(alloc: Global, text: &'a [u8], room: u8) -> Result<(Value, &'a [u8]), ReadError>
     requires { room ≤ 64 }
     ensures value { Gives (λ r. (r.0, r.1.now)) result (value_at room text.now) }
     ensures shorter { IfOk result (λ r. length r.1.now < length text.now) }
@@ -287,11 +267,7 @@ fn marked_elements<'a>(
 
 // The elements of a set in value order.
 #[cycle(read)]
-fn elements<'a>(
-    alloc: Global,
-    text: &'a [u8],
-    room: u8,
-) -> Result<(Values, &'a [u8]), ReadError>
+fn elements<'a>(alloc: Global, text: &'a [u8], room: u8) -> Result<(Values, &'a [u8]), ReadError>
     requires { room ≤ 64 }
     ensures value { Gives (λ r. (r.0, r.1.now)) result (set_at room text.now) }
     ensures ascends { IfOk result (λ r. IsTrue (elements_ascend (items_of r.0))) }
@@ -345,11 +321,7 @@ fn marked_entries<'a>(
 
 // The entries of a map in value order.
 #[cycle(read)]
-fn entries<'a>(
-    alloc: Global,
-    text: &'a [u8],
-    room: u8,
-) -> Result<(Pairs, &'a [u8]), ReadError>
+fn entries<'a>(alloc: Global, text: &'a [u8], room: u8) -> Result<(Pairs, &'a [u8]), ReadError>
     requires { room ≤ 64 }
     ensures value { Gives (λ r. (r.0, r.1.now)) result (map_at room text.now) }
     ensures ascends { IfOk result (λ r. IsTrue (keys_ascend (entries_of r.0))) }

@@ -1,5 +1,5 @@
-use Rattle.std.proofs.Common.{◌≡◌, ◌<◌, ◌-◌, true, false, Ok, sym, ◌∙◌, arith, length, get_or}
-use Rattle.std.specs.Prelude.{◌==◌, IsTrue}
+use Rattle.std.proofs.Common.{◌≡◌, ◌<◌, ◌-◌, true, false, sym, ◌∙◌, arith, length, get_or}
+use Rattle.std.specs.Prelude.{◌==◌}
 use Rattle.std.proofs.lemmas.Result.{err_from_is_err_and}
 use Rattle.std.proofs.lemmas.Bool.Decides.{nat_tests}
 use Rattle.ref_edn.specs.Edn.{items_of, entries_of}
@@ -128,7 +128,7 @@ marked_entries-loop-start-preserved t c =
     let at = rw c.in-Some.is at c.in_ok-start.ensures.value in
     rw c.in_ok-push-in-Ok.ensures.items (record {
       reads = marks_map_more c.args.room c.loop-start.found.items c.loop-start.rest.now c.in_ok-start.start.now c.in_ok-start.behind.now c.in-Some.key (map_at c.args.room c.args.text.now) at c.in_ok-start.ensures.start c.in_ok-start.ensures.shorter c.in-Ok.value c.in-Ok.behind.now
-      c.in-Ok.ensures.value c.in-Ok.ensures.shorter c.loop-start.invariant.reads;
+          c.in-Ok.ensures.value c.in-Ok.ensures.shorter c.loop-start.invariant.reads;
       shorter = omega (arith, c.in_ok-start.ensures.shorter, c.in_ok-start.ensures.start, c.in-Ok.ensures.shorter);
     })
 
@@ -136,21 +136,21 @@ pub marked_entries-returns-in-Err-clause-falls : goal.marked_entries-returns-in-
 marked_entries-returns-in-Err-clause-falls t c =
     let at = rw c.in-Some.is at c.in_ok-start.ensures.value in
     let last = marks_map_last c.args.room c.loop-start.found.items c.loop-start.rest.now c.in_ok-start.start.now c.in_ok-start.behind.now c.in-Some.key (map_at c.args.room c.args.text.now) at c.in_ok-start.ensures.start c.in_ok-start.ensures.shorter c.of_lawful.result c.in-Err.error
-        c.in-Err.ensures.value c.loop-start.invariant.reads in
+    c.in-Err.ensures.value c.loop-start.invariant.reads in
     rw c.in_ok-push-in-Err.ensures.items last.0
 
 pub marked_entries-returns-in-Err-clause-twice : goal.marked_entries-returns-in-Err-clause-twice
 marked_entries-returns-in-Err-clause-twice t c =
     let at = rw c.in-Some.is at c.in_ok-start.ensures.value in
     let last = marks_map_last c.args.room c.loop-start.found.items c.loop-start.rest.now c.in_ok-start.start.now c.in_ok-start.behind.now c.in-Some.key (map_at c.args.room c.args.text.now) at c.in_ok-start.ensures.start c.in_ok-start.ensures.shorter c.of_lawful.result c.in-Err.error
-        c.in-Err.ensures.value c.loop-start.invariant.reads in
+    c.in-Err.ensures.value c.loop-start.invariant.reads in
     rw c.in_ok-push-in-Err.ensures.items last.1
 
 pub marked_entries-returns-in-Err-clause-once : goal.marked_entries-returns-in-Err-clause-once
 marked_entries-returns-in-Err-clause-once t c =
     let at = rw c.in-Some.is at c.in_ok-start.ensures.value in
     let last = marks_map_last c.args.room c.loop-start.found.items c.loop-start.rest.now c.in_ok-start.start.now c.in_ok-start.behind.now c.in-Some.key (map_at c.args.room c.args.text.now) at c.in_ok-start.ensures.start c.in_ok-start.ensures.shorter c.of_lawful.result c.in-Err.error
-        c.in-Err.ensures.value c.loop-start.invariant.reads in
+    c.in-Err.ensures.value c.loop-start.invariant.reads in
     rw c.in_ok-push-in-Err.ensures.items last.2
 
 pub entries-returns-clause-value : goal.entries-returns-clause-value
