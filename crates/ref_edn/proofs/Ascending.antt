@@ -1,5 +1,5 @@
 -- Neighbours of a list in value order.
-use Rattle.std.proofs.Common.{◌≡◌, ℕ, zero, suc, ◌+◌, ◌-◌, ◌<◌, ◌≤◌, Bool, true, false, List, [], ◌∷◌, refl, arith, drop, get_or, length, length-drop, drop-cons, add-one, sub-one, ap}
+use Rattle.std.proofs.Common.{◌≡◌, ℕ, zero, suc, ◌-◌, ◌<◌, ◌≤◌, true, List, [], ◌∷◌, refl, arith, drop, get_or, length, length-drop, drop-cons, sub-one}
 use Rattle.std.specs.Prelude.{◌&&◌}
 use Rattle.std.specs.Ordering.{is_lt}
 use Rattle.ref_edn.specs.Edn.{Edn, items_of, entries_of}

@@ -1,5 +1,5 @@
 -- The reader's loops over what stands inside collections: what was found, and what is still to be read.
-use Rattle.std.proofs.Common.{◌≡◌, ℕ, zero, suc, ◌<◌, ◌≤◌, Bool, true, false, List, [], ◌∷◌, ◌++◌, length, Some, None, Result, Ok, Err, refl, sym, ap, ◌∙◌, arith, append_assoc, append-nil}
+use Rattle.std.proofs.Common.{◌≡◌, ℕ, zero, suc, ◌<◌, ◌≤◌, true, false, List, [], ◌∷◌, ◌++◌, length, Some, None, Result, Ok, Err, refl, sym, ap, ◌∙◌, arith, append_assoc, append-nil}
 use Rattle.std.specs.BTreeMap.{insert_entry}
 use Rattle.std.specs.BTreeSet.{insert_key}
 use Rattle.ref_edn.specs.declared.faults.Fault.{Fault}
@@ -9,10 +9,10 @@ use Rattle.ref_edn.specs.Edn.{Edn}
 use Rattle.ref_edn.specs.Order.{edn_cmp}
 use Rattle.ref_edn.specs.Faults.{◌>>=◌, Fails, fault}
 use Rattle.ref_edn.specs.Sorting.{is_among, is_key_among}
-use Rattle.ref_edn.specs.ReadParts.{items_at, set_at, map_at, next_at, value_at, pairs_step, pairs_with, pairs_at}
+use Rattle.ref_edn.specs.ReadParts.{items_at, set_at, map_at, next_at, value_at}
 use Rattle.ref_edn.specs.Reading.{skip, read, items_with, set_with, map_with}
 use Rattle.ref_edn.proofs.Turns.{fails_so}
-use Rattle.ref_edn.proofs.CollectionTurns.{items_after, set_after, map_after, items_turn, items_last, set_turn, set_last, map_turn, map_last, pairs_turn, pairs_last}
+use Rattle.ref_edn.proofs.CollectionTurns.{items_after, set_after, map_after, items_turn, items_last, set_turn, set_last, map_turn, map_last}
 
 -- what was read before, and what is still read
 abbrev pub with_front : {A : Type 0} → List A → Result (List A × List ℕ) Fault → Result (List A × List ℕ) Fault

@@ -8,16 +8,16 @@ use Rattle.std.specs.BTreeSet.{insert_key}
 use Rattle.std.specs.Ordering.{is_eq, match_ordering}
 use Rattle.std.specs.declared.cmp.Ordering.{Ordering}
 use Rattle.std.specs.declared.cmp.Ordering.TheVariants.{Less, Equal, Greater}
-use Rattle.std.specs.declared.cmp.Reverse.{Reverse}
 use Rattle.ref_edn.specs.declared.faults.Fault.{Fault}
 use Rattle.ref_edn.specs.declared.faults.Kind.TheVariants.{Duplicate}
 use Rattle.ref_edn.specs.declared.faults.ReadError.{ReadError}
 use Rattle.ref_edn.specs.Edn.{Edn, items_of, entries_of}
 use Rattle.ref_edn.specs.Order.{edn_cmp, elements_ascend, keys_ascend}
-use Rattle.ref_edn.specs.Faults.{Fails, fault}
+use Rattle.ref_edn.specs.Faults.{Fails}
 use Rattle.ref_edn.specs.Marks.{Mark, left_at, elements_of, keys_of, pairs_of, Falls, first_twice}
 use Rattle.ref_edn.specs.ReadParts.{set_at, map_at, next_at, value_at}
 use Rattle.ref_edn.specs.Sorting.{is_among, is_key_among, inserts, inserts_entries}
+use Rattle.ref_edn.proofs.SortedLists.{weaker}
 use Rattle.ref_edn.proofs.Sorting.{sorted_is, sorted_entries_is}
 use Rattle.ref_edn.proofs.Loops.{ReadsSet, ReadsMap, set_start, set_fails, set_closed, set_twice, set_more, map_start, map_fails, map_closed, map_twice, map_value_fails, map_more}
 
@@ -41,10 +41,6 @@ first_next seen (n ∷ ns) m falls h = by (is_among n.0 seen) h (λ k. first_nex
         → cond b (left_at n) (first_twice (insert_key edn_cmp seen n.0) (ns ++ m ∷ [])) ≡ cond (is_among m.0 (inserts (insert_key edn_cmp seen n.0) (elements_of ns))) (left_at m) 0
     by true k more = let some = falls.0 in absurd (omega (arith, some, k))
     by false k more = more k
-
-weaker : {X : Type 0} {P Q : X → Type 0} → ((x : X) → P x → Q x) → (xs : List X) → AllByRecursion P xs → AllByRecursion Q xs
-weaker f [] h = tt
-weaker f (x ∷ xs) h = (f x h.0, weaker f xs h.1)
 
 all_push : {X : Type 0} (P : X → Type 0) (xs : List X) (x : X) → AllByRecursion P xs → P x → AllByRecursion P (xs ++ x ∷ [])
 all_push P [] x h p = (p, tt)

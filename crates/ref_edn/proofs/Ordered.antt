@@ -1,6 +1,6 @@
 -- Two lists compared from a place on.
-use Rattle.std.proofs.Common.{◌≡◌, ℕ, zero, suc, ◌+◌, ◌<◌, ◌≤◌, List, [], ◌∷◌, refl, arith, drop, get_or, length, drop-cons, add-one, ap}
-use Rattle.std.specs.Prelude.{max, min}
+use Rattle.std.proofs.Common.{◌≡◌, ℕ, zero, suc, ◌+◌, ◌<◌, ◌≤◌, List, [], ◌∷◌, refl, arith, drop, get_or, length, drop-cons, add-one}
+use Rattle.std.specs.Prelude.{min}
 use Rattle.std.specs.Ordering.{nat_cmp, ordering_then}
 use Rattle.std.proofs.lemmas.Bool.Decides.{nat_tests}
 use Rattle.ref_edn.specs.Edn.{Edn, nesting, items_depth, items_of, entries_depth, entries_of}

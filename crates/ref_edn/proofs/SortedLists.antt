@@ -15,7 +15,7 @@ use Rattle.std.proofs.lemmas.List.Elements.{All-from_recursion, All-contains}
 use Rattle.std.proofs.lemmas.List.Sorted.{IsPermutation-refl, IsPermutation-sym, IsPermutation-trans, IsPermutation-cons, IsPermutation-middle, IsPermutation-append_left, Contains-permutation}
 use Rattle.std.proofs.lemmas.Map.Keys.{IsDistinct-head, IsDistinct-IsPermutation, sorted_head, sorted_tail, Less-from_sorted}
 
-weaker : {X : Type 0} {P Q : X → Type 0} → ((x : X) → P x → Q x) → (xs : List X) → AllByRecursion P xs → AllByRecursion Q xs
+pub weaker : {X : Type 0} {P Q : X → Type 0} → ((x : X) → P x → Q x) → (xs : List X) → AllByRecursion P xs → AllByRecursion Q xs
 weaker f [] h = tt
 weaker f (x ∷ xs) h = (f x h.0, weaker f xs h.1)
 
@@ -41,7 +41,7 @@ module _ {X : Type 0} {c : X → X → Ordering} (o : IsTotalOrder c) where
   turned : (x y : X) → c x y ≡ Greater → c y x ≡ Less
   turned x y e = o.antisymm y x ∙ ap ordering_reverse e
 
-  all_insert : (P : X → Type 0) (xs : List X) (x : X) → AllByRecursion P xs → P x → AllByRecursion P (insert_key c xs x)
+  pub all_insert : (P : X → Type 0) (xs : List X) (x : X) → AllByRecursion P xs → P x → AllByRecursion P (insert_key c xs x)
   all_insert P [] x h p = (p, tt)
   all_insert P (y ∷ ys) x h p = by (c x y) (all_insert P ys x h.1 p)
     where

@@ -8,7 +8,7 @@ use Rattle.ref_edn.specs.declared.faults.ReadError.{ReadError}
 use Rattle.ref_edn.specs.declared.faults.ReadError.TheVariants as errors
 use Rattle.ref_edn.specs.Bytes.{is_space}
 use Rattle.ref_edn.specs.Grammar.{from_newline}
-use Rattle.ref_edn.specs.Faults.{◌>>=◌, Fails, Gives, fault}
+use Rattle.ref_edn.specs.Faults.{◌>>=◌, Fails, fault}
 use Rattle.ref_edn.specs.ReadParts.{after_spaces, front_is_discard, discarded_at, vector_at, mapping_at, collection_at, single_at}
 use Rattle.ref_edn.specs.Reading.{is_discard, opens_set, skip_with, skip, read, read_with, vector_with, mapping_with, collection_with}
 

@@ -1,29 +1,27 @@
 -- Marks sorted by their elements, and of equals the earlier one first: the first that is there twice stands behind an
 -- equal neighbour, and has the most bytes left of all that do.
-use Rattle.std.proofs.Common.{◌≡◌, ℕ, zero, suc, ◌+◌, ◌<◌, ◌≤◌, Bool, true, false, not, cond, List, [], ◌∷◌, ◌++◌, map, length, get_or, drop, refl, sym, ap, ◌∙◌, subst, arith, append-nil, length-drop, drop-cons, sub-one, ◌-◌}
+use Rattle.std.proofs.Common.{◌≡◌, ℕ, zero, suc, ◌+◌, ◌<◌, ◌≤◌, Bool, true, false, not, cond, List, [], ◌∷◌, ◌++◌, length, get_or, drop, refl, sym, ap, ◌∙◌, subst, arith, append-nil, length-drop, drop-cons, sub-one, ◌-◌}
 use Rattle.std.specs.Prelude.{◌||◌, ◌&&◌, IsTrue, IsPermutation, max}
 use Rattle.std.specs.List.{AllByRecursion, IsDistinct, list_any}
 use Rattle.std.specs.List.Sorted.{IsSorted, IsStrictlySortedBy}
 use Rattle.std.specs.Ordering.{is_lt, is_eq, nat_cmp, ordering_then, ordering_reverse, match_ordering, eq_by_cmp, ord_max}
 use Rattle.std.specs.declared.cmp.Ordering.{Ordering}
 use Rattle.std.specs.declared.cmp.Ordering.TheVariants.{Less, Equal, Greater}
-use Rattle.std.specs.declared.cmp.Reverse.{Reverse}
 use Rattle.std.specs.Cmp.{IsTotalOrder, on_total, back_total, tied_back}
 use Rattle.std.proofs.lemmas.Cmp.{then_total, nat_cmp_total}
 use Rattle.std.specs.BTreeSet.{insert_key}
-use Rattle.std.proofs.lemmas.Bool.{and_from}
 use Rattle.std.proofs.Math.ListN.{get_or-map}
 use Rattle.std.proofs.lemmas.List.{length-map}
 use Rattle.std.proofs.lemmas.List.Elements.{All-from_recursion, recursion_from_All}
 use Rattle.std.proofs.lemmas.Bool.Decides.{nat_tests}
 use Rattle.std.proofs.lemmas.List.Sorted.{All-permutation, IsPermutation-map, IsPermutation-sym, IsPermutation-trans, IsPermutation-middle, IsPermutation-append_left}
-use Rattle.std.proofs.lemmas.Map.Keys.{IsDistinct-cons, IsDistinct-IsPermutation, apart_from_distinct, sorted_head, sorted_tail, sorted_from_all_adjacent}
+use Rattle.std.proofs.lemmas.Map.Keys.{IsDistinct-IsPermutation, apart_from_distinct, sorted_from_all_adjacent}
 use Rattle.ref_edn.specs.Edn.{Edn, nil, items_of, entries_of}
 use Rattle.ref_edn.specs.Order.{edn_cmp, elements_ascend, keys_ascend}
 use Rattle.ref_edn.specs.OrderLaws.{edn_cmp_total, edn_same}
 use Rattle.ref_edn.specs.Sorting.{is_among}
 use Rattle.ref_edn.specs.Marks.{Mark, left_at, elements_of, keys_of, pairs_of, Falls, first_twice, twin_after, twin_left}
-use Rattle.ref_edn.proofs.SortedLists.{one_sorted, insert_sorted, insert_moves, apart, flips}
+use Rattle.ref_edn.proofs.SortedLists.{weaker, all_insert, one_sorted, insert_sorted, insert_moves, apart, flips}
 
 -- ---- the order
 
@@ -49,10 +47,6 @@ not_tied m n h = by (edn_cmp m.0 n.0)
     by Greater = refl
 
 -- ---- marks that stand in order
-
-weaker : {X : Type 0} {P Q : X → Type 0} → ((x : X) → P x → Q x) → (xs : List X) → AllByRecursion P xs → AllByRecursion Q xs
-weaker f [] h = tt
-weaker f (x ∷ xs) h = (f x h.0, weaker f xs h.1)
 
 falls_apart : (ms : List Mark) → Falls ms → IsDistinct (eq_by_cmp mark_cmp) ms
 unfolding IsDistinct
@@ -249,15 +243,6 @@ below known (m ∷ ms) n h = by (is_among m.0 known) (below (insert_key edn_cmp 
     by true k = omega (arith, h.0)
     by false k = k
 
-all_more : (P : Mark → Type 0) (ms : List Mark) (m : Mark) → AllByRecursion P ms → P m → AllByRecursion P (insert_key mark_cmp ms m)
-all_more P [] m h p = (p, tt)
-all_more P (n ∷ ns) m h p = by (mark_cmp m n) (all_more P ns m h.1 p)
-  where
-    by : (r : Ordering) → AllByRecursion P (insert_key mark_cmp ns m) → AllByRecursion P (match_ordering r (m ∷ n ∷ ns) (n ∷ ns) (n ∷ insert_key mark_cmp ns m))
-    by Less k = (p, h)
-    by Equal k = h
-    by Greater k = (h.0, k)
-
 meets : (b : Bool) (t u l f : ℕ) → f ≤ l → u ≡ max (max t (cond b l 0)) f → u ≡ max t (cond b l f)
 meets true t u l f h e = omega arith
 meets false t u l f h e = omega arith
@@ -274,7 +259,7 @@ twins_from n known seen (m ∷ ms) sorted same above under falls s d p u =
     let moved = IsPermutation-trans _ _ _ moves (IsPermutation-trans _ _ _ (IsPermutation-sym _ _ (IsPermutation-middle seen m ms)) p) in
     let higher : AllByRecursion (λ k. left_at m ≤ left_at k) seen = weaker (λ k h. omega (arith, under.0)) seen above in
     let strictly : AllByRecursion (λ k. left_at m < left_at k) seen = weaker (λ k h. omega (arith, under.0)) seen above in
-    let rest = twins_from (left_at m) (insert_key edn_cmp known m.0) (insert_key mark_cmp seen m) ms sorted (same_more known seen m same) (all_more (λ k. left_at m ≤ left_at k) seen m higher (omega arith)) falls.1 falls.2
+    let rest = twins_from (left_at m) (insert_key edn_cmp known m.0) (insert_key mark_cmp seen m) ms sorted (same_more known seen m same) (all_insert mark_total (λ k. left_at m ≤ left_at k) seen m higher (omega arith)) falls.1 falls.2
     (insert_sorted mark_total seen m s) q.1 moved u in
     let here = one_more m seen s strictly in
     let e : twin_left sorted ≡ max (max (twin_left seen) (cond (is_among m.0 known) (left_at m) 0)) (first_twice (insert_key edn_cmp known m.0) ms) = rw (same m.0) (rw here at rest) in

@@ -1,18 +1,16 @@
 -- Elements and pairs read in the order of the text, and those that are read in value order.
-use Rattle.std.proofs.Common.{◌≡◌, ℕ, zero, suc, List, [], ◌∷◌, length, Some, None, Result, Ok, Err, refl, sym, ap, subst, ◌∙◌, inl, inr}
-use Rattle.std.specs.Prelude.{IsTrue, IsPermutation}
+use Rattle.std.proofs.Common.{◌≡◌, ℕ, zero, suc, List, [], ◌∷◌, Some, None, Result, Ok, Err, refl, sym, ap, subst, ◌∙◌, inl, inr}
 use Rattle.std.specs.BTreeMap.{insert_entry}
 use Rattle.std.specs.BTreeSet.{insert_key}
 use Rattle.ref_edn.specs.declared.faults.Fault.{Fault}
 use Rattle.ref_edn.specs.declared.faults.Kind.TheVariants.{EndsEarly, Duplicate}
-use Rattle.ref_edn.specs.Edn.{Edn, items_of, entries_of}
-use Rattle.ref_edn.specs.Order.{edn_cmp, elements_ascend, keys_ascend}
+use Rattle.ref_edn.specs.Edn.{Edn}
+use Rattle.ref_edn.specs.Order.{edn_cmp}
 use Rattle.ref_edn.specs.Faults.{◌>>=◌, fault}
 use Rattle.ref_edn.specs.Sorting.{is_among, is_key_among, inserts, NoneTwice, inserts_entries, NoKeyTwice}
-use Rattle.ref_edn.specs.ReadParts.{items_at, set_at, map_at, next_at, value_at, pairs_step, pairs_with, pairs_at}
+use Rattle.ref_edn.specs.ReadParts.{next_at, value_at, pairs_step, pairs_with}
 use Rattle.ref_edn.specs.Reading.{skip, read, items_with, set_with, map_with}
 use Rattle.ref_edn.proofs.Outcomes.{chosen, ok_is, fault_isnt_ok, bind_ok}
-use Rattle.ref_edn.proofs.Sorting.{sorted_is, sorted_entries_is}
 use Rattle.ref_edn.proofs.CollectionTurns.{Next, items_after, set_after, map_after, items_turn, items_last, set_turn, set_last, map_turn, map_last, pairs_turn, pairs_last}
 
 abbrev ReadsList : Type 0 → Type 0

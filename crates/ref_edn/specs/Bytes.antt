@@ -1,5 +1,5 @@
 -- The bytes of a text by what they do, and the numbers that digits write.
-use Rattle.std.specs.Prelude.{ℕ, ℤ, suc, ◌+◌, ◌-◌, ◌*◌, Bool, ◌||◌, ◌&&◌, ◌==◌, List, [], ◌∷◌, cond, nat_lt, not, true, false, pos, codes}
+use Rattle.std.specs.Prelude.{ℕ, ℤ, suc, ◌+◌, ◌-◌, ◌*◌, Bool, ◌||◌, ◌&&◌, ◌==◌, List, [], ◌∷◌, cond, nat_lt, not, false, pos}
 use Rattle.std.specs.List.{list_any, list_all}
 use Rattle.std.proofs.Math.IntN.{neg_ℤ}
 

@@ -1,8 +1,8 @@
 -- Each collection weighs less than the value that it is in. A value weighs 20 for each level of nesting, so that there
 -- is room for the levels of a tree inside a collection.
-use Rattle.std.specs.Prelude.{ℕ, ◌≤◌, max, ◌+◌, ◌*◌}
+use Rattle.std.specs.Prelude.{◌≤◌, max, ◌*◌}
 use Rattle.std.proofs.Common.{arith}
-use Rattle.ref_edn.specs.Edn.{Edn, nesting, items_of, entries_of, items_depth, entries_depth}
+use Rattle.ref_edn.specs.Edn.{nesting}
 use Rattle.ref_edn.specs.View.{edn}
 use Rattle.ref_edn.specs.declared.data.Node.{Node}
 use Rattle.ref_edn.specs.declared.data.Node.TheVariants.{Nil, Bool, Int, Str, Keyword, Symbol, Vector, Map, Set}

@@ -1,6 +1,6 @@
 -- Which texts belong to which value: a relation, with one case for each element. Each part says of a text what stands
 -- at its front and what is left behind that. The number in it is how many more collections and discards may be open.
-use Rattle.std.specs.Prelude.{◌≡◌, ℕ, suc, ◌+◌, ◌*◌, ◌<◌, Bool, true, false, List, [], ◌∷◌, ◌++◌, IsTrue, ⊤, cond, ◌==◌, IsUtf8, IsPermutation, FitsSigned, encode_utf8}
+use Rattle.std.specs.Prelude.{◌≡◌, ℕ, suc, ◌+◌, ◌*◌, ◌<◌, true, false, List, [], ◌∷◌, ◌++◌, IsTrue, ⊤, cond, ◌==◌, IsUtf8, IsPermutation, FitsSigned, encode_utf8}
 use Rattle.std.specs.Int.{w64}
 use Rattle.std.specs.Char.{IsScalar, digit_value}
 use Rattle.ref_edn.specs.Edn.{Edn, nil, boolean, int, string, keyword, symbol, vector, map, set, Items, no_items, item, Entries, no_entries, entry, list_of, pairs_of}

@@ -1,5 +1,5 @@
 -- Each child of a collection weighs less than the collection.
-use Rattle.std.specs.Prelude.{ℕ, ◌≤◌, max, ◌+◌, ◌*◌, suc, List, [], ◌∷◌}
+use Rattle.std.specs.Prelude.{◌≤◌, max, ◌+◌, ◌*◌, List, [], ◌∷◌}
 use Rattle.std.proofs.Common.{arith}
 use denote.Param.Weighed.{most}
 use Rattle.ref_edn.specs.Edn.{Edn, nesting, items_of, entries_of, items_depth, entries_depth}

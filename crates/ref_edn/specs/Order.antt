@@ -1,5 +1,5 @@
 -- The value order: by kind, and within a kind by content.
-use Rattle.std.specs.Prelude.{ℕ, Bool, true, ◌&&◌, List}
+use Rattle.std.specs.Prelude.{ℕ, Bool, true, ◌&&◌}
 use Rattle.std.specs.declared.cmp.Ordering.{Ordering}
 use Rattle.std.specs.declared.cmp.Ordering.TheVariants.{Less, Equal, Greater}
 use Rattle.std.specs.Ordering.{is_lt, nat_cmp, int_cmp, bool_cmp, ordering_then}

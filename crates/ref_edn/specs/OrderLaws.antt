@@ -1,9 +1,9 @@
 -- The value order is a total order, and only a value itself is equal to it there.
 -- Each value has a key, a list of numbers; the order is that of the keys, one number after another.
-use Rattle.std.specs.Prelude.{◌≡◌, ℕ, ℤ, pos, negsuc, suc, Bool, true, false, List, [], ◌∷◌, refl, ◌<◌}
+use Rattle.std.specs.Prelude.{◌≡◌, ℕ, ℤ, pos, negsuc, Bool, true, false, List, [], ◌∷◌, refl}
 use Rattle.std.specs.declared.cmp.Ordering.{Ordering}
 use Rattle.std.specs.declared.cmp.Ordering.TheVariants.{Less, Equal, Greater}
-use Rattle.std.specs.Ordering.{nat_cmp, int_cmp, bool_cmp, ordering_then, ordering_reverse}
+use Rattle.std.specs.Ordering.{nat_cmp, int_cmp, ordering_then, ordering_reverse}
 use Rattle.std.specs.Prelude.{IsTrue}
 use Rattle.std.specs.Ordering.{eq_by_cmp, is_eq}
 use Rattle.std.specs.Cmp.{Equal-is, tied_itself, IsTotalOrder, on_total, int_cmp_total}
@@ -12,7 +12,7 @@ use Rattle.std.specs.FinMap.{slice_cmp-IsAntisymmetric, nat_cmp-IsAntisymmetric,
 use Rattle.std.proofs.lemmas.Bool.Decides.{nat_tests}
 use Rattle.std.proofs.Common.{sym, ◌∙◌, ap, arith}
 use Rattle.ref_edn.specs.Edn.{Edn, nil, boolean, int, string, keyword, symbol, vector, map, set, Items, no_items, item, Entries, no_entries, entry}
-use Rattle.ref_edn.specs.Order.{rank, edn_cmp, items_cmp, entries_cmp}
+use Rattle.ref_edn.specs.Order.{edn_cmp, items_cmp, entries_cmp}
 
 abbrev bit : Bool → ℤ
 bit false = pos 0

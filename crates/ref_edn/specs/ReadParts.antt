@@ -1,5 +1,5 @@
 -- What each part of the reader reads at the front of a text.
-use Rattle.std.specs.Prelude.{◌≡◌, ◌-◌, ℕ, zero, suc, Bool, false, IsTrue, List, [], ◌∷◌, length, drop, Option, Some, None, Result, Ok, Err, cond, ◌==◌, ◌||◌}
+use Rattle.std.specs.Prelude.{◌-◌, ℕ, zero, suc, Bool, false, List, [], ◌∷◌, length, drop, Option, Some, None, Result, Ok, cond, ◌==◌, ◌||◌}
 use Rattle.ref_edn.specs.declared.faults.Fault.{Fault}
 use Rattle.ref_edn.specs.declared.faults.Kind.TheVariants.{EndsEarly, BadByte, WrongClose, TooDeep, LeftOut}
 use Rattle.ref_edn.specs.declared.faults.ReadError.{ReadError}
@@ -75,9 +75,6 @@ pairs_step room more (Some k) text = value_at room text >>= λ x. more x.1 >>= �
 unfoldable pub pairs_with : ℕ → ℕ → List ℕ → Result (List (Edn × Edn) × List ℕ) Fault
 pairs_with room zero text = next_at room 125 text >>= λ k. pairs_step room (λ at. fault EndsEarly []) k.1 k.2
 pairs_with room (suc turns) text = next_at room 125 text >>= λ k. pairs_step room (pairs_with room turns) k.1 k.2
-
-unfoldable pub pairs_at : ℕ → List ℕ → Result (List (Edn × Edn) × List ℕ) Fault
-pairs_at room text = pairs_with room (length text) text
 
 -- the one element of a text, and all of them, where the text is known to be UTF-8
 unfoldable pub whole_at : List ℕ → Result Edn Fault

@@ -133,8 +133,16 @@ fn members_there_twice(rt: HostRuntime) {
         // The second key ends before its map does.
         ("{:a 1 :a", ReadFault::Duplicate(6)),
         ("{:a 1 :a}", ReadFault::Duplicate(6)),
+        // Of several duplicates the first from the left counts, whichever is less.
+        ("#{3 2 1 1 2 3}", ReadFault::Duplicate(8)),
+        ("#{1 2 3 3 2 1}", ReadFault::Duplicate(8)),
+        ("#{5 5 5}", ReadFault::Duplicate(4)),
+        ("{:c 1 :b 2 :a 3 :b 4 :a 5}", ReadFault::Duplicate(16)),
         // The first fault from the left counts, whatever follows it.
         ("#{1 1 @}", ReadFault::Duplicate(4)),
+        ("#{2 1 2 ", ReadFault::Duplicate(6)),
+        ("{1 2 1 @}", ReadFault::Duplicate(5)),
+        ("{1 2 3 @ 1 4}", ReadFault::BadByte(7)),
         ("[#{2 2} \"", ReadFault::Duplicate(5)),
         ("{:b 1 :b 2 :a #{3 3}}", ReadFault::Duplicate(6)),
         ("#{@ 1 1}", ReadFault::BadByte(2)),

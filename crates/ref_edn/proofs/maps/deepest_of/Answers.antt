@@ -1,5 +1,4 @@
-use Rattle.std.proofs.Common.{arith, ◌≡◌}
-use Rattle.std.proofs.lemmas.List.{take_more}
+use Rattle.std.proofs.Common.{arith}
 use Rattle.ref_edn.proofs.Depths.{entries_depth_at, entries_lawful_at}
 use Rattle.ref_edn.proofs.maps.deepest_of.Goals as goal
 

@@ -1,6 +1,6 @@
 use Rattle.std.proofs.Common.{◌≡◌, ◌-◌, drop}
 use Rattle.std.specs.Prelude.{max}
-use Rattle.ref_edn.specs.Marks.{keys_of, twin_left}
+use Rattle.ref_edn.specs.Marks.{twin_left}
 use Rattle.ref_edn.proofs.members.most_left.Given as goal
 
 abbrev pub invariant-loop-i : goal.invariant-loop-i

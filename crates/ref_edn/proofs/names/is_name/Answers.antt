@@ -1,4 +1,4 @@
-use Rattle.std.proofs.Common.{◌≡◌, sym, ◌∙◌}
+use Rattle.std.proofs.Common.{sym, ◌∙◌}
 use Rattle.ref_edn.proofs.NameParts.{name_with_slash}
 use Rattle.ref_edn.proofs.names.is_name.Goals as goal
 

@@ -1,5 +1,4 @@
-use Rattle.std.proofs.Common.{arith, ◌≡◌, length}
-use Rattle.std.proofs.lemmas.Grind.{common_steps}
+use Rattle.std.proofs.Common.{arith}
 use Rattle.ref_edn.proofs.Ordered.{nesting_at, entry_nesting_at, items_cmp_end, entries_cmp_end}
 use Rattle.ref_edn.proofs.order.+compare.Goals as goal
 

@@ -1,4 +1,4 @@
-use Rattle.std.proofs.Common.{arith, ◌≡◌}
+use Rattle.std.proofs.Common.{arith}
 use Rattle.ref_edn.proofs.Depths.{items_depth_at, items_lawful_at}
 use Rattle.ref_edn.proofs.vectors.deepest_of.Goals as goal
 
