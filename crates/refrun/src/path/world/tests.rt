@@ -61,7 +61,10 @@ fn append_entry(alloc: Global, entry: &Entry, out: &mut Vec<u8>) -> Result<(), A
     match entry {
         Entry::Trans(t) => {
             let stamp = t.stamp;
-            let head = format!(in alloc; " | {}.{} at {}:", stamp.worker, stamp.step, t.read_point)?;
+            let head = format!(in alloc;
+                " | {}.{} at {}:",
+                stamp.worker, stamp.step, t.read_point
+            )?;
             out.extend_from_slice(head.as_bytes())?;
             for done in t.dones.iter() {
                 append_done(alloc, done, out)?;
@@ -125,7 +128,14 @@ fn transactions_commit_whole_or_leave_nothing(rt: HostRuntime) -> Result<(), Fai
         (2, 7, &[], Ok(()), 2, second),
         // The first operation doesn't stand where a later one refuses.
         (0, 1, &[(1, 1, -3), (2, 1, 1)], kind, 2, second),
-        (0, 2, &[(1, 1, 1), (3, 1, 1)], Err(TxFault::NoSuchRef), 2, second),
+        (
+            0,
+            2,
+            &[(1, 1, 1), (3, 1, 1)],
+            Err(TxFault::NoSuchRef),
+            2,
+            second,
+        ),
         (0, 3, &[(1, 1, 1), (0, 1, i64::MAX)], overflow, 2, second),
         (0, 3, &[(1, 1, 1), (0, 99, 1)], arity, 2, second),
         // The first refusal is told.
