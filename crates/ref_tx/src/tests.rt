@@ -6,7 +6,7 @@ use ref_fun::{
     Args, Cause, Core, Fun, FunFault, FunTable, Functions, MOST_ARGUMENTS, Pred, Rule, StoredFun,
     StoredPred, core_fun, core_test,
 };
-use ref_log::SharedVec;
+use ref_log::{Base, Entry, SharedVec, Stamp, Transaction, replay_plain};
 use std::alloc::{AllocError, Global};
 use std::test::Fail;
 
@@ -366,6 +366,96 @@ fn calls_answer_in_transaction_values(rt: HostRuntime) -> Result<(), Fail> {
         assert_eq!(rt; tx.read_point(), 7);
         assert_eq!(rt; tx.began().len(), 4);
     }
+    Ok(())
+}
+
+fn next(seed: &mut u64) -> u64 {
+    *seed = seed
+        .wrapping_mul(6364136223846793005)
+        .wrapping_add(1442695040888963407);
+    *seed >> 33
+}
+
+// Makes up to 8 calls that are drawn by the seed, and tells how many were refused.
+fn drawn<F: Functions<Core>>(
+    alloc: Global,
+    funs: &F,
+    tx: &mut Tx<Core>,
+    seed: &mut u64,
+) -> Result<usize, TxFault> {
+    let calls = next(seed) % 9;
+    let mut refused: usize = 0;
+    for _ in 0..calls {
+        let act = match next(seed) % 4 {
+            0 => Do::Set,
+            1 => Do::Alter,
+            2 => Do::Commute,
+            _ => Do::Ensure,
+        };
+        let r = (next(seed) % 3) as u32;
+        let code = if next(seed) % 4 == 0 { TAKE } else { ADD };
+        let n = (next(seed) % 7) as i64 - 1;
+        match answer(alloc, funs, tx, (act, r, code, &[n], Ok(0))) {
+            Ok(_) => {}
+            Err(TxFault::Memory) => return Err(TxFault::Memory),
+            Err(_) => refused = refused.saturating_add(1),
+        }
+    }
+    Ok(refused)
+}
+
+// Whether the slow replay of the operations, on the values of the beginning, gives the in-transaction values.
+fn replays<F: Functions<Core>>(alloc: Global, funs: &F, tx: &Tx<Core>) -> Result<bool, AllocError> {
+    let mut dones = Vec::new(alloc);
+    for done in tx.dones() {
+        dones.push(done.share()?)?;
+    }
+    let mut entries = Vec::new(alloc);
+    entries.push(Entry::Trans(Transaction {
+        stamp: Stamp { worker: 0, step: 0 },
+        read_point: 0,
+        dones: SharedVec::of(alloc, dones)?,
+    }))?;
+    let base = Base { refs: refs(alloc)? };
+    let Ok(state) = replay_plain::<Core, F>(alloc, funs, &base, &entries) else {
+        return Ok(false);
+    };
+    for r in 0..4u32 {
+        if state.refs.get(r as usize) != tx.deref(r).ok() {
+            return Ok(false);
+        }
+    }
+    Ok(state.refs.len() == 4)
+}
+
+#[test]
+fn the_slow_replay_agrees(rt: HostRuntime) -> Result<(), Fail> {
+    let alloc = rt.alloc();
+    let mut funs = FunTable::empty(alloc);
+    for code in [ADD, TAKE] {
+        let run: Fun = Box::new(
+            alloc,
+            move |a: Global, state: &Value, args: &[Value]| -> Result<Value, FunFault>
+                requires { length args.now ≤ 8 }
+            { core_fun(a, code, state, args) },
+        )?;
+        assert!(rt; funs.add_fun(StoredFun::new(code, run)).is_ok());
+    }
+    let mut seed: u64 = 20;
+    let mut recorded: usize = 0;
+    let mut refused: usize = 0;
+    for i in 0..1000 {
+        let mut tx: Tx<Core> = Tx::start(alloc, 0, refs(alloc)?, Some(T));
+        match drawn(alloc, &funs, &mut tx, &mut seed) {
+            Ok(count) => refused = refused.saturating_add(count),
+            Err(fault) => assert!(rt; false, "transaction {i}: {fault}"),
+        }
+        recorded = recorded.saturating_add(tx.dones().len());
+        assert!(rt; replays(alloc, &funs, &tx)?, "transaction {i}");
+    }
+    // Enough of both was drawn.
+    assert!(rt; recorded > 2000, "{recorded} operations");
+    assert!(rt; refused > 500, "{refused} refusals");
     Ok(())
 }
 
