@@ -23,17 +23,17 @@
 --
 -- An integer of more than 64 bits, also on the way, is an Overflow. A result of `conj` or `assoc` that is nested deeper
 -- than 48 is TooDeep.
-use Rattle.std.specs.Prelude.{ℕ, ◌==◌, Bool, false, if◌then◌else◌, List, Result, Err}
-use Rattle.ref_edn.specs.Edn.{Edn}
+use Rattle.std.specs.Prelude.{◌≡◌, ℕ, ℤ, ◌==◌, Bool, false, if◌then◌else◌, List, [], ◌∷◌, Result, Err, refl}
+use Rattle.ref_edn.specs.Edn.{Edn, int}
 use Rattle.ref_fun.specs.declared.faults.Cause.{Cause}
 use Rattle.ref_fun.specs.declared.faults.Cause.TheVariants.{WrongArity}
 use Rattle.ref_fun.specs.Integers.{plus, minus, inc, dec, greatest, least}
 use Rattle.ref_fun.specs.Collections.{conj, assoc, dissoc, disj}
-use Rattle.ref_fun.specs.Kinds.{is_int, is_string, is_vector, is_map, is_set}
-use Rattle.ref_fun.specs.Predicates.{at_least, at_most, equals, is_of_kind, is_some}
+use Rattle.ref_fun.specs.Kinds.{is_int, is_string, is_vector, is_map, is_set, is_not_nil}
+use Rattle.ref_fun.specs.Predicates.{at_least, at_most, equals, is_of_kind}
 
 -- The functions. Another code has none, so no number of arguments is right.
-abbrev pub core_means : ℕ → List Edn → Edn → Result Edn Cause
+unfoldable pub core_means : ℕ → List Edn → Edn → Result Edn Cause
 core_means code args state =
     if code == 1 then plus args state else
     if code == 2 then minus args state else
@@ -47,8 +47,12 @@ core_means code args state =
     if code == 10 then disj args state else
     Err WrongArity
 
+pub core_adds : (a b : ℤ) → core_means 1 (int b ∷ []) (int a) ≡ plus (int b ∷ []) (int a)
+unfolding core_means
+core_adds a b = refl
+
 -- The predicates. Another code accepts nothing.
-abbrev pub core_accepts : ℕ → List Edn → Edn → Bool
+unfoldable pub core_accepts : ℕ → List Edn → Edn → Bool
 core_accepts code args state =
     if code == 101 then at_least args state else
     if code == 102 then at_most args state else
@@ -58,5 +62,5 @@ core_accepts code args state =
     if code == 106 then is_of_kind is_vector args state else
     if code == 107 then is_of_kind is_map args state else
     if code == 108 then is_of_kind is_set args state else
-    if code == 109 then is_some args state else
+    if code == 109 then is_of_kind is_not_nil args state else
     false

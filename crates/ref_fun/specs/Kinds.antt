@@ -2,10 +2,6 @@
 use Rattle.std.specs.Prelude.{Bool, true, false}
 use Rattle.ref_edn.specs.Edn.{Edn, nil, int, string, vector, map, set}
 
-abbrev pub is_nil : Edn → Bool
-is_nil nil = true
-is_nil x = false
-
 abbrev pub is_int : Edn → Bool
 is_int (int n) = true
 is_int x = false
@@ -25,3 +21,8 @@ is_map x = false
 abbrev pub is_set : Edn → Bool
 is_set (set xs) = true
 is_set x = false
+
+-- everything but nil
+abbrev pub is_not_nil : Edn → Bool
+is_not_nil nil = false
+is_not_nil x = true

@@ -3,7 +3,7 @@ use Rattle.std.specs.Prelude.{ℕ, ◌==◌, if◌then◌else◌, List, [], ◌�
 use Rattle.ref_edn.specs.Names.{bytes_eq}
 
 -- each code with its name
-abbrev pub core_names : List (ℕ × List ℕ)
+unfoldable pub core_names : List (ℕ × List ℕ)
 core_names =
     (1, codes "+") ∷ (2, codes "-") ∷ (3, codes "inc") ∷ (4, codes "dec") ∷ (5, codes "max") ∷ (6, codes "min")
     ∷ (7, codes "conj") ∷ (8, codes "assoc") ∷ (9, codes "dissoc") ∷ (10, codes "disj")

@@ -1,9 +1,8 @@
 -- The predicates. With another number of arguments, or arguments of another kind, a predicate accepts nothing.
-use Rattle.std.specs.Prelude.{int_le, Bool, false, not, List, [], ◌∷◌}
+use Rattle.std.specs.Prelude.{int_le, Bool, false, List, [], ◌∷◌}
 use Rattle.std.specs.Ordering.{is_eq}
 use Rattle.ref_edn.specs.Edn.{Edn, int}
 use Rattle.ref_edn.specs.Order.{edn_cmp}
-use Rattle.ref_fun.specs.Kinds.{is_nil}
 
 -- `>=` and `<=`: an integer of at least, or at most, the one argument
 abbrev pub at_least : List Edn → Edn → Bool
@@ -19,11 +18,7 @@ abbrev pub equals : List Edn → Edn → Bool
 equals (y ∷ []) x = is_eq (edn_cmp x y)
 equals args x = false
 
--- `int?`, `string?`, `vector?`, `map?` and `set?`: that kind, without an argument
+-- `int?`, `string?`, `vector?`, `map?`, `set?` and `some?`: a value of that kind, without an argument
 abbrev pub is_of_kind : (Edn → Bool) → List Edn → Edn → Bool
 is_of_kind kind [] x = kind x
 is_of_kind kind (y ∷ ys) x = false
-
--- `some?`: all but nil, without an argument
-abbrev pub is_some : List Edn → Edn → Bool
-is_some args x = is_of_kind (λ y. not (is_nil y)) args x

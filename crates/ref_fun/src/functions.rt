@@ -9,7 +9,10 @@ use crate::integers::{dec, greatest, inc, least, minus, plus};
 use ref_edn::Value;
 use std::alloc::Global;
 
-/// Calls the function of Core that has this code. It is linear in the number of arguments.
+/// Calls the function of Core that has this code. A function of a collection copies the list of its members once where
+/// something changes, however many arguments there are; the members themselves are shared. The others take constant time
+/// for each argument.
+#[tactic(auto, unfolding(crate::specs::Core::core_means))]
 pub fn core_fun(alloc: Global, code: u32, state: &Value, args: &[Value]) -> Result<Value, FunFault>
     requires { length args.now ≤ 8 }
     ensures { Answers (core_means code args.now state.now) result }

@@ -1,14 +1,8 @@
 //! Of which kind a value is.
 ghost use Rattle.std.specs.Prelude.{◌≡◌};
-ghost use Rattle.ref_fun.specs.Kinds.{is_nil, is_int, is_string, is_vector, is_map, is_set};
+ghost use Rattle.ref_fun.specs.Kinds.{is_int, is_string, is_vector, is_map, is_set, is_not_nil};
 
 use ref_edn::{Node, Value};
-
-pub(crate) fn is_nil(value: &Value) -> bool
-    ensures { result ≡ is_nil value.now }
-{
-    matches!(value.node(), Node::Nil)
-}
 
 pub(crate) fn is_int(value: &Value) -> bool
     ensures { result ≡ is_int value.now }
@@ -38,4 +32,10 @@ pub(crate) fn is_set(value: &Value) -> bool
     ensures { result ≡ is_set value.now }
 {
     matches!(value.node(), Node::Set(_))
+}
+
+pub(crate) fn is_not_nil(value: &Value) -> bool
+    ensures { result ≡ is_not_nil value.now }
+{
+    !matches!(value.node(), Node::Nil)
 }

@@ -1,8 +1,9 @@
-//! Functions named by codes, and what they mean.
+//! Functions and predicates named by codes, and what they mean.
 //!
-//! A [`Meaning`] says, for each code, which value the function gives or why it refuses. [`Core`] is the meaning of the
-//! functions that come with this project, and [`core_fun`] calls one of them. A function takes a state and at most 8
-//! arguments, all of them EDN values.
+//! A [`Meaning`] says, for each code, which value the function gives or why it refuses, and what the predicate accepts.
+//! [`Core`] is the meaning of those that come with this project: [`core_fun`] calls a function, [`core_test`] a
+//! predicate, and [`code_of`] and [`name_of`] tell their names. They take a state and at most 8 arguments, all of them
+//! EDN values. A [`Rule`] is a predicate with its arguments.
 #![tactic(auto)]
 
 pub mod arguments;

@@ -1,7 +1,7 @@
 //! What codes mean.
-ghost use Rattle.std.specs.Prelude.{◌≡◌, ℕ, ℤ, ◌∷◌, [], List, Bool, Result, refl};
+ghost use Rattle.std.specs.Prelude.{◌≡◌, ℕ, ℤ, ◌∷◌, [], List, Bool, Result};
 ghost use Rattle.ref_edn.specs.Edn.{Edn, int};
-ghost use Rattle.ref_fun.specs.Core.{core_means, core_accepts};
+ghost use Rattle.ref_fun.specs.Core.{core_means, core_accepts, core_adds};
 ghost use Rattle.ref_fun.specs.declared.faults.Cause.{Cause};
 ghost use Rattle.ref_fun.specs.Integers.{plus};
 
@@ -28,5 +28,5 @@ impl Meaning for Core {
 
     ghost accepts = { core_accepts };
 
-    ghost adds = { λ a b. refl };
+    ghost adds = { core_adds };
 }

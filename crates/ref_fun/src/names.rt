@@ -26,6 +26,7 @@ const NAMES: [(u32, &str); 19] = [
 ];
 
 /// The code of the function or predicate of Core that has this name.
+#[tactic(auto, unfolding(crate::specs::Names::core_names))]
 pub fn code_of(name: &[u8]) -> Option<u32>
     ensures { result ≡ code_in core_names name.now }
 {
@@ -33,6 +34,7 @@ pub fn code_of(name: &[u8]) -> Option<u32>
 }
 
 /// The name of the function or predicate of Core that has this code.
+#[tactic(auto, unfolding(crate::specs::Names::core_names))]
 pub fn name_of(code: u32) -> Option<&'static str>
     ensures { option_copied result ≡ name_in core_names code }
 {

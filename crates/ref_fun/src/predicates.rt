@@ -3,11 +3,12 @@ ghost use Rattle.std.specs.Prelude.{◌≡◌};
 ghost use Rattle.ref_fun.specs.Core.{core_accepts};
 ghost use Rattle.ref_fun.specs.Predicates.{at_least, at_most, equals};
 
-use crate::kinds::{is_int, is_map, is_nil, is_set, is_string, is_vector};
+use crate::kinds::{is_int, is_map, is_not_nil, is_set, is_string, is_vector};
 use ref_edn::{Node, Value};
 
 /// Whether the predicate of Core that has this code accepts the state. It takes constant time, but for the comparison of
 /// two values.
+#[tactic(auto, unfolding(crate::specs::Core::core_accepts))]
 pub fn core_test(code: u32, state: &Value, args: &[Value]) -> bool
     ensures { result ≡ core_accepts code args.now state.now }
 {
@@ -20,7 +21,7 @@ pub fn core_test(code: u32, state: &Value, args: &[Value]) -> bool
         106 => args.is_empty() && is_vector(state),
         107 => args.is_empty() && is_map(state),
         108 => args.is_empty() && is_set(state),
-        109 => args.is_empty() && !is_nil(state),
+        109 => args.is_empty() && is_not_nil(state),
         _ => false,
     }
 }
