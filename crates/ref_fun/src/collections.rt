@@ -2,7 +2,7 @@
 //!
 //! Each shares the state's collection and changes the share, so that the elements are copied once however many
 //! arguments there are, and not at all where nothing changes.
-ghost use Rattle.std.specs.Prelude.{◌≡◌, ◌≤◌, ◌<◌, ◌++◌, ◌&&◌, [], IfOk, IsTrue, fold, length};
+ghost use Rattle.std.specs.Prelude.{◌≡◌, ◌<◌, ◌++◌, IfOk, IsTrue, fold};
 ghost use Rattle.ref_edn.specs.Collections.{elements_without, entries_without};
 ghost use Rattle.ref_edn.specs.Edn.{vector, map, set, items_of, items_depth, entries_of, entries_depth};
 ghost use Rattle.ref_edn.specs.Lawful.{IsLawful};

@@ -29,4 +29,4 @@ pub use names::{code_of, name_of};
 pub use predicates::core_test;
 pub use rules::Rule;
 pub use stored::{Fun, Pred, StoredFun, StoredPred};
-pub use tables::{FunTable, Functions, MOST_FUNCTIONS};
+pub use tables::{FunTable, Functions, MOST_FUNCTIONS, has_core};

@@ -1,7 +1,8 @@
 //! The table of functions and predicates, and what generic code asks of one.
 ghost use Rattle.std.specs.Prelude.{◌≡◌, ◌≤◌, ℕ, Bool, length, is_some, map, option_copied, IfErr, IfSome, OnErr, OnOk};
 ghost use Rattle.std.specs.BTreeMap.{keys, btree_map_len};
-ghost use Rattle.ref_fun.specs.Calls.{AddFaultComes, CallAnswers, HasRoom, tested};
+ghost use Rattle.std.specs.Bool.{OnFalse, OnTrue};
+ghost use Rattle.ref_fun.specs.Calls.{AddFaultComes, CallAnswers, HasCore, HasRoom, tested};
 
 use crate::faults::{AddFault, CallFault, FunFault};
 use crate::meanings::{Core, Meaning};
@@ -45,6 +46,24 @@ pub trait Functions<M: Meaning> {
     fn test(&self, code: u32, state: &Value, args: &[Value]) -> Option<bool>
         requires { length args.now ≤ 8 }
         ensures { result ≡ tested (knows_pred self.now code) (M.accepts code args.now state.now) };
+}
+
+/// Whether a table has all functions and predicates of [`Core`]. It costs as many look-ups.
+pub fn has_core<F: Functions<Core>>(funs: &F) -> bool
+    ensures has { OnTrue result (HasCore (F.knows_fun funs.now) (F.knows_pred funs.now)) }
+    ensures lacks { OnFalse result (HasCore (F.knows_fun funs.now) (F.knows_pred funs.now) → ⊥) }
+{
+    for code in 1..11u32 {
+        if !funs.has_fun(code) {
+            return false;
+        }
+    }
+    for code in 101..110u32 {
+        if !funs.has_pred(code) {
+            return false;
+        }
+    }
+    true
 }
 
 /// Functions and predicates under their codes, at most 64 of each kind. A look-up is logarithmic in their number.

@@ -32,6 +32,7 @@ named_code test (e ∷ es) name code each found =
     code_found test e.0 code (bytes_eq e.1 name) (code_in es name) p.0 (named_code test es name code p.1) found
 
 least_code : (name : List ℕ) (code : ℕ) → code_in core_names name ≡ Some code → 1 ≤ code
+unfolding core_names
 least_code name code found =
     let test : nat_le 1 code ≡ true = named_code (nat_le 1) core_names name code refl found in
     grind (arith, nat_tests)

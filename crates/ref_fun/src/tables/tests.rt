@@ -2,7 +2,7 @@ ghost use Rattle.std.specs.Prelude.{◌≤◌, length};
 
 use crate::{
     AddFault, CallFault, Cause, Fun, FunFault, FunTable, Functions, MOST_ARGUMENTS, Pred,
-    StoredFun, StoredPred, core_fun, core_test,
+    StoredFun, StoredPred, core_fun, core_test, has_core,
 };
 use ref_edn::{Node, Value};
 use std::alloc::{AllocError, Global};
@@ -93,6 +93,44 @@ fn a_table_answers_as_the_codes_mean(rt: HostRuntime) -> Result<(), Fail> {
         assert!(rt; all.len() <= MOST_ARGUMENTS);
         let got = table.test(code, &int(state)?, &all);
         assert_eq!(rt; got, want, "at {code} {state} {args:?}");
+    }
+    Ok(())
+}
+
+#[test]
+fn a_table_has_core_or_lacks_a_code(rt: HostRuntime) -> Result<(), Fail> {
+    let alloc = rt.alloc();
+    // The code that is left out, if any.
+    let rows = [
+        (0, true),
+        (1, false),
+        (7, false),
+        (10, false),
+        (101, false),
+        (109, false),
+    ];
+    for (without, want) in rows {
+        let mut table = FunTable::empty(alloc);
+        for code in 1..11u32 {
+            if code != without {
+                let run: Fun = Box::new(
+                    alloc,
+                    move |a: Global, state: &Value, args: &[Value]| -> Result<Value, FunFault>
+                        requires { length args.now ≤ 8 }
+                    { core_fun(a, code, state, args) },
+                )?;
+                assert!(rt; table.add_fun(StoredFun::new(code, run)).is_ok());
+            }
+        }
+        for code in 101..110u32 {
+            if code != without {
+                let run: Pred = Box::new(alloc, move |state: &Value, args: &[Value]| {
+                    core_test(code, state, args)
+                })?;
+                assert!(rt; table.add_pred(StoredPred::new(code, run)).is_ok());
+            }
+        }
+        assert_eq!(rt; has_core(&table), want, "without {without}");
     }
     Ok(())
 }

@@ -153,6 +153,7 @@ fn worse(worst: Option<Wrong>, wrong: Wrong) -> Wrong
 }
 
 // A wrong form of any of them comes first, then a wrong name, then a wrong function.
+#[tactic(auto, using(crate::proofs::Steps::known_more))]
 fn operations(alloc: Global, names: &Names, forms: Iter<'_>) -> Result<Vec<Planned>, Wrong>
     ensures ok { IfOk result (λ ops. AllZip (IsAlter names.now) forms.entry ops.items) }
     ensures wrong { IfErr result (λ e. e ≢ Wrong.Memory → (ops : List PlannedOp) → AllZip (IsAlter names.now) forms.entry ops → ⊥) }

@@ -4,7 +4,7 @@ use Rattle.std.proofs.Common.{List}
 use Rattle.refrun.specs.Workload.{IsAlter}
 use Rattle.refrun.specs.declared.path.steps.Wrong.TheVariants.{Form, Memory}
 use Rattle.refrun.proofs.Forms.{all_said}
-use Rattle.refrun.proofs.Steps.{Known, known_more, known_wrong}
+use Rattle.refrun.proofs.Steps.{Known, known_wrong}
 use Rattle.refrun.proofs.path.steps.operations.Goals as goal
 
 pub returns-in-Err-Form-clause-wrong : goal.returns-in-Err-Form-clause-wrong
@@ -25,9 +25,3 @@ pub returns-in-None-worst-clause-ok : goal.returns-in-None-worst-clause-ok
 returns-in-None-worst-clause-ok c =
     let known = rw (c.in-None.ensures.steps.0, c.in-None-worst.is) at c.loop-form.invariant in
     all_said (IsAlter c.args.names.now) c.args.forms c.loop-form.ops.items known
-
-pub loop-form-preserved-in-Continue-1 : goal.loop-form-preserved-in-Continue-1
-loop-form-preserved-in-Continue-1 c =
-    let says = IsAlter c.args.names.now in
-    let known = rw c.in-Some.ensures.steps at c.loop-form.invariant in
-    rw c.in_ok-push-in-Ok.ensures.items (known_more says _ _ _ _ _ _ known c.in-Ok.ensures.ok)
