@@ -349,24 +349,33 @@ fn calls_answer_in_transaction_values(rt: HostRuntime) -> Result<(), Fail> {
             (Do::Deref, B, 0, &[], Ok(11)),
         ],
     ];
-    for row in rows {
-        let mut tx: Tx<Core> = Tx::start(alloc, 7, refs(alloc)?, Some(T));
-        for call in row {
-            let done = tx.dones().len();
-            let (act, r, _, _, want) = *call;
-            let got = answer(alloc, &funs, &mut tx, *call);
-            assert_eq!(rt; got, want, "{act:?} at {r}");
-            let adds = want.is_ok() && !matches!(act, Do::Deref | Do::Require);
-            assert_eq!(rt;
-                tx.dones().len() - done,
-                usize::from(adds),
-                "{act:?} at {r}"
-            );
-        }
-        assert_eq!(rt; tx.read_point(), 7);
-        assert_eq!(rt; tx.began().len(), 4);
+    for (i, row) in rows.iter().enumerate() {
+        assert_eq!(rt; first_wrong(alloc, &funs, row)?, None, "row {i}");
     }
     Ok(())
+}
+
+// Makes these calls in a transaction, and tells the first whose answer isn't the one that is wanted, or that doesn't
+// record the operation which it makes.
+fn first_wrong<F: Functions<Core>>(
+    alloc: Global,
+    funs: &F,
+    row: &[Call<'_>],
+) -> Result<Option<usize>, AllocError> {
+    let mut tx: Tx<Core> = Tx::start(alloc, 7, refs(alloc)?, Some(T));
+    for (i, call) in row.iter().enumerate() {
+        let before = tx.dones().len();
+        let (act, _, _, _, want) = *call;
+        let got = answer(alloc, funs, &mut tx, *call);
+        let adds = want.is_ok() && !matches!(act, Do::Deref | Do::Require);
+        if got != want || tx.dones().len().checked_sub(before) != Some(usize::from(adds)) {
+            return Ok(Some(i));
+        }
+    }
+    if tx.read_point() != 7 || tx.began().len() != 4 {
+        return Ok(Some(row.len()));
+    }
+    Ok(None)
 }
 
 fn next(seed: &mut u64) -> u64 {
