@@ -1,51 +1,19 @@
 ghost use Rattle.std.specs.Prelude.{◌≤◌, length};
 
 use crate::{Tx, TxFault};
-use ref_edn::{Node, Value};
+use ref_edn::{Items, Node, Value, read_one};
 use ref_fun::{
     Args, Cause, Core, Fun, FunFault, FunTable, Functions, MOST_ARGUMENTS, Pred, Rule, StoredFun,
-    StoredPred, core_fun, core_test,
+    StoredPred, code_of, core_fun, core_test,
 };
 use ref_log::{Base, Entry, SharedVec, Stamp, Transaction, replay_plain};
 use std::alloc::{AllocError, Global};
 use std::test::Fail;
 
-#[derive(Clone, Copy, Debug)]
-enum Do {
-    Deref,
-    Set,
-    Alter,
-    Commute,
-    Ensure,
-    Require,
-}
-
-// A call: what, on which ref, by which code, with which integers; and what it answers, 0 where it answers nothing.
-type Call<'a> = (Do, u32, u32, &'a [i64], Result<i64, TxFault>);
-
-// The codes: `+`, `-`, `inc` and `>=` are in the table, `dec` and `<=` are not.
-const ADD: u32 = 1;
-
-const TAKE: u32 = 2;
-
-const INC: u32 = 3;
-
-const DEC: u32 = 4;
-
-const LEAST: u32 = 101;
-
-const MOST: u32 = 102;
-
-// The refs: two integers 0 and 10, the tally at 5, and nil. There is no fifth.
-const A: u32 = 0;
-
-const B: u32 = 1;
+// The refs: two integers a and b, the tally t, and n, which is nil. There is no x.
+const REFS: [i64; 3] = [0, 10, 5];
 
 const T: u32 = 2;
-
-const N: u32 = 3;
-
-const X: u32 = 4;
 
 fn value(node: Node) -> Result<Value, AllocError> {
     Value::of(node).map_err(|_| AllocError)
@@ -53,17 +21,41 @@ fn value(node: Node) -> Result<Value, AllocError> {
 
 fn refs(alloc: Global) -> Result<SharedVec<Value>, AllocError> {
     let mut values = Vec::new(alloc);
-    for n in [0i64, 10, 5] {
+    for n in REFS {
         values.push(value(Node::Int(n))?)?;
     }
     values.push(value(Node::Nil)?)?;
     SharedVec::of(alloc, values)
 }
 
-fn args(alloc: Global, ints: &[i64]) -> Result<Args, AllocError> {
+fn number_of(name: &[u8]) -> u32 {
+    match name {
+        b"a" => 0,
+        b"b" => 1,
+        b"t" => T,
+        b"n" => 3,
+        _ => 4,
+    }
+}
+
+fn symbol_at(call: &Items, i: usize) -> &[u8] {
+    match call.get(i) {
+        Some(value) => match value.node() {
+            Node::Symbol(name) => name.as_bytes(),
+            _ => b"",
+        },
+        None => b"",
+    }
+}
+
+// The values from a place on, without the last, which is what is wanted.
+fn args_from(alloc: Global, call: &Items, start: usize) -> Result<Args, AllocError> {
     let mut values = Vec::new(alloc);
-    for n in ints {
-        values.push(value(Node::Int(*n))?)?;
+    let end = call.len().saturating_sub(1);
+    for i in start..end {
+        if let Some(value) = call.get(i) {
+            values.push(value.share()?)?;
+        }
     }
     if values.len() > MOST_ARGUMENTS {
         return Err(AllocError);
@@ -71,45 +63,106 @@ fn args(alloc: Global, ints: &[i64]) -> Result<Args, AllocError> {
     Args::of(alloc, values)
 }
 
-fn int_of(value: &Value) -> i64 {
-    match value.node() {
-        Node::Int(n) => *n,
-        _ => -1,
+fn word_of(fault: TxFault) -> &'static str {
+    match fault {
+        TxFault::NoSuchRef => "no-such-ref",
+        TxFault::SetAfterCommute => "set-after-commute",
+        TxFault::TallyOnly => "tally-only",
+        TxFault::Refused(Cause::WrongKind) => "wrong-kind",
+        TxFault::Refused(Cause::WrongArity) => "wrong-arity",
+        TxFault::Refused(Cause::Overflow) => "overflow",
+        TxFault::Refused(Cause::TooDeep) => "too-deep",
+        TxFault::NoSuchFun(_) => "no-such-fun",
+        TxFault::NoSuchAgent => "no-such-agent",
+        TxFault::NotMet => "not-met",
+        TxFault::Memory => "out-of-memory",
     }
 }
 
+// What a call answers: a form such as `[alter a + 5 WANTED]`. A `require` that is met answers nil.
 fn answer<F: Functions<Core>>(
     alloc: Global,
     funs: &F,
     tx: &mut Tx<Core>,
-    call: Call<'_>,
-) -> Result<i64, TxFault> {
-    let (act, r, code, ints, _) = call;
-    let args = args(alloc, ints)?;
-    match act {
-        Do::Deref => Ok(int_of(tx.deref(r)?)),
-        Do::Set => {
-            let new = match args.as_slice().first() {
+    call: &Items,
+) -> Result<Value, TxFault> {
+    let r = number_of(symbol_at(call, 1));
+    let code = code_of(symbol_at(call, 2)).unwrap_or(0);
+    match symbol_at(call, 0) {
+        b"deref" => Ok(tx.deref(r)?.share()?),
+        b"set" => {
+            let new = match call.get(2) {
                 Some(new) => new.share()?,
                 None => value(Node::Nil)?,
             };
-            Ok(int_of(&tx.ref_set(alloc, r, new)?))
+            tx.ref_set(alloc, r, new)
         }
-        Do::Alter => Ok(int_of(&tx.alter(alloc, funs, r, code, args)?)),
-        Do::Commute => Ok(int_of(&tx.commute(alloc, funs, r, code, args)?)),
-        Do::Ensure => Ok(int_of(&tx.ensure(alloc, r)?)),
-        Do::Require => {
+        b"alter" => tx.alter(alloc, funs, r, code, args_from(alloc, call, 3)?),
+        b"commute" => tx.commute(alloc, funs, r, code, args_from(alloc, call, 3)?),
+        b"ensure" => tx.ensure(alloc, r),
+        _ => {
+            let args = args_from(alloc, call, 3)?;
             tx.require(funs, r, &Rule { code, args })?;
-            Ok(0)
+            Ok(value(Node::Nil)?)
         }
     }
 }
 
+// Whether this is wanted: a value, or a fault by its word as a keyword.
+fn is_wanted(got: &Result<Value, TxFault>, want: &Value) -> bool {
+    match got {
+        Ok(value) => value == want,
+        Err(fault) => match want.node() {
+            Node::Keyword(word) => word.as_str() == word_of(*fault),
+            _ => false,
+        },
+    }
+}
+
+fn records(call: &Items) -> bool {
+    match symbol_at(call, 0) {
+        b"set" | b"alter" | b"commute" | b"ensure" => true,
+        _ => false,
+    }
+}
+
+// Makes one call, and says whether it answers what is wanted and records an operation just where it should.
+fn is_right<F: Functions<Core>>(alloc: Global, funs: &F, tx: &mut Tx<Core>, call: &Value) -> bool {
+    let Node::Vector(call) = call.node() else {
+        return false;
+    };
+    let Some(want) = call.get(call.len().saturating_sub(1)) else {
+        return false;
+    };
+    let before = tx.dones().len();
+    let got = answer(alloc, funs, tx, call);
+    let added = tx.dones().len().saturating_sub(before);
+    is_wanted(&got, want) && added == usize::from(got.is_ok() && records(call))
+}
+
+// Makes the calls of a row in one transaction, and says whether each is right.
+fn are_right<F: Functions<Core>>(alloc: Global, funs: &F, row: &str) -> Result<bool, AllocError> {
+    let Ok(row) = read_one(alloc, row.as_bytes()) else {
+        return Ok(false);
+    };
+    let Node::Vector(calls) = row.node() else {
+        return Ok(false);
+    };
+    let mut tx: Tx<Core> = Tx::start(alloc, 7, refs(alloc)?, Some(T));
+    for call in calls {
+        if !is_right(alloc, funs, &mut tx, call) {
+            return Ok(false);
+        }
+    }
+    Ok(tx.read_point() == 7 && tx.began().len() == 4)
+}
+
+// A call is written with what it answers. The table has `+`, `-`, `inc` and `>=`, and neither `dec` nor `<=`.
 #[test]
 fn calls_answer_in_transaction_values(rt: HostRuntime) -> Result<(), Fail> {
     let alloc = rt.alloc();
     let mut funs = FunTable::empty(alloc);
-    for code in [ADD, TAKE, INC] {
+    for code in 1..4u32 {
         let run: Fun = Box::new(
             alloc,
             move |a: Global, state: &Value, args: &[Value]| -> Result<Value, FunFault>
@@ -121,261 +174,96 @@ fn calls_answer_in_transaction_values(rt: HostRuntime) -> Result<(), Fail> {
     let least: Pred = Box::new(alloc, |state: &Value, args: &[Value]| {
         core_test(101, state, args)
     })?;
-    assert!(rt; funs.add_pred(StoredPred::new(LEAST, least)).is_ok());
-    let none: Result<i64, TxFault> = Err(TxFault::NoSuchRef);
-    let late: Result<i64, TxFault> = Err(TxFault::SetAfterCommute);
-    let tally: Result<i64, TxFault> = Err(TxFault::TallyOnly);
-    let unmet: Result<i64, TxFault> = Err(TxFault::NotMet);
-    let no_dec: Result<i64, TxFault> = Err(TxFault::NoSuchFun(DEC));
-    let kind: Result<i64, TxFault> = Err(TxFault::Refused(Cause::WrongKind));
-    let arity: Result<i64, TxFault> = Err(TxFault::Refused(Cause::WrongArity));
-    let over: Result<i64, TxFault> = Err(TxFault::Refused(Cause::Overflow));
-    let rows: [&[Call<'_>]; 73] = [
+    assert!(rt; funs.add_pred(StoredPred::new(101, least)).is_ok());
+    let rows = [
         // Before anything is done, the values are those of the beginning.
-        &[(Do::Deref, A, 0, &[], Ok(0))],
-        &[(Do::Deref, B, 0, &[], Ok(10))],
-        &[(Do::Deref, T, 0, &[], Ok(5))],
-        &[(Do::Deref, X, 0, &[], none)],
-        &[(Do::Deref, u32::MAX, 0, &[], none)],
+        "[[deref a 0]]",
+        "[[deref b 10]]",
+        "[[deref t 5]]",
+        "[[deref n nil]]",
+        "[[deref x :no-such-ref]]",
         // ref-set
-        &[
-            (Do::Set, A, 0, &[5], Ok(5)),
-            (Do::Deref, A, 0, &[], Ok(5)),
-            (Do::Deref, B, 0, &[], Ok(10)),
-        ],
-        &[
-            (Do::Set, A, 0, &[5], Ok(5)),
-            (Do::Set, A, 0, &[6], Ok(6)),
-            (Do::Deref, A, 0, &[], Ok(6)),
-        ],
-        &[(Do::Set, X, 0, &[1], none), (Do::Deref, A, 0, &[], Ok(0))],
-        &[(Do::Set, T, 0, &[6], tally), (Do::Deref, T, 0, &[], Ok(5))],
-        &[(Do::Set, N, 0, &[1], Ok(1)), (Do::Deref, N, 0, &[], Ok(1))],
+        "[[set a 5 5] [deref a 5] [deref b 10]]",
+        "[[set a 5 5] [set a 6 6] [deref a 6]]",
+        "[[set a [1 :k] [1 :k]] [deref a [1 :k]]]",
+        "[[set x 1 :no-such-ref] [deref a 0]]",
+        "[[set t 6 :tally-only] [deref t 5]]",
+        "[[set n 1 1] [deref n 1]]",
         // alter
-        &[
-            (Do::Alter, A, ADD, &[5], Ok(5)),
-            (Do::Deref, A, 0, &[], Ok(5)),
-        ],
-        &[
-            (Do::Alter, A, ADD, &[5], Ok(5)),
-            (Do::Alter, A, ADD, &[1], Ok(6)),
-            (Do::Deref, A, 0, &[], Ok(6)),
-        ],
-        &[(Do::Alter, B, TAKE, &[3], Ok(7))],
-        &[(Do::Alter, B, TAKE, &[], Ok(-10))],
-        &[(Do::Alter, B, INC, &[], Ok(11))],
-        &[(Do::Alter, A, ADD, &[], Ok(0))],
-        &[(Do::Alter, A, ADD, &[1, 2, 3], Ok(6))],
-        &[(Do::Alter, X, ADD, &[1], none)],
-        &[
-            (Do::Alter, T, ADD, &[1], tally),
-            (Do::Deref, T, 0, &[], Ok(5)),
-        ],
-        &[
-            (Do::Alter, A, INC, &[1], arity),
-            (Do::Deref, A, 0, &[], Ok(0)),
-        ],
-        &[(Do::Alter, N, ADD, &[1], kind)],
-        &[
-            (Do::Alter, A, ADD, &[i64::MAX], Ok(i64::MAX)),
-            (Do::Alter, A, ADD, &[1], over),
-            (Do::Deref, A, 0, &[], Ok(i64::MAX)),
-        ],
-        &[
-            (Do::Alter, A, DEC, &[], no_dec),
-            (Do::Deref, A, 0, &[], Ok(0)),
-        ],
-        &[(Do::Alter, X, DEC, &[], none)],
-        &[(Do::Alter, T, DEC, &[], tally)],
+        "[[alter a + 5 5] [deref a 5]]",
+        "[[alter a + 5 5] [alter a + 1 6] [deref a 6]]",
+        "[[alter b - 3 7]]",
+        "[[alter b - -10]]",
+        "[[alter b inc 11]]",
+        "[[alter a + 0]]",
+        "[[alter a + 1 2 3 6]]",
+        "[[alter x + 1 :no-such-ref]]",
+        "[[alter t + 1 :tally-only] [deref t 5]]",
+        "[[alter a inc 1 :wrong-arity] [deref a 0]]",
+        "[[alter n + 1 :wrong-kind] [deref n nil]]",
+        "[[alter a + 9223372036854775807 9223372036854775807] [alter a + 1 :overflow] [deref a 9223372036854775807]]",
+        "[[alter a dec :no-such-fun] [deref a 0]]",
+        "[[alter x dec :no-such-ref]]",
+        "[[alter t dec :tally-only]]",
         // commute
-        &[
-            (Do::Commute, A, ADD, &[5], Ok(5)),
-            (Do::Deref, A, 0, &[], Ok(5)),
-        ],
-        &[
-            (Do::Commute, A, ADD, &[5], Ok(5)),
-            (Do::Commute, A, ADD, &[1], Ok(6)),
-        ],
-        &[
-            (Do::Commute, A, ADD, &[5], Ok(5)),
-            (Do::Set, A, 0, &[1], late),
-            (Do::Deref, A, 0, &[], Ok(5)),
-        ],
-        &[
-            (Do::Commute, A, ADD, &[5], Ok(5)),
-            (Do::Alter, A, ADD, &[1], late),
-            (Do::Deref, A, 0, &[], Ok(5)),
-        ],
-        &[
-            (Do::Set, A, 0, &[5], Ok(5)),
-            (Do::Commute, A, ADD, &[1], Ok(6)),
-            (Do::Deref, A, 0, &[], Ok(6)),
-        ],
-        &[
-            (Do::Alter, A, ADD, &[5], Ok(5)),
-            (Do::Commute, A, ADD, &[1], Ok(6)),
-        ],
-        &[
-            (Do::Set, A, 0, &[5], Ok(5)),
-            (Do::Commute, A, ADD, &[1], Ok(6)),
-            (Do::Set, A, 0, &[7], late),
-            (Do::Deref, A, 0, &[], Ok(6)),
-        ],
-        &[
-            (Do::Commute, A, ADD, &[5], Ok(5)),
-            (Do::Set, B, 0, &[1], Ok(1)),
-            (Do::Deref, B, 0, &[], Ok(1)),
-            (Do::Deref, A, 0, &[], Ok(5)),
-        ],
-        &[(Do::Commute, X, ADD, &[1], none)],
-        &[(Do::Commute, N, ADD, &[1], kind)],
-        &[(Do::Commute, A, DEC, &[], no_dec)],
-        &[
-            (Do::Commute, A, ADD, &[5], Ok(5)),
-            (Do::Alter, A, DEC, &[], late),
-        ],
-        &[
-            (Do::Commute, A, INC, &[], Ok(1)),
-            (Do::Commute, A, INC, &[], Ok(2)),
-        ],
-        &[
-            (Do::Commute, A, ADD, &[i64::MAX], Ok(i64::MAX)),
-            (Do::Commute, A, ADD, &[1], over),
-            (Do::Set, A, 0, &[1], late),
-        ],
-        &[
-            (Do::Commute, A, INC, &[1], arity),
-            (Do::Set, A, 0, &[1], Ok(1)),
-        ],
+        "[[commute a + 5 5] [deref a 5]]",
+        "[[commute a + 5 5] [commute a + 1 6]]",
+        "[[commute a + 5 5] [set a 1 :set-after-commute] [deref a 5]]",
+        "[[commute a + 5 5] [alter a + 1 :set-after-commute] [deref a 5]]",
+        "[[set a 5 5] [commute a + 1 6] [deref a 6]]",
+        "[[alter a + 5 5] [commute a + 1 6]]",
+        "[[set a 5 5] [commute a + 1 6] [set a 7 :set-after-commute] [deref a 6]]",
+        "[[commute a + 5 5] [set b 1 1] [deref b 1] [deref a 5]]",
+        "[[commute x + 1 :no-such-ref]]",
+        "[[commute n + 1 :wrong-kind]]",
+        "[[commute a dec :no-such-fun]]",
+        "[[commute a + 5 5] [alter a dec :set-after-commute]]",
+        "[[commute a inc 1] [commute a inc 2]]",
+        "[[commute a inc 1 :wrong-arity] [set a 1 1]]",
+        "[[commute a + 5 5] [commute a + 9223372036854775807 :overflow] [deref a 5]]",
         // the tally
-        &[
-            (Do::Commute, T, ADD, &[1], Ok(6)),
-            (Do::Commute, T, ADD, &[10], Ok(16)),
-            (Do::Deref, T, 0, &[], Ok(16)),
-        ],
-        &[(Do::Commute, T, ADD, &[0], Ok(5))],
-        &[
-            (Do::Commute, T, ADD, &[-1], tally),
-            (Do::Deref, T, 0, &[], Ok(5)),
-        ],
-        &[(Do::Commute, T, ADD, &[1, 1], tally)],
-        &[(Do::Commute, T, ADD, &[], tally)],
-        &[(Do::Commute, T, TAKE, &[1], tally)],
-        &[(Do::Commute, T, INC, &[], tally)],
-        &[
-            (Do::Commute, T, ADD, &[i64::MAX], over),
-            (Do::Deref, T, 0, &[], Ok(5)),
-        ],
-        &[
-            (Do::Ensure, T, 0, &[], Ok(5)),
-            (Do::Commute, T, ADD, &[1], Ok(6)),
-        ],
-        &[
-            (Do::Commute, T, ADD, &[1], Ok(6)),
-            (Do::Ensure, T, 0, &[], Ok(6)),
-        ],
-        &[
-            (Do::Commute, T, ADD, &[1], Ok(6)),
-            (Do::Set, T, 0, &[1], late),
-        ],
-        &[
-            (Do::Commute, T, ADD, &[1], Ok(6)),
-            (Do::Alter, T, ADD, &[1], late),
-        ],
+        "[[commute t + 1 6] [commute t + 10 16] [deref t 16]]",
+        "[[commute t + 0 5]]",
+        "[[commute t + -1 :tally-only] [deref t 5]]",
+        "[[commute t + 1 1 :tally-only]]",
+        "[[commute t + :tally-only]]",
+        "[[commute t + :k :tally-only]]",
+        "[[commute t - 1 :tally-only]]",
+        "[[commute t inc :tally-only]]",
+        "[[commute t + 9223372036854775807 :overflow] [deref t 5]]",
+        "[[ensure t 5] [commute t + 1 6]]",
+        "[[commute t + 1 6] [ensure t 6]]",
+        "[[commute t + 1 6] [set t 1 :set-after-commute]]",
+        "[[commute t + 1 6] [alter t + 1 :set-after-commute]]",
         // ensure
-        &[
-            (Do::Ensure, A, 0, &[], Ok(0)),
-            (Do::Deref, A, 0, &[], Ok(0)),
-        ],
-        &[
-            (Do::Ensure, A, 0, &[], Ok(0)),
-            (Do::Set, A, 0, &[5], Ok(5)),
-            (Do::Deref, A, 0, &[], Ok(5)),
-        ],
-        &[(Do::Set, A, 0, &[5], Ok(5)), (Do::Ensure, A, 0, &[], Ok(5))],
-        &[
-            (Do::Commute, A, ADD, &[5], Ok(5)),
-            (Do::Ensure, A, 0, &[], Ok(5)),
-            (Do::Set, A, 0, &[1], late),
-        ],
-        &[(Do::Ensure, X, 0, &[], none)],
-        &[
-            (Do::Ensure, A, 0, &[], Ok(0)),
-            (Do::Ensure, A, 0, &[], Ok(0)),
-        ],
-        &[
-            (Do::Ensure, A, 0, &[], Ok(0)),
-            (Do::Commute, A, ADD, &[1], Ok(1)),
-            (Do::Deref, A, 0, &[], Ok(1)),
-        ],
+        "[[ensure a 0] [deref a 0]]",
+        "[[ensure a 0] [set a 5 5] [deref a 5]]",
+        "[[set a 5 5] [ensure a 5]]",
+        "[[commute a + 5 5] [ensure a 5] [set a 1 :set-after-commute]]",
+        "[[ensure x :no-such-ref]]",
+        "[[ensure a 0] [ensure a 0]]",
+        "[[ensure a 0] [commute a + 1 1] [deref a 1]]",
         // what is required
-        &[(Do::Require, A, LEAST, &[0], Ok(0))],
-        &[(Do::Require, A, LEAST, &[1], unmet)],
-        &[
-            (Do::Set, A, 0, &[5], Ok(5)),
-            (Do::Require, A, LEAST, &[1], Ok(0)),
-        ],
-        &[
-            (Do::Set, B, 0, &[-1], Ok(-1)),
-            (Do::Require, B, LEAST, &[0], unmet),
-            (Do::Deref, B, 0, &[], Ok(-1)),
-        ],
-        &[(Do::Require, X, LEAST, &[0], none)],
-        &[(Do::Require, A, MOST, &[0], Err(TxFault::NoSuchFun(MOST)))],
-        &[(Do::Require, X, MOST, &[0], none)],
-        &[(Do::Require, A, LEAST, &[], unmet)],
-        &[
-            (Do::Commute, A, ADD, &[1], Ok(1)),
-            (Do::Require, A, LEAST, &[1], Ok(0)),
-        ],
-        &[(Do::Require, N, LEAST, &[0], unmet)],
-        &[(Do::Require, T, LEAST, &[5], Ok(0))],
-        &[
-            (Do::Require, A, LEAST, &[1], unmet),
-            (Do::Set, A, 0, &[1], Ok(1)),
-            (Do::Require, A, LEAST, &[1], Ok(0)),
-        ],
+        "[[require a >= 0 nil]]",
+        "[[require a >= 1 :not-met]]",
+        "[[set a 5 5] [require a >= 1 nil]]",
+        "[[set b -1 -1] [require b >= 0 :not-met] [deref b -1]]",
+        "[[require x >= 0 :no-such-ref]]",
+        "[[require a <= 0 :no-such-fun]]",
+        "[[require x <= 0 :no-such-ref]]",
+        "[[require a >= :not-met]]",
+        "[[commute a + 1 1] [require a >= 1 nil]]",
+        "[[require n >= 0 :not-met]]",
+        "[[require t >= 5 nil]]",
+        "[[require a >= 1 :not-met] [set a 1 1] [require a >= 1 nil]]",
         // several refs
-        &[
-            (Do::Set, A, 0, &[1], Ok(1)),
-            (Do::Set, B, 0, &[2], Ok(2)),
-            (Do::Deref, A, 0, &[], Ok(1)),
-            (Do::Deref, B, 0, &[], Ok(2)),
-        ],
-        &[
-            (Do::Alter, A, ADD, &[1], Ok(1)),
-            (Do::Commute, B, ADD, &[1], Ok(11)),
-            (Do::Ensure, A, 0, &[], Ok(1)),
-            (Do::Deref, B, 0, &[], Ok(11)),
-        ],
+        "[[set a 1 1] [set b 2 2] [deref a 1] [deref b 2]]",
+        "[[alter a + 1 1] [commute b + 1 11] [ensure a 1] [deref b 11]]",
     ];
-    for (i, row) in rows.iter().enumerate() {
-        assert_eq!(rt; first_wrong(alloc, &funs, row)?, None, "row {i}");
+    for row in rows {
+        assert!(rt; are_right(alloc, &funs, row)?, "{row}");
     }
     Ok(())
-}
-
-// Makes these calls in a transaction, and tells the first whose answer isn't the one that is wanted, or that doesn't
-// record the operation which it makes.
-fn first_wrong<F: Functions<Core>>(
-    alloc: Global,
-    funs: &F,
-    row: &[Call<'_>],
-) -> Result<Option<usize>, AllocError> {
-    let mut tx: Tx<Core> = Tx::start(alloc, 7, refs(alloc)?, Some(T));
-    for (i, call) in row.iter().enumerate() {
-        let before = tx.dones().len();
-        let (act, _, _, _, want) = *call;
-        let got = answer(alloc, funs, &mut tx, *call);
-        let adds = want.is_ok() && !matches!(act, Do::Deref | Do::Require);
-        if got != want || tx.dones().len().checked_sub(before) != Some(usize::from(adds)) {
-            return Ok(Some(i));
-        }
-    }
-    if tx.read_point() != 7 || tx.began().len() != 4 {
-        return Ok(Some(row.len()));
-    }
-    Ok(None)
 }
 
 fn next(seed: &mut u64) -> u64 {
@@ -385,7 +273,31 @@ fn next(seed: &mut u64) -> u64 {
     *seed >> 33
 }
 
-// Makes up to 8 calls that are drawn by the seed, and tells how many were refused.
+// An operation that is drawn by the seed.
+fn operate<F: Functions<Core>>(
+    alloc: Global,
+    funs: &F,
+    tx: &mut Tx<Core>,
+    seed: &mut u64,
+) -> Result<Value, TxFault> {
+    let r = (next(seed) % 3) as u32;
+    let code = if next(seed) % 4 == 0 { 2 } else { 1 };
+    let n = value(Node::Int((next(seed) % 7) as i64 - 1))?;
+    let mut values = Vec::new(alloc);
+    values.push(n.share()?)?;
+    if values.len() > MOST_ARGUMENTS {
+        return Err(TxFault::Memory);
+    }
+    let args = Args::of(alloc, values)?;
+    match next(seed) % 4 {
+        0 => tx.ref_set(alloc, r, n),
+        1 => tx.alter(alloc, funs, r, code, args),
+        2 => tx.commute(alloc, funs, r, code, args),
+        _ => tx.ensure(alloc, r),
+    }
+}
+
+// Makes up to 8 operations, and tells how many were refused.
 fn drawn<F: Functions<Core>>(
     alloc: Global,
     funs: &F,
@@ -395,16 +307,7 @@ fn drawn<F: Functions<Core>>(
     let calls = next(seed) % 9;
     let mut refused: usize = 0;
     for _ in 0..calls {
-        let act = match next(seed) % 4 {
-            0 => Do::Set,
-            1 => Do::Alter,
-            2 => Do::Commute,
-            _ => Do::Ensure,
-        };
-        let r = (next(seed) % 3) as u32;
-        let code = if next(seed) % 4 == 0 { TAKE } else { ADD };
-        let n = (next(seed) % 7) as i64 - 1;
-        match answer(alloc, funs, tx, (act, r, code, &[n], Ok(0))) {
+        match operate(alloc, funs, tx, seed) {
             Ok(_) => {}
             Err(TxFault::Memory) => return Err(TxFault::Memory),
             Err(_) => refused = refused.saturating_add(1),
@@ -441,7 +344,7 @@ fn replays<F: Functions<Core>>(alloc: Global, funs: &F, tx: &Tx<Core>) -> Result
 fn the_slow_replay_agrees(rt: HostRuntime) -> Result<(), Fail> {
     let alloc = rt.alloc();
     let mut funs = FunTable::empty(alloc);
-    for code in [ADD, TAKE] {
+    for code in 1..3u32 {
         let run: Fun = Box::new(
             alloc,
             move |a: Global, state: &Value, args: &[Value]| -> Result<Value, FunFault>

@@ -54,6 +54,10 @@ fn append_done(alloc: Global, done: &Done, out: &mut Vec<u8>) -> Result<(), Allo
                 print(alloc, arg, out)?;
             }
         }
+        // A world makes no other operation.
+        Op::Set(_) | Op::Commute(_, _) | Op::Ensure => {
+            out.extend_from_slice(b" another operation")?
+        }
     }
     out.extend_from_slice(b" = ")?;
     print(alloc, &done.answer, out)
