@@ -43,20 +43,24 @@ const FAULTS: [(&[u8], &str); 9] = [
     (b"1 #_", "EndsEarly at 4"),
 ];
 
+// The line that is said of a text, the status, and how many bytes were written.
+fn said_of(rt: &HostRuntime, text: &[u8]) -> Result<(String, u8, usize), Fail> {
+    let mut reader = Counted::new(text);
+    let mut writer = make_narrow(rt, 100, 100);
+    let (said, code) = match print_text(rt.alloc(), &mut reader, &mut writer) {
+        Ok(()) => (String::new(rt.alloc()), 0),
+        Err(fault) => (Line(fault).to_string(rt.alloc())?, status(fault)),
+    };
+    Ok((said, code, writer.taken.len()))
+}
+
 #[test]
 fn prints_nothing_of_a_text_with_a_fault(rt: HostRuntime) -> Result<(), Fail> {
     for (text, line) in FAULTS {
-        let mut reader = Counted::new(text);
-        let mut writer = make_narrow(&rt, 100, 100);
-        match print_text(rt.alloc(), &mut reader, &mut writer) {
-            Ok(()) => assert!(rt; false, "{line}"),
-            Err(fault) => {
-                let said = Line(fault).to_string(rt.alloc())?;
-                assert!(rt; said.as_str() == line, "{line}: {said}");
-                assert!(rt; status(fault) == 3, "{line}");
-            }
-        }
-        assert!(rt; writer.taken.is_empty(), "{line}");
+        let (said, code, written) = said_of(&rt, text)?;
+        assert!(rt; said.as_str() == line, "{line}");
+        assert_eq!(rt; code, 3, "{line}");
+        assert_eq!(rt; written, 0, "{line}");
     }
     Ok(())
 }
