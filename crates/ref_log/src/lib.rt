@@ -8,6 +8,7 @@
 pub mod entries;
 pub mod faults;
 pub mod lists;
+pub mod notices;
 pub mod operations;
 pub mod replay;
 pub mod states;
@@ -17,6 +18,7 @@ mod tests;
 pub use entries::{Entry, Stamp, Transaction};
 pub use faults::AuditFault;
 pub use lists::SharedVec;
+pub use notices::{Notice, Who};
 pub use operations::{Done, Op};
 pub use ref_fun::Args;
 pub use replay::replay_plain;

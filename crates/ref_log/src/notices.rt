@@ -1,0 +1,19 @@
+//! What watches are told.
+use ref_edn::Value;
+
+/// A reference, by its kind and its number.
+#[derive(Clone, Copy, Debug, Drop, PartialEq, Eq)]
+pub enum Who {
+    Ref(u32),
+    Atom(u32),
+    Agent(u32),
+}
+
+/// What a watch is told of a change: the reference, the watch's key, and the values before and after.
+#[derive(Drop)]
+pub struct Notice {
+    pub who: Who,
+    pub key: Value,
+    pub before: Value,
+    pub after: Value,
+}

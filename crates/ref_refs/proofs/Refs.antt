@@ -1,0 +1,38 @@
+-- The refs of operations are here, and what follows where there is no tally.
+use Rattle.std.proofs.Common.{◌≡◌, ℕ, ◌<◌, ◌==◌, ◌&&◌, ◌||◌, not, nat_lt, cond, Bool, true, false, List, [], ◌∷◌, length, Option, None, Some, refl, ap, get_or, zero, suc, ◌⊎◌, inl, inr, arith}
+use Rattle.std.specs.List.{find}
+use Rattle.std.specs.Option.{option_map}
+use Rattle.std.proofs.lemmas.Bool.{eqb-true, or_cases, and_parts, ltb-true, not-false}
+use Rattle.ref_edn.specs.Edn.{Edn}
+use Rattle.ref_log.specs.Replay.{is_commute, is_protected}
+use Rattle.ref_log.specs.declared.operations.Done.{Done}
+use Rattle.ref_tx.specs.Inner.{fit_tally}
+use Rattle.ref_refs.specs.declared.faults.Alien.TheVariants as aliens
+use Rattle.ref_refs.specs.declared.faults.CommitFault.{CommitFault}
+use Rattle.ref_refs.specs.declared.faults.CommitFault.TheVariants.{Foreign}
+use Rattle.ref_refs.specs.Commit.{alien_ref, has_ref}
+
+pub no_tally : (ds : List Done) → fit_tally None ds ≡ true
+no_tally [] = refl
+no_tally (d ∷ ds) = no_tally ds
+
+-- ---- where no ref is foreign, the ref of each operation is here
+
+abbrev foreign : Done → CommitFault
+foreign d = Foreign (aliens.Ref d.r)
+
+here_parts : (b : Bool) (d : Done) (later : Option Done) → option_map foreign (cond (not b) (Some d) later) ≡ None → (b ≡ true) × (option_map foreign later ≡ None)
+here_parts true d later e = (refl, e)
+here_parts false d later e = absurd cc
+
+pub all_here : (values : List Edn) (ds : List Done) → alien_ref values ds ≡ None → (r : ℕ) → is_protected ds r ≡ true → r < length values
+all_here values [] none r protected = absurd cc
+all_here values (d ∷ ds) none r protected = at (here_parts (nat_lt d.r (length values)) d (find (λ x. not (has_ref values x.r)) ds) none) (or_cases (d.r == r && not (is_commute d.op)) (is_protected ds r) protected) (λ n p. all_here values ds n r p) where
+  at : (nat_lt d.r (length values) ≡ true) × (alien_ref values ds ≡ None) → ((d.r == r && not (is_commute d.op)) ≡ true) ⊎ (is_protected ds r ≡ true) → (alien_ref values ds ≡ None → is_protected ds r ≡ true → r < length values) → r < length values
+  at parts (inl here) others = omega (arith, ltb-true d.r (length values) parts.0, eqb-true d.r r (and_parts (d.r == r) (not (is_commute d.op)) here).0)
+  at parts (inr later) others = others parts.1 later
+
+pub here_at : (values : List Edn) (ds : List Done) (i : ℕ) (d : Done) → alien_ref values ds ≡ None → i < length ds → d ≡ get_or ds i d → d.r < length values
+here_at values [] i d none below is = absurd (omega (arith, below))
+here_at values (x ∷ ds) zero d none below is = omega (arith, ltb-true x.r (length values) (here_parts (nat_lt x.r (length values)) x (find (λ y. not (has_ref values y.r)) ds) none).0, ap (λ y. y.r) is)
+here_at values (x ∷ ds) (suc i) d none below is = here_at values ds i d (here_parts (nat_lt x.r (length values)) x (find (λ y. not (has_ref values y.r)) ds) none).1 (omega (arith, below)) is

@@ -1,0 +1,134 @@
+-- When a transaction can be committed, and what its commit makes.
+--
+-- A commit is asked for at a point, which comes right after the present one. What stands here speaks of the values and the
+-- last changes of all refs as they are before it, and of the transaction as a record: its read point, the values that it
+-- began with, its operations with their answers.
+use Rattle.std.specs.Prelude.{ℕ, ◌^◌, nat_lt, Bool, true, false, not, ◌&&◌, if◌then◌else◌, List, [], ◌∷◌, ◌++◌, find, length, slice_get, slice_set, Option, None, Some, Result, Ok, Err}
+use Rattle.std.specs.List.{range_with_len}
+use Rattle.std.specs.Option.{option_map}
+use Rattle.std.specs.Ordering.{eq_by_cmp}
+use Rattle.ref_edn.specs.Edn.{Edn}
+use Rattle.ref_edn.specs.Order.{edn_cmp}
+use Rattle.ref_fun.specs.declared.faults.Cause.{Cause}
+use Rattle.ref_fun.specs.Meaning.{Means}
+use Rattle.ref_log.specs.Replay.{place, is_protected, is_touched, missing}
+use Rattle.ref_log.specs.declared.entries.Entry.{Entry}
+use Rattle.ref_log.specs.declared.entries.Entry.TheVariants.{Trans}
+use Rattle.ref_log.specs.declared.entries.Stamp.{Stamp}
+use Rattle.ref_log.specs.declared.operations.Op.{Op}
+use Rattle.ref_log.specs.declared.operations.Op.TheVariants.{Set, Alter, Commute, Ensure}
+use Rattle.ref_log.specs.declared.operations.Done.{Done}
+use Rattle.ref_tx.specs.Inner.{fit_tally}
+use Rattle.ref_tx.specs.Seen.{TxSeen}
+use Rattle.ref_refs.specs.Seen.{RefsSeen, changed_at}
+use Rattle.ref_refs.specs.declared.faults.Alien.{Alien}
+use Rattle.ref_refs.specs.declared.faults.Alien.TheVariants as aliens
+use Rattle.ref_refs.specs.declared.faults.CommitFault.{CommitFault}
+use Rattle.ref_refs.specs.declared.faults.CommitFault.TheVariants.{Foreign, Conflict, Refused, PointLimit, NoSuchFun}
+
+-- ---- what is foreign to a store: a transaction that was begun elsewhere
+
+abbrev pub has_ref : List Edn → ℕ → Bool
+has_ref values r = nat_lt r (length values)
+
+-- the first operation on a ref that isn't here
+abbrev pub alien_ref : List Edn → List Done → Option CommitFault
+alien_ref values ds = option_map (λ d. Foreign (aliens.Ref d.r)) (find (λ d. not (has_ref values d.r)) ds)
+
+-- an operation that the tally here doesn't take
+abbrev pub alien_tally : Option ℕ → List Done → Option CommitFault
+alien_tally tally ds = if fit_tally tally ds then None else Some (Foreign aliens.Tally)
+
+-- a read point after the present one
+abbrev pub alien_point : ℕ → ℕ → Option CommitFault
+alien_point at read_point = if nat_lt read_point at then None else Some (Foreign (aliens.Point read_point))
+
+-- ---- the functions that a commit calls: those of its commutes
+
+abbrev pub commuted_code : Op → List ℕ
+commuted_code (Set w) = []
+commuted_code (Alter code args) = []
+commuted_code (Commute code args) = code ∷ []
+commuted_code Ensure = []
+
+abbrev pub commuted_codes : List Done → List ℕ
+commuted_codes [] = []
+commuted_codes (d ∷ ds) = commuted_code d.op ++ commuted_codes ds
+
+-- the first of them that the table doesn't know
+abbrev pub lacking : (ℕ → Bool) → List Done → Option CommitFault
+lacking knows ds = option_map NoSuchFun (missing knows (commuted_codes ds))
+
+-- ---- protected refs
+
+-- The smallest ref here that the transaction protects and of which something holds.
+abbrev pub first_protected : List Edn → List Done → (ℕ → Bool) → Option ℕ
+first_protected values ds holds = find (λ r. is_protected ds r && holds r) (range_with_len 0 (length values))
+
+-- A transaction is in conflict where a ref that it protects has changed after its read point.
+abbrev pub changed_after : List ℕ → ℕ → ℕ → Bool
+changed_after lasts read_point r = nat_lt read_point (changed_at lasts r)
+
+abbrev pub conflict_on : List ℕ → ℕ → ℕ → CommitFault
+conflict_on lasts read_point r = Conflict (record { r = r; read_point = read_point; changed_at = changed_at lasts r })
+
+abbrev pub conflict : RefsSeen → TxSeen → Option CommitFault
+conflict store tx = option_map (conflict_on store.lasts tx.read_point) (first_protected store.values tx.dones (changed_after store.lasts tx.read_point))
+
+-- The protected refs of a transaction that was begun here, which haven't changed, have the values that it began with.
+abbrev pub differs : Option Edn → Option Edn → Bool
+differs began None = false
+differs None (Some now) = true
+differs (Some began) (Some now) = not (eq_by_cmp edn_cmp began now)
+
+abbrev pub differs_at : List Edn → List Edn → ℕ → Bool
+differs_at values began r = differs (slice_get began r) (slice_get values r)
+
+abbrev pub alien_value : List Edn → TxSeen → Option CommitFault
+alien_value values tx = option_map (λ r. Foreign (aliens.Value r)) (first_protected values tx.dones (differs_at values tx.began))
+
+-- ---- what refuses over the latest values
+
+abbrev pub refused_at : ℕ → Option (Result Edn Cause) → (Edn → Option CommitFault) → Option CommitFault
+refused_at r (Some (Ok v)) later = later v
+refused_at r (Some (Err cause)) later = Some (Refused r cause)
+refused_at r None later = None
+
+-- The first operation that refuses, where they are made one at a time, each on the value that its ref has by then.
+abbrev pub refused : Means → List Done → List Edn → Option CommitFault
+refused means [] values = None
+refused means (d ∷ ds) values = refused_at d.r (option_map (place means d.op) (slice_get values d.r)) (λ v. refused means ds (slice_set values d.r v))
+
+-- ---- the points end
+
+abbrev pub past_points : ℕ → Option CommitFault
+past_points at = if nat_lt (2 ^ 62) at then Some PointLimit else None
+
+-- ---- all together
+
+abbrev pub or_fault : Option CommitFault → Option CommitFault → Option CommitFault
+or_fault (Some fault) later = Some fault
+or_fault None later = later
+
+abbrev pub alien : RefsSeen → ℕ → TxSeen → Option CommitFault
+alien store at tx = or_fault (alien_ref store.values tx.dones) (or_fault (alien_tally store.tally tx.dones) (alien_point at tx.read_point))
+
+-- The first fault of a commit at this point, if it has one.
+abbrev pub commit_refusal : Means → (ℕ → Bool) → RefsSeen → ℕ → TxSeen → Option CommitFault
+commit_refusal means knows store at tx =
+    or_fault (alien store at tx)
+        (or_fault (lacking knows tx.dones)
+            (or_fault (conflict store tx)
+                (or_fault (alien_value store.values tx)
+                    (or_fault (refused means tx.dones store.values)
+                        (past_points at)))))
+
+-- ---- the commit
+
+-- its entry
+abbrev pub entry_of : Stamp → TxSeen → Entry
+entry_of stamp tx = Trans (record { stamp = stamp; read_point = tx.read_point; dones = tx.dones })
+
+-- the last change of a ref after a commit at this point
+abbrev pub changed_by : List ℕ → ℕ → List Done → ℕ → ℕ
+changed_by lasts at ds r = if is_touched ds r then at else changed_at lasts r

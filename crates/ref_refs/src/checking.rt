@@ -1,0 +1,137 @@
+//! The tests before a commit.
+ghost use Rattle.std.specs.Prelude.{◌≡◌, ◌<◌, [], ◌∷◌, None, Some, IfErr, OnOk};
+ghost use Rattle.ref_log.specs.Tally.{is_count};
+ghost use Rattle.ref_tx.specs.Inner.{fit_tally};
+ghost use Rattle.ref_refs.specs.Commit.{alien_ref, changed_after, differs_at, first_protected, lacking};
+ghost use Rattle.ref_refs.specs.Smaller.{smaller};
+
+use crate::faults::{Alien, CommitFault};
+use ref_edn::{Node, Value};
+use ref_fun::{Functions, Meaning};
+use ref_log::{Done, Op, SharedVec};
+
+// Tells the first operation on a ref that isn't here.
+pub(crate) fn check_refs(values: &[Value], dones: &[Done]) -> Result<(), CommitFault>
+    ensures ok { OnOk result (alien_ref values.now dones.now ≡ None) }
+    ensures err { IfErr result (λ f. alien_ref values.now dones.now ≡ Some f) }
+{
+    for done in dones {
+        if done.r as usize >= values.len() {
+            return Err(CommitFault::Foreign(Alien::Ref(done.r)));
+        }
+    }
+    Ok(())
+}
+
+// Whether the tally takes all operations on it.
+pub(crate) fn fits_tally(tally: Option<u32>, dones: &[Done]) -> bool
+    ensures { result ≡ fit_tally tally dones.now }
+{
+    let Some(tally) = tally else {
+        return true;
+    };
+    for done in dones {
+        if done.r == tally && !done.op.fits_tally() {
+            return false;
+        }
+    }
+    true
+}
+
+// Tells the first function that a commit would call and the table lacks.
+pub(crate) fn check_served<M: Meaning, F: Functions<M>>(
+    funs: &F,
+    dones: &[Done],
+) -> Result<(), CommitFault>
+    ensures ok { OnOk result (lacking (F.knows_fun funs.now) dones.now ≡ None) }
+    ensures err { IfErr result (λ f. lacking (F.knows_fun funs.now) dones.now ≡ Some f) }
+{
+    for done in dones {
+        if let Op::Commute(code, _) = &done.op {
+            if !funs.has_fun(*code) {
+                return Err(CommitFault::NoSuchFun(*code));
+            }
+        }
+    }
+    Ok(())
+}
+
+// The smallest protected ref that has changed after the read point.
+pub(crate) fn first_changed(
+    values: &[Value],
+    lasts: &[u64],
+    read_point: u64,
+    dones: &[Done],
+) -> Option<u32>
+    requires { alien_ref values.now dones.now ≡ None }
+    ensures { result ≡ first_protected values.now dones.now (changed_after lasts.now read_point) }
+{
+    let mut first = None;
+    for done in dones {
+        if !done.op.is_commute() && is_changed(lasts, done.r, read_point) {
+            first = Some(smaller(first, done.r));
+        }
+    }
+    first
+}
+
+// The smallest protected ref whose value isn't the one that the transaction began with.
+pub(crate) fn first_differing(
+    values: &[Value],
+    began: &SharedVec<Value>,
+    dones: &[Done],
+) -> Option<u32>
+    requires { alien_ref values.now dones.now ≡ None }
+    ensures { result ≡ first_protected values.now dones.now (differs_at values.now began.now) }
+{
+    let mut first = None;
+    for done in dones {
+        if !done.op.is_commute() && is_other(values, began, done.r) {
+            first = Some(smaller(first, done.r));
+        }
+    }
+    first
+}
+
+// Whether a ref has changed after a point.
+fn is_changed(lasts: &[u64], r: u32, point: u64) -> bool
+    ensures { result ≡ changed_after lasts.now point r }
+{
+    match lasts.get(r as usize) {
+        Some(last) => *last > point,
+        None => false,
+    }
+}
+
+// Whether a ref has another value now than in the beginning.
+fn is_other(values: &[Value], began: &SharedVec<Value>, r: u32) -> bool
+    ensures { result ≡ differs_at values.now began.now r }
+{
+    match values.get(r as usize) {
+        None => false,
+        Some(now) => match began.get(r as usize) {
+            None => true,
+            Some(began) => began != now,
+        },
+    }
+}
+
+// The smaller of two refs, the first of which may be missing.
+fn smaller(first: Option<u32>, r: u32) -> u32
+    ensures { result ≡ smaller first r }
+{
+    match first {
+        Some(other) if other < r => other,
+        _ => r,
+    }
+}
+
+// Whether a tally can start with this value: an integer of 0 or more.
+pub(crate) fn is_count(value: &Value) -> bool
+    ensures { result ≡ is_count (value.now ∷ []) }
+{
+    match value.node() {
+        Node::Int(n) => *n >= 0,
+        _ => false,
+    }
+}

@@ -1,0 +1,157 @@
+//! Why a store of refs refuses a call.
+ghost use Rattle.std.specs.Prelude.{◌≡◌};
+ghost use Rattle.ref_refs.specs.Faults.{alien_number, commit_fault_number, make_fault_number};
+ghost use Rattle.ref_refs.specs.declared.faults.CommitFault.TheVariants as commits;
+ghost use Rattle.ref_refs.specs.declared.faults.MakeFault.TheVariants as makes;
+
+use ref_fun::Cause;
+use std::alloc::{AllocError, AllocFailed};
+use thiserror::Error;
+
+/// What of a transaction is foreign to the store that should commit it. A transaction that was begun on this store, and
+/// before the point of its commit, has nothing foreign.
+#[derive(Clone, Copy, Debug, Drop, PartialEq, Eq, Error)]
+pub enum Alien {
+    /// There is no ref of this number here.
+    #[error("there is no ref {0} here")]
+    Ref(u32),
+    /// There is no agent of this number here.
+    #[error("there is no agent {0} here")]
+    Agent(u32),
+    /// An operation changes the tally here and isn't `commute` of `+` with one integer of 0 or more.
+    #[error("the tally here can only be added to")]
+    Tally,
+    /// The read point comes after the present one.
+    #[error("point {0} is still to come")]
+    Point(u64),
+    /// The ref of this number is protected and unchanged, and began with another value than here.
+    #[error("ref {0} had another value here")]
+    Value(u32),
+}
+
+/// A protected ref that somebody else has changed.
+#[derive(Clone, Copy, Debug, Drop, PartialEq, Eq)]
+pub struct Conflict {
+    /// The ref, the smallest of those in conflict.
+    pub r: u32,
+    /// The transaction's read point.
+    pub read_point: u64,
+    /// The point of the ref's last change, which comes after the read point.
+    pub changed_at: u64,
+}
+
+/// Why a transaction wasn't committed. The store is as it was, and the transaction comes back.
+#[derive(Clone, Copy, Debug, Drop, PartialEq, Eq, Error)]
+pub enum CommitFault {
+    /// The transaction was begun on another store.
+    #[error("a transaction of another store: {0}")]
+    Foreign(Alien),
+    /// A ref that the transaction set, altered or ensured has changed since its read point. Begun anew, it may succeed.
+    #[error("ref {} has changed", .0.r)]
+    Conflict(Conflict),
+    /// The function of an operation on the ref of this number refuses the latest value.
+    #[error("refused at ref {0}: {1}")]
+    Refused(u32, Cause),
+    /// The rule of the ref of this number doesn't accept its new value.
+    #[error("the rule of ref {0} doesn't accept its value")]
+    Invalid(u32),
+    /// Points end at 2^62.
+    #[error("no point is left")]
+    PointLimit,
+    #[error("out of memory")]
+    Memory,
+    /// The table has no function of this code, which a `commute` calls.
+    #[error("no function has code {0}")]
+    NoSuchFun(u32),
+}
+
+/// Why a ref wasn't made. The store is as it was.
+#[derive(Clone, Copy, Debug, Drop, PartialEq, Eq, Error)]
+pub enum MakeFault {
+    /// There are 2^20 refs.
+    #[error("there are too many refs")]
+    Full,
+    /// There is a tally, or this value isn't an integer of 0 or more.
+    #[error("a tally has to be the only one, and to start with an integer of 0 or more")]
+    BadTally,
+    /// The rule doesn't accept the value.
+    #[error("the rule doesn't accept the value")]
+    Invalid,
+    /// Points end at 2^62.
+    #[error("no point is left")]
+    PointLimit,
+    #[error("out of memory")]
+    Memory,
+    /// The table has no predicate of this code.
+    #[error("no predicate has code {0}")]
+    NoSuchFun(u32),
+}
+
+impl Alien {
+    // The number of the fault that tells it.
+    fn number(&self) -> u8
+        ensures { result ≡ alien_number self.now }
+    {
+        match self {
+            Alien::Ref(_) | Alien::Agent(_) | Alien::Tally | Alien::Point(_) => 1,
+            Alien::Value(_) => 3,
+        }
+    }
+}
+
+impl CommitFault {
+    /// The number of the fault: its place in the order of the tests, and 9 where the table lacks a function.
+    pub fn number(&self) -> u8
+        ensures { result ≡ commit_fault_number self.now }
+    {
+        match self {
+            CommitFault::Foreign(alien) => alien.number(),
+            CommitFault::Conflict(_) => 2,
+            CommitFault::Refused(_, _) => 4,
+            CommitFault::Invalid(_) => 5,
+            CommitFault::PointLimit => 6,
+            CommitFault::Memory => 7,
+            CommitFault::NoSuchFun(_) => 9,
+        }
+    }
+}
+
+impl MakeFault {
+    /// The number of the fault: its place in the order of the tests, and 9 where the table lacks a predicate.
+    pub fn number(&self) -> u8
+        ensures { result ≡ make_fault_number self.now }
+    {
+        match self {
+            MakeFault::Full => 1,
+            MakeFault::BadTally => 2,
+            MakeFault::Invalid => 3,
+            MakeFault::PointLimit => 4,
+            MakeFault::Memory => 5,
+            MakeFault::NoSuchFun(_) => 9,
+        }
+    }
+}
+
+impl From<AllocError> for CommitFault {
+    ghost from_gives = { λ _ f. f ≡ commits.Memory };
+
+    fn from(_e: AllocError) -> CommitFault {
+        CommitFault::Memory
+    }
+}
+
+impl<T: Drop> From<AllocFailed<T>> for CommitFault {
+    ghost from_gives = { λ _ f. f ≡ commits.Memory };
+
+    fn from(_e: AllocFailed<T>) -> CommitFault {
+        CommitFault::Memory
+    }
+}
+
+impl From<AllocError> for MakeFault {
+    ghost from_gives = { λ _ f. f ≡ makes.Memory };
+
+    fn from(_e: AllocError) -> MakeFault {
+        MakeFault::Memory
+    }
+}

@@ -1,0 +1,127 @@
+//! What the operations of a transaction make at its commit.
+ghost use Rattle.std.specs.BTreeSet.{contains};
+ghost use Rattle.std.specs.Ordering.{nat_cmp};
+ghost use Rattle.std.specs.Option.{option_map};
+ghost use Rattle.std.specs.Prelude.{◌≡◌, ◌≢◌, ◌<◌, ◌==◌, ℕ, List, ◌∷◌, true, false, Option, None, Some, Ok, IfOk, IfErr, OnOk, length, slice_get};
+ghost use Rattle.ref_log.specs.Replay.{after_dones, after_one, is_commute, is_protected, missing, place};
+ghost use Rattle.ref_edn.specs.Edn.{Edn};
+ghost use Rattle.ref_log.specs.declared.operations.Done.{Done};
+ghost use Rattle.ref_refs.specs.declared.faults.CommitFault.{CommitFault as Fault};
+ghost use Rattle.ref_refs.specs.Commit.{alien_ref, alien_value, commuted_code, lacking, refused, refused_at};
+ghost use Rattle.ref_refs.specs.declared.faults.CommitFault.TheVariants.{Memory};
+
+use crate::faults::CommitFault;
+use ref_edn::Value;
+use ref_fun::{CallFault, Functions, Meaning};
+use ref_log::Done;
+use ref_tx::Tx;
+use std::alloc::{AllocError, Global};
+use std::collections::BTreeSet;
+
+// The values after the operations of a transaction, each made on the latest value of its ref, where nobody else has changed
+// a ref that the transaction protects.
+pub(crate) fn place_all<M: Meaning, F: Functions<M>>(
+    alloc: Global,
+    funs: &F,
+    values: &[Value],
+    tx: &Tx<M>,
+) -> Result<Vec<Value>, CommitFault>
+    requires here { alien_ref values.now tx.now.dones ≡ None }
+    requires served { lacking (F.knows_fun funs.now) tx.now.dones ≡ None }
+    requires unchanged { alien_value values.now tx.now ≡ None }
+    ensures ok { IfOk result (λ after. (at : ℕ) → after_dones M.means tx.now.dones at tx.now.dones (Ok values.now) ≡ Ok after.items) }
+    ensures all { IfOk result (λ after. length after.items ≡ length values.now) }
+    ensures unrefused { OnOk result (refused M.means tx.now.dones values.now ≡ None) }
+    ensures fault { IfErr result (λ f. f ≢ Memory → refused M.means tx.now.dones values.now ≡ Some f) }
+{
+    let dones = tx.dones();
+    let protected = protected_refs(alloc, dones)?;
+    let mut after = share_values(alloc, values)?;
+    for done in dones {
+        let is_free = !protected.contains(&done.r);
+        place_one(alloc, funs, is_free, done, &mut after)?;
+    }
+    Ok(after)
+}
+
+// The refs that these operations protect.
+fn protected_refs(alloc: Global, dones: &[Done]) -> Result<BTreeSet<u32>, AllocError>
+    ensures { IfOk result (λ refs. (r : ℕ) → contains nat_cmp refs r ≡ is_protected dones.now r) }
+{
+    let mut refs = BTreeSet::new(alloc);
+    for done in dones {
+        if !done.op.is_commute() {
+            refs.insert(done.r)?;
+        }
+    }
+    Ok(refs)
+}
+
+// Makes an operation on the latest value. A protected ref gets the kept answer, which is what the operation makes.
+fn place_one<M: Meaning, F: Functions<M>>(
+    alloc: Global,
+    funs: &F,
+    is_free: bool,
+    done: &Done,
+    values: &mut Vec<Value>,
+) -> Result<(), CommitFault>
+    requires here { done.now.r < length values.old.items }
+    requires served { missing (F.knows_fun funs.now) (commuted_code done.now.op) ≡ None }
+    requires free { is_free ≡ true → is_commute done.now.op ≡ true }
+    requires kept { is_free ≡ false → option_map (place M.means done.now.op) (slice_get values.old.items done.now.r) ≡ Some (Ok done.now.answer) }
+    ensures ok { OnOk result ((at : ℕ) → after_one M.means is_free at done.now values.old.items ≡ Ok values.new.items) }
+    ensures all { length values.new.items ≡ length values.old.items }
+    ensures others { (r : ℕ) → (done.now.r == r) ≡ false → slice_get values.new.items r ≡ slice_get values.old.items r }
+    ensures answers { OnOk result (is_free ≡ false → slice_get values.new.items done.now.r ≡ Some done.now.answer) }
+    ensures unrefused { OnOk result ((ds : List Done) → refused M.means (done.now ∷ ds) values.old.items ≡ refused M.means ds values.new.items) }
+    ensures fault { IfErr result (λ f. f ≢ Memory → (ds : List Done) → refused M.means (done.now ∷ ds) values.old.items ≡ Some f) }
+{
+    let r = done.r as usize;
+    values[r] = match is_free {
+        true => again(alloc, funs, done, &values[r])?,
+        false => done.answer.share()?,
+    };
+    Ok(())
+}
+
+// What a commute makes of the latest value.
+fn again<M: Meaning, F: Functions<M>>(
+    alloc: Global,
+    funs: &F,
+    done: &Done,
+    value: &Value,
+) -> Result<Value, CommitFault>
+    requires commute { is_commute done.now.op ≡ true }
+    requires served { missing (F.knows_fun funs.now) (commuted_code done.now.op) ≡ None }
+    ensures ok { IfOk result (λ v. place M.means done.now.op value.now ≡ Ok v) }
+    ensures fault { IfErr result (λ f. f ≢ Memory → (later : Edn → Option Fault) → refused_at done.now.r (Some (place M.means done.now.op value.now)) later ≡ Some f) }
+{
+    match done.op.place(alloc, funs, value) {
+        Ok(value) => Ok(value),
+        Err(CallFault::Refused(cause)) => Err(CommitFault::Refused(done.r, cause)),
+        Err(CallFault::NoSuchFun(code)) => Err(CommitFault::NoSuchFun(code)),
+        Err(CallFault::Memory) => Err(CommitFault::Memory),
+    }
+}
+
+// One more owner of each value.
+pub(crate) fn share_values(alloc: Global, values: &[Value]) -> Result<Vec<Value>, AllocError>
+    ensures { IfOk result (λ all. all.items ≡ values.now) }
+{
+    let mut all = Vec::with_capacity(alloc, values.len())?;
+    for value in values {
+        all.push(value.share()?)?;
+    }
+    Ok(all)
+}
+
+// One more owner of each operation.
+pub(crate) fn share_dones(alloc: Global, dones: &[Done]) -> Result<Vec<Done>, AllocError>
+    ensures { IfOk result (λ all. all.items ≡ dones.now) }
+{
+    let mut all = Vec::with_capacity(alloc, dones.len())?;
+    for done in dones {
+        all.push(done.share()?)?;
+    }
+    Ok(all)
+}
