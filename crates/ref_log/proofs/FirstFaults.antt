@@ -1,5 +1,5 @@
 -- The first fault of a part is that of the whole, and so is the first code that a table lacks.
-use Rattle.std.proofs.Common.{◌≡◌, ℕ, ◌+◌, ◌<◌, Bool, not, Result, Ok, Err, Option, None, Some, List, [], ◌∷◌, ◌++◌, drop, find, length, get_or, refl, sym, ◌∙◌, ap, suc, add-one, drop-cons}
+use Rattle.std.proofs.Common.{◌≡◌, ℕ, ◌+◌, ◌<◌, Bool, not, Result, Ok, Err, Option, None, Some, List, [], ◌∷◌, ◌++◌, drop, length, get_or, refl, sym, ◌∙◌, ap, suc, add-one, drop-cons}
 use Rattle.std.specs.Option.{option_or}
 use Rattle.std.proofs.lemmas.List.Folds.{find-append}
 use Rattle.ref_edn.specs.Edn.{Edn}
@@ -9,7 +9,7 @@ use Rattle.ref_log.specs.declared.faults.AuditFault.TheVariants.{Answer, Refuses
 use Rattle.ref_log.specs.declared.operations.Done.{Done}
 use Rattle.ref_log.specs.declared.entries.Entry.{Entry}
 use Rattle.ref_log.specs.declared.entries.Entry.TheVariants.{Trans}
-use Rattle.ref_log.specs.Replay.{is_protected, after_one, after_done, after_dones, and_done, step, and_step, replay_from, missing, needed_of_done, needed_of_dones, needed_of_entry, needed_from, FaultComes}
+use Rattle.ref_log.specs.Replay.{is_protected, after_one, after_done, after_dones, step, replay_from, missing, needed_of_done, needed_of_dones, needed_of_entry, needed_from, FaultComes}
 use Rattle.ref_log.specs.Laws.{after_dones-Err, replay_from-Err}
 
 first_left : (es : List Entry) (i : ℕ) (e : Entry) → i < length es → e ≡ get_or es i e → drop i es ≡ e ∷ drop (i + 1) es

@@ -1,16 +1,23 @@
 -- Laws of the replay, for whoever adds to a log.
-use Rattle.std.specs.Prelude.{◌≡◌, ℕ, ◌+◌, ◌||◌, not, true, false, Bool, Result, Ok, Err, Some, List, [], ◌∷◌, ◌++◌, length, slice_get, slice_set, if◌then◌else◌, refl}
-use Rattle.std.proofs.Common.{◌∙◌, ap, arith, zero-add}
+use Rattle.std.specs.Prelude.{◌≡◌, ℕ, zero, suc, ◌+◌, ◌==◌, ◌&&◌, ◌||◌, not, true, false, Bool, Result, Ok, Err, Option, None, Some, List, [], ◌∷◌, ◌++◌, length, slice_get, slice_set, if◌then◌else◌, refl}
+use Rattle.std.proofs.Common.{◌∙◌, ap, sym, arith, zero-add}
 use Rattle.std.specs.Ordering.{is_eq}
+use Rattle.std.proofs.lemmas.Bool.{eqb-false, or_parts}
 use Rattle.std.proofs.lemmas.Cmp.{tied_itself}
+use Rattle.std.proofs.lemmas.List.{length-set}
 use Rattle.ref_edn.specs.Edn.{Edn}
 use Rattle.ref_edn.specs.OrderLaws.{edn_cmp_total}
+use Rattle.ref_fun.specs.declared.faults.Cause.{Cause}
 use Rattle.ref_fun.specs.Meaning.{Means}
 use Rattle.ref_log.specs.declared.faults.AuditFault.{AuditFault}
+use Rattle.ref_log.specs.declared.faults.AuditFault.TheVariants.{Answer}
+use Rattle.ref_log.specs.declared.operations.Op.{Op}
+use Rattle.ref_log.specs.declared.operations.Op.TheVariants.{Set, Alter, Commute, Ensure}
 use Rattle.ref_log.specs.declared.operations.Done.{Done}
 use Rattle.ref_log.specs.declared.entries.Entry.{Entry}
+use Rattle.ref_log.specs.declared.entries.Entry.TheVariants.{Trans}
 use Rattle.ref_log.specs.declared.states.Base.{Base}
-use Rattle.ref_log.specs.Replay.{place, is_protected, is_kept, after_done, after_found, after_place, and_done, after_dones, and_step, replay_from, point_after, replay, is_touched_by, last_change_from, last_change}
+use Rattle.ref_log.specs.Replay.{place, is_ensure, is_protected, is_touched, is_kept, after_done, after_found, after_place, and_done, after_dones, step, and_step, replay_from, point_after, replay, is_touched_by, last_change_from, last_change}
 
 -- One more operation in an entry is taken after the others.
 pub after_dones-append : (means : Means) (all : List Done) (point : ℕ) (ds : List Done) (d : Done) (values : Result (List Edn) AuditFault) → after_dones means all point (ds ++ d ∷ []) values ≡ and_done means all point d (after_dones means all point ds values)
@@ -65,3 +72,80 @@ last_change_from-append point (x ∷ es) e r before =
 pub last_change-append : (base : Base) (es : List Entry) (e : Entry) (r : ℕ) → last_change base (es ++ e ∷ []) r ≡ (if is_touched_by e r then point_after base es + 1 else last_change base es r)
 last_change-append base es e r =
     last_change_from-append 0 es e r 0 ∙ ap (λ p. if is_touched_by e r then p + 1 else last_change base es r) (zero-add (length es))
+
+-- An operation that is applied sets its ref to its place.
+if-Ok : (b : Bool) (values after : List Edn) (fault : AuditFault) → (if b then Ok values else Err fault) ≡ Ok after → after ≡ values
+if-Ok true values after fault is = cc
+if-Ok false values after fault is = absurd cc
+
+after_place-Ok : (free : Bool) (point : ℕ) (d : Done) (values after : List Edn) (gives : Result Edn Cause) → after_place free point d values gives ≡ Ok after → (v : Edn) × (gives ≡ Ok v) × (after ≡ slice_set values d.r v)
+after_place-Ok free point d values after (Ok v) is = (v, refl, if-Ok (free || is_kept d v) (slice_set values d.r v) after (Answer point) is)
+after_place-Ok free point d values after (Err c) is = absurd cc
+
+after_found-Ok : (means : Means) (free : Bool) (point : ℕ) (d : Done) (values after : List Edn) (there : Option Edn) → after_found means free point d values there ≡ Ok after → (old v : Edn) × (there ≡ Some old) × (place means d.op old ≡ Ok v) × (after ≡ slice_set values d.r v)
+after_found-Ok means free point d values after (Some old) is =
+    let set = after_place-Ok free point d values after (place means d.op old) is in
+    (old, set.0, refl, set.1, set.2)
+after_found-Ok means free point d values after None is = absurd cc
+
+-- An operation that doesn't touch a ref leaves its value: it is on another ref, or it is `ensure`.
+slice_get-slice_set : (values : List Edn) (i r : ℕ) (v : Edn) → (i ≡ r → ⊥) → slice_get (slice_set values i v) r ≡ slice_get values r
+slice_get-slice_set [] i r v other = refl
+slice_get-slice_set (x ∷ xs) zero zero v other = absurd (other refl)
+slice_get-slice_set (x ∷ xs) zero (suc r) v other = refl
+slice_get-slice_set (x ∷ xs) (suc i) zero v other = refl
+slice_get-slice_set (x ∷ xs) (suc i) (suc r) v other = slice_get-slice_set xs i r v (λ same. other (ap suc same))
+
+and-true : (b : Bool) → (b && true) ≡ false → b ≡ false
+and-true true is = is
+and-true false is = refl
+
+slice_set-itself : (values : List Edn) (i : ℕ) (v : Edn) → slice_get values i ≡ Some v → slice_set values i v ≡ values
+slice_set-itself [] i v there = refl
+slice_set-itself (x ∷ xs) zero v there = cc
+slice_set-itself (x ∷ xs) (suc i) v there = ap (λ l. x ∷ l) (slice_set-itself xs i v there)
+
+slice_get-untouched : (means : Means) (op : Op) (i r : ℕ) (values : List Edn) (old v : Edn) → slice_get values i ≡ Some old → place means op old ≡ Ok v → (i == r && not (is_ensure op)) ≡ false → slice_get (slice_set values i v) r ≡ slice_get values r
+slice_get-untouched means Ensure i r values old v there gives untouched = ap (λ l. slice_get l r) (slice_set-itself values i v cc)
+slice_get-untouched means (Set w) i r values old v there gives untouched = slice_get-slice_set values i r v (eqb-false i r (and-true (i == r) untouched))
+slice_get-untouched means (Alter code args) i r values old v there gives untouched = slice_get-slice_set values i r v (eqb-false i r (and-true (i == r) untouched))
+slice_get-untouched means (Commute code args) i r values old v there gives untouched = slice_get-slice_set values i r v (eqb-false i r (and-true (i == r) untouched))
+
+pub after_done-untouched : (means : Means) (all : List Done) (point : ℕ) (d : Done) (values after : List Edn) (r : ℕ) → after_done means all point d values ≡ Ok after → (d.r == r && not (is_ensure d.op)) ≡ false → slice_get after r ≡ slice_get values r
+after_done-untouched means all point d values after r is untouched =
+    let set = after_found-Ok means (not (is_protected all d.r)) point d values after (slice_get values d.r) is in
+    ap (λ l. slice_get l r) set.4 ∙ slice_get-untouched means d.op d.r r values set.0 set.1 set.2 set.3 untouched
+
+pub after_done-length : (means : Means) (all : List Done) (point : ℕ) (d : Done) (values after : List Edn) → after_done means all point d values ≡ Ok after → length after ≡ length values
+after_done-length means all point d values after is =
+    let set = after_found-Ok means (not (is_protected all d.r)) point d values after (slice_get values d.r) is in
+    ap (λ l. length l) set.4 ∙ length-set values d.r set.1
+
+-- Where all operations are applied, so is the first.
+after_dones-Ok : (means : Means) (all : List Done) (point : ℕ) (ds : List Done) (former : Result (List Edn) AuditFault) (after : List Edn) → after_dones means all point ds former ≡ Ok after → (values : List Edn) × (former ≡ Ok values)
+after_dones-Ok means all point ds (Ok values) after is = (values, refl)
+after_dones-Ok means all point ds (Err fault) after is =
+    let fails : Err fault ≡ Ok after = sym (after_dones-Err means all point ds fault) ∙ is in
+    absurd cc
+
+pub after_dones-untouched : (means : Means) (all : List Done) (point : ℕ) (ds : List Done) (values after : List Edn) (r : ℕ) → after_dones means all point ds (Ok values) ≡ Ok after → is_touched ds r ≡ false → slice_get after r ≡ slice_get values r
+after_dones-untouched means all point [] values after r is untouched = ap (λ l. slice_get l r) cc
+after_dones-untouched means all point (d ∷ ds) values after r is untouched =
+    let none = or_parts (d.r == r && not (is_ensure d.op)) (is_touched ds r) untouched in
+    let first = after_dones-Ok means all point ds (after_done means all point d values) after is in
+    let rest : after_dones means all point ds (Ok first.0) ≡ Ok after = ap (after_dones means all point ds) (sym first.1) ∙ is in
+    after_dones-untouched means all point ds first.0 after r rest none.1 ∙ after_done-untouched means all point d values first.0 r first.1 none.0
+
+pub after_dones-length : (means : Means) (all : List Done) (point : ℕ) (ds : List Done) (values after : List Edn) → after_dones means all point ds (Ok values) ≡ Ok after → length after ≡ length values
+after_dones-length means all point [] values after is = ap (λ l. length l) cc
+after_dones-length means all point (d ∷ ds) values after is =
+    let first = after_dones-Ok means all point ds (after_done means all point d values) after is in
+    let rest : after_dones means all point ds (Ok first.0) ≡ Ok after = ap (after_dones means all point ds) (sym first.1) ∙ is in
+    after_dones-length means all point ds first.0 after rest ∙ after_done-length means all point d values first.0 first.1
+
+-- An entry leaves the value of a ref that it doesn't touch, and there are as many refs as before.
+pub step-untouched : (means : Means) (point : ℕ) (e : Entry) (values after : List Edn) (r : ℕ) → step means point e values ≡ Ok after → is_touched_by e r ≡ false → slice_get after r ≡ slice_get values r
+step-untouched means point (Trans t) values after r is untouched = after_dones-untouched means t.dones point t.dones values after r is untouched
+
+pub step-length : (means : Means) (point : ℕ) (e : Entry) (values after : List Edn) → step means point e values ≡ Ok after → length after ≡ length values
+step-length means point (Trans t) values after is = after_dones-length means t.dones point t.dones values after is

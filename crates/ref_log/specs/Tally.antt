@@ -1,6 +1,6 @@
 -- The tally: at most one ref, an integer that only counts up. It is changed by `commute` of `+` with one integer of 0 or
 -- more, and by nothing else.
-use Rattle.std.specs.Prelude.{ℕ, ℤ, pos, ◌==◌, ◌&&◌, Bool, true, false, List, [], ◌∷◌}
+use Rattle.std.specs.Prelude.{pos, ◌==◌, ◌&&◌, Bool, true, false, List, [], ◌∷◌}
 use Rattle.ref_edn.specs.Edn.{Edn, int}
 use Rattle.ref_log.specs.declared.operations.Op.{Op}
 use Rattle.ref_log.specs.declared.operations.Op.TheVariants.{Set, Alter, Commute, Ensure}

@@ -35,9 +35,6 @@ fits_here true true e = refl
 fits_here true false e = absurd cc
 fits_here false fits e = refl
 
-and_true : (a : Bool) → a ≡ true → (a && true) ≡ true
-and_true a e = rw e refl
-
 pub fits_more : (tally : Option ℕ) (ds : List Done) (d : Done) → fit_tally tally ds ≡ true → (is_tally tally d.r && not (fits_tally d.op)) ≡ false → fit_tally tally (ds ++ d ∷ []) ≡ true
 fits_more tally ds d so_far here =
     let fits : Done → Bool = λ x. not (is_tally tally x.r) || fits_tally x.op in

@@ -229,7 +229,7 @@ impl<M: Meaning> Tx<M> {
     }
 
     // Adds an operation, whose answer is this value. The growths come first, and the last step can't fail.
-    #[tactic(auto, using(crate::proofs::Grown::tx_more, crate::proofs::Grown::table_same, crate::proofs::Grown::value_more))]
+    #[tactic(auto, using(crate::proofs::Grown::table_same, crate::proofs::Grown::value_more))]
     fn record(&mut self, alloc: Global, r: u32, op: Op, value: Value) -> Result<Value, TxFault>
         requires allowed { refusal self.old r op ≡ None }
         requires answer { and_place M.means op (inner_value M.means self.old r) ≡ Some value }

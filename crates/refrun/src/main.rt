@@ -25,6 +25,9 @@ use table::run_by_core;
 // The status where the words are no command.
 const USAGE: u8 = 2;
 
+// What the help of `run` ends with.
+const FUNCTIONS: &str = "Functions of a workload: + - inc dec max min conj assoc dissoc disj";
+
 fn main(rt: HostRuntime) -> ExitCode {
     ExitCode::from(answer(&rt))
 }
@@ -51,9 +54,9 @@ fn matches_of<'a>(alloc: Global, words: &'a [String]) -> Result<ArgMatches<'a>, 
 
 // What the program takes.
 fn command<'a>(alloc: Global) -> Result<Command<'a>, AllocError> {
-    let run = Command::new(alloc, "run").about(
-        "Reads a workload from standard input, runs it, and prints a report",
-    );
+    let run = Command::new(alloc, "run")
+        .about("Reads a workload from standard input, runs it, and prints a report")
+        .after_help(FUNCTIONS);
     let print = Command::new(alloc, "print").about(
         "Reads EDN from standard input, and prints each element on a line",
     );
