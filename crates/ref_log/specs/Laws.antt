@@ -1,5 +1,5 @@
 -- Laws of the replay, for whoever adds to a log.
-use Rattle.std.specs.Prelude.{◌≡◌, ℕ, zero, suc, ◌+◌, ◌==◌, ◌&&◌, ◌||◌, not, true, false, Bool, Result, Ok, Err, Option, None, Some, List, [], ◌∷◌, ◌++◌, length, slice_get, slice_set, if◌then◌else◌, refl}
+use Rattle.std.specs.Prelude.{◌≡◌, ℕ, zero, suc, ◌+◌, ◌<◌, ◌==◌, ◌&&◌, ◌||◌, not, true, false, Bool, Result, Ok, Err, Option, None, Some, List, [], ◌∷◌, ◌++◌, length, slice_get, slice_set, if◌then◌else◌, refl}
 use Rattle.std.proofs.Common.{◌∙◌, ap, sym, arith, zero-add}
 use Rattle.std.specs.Ordering.{is_eq}
 use Rattle.std.proofs.lemmas.Bool.{eqb-false, or_parts}
@@ -88,14 +88,20 @@ after_found-Ok means free point d values after (Some old) is =
     (old, set.0, refl, set.1, set.2)
 after_found-Ok means free point d values after None is = absurd cc
 
--- An operation that doesn't touch a ref leaves its value: it is on another ref, or it is `ensure`.
-slice_get-slice_set : (values : List Edn) (i r : ℕ) (v : Edn) → (i ≡ r → ⊥) → slice_get (slice_set values i v) r ≡ slice_get values r
+-- What is at a number of a list, one of whose elements is set.
+pub slice_get-slice_set-here : (values : List Edn) (i : ℕ) (v : Edn) → i < length values → slice_get (slice_set values i v) i ≡ Some v
+slice_get-slice_set-here [] i v below = absurd (omega (arith, below))
+slice_get-slice_set-here (x ∷ xs) zero v below = refl
+slice_get-slice_set-here (x ∷ xs) (suc i) v below = slice_get-slice_set-here xs i v (omega (arith, below))
+
+pub slice_get-slice_set : (values : List Edn) (i r : ℕ) (v : Edn) → (i ≡ r → ⊥) → slice_get (slice_set values i v) r ≡ slice_get values r
 slice_get-slice_set [] i r v other = refl
 slice_get-slice_set (x ∷ xs) zero zero v other = absurd (other refl)
 slice_get-slice_set (x ∷ xs) zero (suc r) v other = refl
 slice_get-slice_set (x ∷ xs) (suc i) zero v other = refl
 slice_get-slice_set (x ∷ xs) (suc i) (suc r) v other = slice_get-slice_set xs i r v (λ same. other (ap suc same))
 
+-- An operation that doesn't touch a ref leaves its value: it is on another ref, or it is `ensure`.
 and-true : (b : Bool) → (b && true) ≡ false → b ≡ false
 and-true true is = is
 and-true false is = refl

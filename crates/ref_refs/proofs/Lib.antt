@@ -1,2 +1,4 @@
 pub mod Smallest
 pub mod Refs
+pub mod Legal
+pub mod Moved

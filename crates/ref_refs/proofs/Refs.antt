@@ -32,7 +32,18 @@ all_here values (d ∷ ds) none r protected = at (here_parts (nat_lt d.r (length
   at parts (inl here) others = omega (arith, ltb-true d.r (length values) parts.0, eqb-true d.r r (and_parts (d.r == r) (not (is_commute d.op)) here).0)
   at parts (inr later) others = others parts.1 later
 
+pub no_map : {X Y : Type 0} (f : X → Y) (o : Option X) → option_map f o ≡ None → o ≡ None
+no_map f None is = refl
+no_map f (Some x) is = absurd cc
+
+within_parts : (b : Bool) (d : Done) (later : Option Done) → cond (not b) (Some d) later ≡ None → (b ≡ true) × (later ≡ None)
+within_parts true d later e = (refl, e)
+within_parts false d later e = absurd cc
+
+pub within_at : (n : ℕ) (ds : List Done) (i : ℕ) (d : Done) → find (λ x. not (nat_lt x.r n)) ds ≡ None → i < length ds → d ≡ get_or ds i d → d.r < n
+within_at n [] i d none below is = absurd (omega (arith, below))
+within_at n (x ∷ ds) zero d none below is = omega (arith, ltb-true x.r n (within_parts (nat_lt x.r n) x (find (λ y. not (nat_lt y.r n)) ds) none).0, ap (λ y. y.r) is)
+within_at n (x ∷ ds) (suc i) d none below is = within_at n ds i d (within_parts (nat_lt x.r n) x (find (λ y. not (nat_lt y.r n)) ds) none).1 (omega (arith, below)) is
+
 pub here_at : (values : List Edn) (ds : List Done) (i : ℕ) (d : Done) → alien_ref values ds ≡ None → i < length ds → d ≡ get_or ds i d → d.r < length values
-here_at values [] i d none below is = absurd (omega (arith, below))
-here_at values (x ∷ ds) zero d none below is = omega (arith, ltb-true x.r (length values) (here_parts (nat_lt x.r (length values)) x (find (λ y. not (has_ref values y.r)) ds) none).0, ap (λ y. y.r) is)
-here_at values (x ∷ ds) (suc i) d none below is = here_at values ds i d (here_parts (nat_lt x.r (length values)) x (find (λ y. not (has_ref values y.r)) ds) none).1 (omega (arith, below)) is
+here_at values ds i d none below is = within_at (length values) ds i d (no_map foreign (find (λ x. not (has_ref values x.r)) ds) none) below is

@@ -3,7 +3,7 @@
 -- A commit is asked for at a point, which comes right after the present one. What stands here speaks of the values and the
 -- last changes of all refs as they are before it, and of the transaction as a record: its read point, the values that it
 -- began with, its operations with their answers.
-use Rattle.std.specs.Prelude.{ℕ, ◌^◌, nat_lt, Bool, true, false, not, ◌&&◌, if◌then◌else◌, List, [], ◌∷◌, ◌++◌, find, length, slice_get, slice_set, Option, None, Some, Result, Ok, Err}
+use Rattle.std.specs.Prelude.{ℕ, ◌^◌, ◌==◌, nat_lt, Bool, true, false, not, ◌&&◌, if◌then◌else◌, List, [], ◌∷◌, ◌++◌, find, length, slice_get, slice_set, Option, None, Some, Result, Ok, Err}
 use Rattle.std.specs.List.{range_with_len}
 use Rattle.std.specs.Option.{option_map}
 use Rattle.std.specs.Ordering.{eq_by_cmp}
@@ -11,7 +11,7 @@ use Rattle.ref_edn.specs.Edn.{Edn}
 use Rattle.ref_edn.specs.Order.{edn_cmp}
 use Rattle.ref_fun.specs.declared.faults.Cause.{Cause}
 use Rattle.ref_fun.specs.Meaning.{Means}
-use Rattle.ref_log.specs.Replay.{place, is_protected, is_touched, missing}
+use Rattle.ref_log.specs.Replay.{place, is_ensure, is_protected, is_touched, missing}
 use Rattle.ref_log.specs.declared.entries.Entry.{Entry}
 use Rattle.ref_log.specs.declared.entries.Entry.TheVariants.{Trans}
 use Rattle.ref_log.specs.declared.entries.Stamp.{Stamp}
@@ -129,6 +129,10 @@ commit_refusal means knows store at tx =
 abbrev pub entry_of : Stamp → TxSeen → Entry
 entry_of stamp tx = Trans (record { stamp = stamp; read_point = tx.read_point; dones = tx.dones })
 
--- the last change of a ref after a commit at this point
+-- the last change of a ref after one operation of a commit at this point
+abbrev pub changed_by_one : List ℕ → ℕ → Done → ℕ → ℕ
+changed_by_one lasts at d r = if d.r == r && not (is_ensure d.op) then at else changed_at lasts r
+
+-- and after all of them
 abbrev pub changed_by : List ℕ → ℕ → List Done → ℕ → ℕ
 changed_by lasts at ds r = if is_touched ds r then at else changed_at lasts r

@@ -3,6 +3,7 @@ ghost use Rattle.std.specs.Prelude.{◌≡◌, ◌<◌, [], ◌∷◌, None, Som
 ghost use Rattle.ref_log.specs.Tally.{is_count};
 ghost use Rattle.ref_tx.specs.Inner.{fit_tally};
 ghost use Rattle.ref_refs.specs.Commit.{alien_ref, changed_after, differs_at, first_protected, lacking};
+ghost use Rattle.ref_refs.specs.Seen.{are_unchanged_since};
 ghost use Rattle.ref_refs.specs.Smaller.{smaller};
 
 use crate::faults::{Alien, CommitFault};
@@ -91,6 +92,18 @@ pub(crate) fn first_differing(
         }
     }
     first
+}
+
+// Whether none of these points comes after this one.
+pub(crate) fn are_unchanged_since(lasts: &[u64], point: u64) -> bool
+    ensures { result ≡ are_unchanged_since lasts.now point }
+{
+    for last in lasts {
+        if *last > point {
+            return false;
+        }
+    }
+    true
 }
 
 // Whether a ref has changed after a point.

@@ -77,11 +77,30 @@ fn place_one<M: Meaning, F: Functions<M>>(
     ensures fault { IfErr result (λ f. f ≢ Memory → (ds : List Done) → refused M.means (done.now ∷ ds) values.old.items ≡ Some f) }
 {
     let r = done.r as usize;
-    values[r] = match is_free {
-        true => again(alloc, funs, done, &values[r])?,
-        false => done.answer.share()?,
-    };
+    values[r] = next_value(alloc, funs, is_free, done, &values[r])?;
     Ok(())
+}
+
+// What a ref gets by an operation: what it makes of the latest value, or, where the ref is protected, the kept answer, which
+// is the same.
+fn next_value<M: Meaning, F: Functions<M>>(
+    alloc: Global,
+    funs: &F,
+    is_free: bool,
+    done: &Done,
+    value: &Value,
+) -> Result<Value, CommitFault>
+    requires served { missing (F.knows_fun funs.now) (commuted_code done.now.op) ≡ None }
+    requires free { is_free ≡ true → is_commute done.now.op ≡ true }
+    requires kept { is_free ≡ false → place M.means done.now.op value.now ≡ Ok done.now.answer }
+    ensures ok { IfOk result (λ v. place M.means done.now.op value.now ≡ Ok v) }
+    ensures answers { IfOk result (λ v. is_free ≡ false → v ≡ done.now.answer) }
+    ensures fault { IfErr result (λ f. f ≢ Memory → (later : Edn → Option Fault) → refused_at done.now.r (Some (place M.means done.now.op value.now)) later ≡ Some f) }
+{
+    if !is_free {
+        return Ok(done.answer.share()?);
+    }
+    again(alloc, funs, done, value)
 }
 
 // What a commute makes of the latest value.

@@ -1,7 +1,7 @@
 //! The store of refs.
 ghost use Rattle.std.specs.Prelude.{◌≡◌, ◌≢◌, ◌≤◌, ◌<◌, ◌-◌, ◌^◌, ◌↔◌, ℕ, [], IsTrue, true, false, not, nat_lt, None, Some, Ok, IfOk, IfErr, OnOk, OnErr, find, length, option_copied, slice_get};
 ghost use Rattle.ref_log.specs.Replay.{step};
-ghost use Rattle.ref_refs.specs.Commit.{alien, alien_ref, alien_value, changed_by, commit_refusal, conflict, entry_of};
+ghost use Rattle.ref_refs.specs.Commit.{alien, alien_ref, alien_value, changed_by, changed_by_one, commit_refusal, conflict, entry_of};
 ghost use Rattle.ref_refs.specs.Make.{make_refusal, with_ref};
 ghost use Rattle.ref_refs.specs.Seen.{changed_at, are_unchanged_since};
 ghost use Rattle.ref_refs.specs.declared.faults.CommitFault.TheVariants as commits;
@@ -9,7 +9,7 @@ ghost use Rattle.ref_refs.specs.declared.faults.MakeFault.TheVariants as makes;
 
 use crate::faults::{Alien, CommitFault, Conflict, MakeFault};
 use crate::checking::{
-    check_refs, check_served, first_changed, first_differing, fits_tally, is_count,
+    are_unchanged_since, check_refs, check_served, first_changed, first_differing, fits_tally, is_count,
 };
 use crate::placing::{place_all, share_dones, share_values};
 use ref_edn::Value;
@@ -111,12 +111,7 @@ impl<M: Meaning> RefStore<M> {
     pub fn are_unchanged_since(&self, point: u64) -> bool
         ensures { result ≡ are_unchanged_since self.now.lasts point }
     {
-        for last in &self.lasts {
-            if *last > point {
-                return false;
-            }
-        }
-        true
+        are_unchanged_since(self.lasts.as_slice(), point)
     }
 
     /// Makes a ref with this value, the tally or not, at this point, and answers its number. The point is 0 where the ref
@@ -225,6 +220,7 @@ impl<M: Meaning> RefStore<M> {
     ) -> Result<(Vec<Value>, Entry), CommitFault>
         ensures ok { OnOk result (commit_refusal M.means (F.knows_fun funs.now) self.now at tx.now ≡ None) }
         ensures values { IfOk result (λ p. step M.means at (entry_of stamp tx.now) self.now.values ≡ Ok p.0.items) }
+        ensures all { IfOk result (λ p. length p.0.items ≡ length self.now.values) }
         ensures entry { IfOk result (λ p. p.1 ≡ entry_of stamp tx.now) }
         ensures fault { IfErr result (λ f. f ≢ commits.Memory → commit_refusal M.means (F.knows_fun funs.now) self.now at tx.now ≡ Some f) }
     {
@@ -318,8 +314,17 @@ fn move_lasts(lasts: &mut Vec<u64>, at: u64, dones: &[Done])
     ensures same { length lasts.new.items ≡ length lasts.old.items }
 {
     for done in dones {
-        if !done.op.is_ensure() {
-            lasts[done.r as usize] = at;
-        }
+        move_last(lasts, at, done);
+    }
+}
+
+// Moves the last change of an operation's ref, if the operation changes it.
+fn move_last(lasts: &mut Vec<u64>, at: u64, done: &Done)
+    requires { done.now.r < length lasts.old.items }
+    ensures moved { (r : ℕ) → changed_at lasts.new.items r ≡ changed_by_one lasts.old.items at done.now r }
+    ensures same { length lasts.new.items ≡ length lasts.old.items }
+{
+    if !done.op.is_ensure() {
+        lasts[done.r as usize] = at;
     }
 }

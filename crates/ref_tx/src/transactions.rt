@@ -4,7 +4,7 @@ ghost use Rattle.std.specs.Ordering.{nat_cmp};
 ghost use Rattle.std.specs.Prelude.{◌==◌, ◌||◌, cond, ◌≡◌, ◌≢◌, ◌≤◌, ℕ, [], true, false, Ok, Err, Some, None, IfOk, IfErr, OnOk, OnErr, option_copied, slice_get};
 ghost use Rattle.ref_log.specs.Replay.{is_commute};
 ghost use Rattle.ref_log.specs.declared.operations.Op.TheVariants.{Set, Alter, Commute, Ensure};
-ghost use Rattle.ref_tx.specs.Inner.{inner_value, has_ref, is_commuted, is_tally, refusal, answer_of, and_place, called_as, unmet, with_done};
+ghost use Rattle.ref_tx.specs.Inner.{IsTx, inner_value, has_ref, is_commuted, is_tally, refusal, answer_of, and_place, called_as, unmet, with_done};
 ghost use Rattle.ref_tx.specs.declared.faults.TxFault.TheVariants.{NoSuchRef, Memory};
 
 use crate::faults::TxFault;
@@ -83,9 +83,10 @@ impl<M: Meaning> Tx<M> {
         &self.began
     }
 
-    /// The operations so far, each with its answer.
+    /// The operations so far, each with its answer: the in-transaction value after it.
     pub fn dones(&self) -> &[Done]
-        ensures { result.now ≡ self.now.dones }
+        ensures value { result.now ≡ self.now.dones }
+        ensures kept { IsTx M.means self.now.began self.now.dones self.now.tally }
     {
         self.dones.as_slice()
     }
