@@ -92,21 +92,21 @@ module _ (means : Means) (began : List Edn) (all : List Done) (answered_all : Ar
       → ((r : ℕ) → (d.r == r) ≡ false → slice_get after r ≡ slice_get values r) → (free ≡ false → slice_get after d.r ≡ Some d.answer) → Agrees (i + 1) after
   agrees_more i d values after free below is frees agrees others kept r protected =
       by (d.r == r) refl ∙ ap (λ l. value_after means began l r) (sym (one_more all i d below is)) where
-    by : (b : Bool) → (d.r == r) ≡ b → slice_get after r ≡ value_after means began (take i all ++ d ∷ []) r
-    by true e =
-        let same = eqb-true d.r r e in
-        ap (slice_get after) (sym same)
-        ∙ (kept (frees ∙ ap not (ap (is_protected all) same ∙ protected))
+        by : (b : Bool) → (d.r == r) ≡ b → slice_get after r ≡ value_after means began (take i all ++ d ∷ []) r
+        by true e =
+            let same = eqb-true d.r r e in
+            ap (slice_get after) (sym same)
+            ∙ (kept (frees ∙ ap not (ap (is_protected all) same ∙ protected))
             ∙ (sym (answers_from means began [] all i d answered_all below is) ∙ ap (value_after means began (take i all ++ d ∷ [])) same))
-    by false e = others r e ∙ (agrees r protected ∙ sym (value_after-elsewhere means began (take i all) d r e))
+        by false e = others r e ∙ (agrees r protected ∙ sym (value_after-elsewhere means began (take i all) d r e))
 
 -- what the transaction doesn't protect it only commuted
 pub free_commutes : (all : List Done) (i : ℕ) (d : Done) (free : Bool) → i < length all → d ≡ get_or all i d → free ≡ not (is_protected all d.r) → free ≡ true → is_commute d.op ≡ true
 free_commutes all i d free below is frees yes_free =
     true_from_ne_false (is_commute d.op) (λ other.
-        let on : Done → Bool = λ x. x.r == d.r && not (is_commute x.op) in
-        let here : on d ≡ true = and_from (d.r == d.r) (not (is_commute d.op)) (eq-eqb d.r d.r refl) (ap not other) in
-        both_ways (is_protected all d.r) (not-true (is_protected all d.r) (sym frees ∙ yes_free)) (list_any_at on all i d below (ap on (sym is) ∙ here)))
+    let on : Done → Bool = λ x. x.r == d.r && not (is_commute x.op) in
+    let here : on d ≡ true = and_from (d.r == d.r) (not (is_commute d.op)) (eq-eqb d.r d.r refl) (ap not other) in
+    both_ways (is_protected all d.r) (not-true (is_protected all d.r) (sym frees ∙ yes_free)) (list_any_at on all i d below (ap on (sym is) ∙ here)))
 
 -- the table has what an operation calls again
 none_of : {X : Type 0} (first second : Option X) → option_or first second ≡ None → (first ≡ None) × (second ≡ None)

@@ -1,5 +1,5 @@
 -- The smallest protected ref of which something holds, found by one pass over the operations.
-use Rattle.std.proofs.Common.{◌≡◌, ℕ, zero, suc, cond,  ◌+◌, ◌<◌, ◌≤◌, ◌==◌, ◌&&◌, ◌||◌, not, nat_lt, Bool, true, false, if◌then◌else◌, ◌⊎◌, inl, inr, List, [], ◌∷◌, ◌++◌, length, Option, None, Some, refl, sym, ap, ◌∙◌, arith}
+use Rattle.std.proofs.Common.{◌≡◌, ℕ, zero, suc, cond, ◌+◌, ◌<◌, ◌≤◌, ◌==◌, ◌&&◌, ◌||◌, not, nat_lt, Bool, true, false, if◌then◌else◌, ◌⊎◌, inl, inr, List, [], ◌∷◌, ◌++◌, length, Option, None, Some, refl, sym, ap, ◌∙◌, arith}
 use Rattle.std.specs.List.{find, list_any, range_with_len}
 use Rattle.std.specs.Option.{MatchOption}
 use Rattle.std.proofs.lemmas.Bool.{eqb-true, eq-eqb, or_cases, and_parts, and_from, or_left, or_right, both_ways, not-true, ltb-true, ltb-false, lt-ltb, le-ltb, cases_order, cond-true, cond-false, false_from_ne_true}
@@ -59,6 +59,7 @@ first_skips holds ds d first is skipped = record {
   still_found : (o : Option ℕ) → MatchOption o (Unit {0}) (λ m. wanted holds ds m ≡ true) → MatchOption o (Unit {0}) (λ m. wanted holds (ds ++ d ∷ []) m ≡ true)
   still_found None f = tt
   still_found (Some m) f = still holds ds d m f
+
   by : (q : ℕ) → (wanted holds ds q ≡ true) ⊎ ((d.r ≡ q) × ((not (is_commute d.op) && holds d.r) ≡ true)) → covers first q ≡ true
   by q (inl before) = is.least q before
   by q (inr here) = absurd (both_ways (not (is_commute d.op) && holds d.r) skipped here.1)
@@ -84,14 +85,17 @@ first_takes holds ds d first is taken_here = record {
 } where
   p : (not (is_commute d.op) ≡ true) × (holds d.r ≡ true)
   p = and_parts (not (is_commute d.op)) (holds d.r) taken_here
+
   here : wanted holds (ds ++ d ∷ []) d.r ≡ true
   here = and_from (is_protected (ds ++ d ∷ []) d.r) (holds d.r) (is_protected_more ds d d.r ∙ or_right (is_protected ds d.r) (d.r == d.r && not (is_commute d.op)) (and_from (d.r == d.r) (not (is_commute d.op)) (eq-eqb d.r d.r refl) p.0)) p.1
+
   taken : (o : Option ℕ) → MatchOption o (Unit {0}) (λ m. wanted holds ds m ≡ true) → wanted holds (ds ++ d ∷ []) (smaller o d.r) ≡ true
   taken None f = here
   taken (Some m) f = pick (nat_lt m d.r) where
     pick : (b : Bool) → wanted holds (ds ++ d ∷ []) (if b then m else d.r) ≡ true
     pick true = still holds ds d m f
     pick false = here
+
   by : (q : ℕ) → (wanted holds ds q ≡ true) ⊎ ((d.r ≡ q) × ((not (is_commute d.op) && holds d.r) ≡ true)) → covers (Some (smaller first d.r)) q ≡ true
   by q (inl before) = smaller_before first d.r q (is.least q before)
   by q (inr on) = ap (λ x. covers (Some (smaller first d.r)) x) (sym on.0) ∙ smaller_here first d.r
@@ -121,10 +125,10 @@ none_in_range p zero a q none low high = absurd (omega (arith, low, high))
 none_in_range p (suc n) a q none low high =
     let parts = none_parts (p a) a (find p (range_with_len (a + 1) n)) none in
     at parts (cases_order a q) (λ l h. none_in_range p n (a + 1) q parts.1 l h) where
-  at : (p a ≡ false) × (find p (range_with_len (a + 1) n) ≡ None) → (a ≡ q) ⊎ ((a < q) ⊎ (q < a)) → (a + 1 ≤ q → q < a + 1 + n → p q ≡ false) → p q ≡ false
-  at parts (inl same) later = ap p (sym same) ∙ parts.0
-  at parts (inr (inl less)) later = later (omega (arith, less)) (omega (arith, high))
-  at parts (inr (inr more)) later = absurd (omega (arith, low, more))
+      at : (p a ≡ false) × (find p (range_with_len (a + 1) n) ≡ None) → (a ≡ q) ⊎ ((a < q) ⊎ (q < a)) → (a + 1 ≤ q → q < a + 1 + n → p q ≡ false) → p q ≡ false
+      at parts (inl same) later = ap p (sym same) ∙ parts.0
+      at parts (inr (inl less)) later = later (omega (arith, less)) (omega (arith, high))
+      at parts (inr (inr more)) later = absurd (omega (arith, low, more))
 
 -- ---- at the end of the pass
 
@@ -133,4 +137,4 @@ first_is holds ds None n is here =
     sym (find_none (wanted holds ds) (range_with_len 0 n) (λ q. false_from_ne_true (wanted holds ds q) (λ w. both_ways false refl (is.least q w))))
 first_is holds ds (Some m) n is here =
     sym (find_first (wanted holds ds) n 0 m (omega arith) (omega (arith, here m (and_parts (is_protected ds m) (holds m) is.found).0)) is.found
-        (λ q less. false_from_ne_true (wanted holds ds q) (λ w. both_ways (nat_lt q m) (not-true (nat_lt q m) (is.least q w)) (lt-ltb q m less))))
+    (λ q less. false_from_ne_true (wanted holds ds q) (λ w. both_ways (nat_lt q m) (not-true (nat_lt q m) (is.least q w)) (lt-ltb q m less))))

@@ -117,11 +117,11 @@ alien store at tx = or_fault (alien_ref store.values tx.dones) (or_fault (alien_
 abbrev pub commit_refusal : Means → (ℕ → Bool) → RefsSeen → ℕ → TxSeen → Option CommitFault
 commit_refusal means knows store at tx =
     or_fault (alien store at tx)
-        (or_fault (lacking knows tx.dones)
-            (or_fault (conflict store tx)
-                (or_fault (alien_value store.values tx)
-                    (or_fault (refused means tx.dones store.values)
-                        (past_points at)))))
+    (or_fault (lacking knows tx.dones)
+    (or_fault (conflict store tx)
+    (or_fault (alien_value store.values tx)
+    (or_fault (refused means tx.dones store.values)
+    (past_points at)))))
 
 -- ---- the commit
 

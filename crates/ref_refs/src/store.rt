@@ -7,10 +7,11 @@ ghost use Rattle.ref_refs.specs.Seen.{changed_at, are_unchanged_since};
 ghost use Rattle.ref_refs.specs.declared.faults.CommitFault.TheVariants as commits;
 ghost use Rattle.ref_refs.specs.declared.faults.MakeFault.TheVariants as makes;
 
-use crate::faults::{Alien, CommitFault, Conflict, MakeFault};
 use crate::checking::{
-    are_unchanged_since, check_refs, check_served, first_changed, first_differing, fits_tally, is_count,
+    are_unchanged_since, check_refs, check_served, first_changed, first_differing, fits_tally,
+    is_count,
 };
+use crate::faults::{Alien, CommitFault, Conflict, MakeFault};
 use crate::placing::{place_all, share_dones, share_values};
 use ref_edn::Value;
 use ref_fun::{Functions, Meaning};
@@ -124,7 +125,7 @@ impl<M: Meaning> RefStore<M> {
         ensures fault { IfErr result (λ f. f ≢ makes.Memory → make_refusal self.old at start tally ≡ Some f) }
         ensures err { OnErr result (self.new ≡ self.old) }
     {
-        let r = self.values.len();
+        let r = self.len();
         if r >= MOST_REFS {
             return Err(MakeFault::Full);
         }
@@ -234,10 +235,9 @@ impl<M: Meaning> RefStore<M> {
             return Err(CommitFault::PointLimit);
         }
         let dones = SharedVec::of(alloc, share_dones(alloc, dones)?)?;
-        let read_point = tx.read_point();
         let entry = Entry::Trans(Transaction {
             stamp,
-            read_point,
+            read_point: tx.read_point(),
             dones,
         });
         Ok((values, entry))
