@@ -3,7 +3,6 @@ use Rattle.std.proofs.Common.{◌≡◌, ℕ, ◌==◌, ◌&&◌, ◌||◌, not,
 use Rattle.std.specs.BTreeMap.{BTreeMap, get, is_at}
 use Rattle.std.specs.Map.{lookup}
 use Rattle.std.specs.Cmp.{unsigned_tied}
-use Rattle.std.specs.List.{list_any, list_all}
 use Rattle.std.specs.Ordering.{eq_by_cmp, nat_cmp}
 use Rattle.std.proofs.lemmas.Bool.{eqb-true, eq-eqb}
 use Rattle.std.proofs.lemmas.List.Folds.{list_any-append, list_all-append}
@@ -17,7 +16,7 @@ use Rattle.ref_tx.specs.declared.faults.TxFault.{TxFault}
 use Rattle.ref_tx.specs.declared.faults.TxFault.TheVariants.{NoSuchRef, SetAfterCommute, TallyOnly}
 use Rattle.ref_tx.specs.declared.owns.Own.{Own}
 use Rattle.ref_tx.specs.Seen.{TxSeen}
-use Rattle.ref_tx.specs.Inner.{after_ops, has_ref, is_tally, is_commuted, fit_tally, refusal, inner_value, value_after, and_place, AreAnswers, IsTx}
+use Rattle.ref_tx.specs.Inner.{after_ops, has_ref, is_tally, is_commuted, fit_tally, refusal, inner_value, value_after, and_place, IsTx}
 use Rattle.ref_tx.specs.Own.{own_value, own_commuted, IsTableOf}
 use Rattle.ref_tx.specs.Laws.{value_after-here, value_after-elsewhere, AreAnswers-append}
 
