@@ -851,9 +851,9 @@ fn the_slow_replay_agrees(rt: HostRuntime) -> Result<(), Fail> {
         conflicts,
         refused,
     } = counts;
-    assert!(rt;
-        false,
-        "{commits} commits, {conflicts} conflicts, {refused} refusals"
-    );
+    // So many as another program counts, which draws the same. More than a third of what was tried met a conflict.
+    assert_eq!(rt; commits, 11278);
+    assert_eq!(rt; conflicts, 5879);
+    assert_eq!(rt; refused, 21);
     Ok(())
 }
