@@ -1,4 +1,5 @@
-ghost use Rattle.std.specs.Prelude.{◌≤◌, length};
+ghost use Rattle.std.specs.Prelude.{◌≡◌, ◌≤◌, true, length};
+ghost use Rattle.ref_refs.specs.Seen.{are_unchanged_since};
 
 use crate::{Alien, CommitFault, Conflict, MakeFault, RefStore};
 use ref_edn::{Items, Node, Value, read_one};
@@ -601,6 +602,42 @@ fn commits_as_by_hand(rt: HostRuntime) -> Result<(), Fail> {
     for row in rows {
         assert!(rt; are_right(alloc, &funs, &fewer, row)?, "{row}");
     }
+    Ok(())
+}
+
+// A store of which no ref has changed since the start.
+#[derive(Drop)]
+struct Unchanged {
+    store: RefStore<Core>,
+    ghost since_start: { are_unchanged_since store.lasts 0 ≡ true },
+}
+
+impl Unchanged {
+    fn add(&mut self, start: Value) -> Result<u32, MakeFault> {
+        self.store.make(0, start, false)
+    }
+}
+
+// A store with this many refs, each of which is nil.
+fn filled(alloc: Global, count: u32) -> Result<Option<Unchanged>, AllocError> {
+    let nil = read(alloc, "nil")?;
+    let store: RefStore<Core> = RefStore::empty(alloc);
+    let mut refs = Unchanged { store };
+    for r in 0..count {
+        if refs.add(nil.share()?) != Ok(r) {
+            return Ok(None);
+        }
+    }
+    Ok(Some(refs))
+}
+
+#[test]
+fn a_full_store_takes_no_ref(rt: HostRuntime) -> Result<(), Fail> {
+    let alloc = rt.alloc();
+    let mut refs = filled(alloc, 1 << 20)?.ok_or("a ref wasn't made")?;
+    assert_eq!(rt; refs.add(read(alloc, "nil")?), Err(MakeFault::Full));
+    assert_eq!(rt; refs.store.len(), 1048576);
+    assert_eq!(rt; refs.store.tally(), None);
     Ok(())
 }
 
