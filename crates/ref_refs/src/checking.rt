@@ -39,7 +39,7 @@ pub(crate) fn fits_tally(tally: Option<u32>, dones: &[Done]) -> bool
     true
 }
 
-// Tells the first function that a commit would call and the table lacks.
+// Tells the first function of a `commute` that the table lacks.
 pub(crate) fn check_served<M: Meaning, F: Functions<M>>(
     funs: &F,
     dones: &[Done],

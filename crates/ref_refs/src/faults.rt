@@ -9,7 +9,8 @@ use std::alloc::{AllocError, AllocFailed};
 use thiserror::Error;
 
 /// What of a transaction is foreign to the store that should commit it. A transaction that was begun on this store, and
-/// before the point of its commit, has nothing foreign.
+/// before the point of its commit, has nothing foreign. One of another store may have nothing foreign either: where it only
+/// commuted, say, it is committed here as if it had been begun here.
 #[derive(Clone, Copy, Debug, Drop, PartialEq, Eq, Error)]
 pub enum Alien {
     /// There is no ref of this number here.
@@ -60,7 +61,7 @@ pub enum CommitFault {
     PointLimit,
     #[error("out of memory")]
     Memory,
-    /// The table has no function of this code, which a `commute` calls.
+    /// The table has no function of this code, which a `commute` names.
     #[error("no function has code {0}")]
     NoSuchFun(u32),
 }
