@@ -75,7 +75,7 @@ conflict_on lasts read_point r = Conflict (record { r = r; read_point = read_poi
 abbrev pub conflict : RefsSeen → TxSeen → Option CommitFault
 conflict store tx = option_map (conflict_on store.lasts tx.read_point) (first_protected store.values tx.dones (changed_after store.lasts tx.read_point))
 
--- The protected refs of a transaction that was begun here, which haven't changed, have the values that it began with.
+-- Whether a ref that is here has another value than the transaction began with.
 abbrev pub differs : Option Edn → Option Edn → Bool
 differs began None = false
 differs None (Some now) = true
@@ -89,6 +89,7 @@ alien_value values tx = option_map (λ r. Foreign (aliens.Value r)) (first_prote
 
 -- ---- what refuses over the latest values
 
+-- An operation on a ref that isn't here is told before, and doesn't count here.
 abbrev pub refused_at : ℕ → Option (Result Edn Cause) → (Edn → Option CommitFault) → Option CommitFault
 refused_at r (Some (Ok v)) later = later v
 refused_at r (Some (Err cause)) later = Some (Refused r cause)
@@ -110,18 +111,24 @@ abbrev pub or_fault : Option CommitFault → Option CommitFault → Option Commi
 or_fault (Some fault) later = Some fault
 or_fault None later = later
 
+-- what is foreign, but for the values
 abbrev pub alien : RefsSeen → ℕ → TxSeen → Option CommitFault
 alien store at tx = or_fault (alien_ref store.values tx.dones) (or_fault (alien_tally store.tally tx.dones) (alien_point at tx.read_point))
+
+-- The first fault that is known before any memory is taken.
+abbrev pub early_refusal : (ℕ → Bool) → RefsSeen → ℕ → TxSeen → Option CommitFault
+early_refusal knows store at tx =
+    or_fault (alien store at tx)
+    (or_fault (lacking knows tx.dones)
+    (or_fault (conflict store tx)
+    (alien_value store.values tx)))
 
 -- The first fault of a commit at this point, if it has one.
 abbrev pub commit_refusal : Means → (ℕ → Bool) → RefsSeen → ℕ → TxSeen → Option CommitFault
 commit_refusal means knows store at tx =
-    or_fault (alien store at tx)
-    (or_fault (lacking knows tx.dones)
-    (or_fault (conflict store tx)
-    (or_fault (alien_value store.values tx)
+    or_fault (early_refusal knows store at tx)
     (or_fault (refused means tx.dones store.values)
-    (past_points at)))))
+    (past_points at))
 
 -- ---- the commit
 

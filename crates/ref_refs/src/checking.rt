@@ -1,8 +1,9 @@
 //! The tests before a commit.
-ghost use Rattle.std.specs.Prelude.{◌≡◌, ◌<◌, [], ◌∷◌, None, Some, IfErr, OnOk};
+ghost use Rattle.std.specs.Prelude.{◌≡◌, ◌≢◌, ◌<◌, [], ◌∷◌, None, Some, IfErr, OnOk};
 ghost use Rattle.ref_log.specs.Tally.{is_count};
 ghost use Rattle.ref_tx.specs.Inner.{fit_tally};
 ghost use Rattle.ref_refs.specs.Commit.{alien_ref, changed_after, differs_at, first_protected, lacking};
+ghost use Rattle.ref_refs.specs.declared.faults.CommitFault.TheVariants.{Memory};
 ghost use Rattle.ref_refs.specs.Seen.{are_unchanged_since};
 ghost use Rattle.ref_refs.specs.Smaller.{smaller};
 
@@ -15,6 +16,7 @@ use ref_log::{Done, Op, SharedVec};
 pub(crate) fn check_refs(values: &[Value], dones: &[Done]) -> Result<(), CommitFault>
     ensures ok { OnOk result (alien_ref values.now dones.now ≡ None) }
     ensures err { IfErr result (λ f. alien_ref values.now dones.now ≡ Some f) }
+    ensures told { IfErr result (λ f. f ≢ Memory) }
 {
     for done in dones {
         if done.r as usize >= values.len() {
@@ -46,6 +48,7 @@ pub(crate) fn check_served<M: Meaning, F: Functions<M>>(
 ) -> Result<(), CommitFault>
     ensures ok { OnOk result (lacking (F.knows_fun funs.now) dones.now ≡ None) }
     ensures err { IfErr result (λ f. lacking (F.knows_fun funs.now) dones.now ≡ Some f) }
+    ensures told { IfErr result (λ f. f ≢ Memory) }
 {
     for done in dones {
         if let Op::Commute(code, _) = &done.op {
@@ -87,7 +90,7 @@ pub(crate) fn first_differing(
 {
     let mut first = None;
     for done in dones {
-        if !done.op.is_commute() && is_other(values, began, done.r) {
+        if !done.op.is_commute() && differs_at(values, began, done.r) {
             first = Some(smaller(first, done.r));
         }
     }
@@ -117,7 +120,7 @@ fn is_changed(lasts: &[u64], r: u32, point: u64) -> bool
 }
 
 // Whether a ref has another value now than in the beginning.
-fn is_other(values: &[Value], began: &SharedVec<Value>, r: u32) -> bool
+fn differs_at(values: &[Value], began: &SharedVec<Value>, r: u32) -> bool
     ensures { result ≡ differs_at values.now began.now r }
 {
     match values.get(r as usize) {

@@ -4,6 +4,7 @@ ghost use Rattle.std.specs.Ordering.{nat_cmp};
 ghost use Rattle.std.specs.Option.{option_map};
 ghost use Rattle.std.specs.Prelude.{◌≡◌, ◌≢◌, ◌<◌, ◌==◌, ℕ, List, ◌∷◌, true, false, Option, None, Some, Ok, IfOk, IfErr, OnOk, length, slice_get};
 ghost use Rattle.ref_log.specs.Replay.{after_dones, after_one, is_commute, is_protected, missing, place};
+ghost use Rattle.ref_tx.specs.Inner.{inner_value};
 ghost use Rattle.ref_edn.specs.Edn.{Edn};
 ghost use Rattle.ref_log.specs.declared.operations.Done.{Done};
 ghost use Rattle.ref_refs.specs.declared.faults.CommitFault.{CommitFault as Fault};
@@ -32,6 +33,7 @@ pub(crate) fn place_all<M: Meaning, F: Functions<M>>(
     ensures ok { IfOk result (λ after. (at : ℕ) → after_dones M.means tx.now.dones at tx.now.dones (Ok values.now) ≡ Ok after.items) }
     ensures all { IfOk result (λ after. length after.items ≡ length values.now) }
     ensures unrefused { OnOk result (refused M.means tx.now.dones values.now ≡ None) }
+    ensures inner { IfOk result (λ after. (r : ℕ) → is_protected tx.now.dones r ≡ true → slice_get after.items r ≡ inner_value M.means tx.now r) }
     ensures fault { IfErr result (λ f. f ≢ Memory → refused M.means tx.now.dones values.now ≡ Some f) }
 {
     let dones = tx.dones();

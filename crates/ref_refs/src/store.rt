@@ -1,7 +1,8 @@
 //! The store of refs.
 ghost use Rattle.std.specs.Prelude.{◌≡◌, ◌≢◌, ◌≤◌, ◌<◌, ◌-◌, ◌^◌, ◌↔◌, ℕ, [], IsTrue, true, false, not, nat_lt, None, Some, Ok, IfOk, IfErr, OnOk, OnErr, find, length, option_copied, slice_get};
-ghost use Rattle.ref_log.specs.Replay.{step};
-ghost use Rattle.ref_refs.specs.Commit.{alien, alien_ref, alien_value, changed_by, changed_by_one, commit_refusal, conflict, entry_of};
+ghost use Rattle.ref_log.specs.Replay.{is_protected, step};
+ghost use Rattle.ref_tx.specs.Inner.{inner_value};
+ghost use Rattle.ref_refs.specs.Commit.{alien, alien_ref, alien_value, changed_by, changed_by_one, commit_refusal, conflict, early_refusal, entry_of, lacking};
 ghost use Rattle.ref_refs.specs.Make.{make_refusal, with_ref};
 ghost use Rattle.ref_refs.specs.Seen.{changed_at, are_unchanged_since};
 ghost use Rattle.ref_refs.specs.declared.faults.CommitFault.TheVariants as commits;
@@ -117,12 +118,19 @@ impl<M: Meaning> RefStore<M> {
 
     /// Makes a ref with this value, the tally or not, at this point, and answers its number. The point is 0 where the ref
     /// is declared at the start, and else a new one; no ref has changed after it.
-    pub fn make(&mut self, at: u64, start: Value, tally: bool) -> Result<u32, MakeFault>
+    pub fn make(
+        &mut self,
+        alloc: Global,
+        at: u64,
+        start: Value,
+        tally: bool,
+    ) -> Result<u32, MakeFault>
         requires { are_unchanged_since self.old.lasts at ≡ true }
         ensures ok { OnOk result (make_refusal self.old at start tally ≡ None) }
         ensures number { IfOk result (λ r. r ≡ length self.old.values) }
         ensures adds { OnOk result (self.new ≡ with_ref self.old at start tally) }
         ensures fault { IfErr result (λ f. f ≢ makes.Memory → make_refusal self.old at start tally ≡ Some f) }
+        ensures memory { IfErr result (λ f. f ≡ makes.Memory → make_refusal self.old at start tally ≡ None) }
         ensures err { OnErr result (self.new ≡ self.old) }
     {
         let r = self.len();
@@ -135,7 +143,7 @@ impl<M: Meaning> RefStore<M> {
         if at > LAST_POINT {
             return Err(MakeFault::PointLimit);
         }
-        self.add(at, start)?;
+        self.add(alloc, at, start)?;
         if tally {
             self.tally = Some(r as u32);
         }
@@ -143,7 +151,7 @@ impl<M: Meaning> RefStore<M> {
     }
 
     // Adds a ref. The growths come first, and the pushes can't fail.
-    fn add(&mut self, at: u64, start: Value) -> Result<(), AllocError>
+    fn add(&mut self, alloc: Global, at: u64, start: Value) -> Result<(), AllocError>
         requires { length self.old.values < 2 ^ 20 }
         ensures ok { OnOk result (self.new ≡ with_ref self.old at start false) }
         ensures err { OnErr result (self.new ≡ self.old) }
@@ -176,8 +184,8 @@ impl<M: Meaning> RefStore<M> {
     ///
     /// A refused commit changes nothing and hands the transaction back. The tests are made in this order: what is foreign,
     /// functions that the table lacks, the conflict, a foreign value, a refusal over the latest values, the end of points.
-    /// Linear in the number of refs; each operation costs two look-ups among the transaction's refs, and each `commute` its
-    /// function.
+    /// Linear in the number of refs. Each operation on a protected ref costs a comparison of its value with the one of the
+    /// beginning, which is linear in its size; a `commute` of another ref costs its function.
     pub fn commit<F: Functions<M>>(
         &mut self,
         alloc: Global,
@@ -192,9 +200,11 @@ impl<M: Meaning> RefStore<M> {
         ensures entry { IfOk result (λ landed. landed.entry ≡ entry_of stamp tx) }
         ensures notices { IfOk result (λ landed. landed.notices.items ≡ []) }
         ensures values { OnOk result (step M.means at (entry_of stamp tx) self.old.values ≡ Ok self.new.values) }
+        ensures inner { OnOk result ((r : ℕ) → is_protected tx.dones r ≡ true → slice_get self.new.values r ≡ inner_value M.means tx r) }
         ensures lasts { OnOk result ((r : ℕ) → changed_at self.new.lasts r ≡ changed_by self.old.lasts at tx.dones r) }
         ensures tally { OnOk result (self.new.tally ≡ self.old.tally) }
         ensures fault { IfErr result (λ e. e.1 ≢ commits.Memory → commit_refusal M.means (F.knows_fun funs.now) self.old at tx ≡ Some e.1) }
+        ensures memory { IfErr result (λ e. e.1 ≡ commits.Memory → early_refusal (F.knows_fun funs.now) self.old at tx ≡ None) }
         ensures back { IfErr result (λ e. e.0 ≡ tx) }
         ensures err { OnErr result (self.new ≡ self.old) }
     {
@@ -223,13 +233,12 @@ impl<M: Meaning> RefStore<M> {
         ensures values { IfOk result (λ p. step M.means at (entry_of stamp tx.now) self.now.values ≡ Ok p.0.items) }
         ensures all { IfOk result (λ p. length p.0.items ≡ length self.now.values) }
         ensures entry { IfOk result (λ p. p.1 ≡ entry_of stamp tx.now) }
+        ensures inner { IfOk result (λ p. (r : ℕ) → is_protected tx.now.dones r ≡ true → slice_get p.0.items r ≡ inner_value M.means tx.now r) }
         ensures fault { IfErr result (λ f. f ≢ commits.Memory → commit_refusal M.means (F.knows_fun funs.now) self.now at tx.now ≡ Some f) }
+        ensures memory { IfErr result (λ f. f ≡ commits.Memory → early_refusal (F.knows_fun funs.now) self.now at tx.now ≡ None) }
     {
+        self.check(funs, at, tx)?;
         let dones = tx.dones();
-        self.check_foreign(at, tx)?;
-        check_served(funs, dones)?;
-        self.check_conflict(tx)?;
-        self.check_values(tx)?;
         let values = place_all(alloc, funs, self.values.as_slice(), tx)?;
         if at > LAST_POINT {
             return Err(CommitFault::PointLimit);
@@ -243,11 +252,27 @@ impl<M: Meaning> RefStore<M> {
         Ok((values, entry))
     }
 
+    // Asks all that can be asked before memory is taken.
+    fn check<F: Functions<M>>(&self, funs: &F, at: u64, tx: &Tx<M>) -> Result<(), CommitFault>
+        ensures ok { OnOk result (early_refusal (F.knows_fun funs.now) self.now at tx.now ≡ None) }
+        ensures here { OnOk result (alien_ref self.now.values tx.now.dones ≡ None) }
+        ensures served { OnOk result (lacking (F.knows_fun funs.now) tx.now.dones ≡ None) }
+        ensures unchanged { OnOk result (alien_value self.now.values tx.now ≡ None) }
+        ensures err { IfErr result (λ f. early_refusal (F.knows_fun funs.now) self.now at tx.now ≡ Some f) }
+        ensures told { IfErr result (λ f. f ≢ commits.Memory) }
+    {
+        self.check_foreign(at, tx)?;
+        check_served(funs, tx.dones())?;
+        self.check_conflict(tx)?;
+        self.check_values(tx)
+    }
+
     // Tells what of a transaction is foreign, but for its values.
     fn check_foreign(&self, at: u64, tx: &Tx<M>) -> Result<(), CommitFault>
         ensures ok { OnOk result (alien self.now at tx.now ≡ None) }
         ensures here { OnOk result (alien_ref self.now.values tx.now.dones ≡ None) }
         ensures err { IfErr result (λ f. alien self.now at tx.now ≡ Some f) }
+        ensures told { IfErr result (λ f. f ≢ commits.Memory) }
     {
         check_refs(self.values.as_slice(), tx.dones())?;
         if !fits_tally(self.tally, tx.dones()) {
@@ -264,6 +289,7 @@ impl<M: Meaning> RefStore<M> {
         requires { alien_ref self.now.values tx.now.dones ≡ None }
         ensures ok { OnOk result (conflict self.now tx.now ≡ None) }
         ensures err { IfErr result (λ f. conflict self.now tx.now ≡ Some f) }
+        ensures told { IfErr result (λ f. f ≢ commits.Memory) }
     {
         let read_point = tx.read_point();
         let first = first_changed(
@@ -286,6 +312,7 @@ impl<M: Meaning> RefStore<M> {
         requires { alien_ref self.now.values tx.now.dones ≡ None }
         ensures ok { OnOk result (alien_value self.now.values tx.now ≡ None) }
         ensures err { IfErr result (λ f. alien_value self.now.values tx.now ≡ Some f) }
+        ensures told { IfErr result (λ f. f ≢ commits.Memory) }
     {
         match first_differing(self.values.as_slice(), tx.began(), tx.dones()) {
             None => Ok(()),

@@ -172,18 +172,23 @@ fn start_of(start: &Value) -> (&Value, bool) {
 }
 
 // Makes a ref, where that is allowed.
-fn make(store: &mut RefStore<Core>, at: u64, start: &Value) -> Result<u32, MakeFault> {
+fn make(
+    alloc: Global,
+    store: &mut RefStore<Core>,
+    at: u64,
+    start: &Value,
+) -> Result<u32, MakeFault> {
     let (start, tally) = start_of(start);
     if !store.are_unchanged_since(at) {
         return Err(MakeFault::Invalid);
     }
-    store.make(at, start.share()?, tally)
+    store.make(alloc, at, start.share()?, tally)
 }
 
 fn store_of(alloc: Global, starts: &[Value]) -> Result<RefStore<Core>, AllocError> {
     let mut store = RefStore::empty(alloc);
     for start in starts {
-        if make(&mut store, 0, start).is_err() {
+        if make(alloc, &mut store, 0, start).is_err() {
             return Err(AllocError);
         }
     }
@@ -398,6 +403,7 @@ fn commit<F: Functions<Core>>(
 fn make_ref(alloc: Global, stage: &mut Stage, call: &Items) -> Result<Value, AllocError> {
     let before = look_at(alloc, &stage.store)?;
     match make(
+        alloc,
         &mut stage.store,
         number_at(call, 1),
         &value_at(alloc, call, 2)?,
@@ -613,8 +619,8 @@ struct Unchanged {
 }
 
 impl Unchanged {
-    fn add(&mut self, start: Value) -> Result<u32, MakeFault> {
-        self.store.make(0, start, false)
+    fn add(&mut self, alloc: Global, start: Value) -> Result<u32, MakeFault> {
+        self.store.make(alloc, 0, start, false)
     }
 }
 
@@ -624,7 +630,7 @@ fn filled(alloc: Global, count: u32) -> Result<Option<Unchanged>, AllocError> {
     let store: RefStore<Core> = RefStore::empty(alloc);
     let mut refs = Unchanged { store };
     for r in 0..count {
-        if refs.add(nil.share()?) != Ok(r) {
+        if refs.add(alloc, nil.share()?) != Ok(r) {
             return Ok(None);
         }
     }
@@ -635,7 +641,7 @@ fn filled(alloc: Global, count: u32) -> Result<Option<Unchanged>, AllocError> {
 fn a_full_store_takes_no_ref(rt: HostRuntime) -> Result<(), Fail> {
     let alloc = rt.alloc();
     let mut refs = filled(alloc, 1 << 20)?.ok_or("a ref wasn't made")?;
-    assert_eq!(rt; refs.add(read(alloc, "nil")?), Err(MakeFault::Full));
+    assert_eq!(rt; refs.add(alloc, read(alloc, "nil")?), Err(MakeFault::Full));
     assert_eq!(rt; refs.store.len(), 1048576);
     assert_eq!(rt; refs.store.tally(), None);
     Ok(())
