@@ -8,9 +8,9 @@ use ref_fun::Cause;
 use std::alloc::{AllocError, AllocFailed};
 use thiserror::Error;
 
-/// What of a transaction is foreign to the store that should commit it. A transaction that was begun on this store, and
-/// before the point of its commit, has nothing foreign. One of another store may have nothing foreign either: where it only
-/// commuted, say, it is committed here as if it had been begun here.
+/// What of a transaction is foreign to the store that should commit it. A transaction that was begun on this store, at the
+/// point that was then the present one, has nothing foreign. One of another store may have nothing foreign either: where it
+/// only commuted, say, it is committed here as if it had been begun here.
 #[derive(Clone, Copy, Debug, Drop, PartialEq, Eq, Error)]
 pub enum Alien {
     /// There is no ref of this number here.
@@ -44,7 +44,7 @@ pub struct Conflict {
 /// Why a transaction wasn't committed. The store is as it was, and the transaction comes back.
 #[derive(Clone, Copy, Debug, Drop, PartialEq, Eq, Error)]
 pub enum CommitFault {
-    /// The transaction was begun on another store.
+    /// The transaction was begun on another store, or at a point that is still to come.
     #[error("a transaction of another store: {0}")]
     Foreign(Alien),
     /// A ref that the transaction set, altered or ensured has changed since its read point. Begun anew, it may succeed.
