@@ -1,7 +1,6 @@
 -- The operations of a transaction are legal where nobody else has changed what it protects.
-use Rattle.std.proofs.Common.{◌≡◌, ◌≢◌, ℕ, zero, suc, ◌+◌, ◌<◌, ◌≤◌, ◌==◌, ◌&&◌, ◌||◌, not, nat_lt, cond, if◌then◌else◌, Bool, true, false, Result, Ok, Err, List, [], ◌∷◌, ◌++◌, length, Option, None, Some, add-one, drop-cons, slice_get, slice_set, get_or, take, drop, refl, sym, ap, ◌∙◌, arith, ◌⊎◌, inl, inr}
+use Rattle.std.proofs.Common.{◌≡◌, ℕ, zero, suc, ◌+◌, ◌<◌, ◌==◌, ◌&&◌, not, Bool, true, false, Result, Ok, Err, List, [], ◌∷◌, ◌++◌, length, Option, None, Some, add-one, drop-cons, slice_get, slice_set, get_or, take, drop, refl, sym, ap, ◌∙◌, arith}
 use Rattle.std.specs.Option.{option_map}
-use Rattle.std.specs.List.{find, list_any, range_with_len}
 use Rattle.std.specs.Option.{option_or}
 use Rattle.std.specs.Ordering.{eq_by_cmp}
 use Rattle.std.proofs.lemmas.Bool.{eqb-true, eqb-false, eq-eqb, and_from, both_ways, not-true, not-false, false_from_ne_true, true_from_ne_false}
@@ -24,7 +23,7 @@ use Rattle.ref_refs.specs.declared.faults.CommitFault.{CommitFault}
 use Rattle.ref_refs.specs.declared.faults.CommitFault.TheVariants.{Foreign}
 use Rattle.ref_refs.specs.declared.faults.Alien.TheVariants as aliens
 use Rattle.ref_tx.specs.Seen.{TxSeen}
-use Rattle.ref_refs.specs.Commit.{refused, refused_at, alien_ref, alien_value, commuted_code, commuted_codes, differs, differs_at, first_protected}
+use Rattle.ref_refs.specs.Commit.{refused, alien_ref, alien_value, commuted_code, commuted_codes, differs, differs_at, first_protected}
 use Rattle.ref_refs.proofs.Refs.{all_here, no_map}
 use Rattle.ref_refs.proofs.Smallest.{wanted, none_in_range}
 

@@ -1,8 +1,8 @@
 -- The refs of operations are here, and what follows where there is no tally.
-use Rattle.std.proofs.Common.{◌≡◌, ℕ, ◌<◌, ◌==◌, ◌&&◌, ◌||◌, not, nat_lt, cond, Bool, true, false, List, [], ◌∷◌, length, Option, None, Some, refl, ap, get_or, zero, suc, ◌⊎◌, inl, inr, arith}
+use Rattle.std.proofs.Common.{◌≡◌, ℕ, ◌<◌, ◌==◌, ◌&&◌, not, nat_lt, cond, Bool, true, false, List, [], ◌∷◌, length, Option, None, Some, refl, ap, get_or, zero, suc, ◌⊎◌, inl, inr, arith}
 use Rattle.std.specs.List.{find}
 use Rattle.std.specs.Option.{option_map}
-use Rattle.std.proofs.lemmas.Bool.{eqb-true, or_cases, and_parts, ltb-true, not-false}
+use Rattle.std.proofs.lemmas.Bool.{eqb-true, or_cases, and_parts, ltb-true}
 use Rattle.ref_edn.specs.Edn.{Edn}
 use Rattle.ref_log.specs.Replay.{is_commute, is_protected}
 use Rattle.ref_log.specs.declared.operations.Done.{Done}

@@ -21,7 +21,6 @@ use Rattle.ref_log.specs.declared.operations.Done.{Done}
 use Rattle.ref_tx.specs.Inner.{fit_tally}
 use Rattle.ref_tx.specs.Seen.{TxSeen}
 use Rattle.ref_refs.specs.Seen.{RefsSeen, changed_at}
-use Rattle.ref_refs.specs.declared.faults.Alien.{Alien}
 use Rattle.ref_refs.specs.declared.faults.Alien.TheVariants as aliens
 use Rattle.ref_refs.specs.declared.faults.CommitFault.{CommitFault}
 use Rattle.ref_refs.specs.declared.faults.CommitFault.TheVariants.{Foreign, Conflict, Refused, PointLimit, NoSuchFun}

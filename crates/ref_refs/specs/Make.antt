@@ -1,5 +1,5 @@
 -- Making a ref.
-use Rattle.std.specs.Prelude.{ℕ, ◌^◌, nat_lt, Bool, not, ◌&&◌, ◌||◌, if◌then◌else◌, List, [], ◌∷◌, ◌++◌, length, Option, None, Some, is_some}
+use Rattle.std.specs.Prelude.{ℕ, ◌^◌, nat_lt, Bool, not, ◌&&◌, ◌||◌, if◌then◌else◌, [], ◌∷◌, ◌++◌, length, Option, None, Some, is_some}
 use Rattle.ref_edn.specs.Edn.{Edn}
 use Rattle.ref_log.specs.Tally.{is_count}
 use Rattle.ref_refs.specs.Seen.{RefsSeen}

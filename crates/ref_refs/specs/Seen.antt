@@ -1,5 +1,5 @@
 -- What a store of refs shows.
-use Rattle.std.specs.Prelude.{ℕ, nat_lt, Bool, not, List, length, Option, slice_index_or}
+use Rattle.std.specs.Prelude.{ℕ, nat_lt, Bool, not, List, Option, slice_index_or}
 use Rattle.std.specs.List.{list_all}
 use Rattle.ref_edn.specs.Edn.{Edn}
 

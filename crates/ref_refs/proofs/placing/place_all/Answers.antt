@@ -1,4 +1,4 @@
-use Rattle.std.proofs.Common.{◌≡◌, [], Ok, arith, not, ap, length, slice_get, sym, subst, ◌∙◌}
+use Rattle.std.proofs.Common.{[], Ok, arith, not, ap, length, slice_get, sym, subst, ◌∙◌}
 use Rattle.std.proofs.lemmas.Result.{err_from_is_err_and}
 use Rattle.ref_log.specs.Replay.{after_dones, is_protected}
 use Rattle.ref_tx.specs.Inner.{AreAnswers}

@@ -1,4 +1,4 @@
-use Rattle.std.proofs.Common.{◌≡◌, Some, length, refl, slice_get}
+use Rattle.std.proofs.Common.{length, refl}
 use Rattle.std.proofs.lemmas.Option.{slice_get_read}
 use Rattle.ref_refs.proofs.Legal.{stepped_one, refused_one, others_stay, answered}
 use Rattle.ref_refs.proofs.placing.place_one.Goals as goal
