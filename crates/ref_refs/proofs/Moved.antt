@@ -5,10 +5,7 @@ use Rattle.ref_log.specs.declared.operations.Done.{Done}
 use Rattle.ref_log.specs.Replay.{is_ensure, is_touched}
 use Rattle.ref_refs.specs.Commit.{changed_by, changed_by_one}
 use Rattle.ref_refs.specs.Seen.{changed_at}
-
-or_false : (b : Bool) → (b || false) ≡ b
-or_false true = refl
-or_false false = refl
+use Rattle.ref_refs.proofs.Smallest.{or_false}
 
 touched_more : (ds : List Done) (d : Done) (r : ℕ) → is_touched (ds ++ d ∷ []) r ≡ (is_touched ds r || (d.r == r && not (is_ensure d.op)))
 touched_more ds d r =

@@ -21,7 +21,7 @@ pub record IsFirst (holds : ℕ → Bool) (ds : List Done) (first : Option ℕ) 
   pub found : MatchOption first (Unit {0}) (λ m. wanted holds ds m ≡ true)
   pub least : (q : ℕ) → wanted holds ds q ≡ true → covers first q ≡ true
 
-or_false : (b : Bool) → (b || false) ≡ b
+pub or_false : (b : Bool) → (b || false) ≡ b
 or_false true = refl
 or_false false = refl
 
