@@ -1,8 +1,8 @@
 #!/usr/bin/env python3
 """Measures a program that reads and prints EDN, beside Clojure and jq where they are installed.
 
-run.sh builds the program and calls this: compare.py PROGRAM FOLDER [--rounds N] [--seconds S] [--bytes N]
-[--members N] [SHAPE..]. The texts are made in FOLDER, once and at twice the size.
+run.sh builds the program and calls this: compare.py PROGRAM FOLDER [--refrun REFRUN] [--rounds N] [--seconds S]
+[--bytes N] [--members N] [SHAPE..]. The texts are made in FOLDER, at half, once and twice the size.
 """
 import argparse
 import os
@@ -17,15 +17,19 @@ from generate import arguments
 HERE = os.path.dirname(os.path.abspath(__file__))
 MIB = 1024 * 1024
 
+# The C library is to keep what the program frees, as the JVM keeps its heap. By itself it hands each block of 32 MiB or more
+# back, and the next round pays for fresh pages.
+KEEPS = {"GLIBC_TUNABLES": f"glibc.malloc.mmap_max=0:glibc.malloc.trim_threshold={2**33}"}
+
 
 class Refused(Exception):
     """The program or a peer ended with an error; the text is what it said."""
 
 
-def output_of(words, text=None):
-    """What the command writes, with the file `text` as its standard input."""
+def output_of(words, text=None, more={}):
+    """What the command writes, with the file `text` as its standard input and more in its environment."""
     with open(text or os.devnull, "rb") as given:
-        ran = subprocess.run(words, stdin=given, capture_output=True, text=True)
+        ran = subprocess.run(words, stdin=given, capture_output=True, text=True, env={**os.environ, **more})
     if ran.returncode:
         said = ran.stderr.strip().splitlines()
         raise Refused(said[-1] if said else f"status {ran.returncode}")
@@ -34,8 +38,8 @@ def output_of(words, text=None):
 
 def make(folder, shape, given, factor):
     """Writes a shape's texts at this many times the size, and returns the paths of the EDN and the JSON."""
-    folder = f"{folder}/times{factor}"
-    size, members = given.bytes * factor, given.members * factor
+    folder = f"{folder}/times{factor:g}"
+    size, members = int(given.bytes * factor), int(given.members * factor)
     words = [f"{HERE}/generate.py", folder, shape, "--bytes", size, "--members", members]
     output_of([sys.executable, *map(str, words)])
     json = f"{folder}/{shape}.json"
@@ -47,7 +51,7 @@ class Measured:
 
     def __init__(self, program, text, rounds):
         said = {}
-        for line in output_of([program, str(rounds)], text).splitlines():
+        for line in output_of([program, str(rounds)], text, KEEPS).splitlines():
             word, number = line.split()
             said.setdefault(word, []).append(int(number))
         self.text = os.path.getsize(text)
@@ -80,11 +84,20 @@ def show_once(once):
          f" {after_read:.1f} after it, {after_print:.1f} after printing")
 
 
-def measure_twice(program, text, once, rounds):
-    twice = Measured(program, text, rounds)
-    read, print_ = min(twice.read) / min(once.read), min(twice.print) / min(once.print)
-    show("twice", f"at twice the size: read {read:.2f} times as long, print {print_:.2f} times,"
-         f" memory {twice.peaks[2]:.1f} times the text")
+def show_growth(what, small, large):
+    read, print_ = min(large.read) / min(small.read), min(large.print) / min(small.print)
+    show("growth", f"{what}: read {read:.2f} times as long, print {print_:.2f} times,"
+         f" memory {large.peaks[2]:.1f} times the text")
+
+
+def measure_growth(shape, given, once):
+    """From half the size to the whole, and from the whole to twice the size."""
+    half, twice = (
+        Measured(given.program, make(given.folder, shape, given, factor)[0], given.rounds)
+        for factor in (0.5, 2)
+    )
+    show_growth("from half the size to the whole", half, once)
+    show_growth("from the whole to twice the size", once, twice)
 
 
 def measure_clojure(text, once, seconds):
@@ -109,10 +122,18 @@ def seconds_of(words, text):
     return min(took)
 
 
-def measure_jq(program, text, json):
-    ours, theirs = seconds_of([program], text), seconds_of(["jq", "-c", "."], json)
-    show("jq", f"read and print as a whole process: {theirs:.2f} s,"
-         f" ref_edn {ours:.2f} s, {ratio(theirs, ours)}")
+def measure_jq(programs, text, json):
+    theirs = seconds_of(["jq", "-c", "."], json)
+    for name, words in programs.items():
+        ours = seconds_of(words, text)
+        show("jq", f"read and print as a whole process: {theirs:.2f} s, {name} {ours:.2f} s, {ratio(theirs, ours)}")
+
+
+def measure_row(given, once):
+    """A set beside a vector of the same members in the same order."""
+    row = Measured(given.program, make(given.folder, "row", given, 1)[0], given.rounds)
+    show("row", f"as a set: read {min(once.read) / min(row.read):.2f} times as long as a vector,"
+         f" print {min(once.print) / min(row.print):.2f} times")
 
 
 def measure(shape, given):
@@ -121,18 +142,24 @@ def measure(shape, given):
     once = Measured(given.program, text, given.rounds)
     print(f"{shape}: {once.text / MIB:.1f} MiB of text, {once.printed / MIB:.1f} MiB printed")
     show_once(once)
-    measure_twice(given.program, make(given.folder, shape, given, 2)[0], once, given.rounds)
+    measure_growth(shape, given, once)
     if shutil.which("clojure"):
         measure_clojure(text, once, given.seconds)
+    if shape == "set":
+        measure_row(given, once)
     if shutil.which("jq") and json:
-        measure_jq(given.program, text, json)
+        programs = {"ref_edn": [given.program]}
+        if given.refrun:
+            programs["refrun print"] = [given.refrun, "print"]
+        measure_jq(programs, text, json)
 
 
 def main():
     said = argparse.ArgumentParser(description=__doc__)
     said.add_argument("program")
     said.add_argument("folder")
-    said.add_argument("--rounds", type=int, default=7, help="of reading and printing in one process")
+    said.add_argument("--refrun", help="the program whose `print` is measured beside jq")
+    said.add_argument("--rounds", type=int, default=15, help="of reading and printing in one process")
     said.add_argument("--seconds", type=float, default=10, help="that Clojure gets for each measurement")
     given = arguments(said)
     print(f"best of {given.rounds} rounds; {os.cpu_count()} processors, load {os.getloadavg()[0]:.1f}")

@@ -2,13 +2,14 @@
 """Writes the texts that the measurements read: generate.py FOLDER [--bytes N] [--members N] [SHAPE..]
 
 ints      a vector of small integers, mostly of 1 to 4 digits
-map       a map of distinct keywords in random order, with small integers as values
+map       a map of distinct keywords of 8 bytes in random order, with small integers as values
 set       a set of distinct integers in random order
+row       a vector of the same integers in the same order
 maps      a vector of small nested maps with keywords and strings
 strings   a vector of strings, half of them with escapes
 remarks   a vector of small integers between comments and discards
 
-A map and a set have --members members (200,000), and the others are --bytes long (16 MiB) or a few bytes longer.
+A map, a set and a row have --members members (200,000), and the others are --bytes long (16 MiB) or a few bytes less.
 Each shape is written as SHAPE.edn and, but for remarks, as the same data in SHAPE.json. The seeds are fixed, so that
 each run writes the same bytes.
 """
@@ -78,20 +79,22 @@ def remark(rand):
 
 
 def vector(rand, item, size):
-    """A vector of at least this many bytes, in EDN and, where the items come in pairs, in JSON."""
-    edn, json, total = [], [], 2
-    while total < size:
+    """A vector of at most this many bytes in EDN, and, where the items come in pairs, the same in JSON."""
+    edn, json, total = [], [], 1
+    while True:
         made = item(rand)
         text = made if isinstance(made, str) else made[0]
+        total += len(text.encode()) + 1
+        if total > size:
+            break
         edn.append(text)
         json.append(made if isinstance(made, str) else made[1])
-        total += len(text.encode()) + 1
     return "[" + " ".join(edn) + "]", "[" + ",".join(json) + "]"
 
 
 def keyword_map(members):
     rand = random.Random(2)
-    pairs = [(n, rand.randrange(1000)) for n in rand.sample(range(5 * members), members)]
+    pairs = [(n, rand.randrange(1000)) for n in rand.sample(range(1_000_000, 10_000_000), members)]
     edn = ", ".join(f":k{key} {value}" for key, value in pairs)
     json = ",".join(f'"k{key}":{value}' for key, value in pairs)
     return "{" + edn + "}", "{" + json + "}"
@@ -102,10 +105,16 @@ def integer_set(members):
     return "#{" + " ".join(numbers) + "}", "[" + ",".join(numbers) + "]"
 
 
+def integer_row(members):
+    edn, json = integer_set(members)
+    return "[" + edn[2:-1] + "]", json
+
+
 SHAPES = {
     "ints": lambda size, _: vector(random.Random(1), small, size),
     "map": lambda _, members: keyword_map(members),
     "set": lambda _, members: integer_set(members),
+    "row": lambda _, members: integer_row(members),
     "maps": lambda size, _: vector(random.Random(5), small_map, size),
     "strings": lambda size, _: vector(random.Random(6), string, size),
     "remarks": lambda size, _: (vector(random.Random(7), remark, size)[0], None),

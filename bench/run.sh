@@ -38,4 +38,7 @@ if ! (cd "$tree/crates/edn_bench" && echo '[1 2 3]' | rt run > "$room/build.txt"
   echo "bench/run.sh: not built, or [1 2 3] was not read; all that rt said is in $room/build.txt" >&2
   exit 1
 fi
+# Where refrun is built its `print` is measured beside jq too.
+refrun=$top/crates/refrun/out/refrun
+if [ -x "$refrun" ]; then set -- --refrun "$refrun" "$@"; fi
 exec python3 -B "$here/compare.py" "$program" "$room/data" "$@"

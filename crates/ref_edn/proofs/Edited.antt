@@ -1,5 +1,5 @@
 -- The deepest member of a list where one is put in, taken out or replaced.
-use Rattle.std.proofs.Common.{◌≡◌, ◌≤◌, ◌<◌, ℕ, zero, suc, ◌+◌, List, [], ◌∷◌, ◌++◌, arith, ◌⊎◌, inl, inr, take, drop, get_or, length}
+use Rattle.std.proofs.Common.{◌≡◌, ◌≤◌, ◌<◌, ℕ, zero, suc, List, [], ◌∷◌, arith, ◌⊎◌, inl, inr, get_or, length}
 use Rattle.std.specs.Prelude.{max, insert, remove, slice_set}
 use Rattle.ref_edn.specs.Edn.{Edn, nesting, items_depth, items_of, entries_depth, entries_of}
 use Rattle.ref_edn.specs.Lawful.{IsLawful, HasLawfulParts, AreLawful, AreLawfulEntries}

@@ -11,6 +11,7 @@ pub mod Runs
 pub mod Tokens
 pub mod Strings
 pub mod SortedLists
+pub mod SortKeys
 pub mod Sorting
 pub mod Twins
 pub mod Spaces

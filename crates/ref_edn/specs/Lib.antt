@@ -1,10 +1,12 @@
 pub mod Edn
 pub mod Code
 pub mod View
+pub mod Texts
 pub mod Most
 pub mod Falls
 pub mod Order
 pub mod OrderLaws
+pub mod SortKeys
 pub mod Bytes
 pub mod Names
 pub mod Lawful

@@ -22,6 +22,7 @@ use crate::faults::{Kind, ReadError};
 use crate::maps::Entries;
 use crate::members::{into_pairs, into_values, sort_elements, sort_entries};
 use crate::sets::Elements;
+use crate::sort_keys::Keyed;
 use crate::string_reader::string;
 use crate::token_reader::token;
 use crate::vectors::Items;
@@ -245,7 +246,7 @@ fn marked_elements<'a>(
     alloc: Global,
     text: &'a [u8],
     room: u8,
-    found: &mut Vec<(Value, Reverse<usize>)>,
+    found: &mut Vec<(Keyed, Reverse<usize>)>,
 ) -> Result<&'a [u8], ReadError>
     requires room { room ≤ 64 }
     requires empty { found.old.items ≡ [] }
@@ -260,7 +261,7 @@ fn marked_elements<'a>(
         let Some(element) = element else {
             return Ok(behind);
         };
-        found.push((element, Reverse(start.len())))?;
+        found.push((Keyed::of(element), Reverse(start.len())))?;
         rest = behind;
     }
 }
@@ -290,7 +291,7 @@ fn marked_entries<'a>(
     alloc: Global,
     text: &'a [u8],
     room: u8,
-    found: &mut Vec<((Value, Reverse<usize>), Value)>,
+    found: &mut Vec<((Keyed, Reverse<usize>), Value)>,
 ) -> Result<&'a [u8], ReadError>
     requires room { room ≤ 64 }
     requires empty { found.old.items ≡ [] }
@@ -305,7 +306,7 @@ fn marked_entries<'a>(
         let Some(key) = key else {
             return Ok(behind);
         };
-        let key = (key, Reverse(start.len()));
+        let key = (Keyed::of(key), Reverse(start.len()));
         match value(alloc, behind, room) {
             Ok((value, behind)) => {
                 found.push((key, value))?;

@@ -21,6 +21,7 @@ pub mod reader;
 #[cfg(test)]
 mod reader_table;
 pub mod sets;
+mod sort_keys;
 pub mod streams;
 mod string_reader;
 pub mod texts;

@@ -7,24 +7,20 @@ ghost use Rattle.ref_edn.specs.Order.{edn_cmp, elements_ascend, keys_ascend};
 
 use crate::building::{Pairs, Values};
 use crate::data::Value;
-use crate::order::compare;
+use crate::sort_keys::Keyed;
 use std::alloc::{AllocError, Global};
-use std::cmp::{Ordering, Reverse};
+use std::cmp::Reverse;
 
 // How many bytes are left at the second, where it doesn't stand behind the first in value order, and else 0.
-fn twin(x: &Value, y: &Value, left: usize) -> usize
+fn twin(x: &Keyed, y: &Keyed, left: usize) -> usize
     ensures { result ≡ cond (is_lt (edn_cmp x.now y.now)) 0 left }
 {
-    if compare(x, y) == Ordering::Less {
-        0
-    } else {
-        left
-    }
+    if x < y { 0 } else { left }
 }
 
 // The most bytes that are left at an element that doesn't stand behind the one before it in value order, or 0.
 #[tactic(auto, using(crate::proofs::Twins::twin_end))]
-fn most_left(sorted: &[(Value, Reverse<usize>)]) -> usize
+fn most_left(sorted: &[(Keyed, Reverse<usize>)]) -> usize
     ensures { result ≡ twin_left sorted.now }
 {
     let mut most = 0;
@@ -37,7 +33,7 @@ fn most_left(sorted: &[(Value, Reverse<usize>)]) -> usize
 
 // The same of keys.
 #[tactic(auto, using(crate::proofs::Twins::key_twin_end))]
-fn most_left_of_keys(sorted: &[((Value, Reverse<usize>), Value)]) -> usize
+fn most_left_of_keys(sorted: &[((Keyed, Reverse<usize>), Value)]) -> usize
     ensures { result ≡ twin_left (keys_of sorted.now) }
 {
     let mut most = 0;
@@ -50,7 +46,7 @@ fn most_left_of_keys(sorted: &[((Value, Reverse<usize>), Value)]) -> usize
 
 /// Puts elements into value order, and tells how many bytes were left at the first that equals an earlier one, or 0. It
 /// takes no memory, and linear time where they ascend already.
-pub(crate) fn sort_elements(found: &mut Vec<(Value, Reverse<usize>)>) -> usize
+pub(crate) fn sort_elements(found: &mut Vec<(Keyed, Reverse<usize>)>) -> usize
     requires { Falls found.old.items }
     ensures permutation { IsPermutation found.old.items found.new.items }
     ensures first { result ≡ first_twice [] found.old.items }
@@ -61,7 +57,7 @@ pub(crate) fn sort_elements(found: &mut Vec<(Value, Reverse<usize>)>) -> usize
 }
 
 /// The same of entries by their keys.
-pub(crate) fn sort_entries(found: &mut Vec<((Value, Reverse<usize>), Value)>) -> usize
+pub(crate) fn sort_entries(found: &mut Vec<((Keyed, Reverse<usize>), Value)>) -> usize
     requires { Falls (keys_of found.old.items) }
     ensures permutation { IsPermutation found.old.items found.new.items }
     ensures first { result ≡ first_twice [] (keys_of found.old.items) }
@@ -74,13 +70,13 @@ pub(crate) fn sort_entries(found: &mut Vec<((Value, Reverse<usize>), Value)>) ->
 /// The elements alone.
 pub(crate) fn into_values(
     alloc: Global,
-    found: Vec<(Value, Reverse<usize>)>,
+    found: Vec<(Keyed, Reverse<usize>)>,
 ) -> Result<Values, AllocError>
     ensures { IfOk result (λ xs. xs ≡ elements_of found.items) }
 {
     let mut values = Values::with_capacity(alloc, found.len())?;
     for (x, _) in found {
-        values.push(x)?;
+        values.push(x.into_value())?;
     }
     Ok(values)
 }
@@ -88,13 +84,13 @@ pub(crate) fn into_values(
 /// The entries alone.
 pub(crate) fn into_pairs(
     alloc: Global,
-    found: Vec<((Value, Reverse<usize>), Value)>,
+    found: Vec<((Keyed, Reverse<usize>), Value)>,
 ) -> Result<Pairs, AllocError>
     ensures { IfOk result (λ es. es ≡ pairs_of found.items) }
 {
     let mut pairs = Pairs::with_capacity(alloc, found.len())?;
     for ((key, _), value) in found {
-        pairs.push(key, value)?;
+        pairs.push(key.into_value(), value)?;
     }
     Ok(pairs)
 }

@@ -10,7 +10,7 @@ use crate::sets::Elements;
 use crate::vectors::Items;
 use std::cmp::Ordering;
 
-fn rank(node: &Node) -> u8
+pub(crate) fn rank(node: &Node) -> u8
     ensures { result ≡ rank_of (edn node.now) }
 {
     match node {

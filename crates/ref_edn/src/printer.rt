@@ -14,6 +14,9 @@ use crate::vectors::Items;
 use itoa::Buffer;
 use std::alloc::{AllocError, Global};
 
+// How many keys of a map are looked at in one go.
+const AHEAD: usize = 16;
+
 /// Appends the text of a value.
 ///
 /// Each value has one text; docs/EDN.md says what it is. It takes time in proportion to that text, and the native stack
@@ -190,6 +193,29 @@ fn append_set(elements: &Elements, out: &mut Vec<u8>) -> Result<(), AllocError>
     Ok(())
 }
 
+// How many bytes a text has that stands for itself; 0 for any other value.
+fn text_len(value: &Value) -> usize {
+    match value.node() {
+        Node::Str(s) | Node::Keyword(s) | Node::Symbol(s) => s.as_bytes().len(),
+        _ => 0,
+    }
+}
+
+// Asks, at each 16th entry, for room for the keys of the next 16. A key's text lies anywhere in memory, and the processor
+// fetches those of 16 keys at the same time, where one after the other would be waited for.
+fn make_room(entries: &Entries, i: usize, out: &mut Vec<u8>) -> Result<(), AllocError>
+    ensures { out.new.items ≡ out.old.items }
+{
+    if i % AHEAD != 0 {
+        return Ok(());
+    }
+    let mut room = 0usize;
+    for j in i..entries.len().min(i.saturating_add(AHEAD)) {
+        room = room.saturating_add(text_len(entries.at(j).0));
+    }
+    out.reserve(room)
+}
+
 #[cycle(append)]
 fn append_map(entries: &Entries, out: &mut Vec<u8>) -> Result<(), AllocError>
     ensures ok { OnOk result (out.new.items ≡ out.old.items ++ 123 ∷ entries_text (entries_of entries.now) []) }
@@ -197,6 +223,7 @@ fn append_map(entries: &Entries, out: &mut Vec<u8>) -> Result<(), AllocError>
 {
     out.push(b'{')?;
     for i in 0..entries.len() {
+        make_room(entries, i, out)?;
         let (key, x) = entries.at(i);
         append_entry(i, key, x, out)?;
     }

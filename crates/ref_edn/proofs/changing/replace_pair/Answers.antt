@@ -1,4 +1,4 @@
-use Rattle.std.proofs.Common.{◌≡◌, ◌≤◌, ◌<◌, ◌⊎◌, inl, inr, arith}
+use Rattle.std.proofs.Common.{◌≤◌, ◌<◌, ◌⊎◌, inl, inr, arith}
 use Rattle.std.specs.Prelude.{max}
 use Rattle.ref_edn.specs.Edn.{nesting}
 use Rattle.ref_edn.proofs.Edited.{set_deepest}

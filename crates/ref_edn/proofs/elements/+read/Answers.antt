@@ -98,7 +98,7 @@ marked_elements-returns-in_default-clause-once t c none =
 pub marked_elements-loop-start-preserved : goal.marked_elements-loop-start-preserved
 marked_elements-loop-start-preserved t c =
     let at = rw c.in-Some.is at c.in_ok-start.ensures.value in
-    rw c.in_ok-push.ensures.items (record {
+    rw (c.in_ok-push.ensures.items, c.of.ensures) (record {
       reads = marks_set_more c.args.room c.loop-start.found.items c.loop-start.rest.now c.in_ok-start.start.now c.in_ok-start.behind.now c.in-Some.element (set_at c.args.room c.args.text.now) at c.in_ok-start.ensures.start c.in_ok-start.ensures.shorter c.loop-start.invariant.reads;
       shorter = omega (arith, c.in_ok-start.ensures.shorter, c.in_ok-start.ensures.start);
     })
@@ -126,7 +126,7 @@ marked_entries-returns-in_default-clause-once t c none =
 pub marked_entries-loop-start-preserved : goal.marked_entries-loop-start-preserved
 marked_entries-loop-start-preserved t c =
     let at = rw c.in-Some.is at c.in_ok-start.ensures.value in
-    rw c.in_ok-push-in-Ok.ensures.items (record {
+    rw (c.in_ok-push-in-Ok.ensures.items, c.of.ensures) (record {
       reads = marks_map_more c.args.room c.loop-start.found.items c.loop-start.rest.now c.in_ok-start.start.now c.in_ok-start.behind.now c.in-Some.key (map_at c.args.room c.args.text.now) at c.in_ok-start.ensures.start c.in_ok-start.ensures.shorter c.in-Ok.value c.in-Ok.behind.now
           c.in-Ok.ensures.value c.in-Ok.ensures.shorter c.loop-start.invariant.reads;
       shorter = omega (arith, c.in_ok-start.ensures.shorter, c.in_ok-start.ensures.start, c.in-Ok.ensures.shorter);
@@ -137,21 +137,21 @@ marked_entries-returns-in-Err-clause-falls t c =
     let at = rw c.in-Some.is at c.in_ok-start.ensures.value in
     let last = marks_map_last c.args.room c.loop-start.found.items c.loop-start.rest.now c.in_ok-start.start.now c.in_ok-start.behind.now c.in-Some.key (map_at c.args.room c.args.text.now) at c.in_ok-start.ensures.start c.in_ok-start.ensures.shorter c.of_lawful.result c.in-Err.error
     c.in-Err.ensures.value c.loop-start.invariant.reads in
-    rw c.in_ok-push-in-Err.ensures.items last.0
+    rw (c.in_ok-push-in-Err.ensures.items, c.of.ensures) last.0
 
 pub marked_entries-returns-in-Err-clause-twice : goal.marked_entries-returns-in-Err-clause-twice
 marked_entries-returns-in-Err-clause-twice t c =
     let at = rw c.in-Some.is at c.in_ok-start.ensures.value in
     let last = marks_map_last c.args.room c.loop-start.found.items c.loop-start.rest.now c.in_ok-start.start.now c.in_ok-start.behind.now c.in-Some.key (map_at c.args.room c.args.text.now) at c.in_ok-start.ensures.start c.in_ok-start.ensures.shorter c.of_lawful.result c.in-Err.error
     c.in-Err.ensures.value c.loop-start.invariant.reads in
-    rw c.in_ok-push-in-Err.ensures.items last.1
+    rw (c.in_ok-push-in-Err.ensures.items, c.of.ensures) last.1
 
 pub marked_entries-returns-in-Err-clause-once : goal.marked_entries-returns-in-Err-clause-once
 marked_entries-returns-in-Err-clause-once t c =
     let at = rw c.in-Some.is at c.in_ok-start.ensures.value in
     let last = marks_map_last c.args.room c.loop-start.found.items c.loop-start.rest.now c.in_ok-start.start.now c.in_ok-start.behind.now c.in-Some.key (map_at c.args.room c.args.text.now) at c.in_ok-start.ensures.start c.in_ok-start.ensures.shorter c.of_lawful.result c.in-Err.error
     c.in-Err.ensures.value c.loop-start.invariant.reads in
-    rw c.in_ok-push-in-Err.ensures.items last.2
+    rw (c.in_ok-push-in-Err.ensures.items, c.of.ensures) last.2
 
 pub entries-returns-clause-value : goal.entries-returns-clause-value
 entries-returns-clause-value t c =

@@ -1,4 +1,4 @@
-use Rattle.std.proofs.Common.{arith, ◌+◌, ◌++◌, ◌∷◌, [], drop}
+use Rattle.std.proofs.Common.{arith, ap, subst, ◌≡◌, ◌∙◌, ◌+◌, ◌++◌, ◌∷◌, [], drop, length, take}
 use Rattle.std.specs.Prelude.{cond, ◌==◌}
 use Rattle.ref_edn.specs.Edn.{items_of, entries_of}
 use Rattle.ref_edn.specs.Printed.{printed, items_text, entries_text}
@@ -52,8 +52,9 @@ append_map-loop-i-preserved t c =
     let old = c.args.out.now.items in
     let out = c.loop-i.out.items in
     let put = c.append_entry.new.out.items in
+    let entry = cond (i == 0) [] (44 ∷ 32 ∷ []) ++ (printed k ++ 32 ∷ printed x) in
     record {
-      whole = step (old ++ 123 ∷ entries_text (entries_of es) []) out put (entries_tail i (entries_of (drop i es))) (cond (i == 0) [] (44 ∷ 32 ∷ []) ++ (printed k ++ 32 ∷ printed x))
-          (entries_tail (i + 1) (entries_of (drop (i + 1) es))) c.loop-i.invariant.whole c.in_ok-append_entry.ensures.ok (entries_tail_at es i k x (omega arith) c.at.ensures);
-      kept = kept_twice old out put c.loop-i.invariant.kept c.append_entry.ensures.kept;
+      whole = step (old ++ 123 ∷ entries_text (entries_of es) []) out put (entries_tail i (entries_of (drop i es))) entry
+          (entries_tail (i + 1) (entries_of (drop (i + 1) es))) c.loop-i.invariant.whole (c.in_ok-append_entry.ensures.ok ∙ ap (λ o. o ++ entry) c.make_room.ensures) (entries_tail_at es i k x (omega arith) c.at.ensures);
+      kept = kept_twice old out put c.loop-i.invariant.kept (subst (λ o. take (length o) put ≡ o) c.make_room.ensures c.append_entry.ensures.kept);
     }

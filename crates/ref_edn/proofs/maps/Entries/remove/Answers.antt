@@ -1,5 +1,5 @@
-use Rattle.std.proofs.Common.{◌≡◌, sym, subst}
-use Rattle.std.specs.Prelude.{IsTrue, None, remove}
+use Rattle.std.proofs.Common.{sym, subst}
+use Rattle.std.specs.Prelude.{IsTrue, None}
 use Rattle.ref_edn.specs.Edn.{entries_of}
 use Rattle.ref_edn.specs.Order.{keys_ascend}
 use Rattle.ref_edn.specs.Collections.{entries_without, ChangesKey}

@@ -1,5 +1,5 @@
-use Rattle.std.proofs.Common.{◌≡◌, sym, subst, true}
-use Rattle.std.specs.Prelude.{IsTrue, insert}
+use Rattle.std.proofs.Common.{sym, subst, true}
+use Rattle.std.specs.Prelude.{IsTrue}
 use Rattle.ref_edn.specs.Edn.{items_of}
 use Rattle.ref_edn.specs.Order.{elements_ascend}
 use Rattle.ref_edn.specs.Collections.{elements_with, ChangesElement}

@@ -1,0 +1,24 @@
+-- A number that stands for most of a value in a sort: its kind, and the front of its text.
+use Rattle.std.specs.Prelude.{ℕ, zero, suc, ◌+◌, ◌*◌, ◌≤◌, List, [], ◌∷◌}
+use Rattle.std.specs.List.{AllByRecursion}
+use Rattle.ref_edn.specs.Edn.{Edn, string, keyword, symbol}
+use Rattle.ref_edn.specs.Order.{rank}
+
+-- what k bytes spell behind n, the greatest first, with 0 where there are no more
+abbrev pub spelled : ℕ → ℕ → List ℕ → ℕ
+spelled zero n bs = n
+spelled (suc k) n [] = spelled k (n * 256) []
+spelled (suc k) n (b ∷ bs) = spelled k (n * 256 + b) bs
+
+-- the text of a string, a keyword or a symbol
+abbrev pub text_of : Edn → List ℕ
+text_of (string s) = s
+text_of (keyword s) = s
+text_of (symbol s) = s
+text_of v = []
+
+abbrev pub sort_key : Edn → ℕ
+sort_key v = spelled 7 (rank v) (text_of v)
+
+abbrev pub AreBytes : List ℕ → Type 0
+AreBytes bs = AllByRecursion (λ b. b ≤ 255) bs
