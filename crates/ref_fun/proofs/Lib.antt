@@ -1,3 +1,4 @@
 pub mod Kept
 pub mod Shallower
 pub mod OwnCodes
+pub mod Sameness

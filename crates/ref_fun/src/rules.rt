@@ -1,7 +1,11 @@
 //! The rule of a reference, as a validator in Clojure.
-ghost use Rattle.std.specs.Prelude.{◌≡◌, IfOk};
+ghost use Rattle.std.specs.Prelude.{◌≡◌, None, Some, IfErr, IfOk, OnOk, is_ok};
+ghost use Rattle.ref_fun.specs.Rule.{is_known, passes, unknown};
 
 use crate::arguments::Args;
+use crate::meanings::Meaning;
+use crate::tables::Functions;
+use ref_edn::Value;
 use std::alloc::AllocError;
 
 /// A predicate by its code, with its arguments: which values a reference may have. In contracts rules are equal where
@@ -21,5 +25,37 @@ impl Rule {
             code: self.code,
             args: self.args.share()?,
         })
+    }
+}
+
+/// Tells the code of a rule, if there is one, that a table has no predicate of.
+pub fn check_known<M: Meaning, F: Functions<M>>(funs: &F, rule: &Option<Rule>) -> Result<(), u32>
+    ensures ok { OnOk result (unknown (F.knows_pred funs.now) rule.now ≡ None) }
+    ensures known { is_ok result ≡ is_known (F.knows_pred funs.now) rule.now }
+    ensures err { IfErr result (λ code. unknown (F.knows_pred funs.now) rule.now ≡ Some code) }
+{
+    match rule {
+        None => Ok(()),
+        Some(rule) => {
+            if funs.has_pred(rule.code) {
+                Ok(())
+            } else {
+                Err(rule.code)
+            }
+        }
+    }
+}
+
+/// Whether a rule that the table knows, or none, accepts a value.
+pub fn passes<M: Meaning, F: Functions<M>>(funs: &F, rule: &Option<Rule>, value: &Value) -> bool
+    requires { unknown (F.knows_pred funs.now) rule.now ≡ None }
+    ensures { result ≡ passes M.accepts rule.now value.now }
+{
+    match rule {
+        None => true,
+        Some(rule) => match funs.test(rule.code, value, rule.args.as_slice()) {
+            Some(accepted) => accepted,
+            None => unreachable!(),
+        },
     }
 }

@@ -2,14 +2,15 @@
 use Rattle.std.proofs.Common.{◌≡◌, ℕ, ◌+◌, ◌<◌, Bool, not, Result, Ok, Err, Option, None, Some, List, [], ◌∷◌, ◌++◌, drop, length, get_or, refl, sym, ◌∙◌, ap, suc, add-one, drop-cons}
 use Rattle.std.specs.Option.{option_or}
 use Rattle.std.proofs.lemmas.List.Folds.{find-append}
+use Rattle.std.proofs.Common.{arith}
 use Rattle.ref_edn.specs.Edn.{Edn}
 use Rattle.ref_fun.specs.Meaning.{Means}
 use Rattle.ref_log.specs.declared.faults.AuditFault.{AuditFault}
 use Rattle.ref_log.specs.declared.faults.AuditFault.TheVariants.{Answer, Refuses, NoSuch, Memory, NoSuchFun}
 use Rattle.ref_log.specs.declared.operations.Done.{Done}
 use Rattle.ref_log.specs.declared.entries.Entry.{Entry}
-use Rattle.ref_log.specs.declared.entries.Entry.TheVariants.{Trans}
-use Rattle.ref_log.specs.Replay.{is_protected, after_one, after_done, after_dones, step, replay_from, missing, needed_of_done, needed_of_dones, needed_of_entry, needed_from, FaultComes}
+use Rattle.ref_log.specs.declared.states.PlainState.{PlainState}
+use Rattle.ref_log.specs.Replay.{is_protected, after_one, after_done, after_dones, step, replay_from, missing, needed_of_done, needed_of_dones, needed_of_step, needed_from, FaultComes}
 use Rattle.ref_log.specs.Laws.{after_dones-Err, replay_from-Err}
 
 first_left : (es : List Entry) (i : ℕ) (e : Entry) → i < length es → e ≡ get_or es i e → drop i es ≡ e ∷ drop (i + 1) es
@@ -23,17 +24,15 @@ module _ (means : Means) where
   needed_of_dones-Err all point [] fault = refl
   needed_of_dones-Err all point (d ∷ ds) fault = needed_of_dones-Err all point ds fault
 
-  needed_of_entry-Err : (point : ℕ) (e : Entry) (fault : AuditFault) → needed_of_entry means point e (Err fault) ≡ []
-  needed_of_entry-Err point (Trans t) fault = needed_of_dones-Err t.dones point t.dones fault
-
   needed_from-Err : (point : ℕ) (es : List Entry) (fault : AuditFault) → needed_from means point es (Err fault) ≡ []
   needed_from-Err point [] fault = refl
-  needed_from-Err point (e ∷ es) fault = rw (needed_of_entry-Err (point + 1) e fault) (needed_from-Err (point + 1) es fault)
+  needed_from-Err point (e ∷ es) fault = needed_from-Err (point + 1) es fault
 
   -- an entry that doesn't fail, in its log
-  pub replay_of_later : (es : List Entry) (i : ℕ) (e : Entry) (values after : List Edn) → i < length es → e ≡ get_or es i e → step means (i + 1) e values ≡ Ok after → replay_from means i (drop i es) (Ok values) ≡ replay_from means (i + 1) (drop (i + 1) es) (Ok after)
-  replay_of_later es i e values after below is ok =
-      ap (λ l. replay_from means i l (Ok values)) (first_left es i e below is) ∙ ap (replay_from means (i + 1) (drop (i + 1) es)) ok
+  pub replay_of_later : (b : ℕ) (es : List Entry) (i : ℕ) (e : Entry) (state after : PlainState) → i < length es → e ≡ get_or es i e → step means (b + i + 1) e state ≡ Ok after → replay_from means (b + i) (drop i es) (Ok state) ≡ replay_from means (b + (i + 1)) (drop (i + 1) es) (Ok after)
+  replay_of_later b es i e state after below is ok =
+      let next : b + i + 1 ≡ b + (i + 1) = omega arith in
+      ap (λ l. replay_from means (b + i) l (Ok state)) (first_left es i e below is) ∙ (ap (replay_from means (b + i + 1) (drop (i + 1) es)) ok ∙ ap (λ p. replay_from means p (drop (i + 1) es) (Ok after)) next)
 
 module _ (knows : ℕ → Bool) where
   -- ---- codes that are missing, in two lists of codes
@@ -49,7 +48,7 @@ module _ (knows : ℕ → Bool) where
 
   -- ---- what comes of a part, comes of the whole
 
-  fault_lifts : (codes others : List ℕ) (part whole : Result (List Edn) AuditFault) (lacks : Option ℕ) (fault : AuditFault) → missing knows (codes ++ others) ≡ lacks → ((f : AuditFault) → part ≡ Err f → (others ≡ []) × (whole ≡ Err f)) → FaultComes (missing knows codes) part fault → FaultComes lacks whole fault
+  fault_lifts : {A B : Type 0} → (codes others : List ℕ) (part : Result A AuditFault) (whole : Result B AuditFault) (lacks : Option ℕ) (fault : AuditFault) → missing knows (codes ++ others) ≡ lacks → ((f : AuditFault) → part ≡ Err f → (others ≡ []) × (whole ≡ Err f)) → FaultComes (missing knows codes) part fault → FaultComes lacks whole fault
   fault_lifts codes others part whole lacks (Answer point) so_far lifts here =
       (sym so_far ∙ missing_none codes others here.0 (lifts (Answer point) here.1).0, (lifts (Answer point) here.1).1)
   fault_lifts codes others part whole lacks (Refuses point) so_far lifts here =
@@ -75,15 +74,18 @@ module _ (knows : ℕ → Bool) where
         ap (λ l. missing knows (needed_of_dones means all point l (Ok values))) first ∙ (missing-append (needed_of_done d (Ok values)) (needed_of_dones means all point ds (after_done means all point d values)) none ∙ ap (λ v. missing knows (needed_of_dones means all point ds v)) done)
 
     -- an entry that fails, in its log
-    pub log_fails : (es : List Entry) (i : ℕ) (e : Entry) (values : List Edn) (whole : Result (List Edn) AuditFault) (lacks : Option ℕ) (fault : AuditFault) → replay_from means i (drop i es) (Ok values) ≡ whole → missing knows (needed_from means i (drop i es) (Ok values)) ≡ lacks → i < length es → e ≡ get_or es i e → FaultComes (missing knows (needed_of_entry means (i + 1) e (Ok values))) (step means (i + 1) e values) fault → FaultComes lacks whole fault
-    log_fails es i e values whole lacks fault so_far lacks_so_far below is here =
+    pub log_fails : (b : ℕ) (es : List Entry) (i : ℕ) (e : Entry) (state : PlainState) (whole : Result PlainState AuditFault) (lacks : Option ℕ) (fault : AuditFault) → replay_from means (b + i) (drop i es) (Ok state) ≡ whole → missing knows (needed_from means (b + i) (drop i es) (Ok state)) ≡ lacks → i < length es → e ≡ get_or es i e → FaultComes (missing knows (needed_of_step means (b + i + 1) e state)) (step means (b + i + 1) e state) fault → FaultComes lacks whole fault
+    log_fails b es i e state whole lacks fault so_far lacks_so_far below is here =
         let first : drop i es ≡ e ∷ drop (i + 1) es = first_left es i e below is in
         let rest = drop (i + 1) es in
-        fault_lifts (needed_of_entry means (i + 1) e (Ok values)) (needed_from means (i + 1) rest (step means (i + 1) e values)) (step means (i + 1) e values) whole lacks fault
-        (ap (λ l. missing knows (needed_from means i l (Ok values))) (sym first) ∙ lacks_so_far)
-        (λ f p. (ap (needed_from means (i + 1) rest) p ∙ needed_from-Err means (i + 1) rest f, sym so_far ∙ (ap (λ l. replay_from means i l (Ok values)) first ∙ (ap (replay_from means (i + 1) rest) p ∙ replay_from-Err means (i + 1) rest f)))) here
+        let point = b + i + 1 in
+        fault_lifts (needed_of_step means point e state) (needed_from means point rest (step means point e state)) (step means point e state) whole lacks fault
+        (ap (λ l. missing knows (needed_from means (b + i) l (Ok state))) (sym first) ∙ lacks_so_far)
+        (λ f p. (ap (needed_from means point rest) p ∙ needed_from-Err means point rest f, sym so_far ∙ (ap (λ l. replay_from means (b + i) l (Ok state)) first ∙ (ap (replay_from means point rest) p ∙ replay_from-Err means point rest f)))) here
 
     -- and one that doesn't
-    pub needed_of_later : (es : List Entry) (i : ℕ) (e : Entry) (values after : List Edn) → i < length es → e ≡ get_or es i e → step means (i + 1) e values ≡ Ok after → missing knows (needed_of_entry means (i + 1) e (Ok values)) ≡ None → missing knows (needed_from means i (drop i es) (Ok values)) ≡ missing knows (needed_from means (i + 1) (drop (i + 1) es) (Ok after))
-    needed_of_later es i e values after below is ok none =
-        ap (λ l. missing knows (needed_from means i l (Ok values))) (first_left es i e below is) ∙ (missing-append (needed_of_entry means (i + 1) e (Ok values)) (needed_from means (i + 1) (drop (i + 1) es) (step means (i + 1) e values)) none ∙ ap (λ v. missing knows (needed_from means (i + 1) (drop (i + 1) es) v)) ok)
+    pub needed_of_later : (b : ℕ) (es : List Entry) (i : ℕ) (e : Entry) (state after : PlainState) → i < length es → e ≡ get_or es i e → step means (b + i + 1) e state ≡ Ok after → missing knows (needed_of_step means (b + i + 1) e state) ≡ None → missing knows (needed_from means (b + i) (drop i es) (Ok state)) ≡ missing knows (needed_from means (b + (i + 1)) (drop (i + 1) es) (Ok after))
+    needed_of_later b es i e state after below is ok none =
+        let rest = drop (i + 1) es in
+        let next : b + i + 1 ≡ b + (i + 1) = omega arith in
+        ap (λ l. missing knows (needed_from means (b + i) l (Ok state))) (first_left es i e below is) ∙ (missing-append (needed_of_step means (b + i + 1) e state) (needed_from means (b + i + 1) rest (step means (b + i + 1) e state)) none ∙ (ap (λ v. missing knows (needed_from means (b + i + 1) rest v)) ok ∙ ap (λ p. missing knows (needed_from means p rest (Ok after))) next))

@@ -1,6 +1,6 @@
 -- Laws of the replay, for whoever adds to a log.
-use Rattle.std.specs.Prelude.{◌≡◌, ℕ, zero, suc, ◌+◌, ◌<◌, ◌==◌, ◌&&◌, ◌||◌, not, true, false, Bool, Result, Ok, Err, Option, None, Some, List, [], ◌∷◌, ◌++◌, length, slice_get, slice_set, if◌then◌else◌, refl}
-use Rattle.std.proofs.Common.{◌∙◌, ap, sym, arith, zero-add}
+use Rattle.std.specs.Prelude.{◌≡◌, ℕ, zero, suc, ◌+◌, ◌<◌, ◌==◌, ◌&&◌, ◌||◌, not, true, false, Bool, Result, Ok, Err, Option, None, Some, List, [], ◌∷◌, ◌++◌, length, slice_get, slice_index_or, slice_set, if◌then◌else◌, refl}
+use Rattle.std.proofs.Common.{◌∙◌, ap, sym, arith}
 use Rattle.std.specs.Ordering.{is_eq}
 use Rattle.std.proofs.lemmas.Bool.{eqb-false, or_parts}
 use Rattle.std.proofs.lemmas.Cmp.{tied_itself}
@@ -15,9 +15,10 @@ use Rattle.ref_log.specs.declared.operations.Op.{Op}
 use Rattle.ref_log.specs.declared.operations.Op.TheVariants.{Set, Alter, Commute, Ensure}
 use Rattle.ref_log.specs.declared.operations.Done.{Done}
 use Rattle.ref_log.specs.declared.entries.Entry.{Entry}
-use Rattle.ref_log.specs.declared.entries.Entry.TheVariants.{Trans}
+use Rattle.ref_log.specs.declared.entries.Entry.TheVariants.{Trans, Atom, MadeRef, MadeAtom}
 use Rattle.ref_log.specs.declared.states.Base.{Base}
-use Rattle.ref_log.specs.Replay.{place, is_ensure, is_protected, is_touched, is_kept, after_done, after_found, after_place, and_done, after_dones, step, and_step, replay_from, point_after, replay, is_touched_by, last_change_from, last_change}
+use Rattle.ref_log.specs.declared.states.PlainState.{PlainState}
+use Rattle.ref_log.specs.Replay.{place, is_ensure, is_protected, is_touched, is_kept, after_done, after_found, after_one, after_place, and_done, after_dones, done_of, with_refs, with_atoms, step, and_step, replay_from, point_after, state_of, replay, is_changed_by, refs_after_one, refs_after, last_change_from, last_change}
 
 -- One more operation in an entry is taken after the others.
 pub after_dones-append : (means : Means) (all : List Done) (point : ℕ) (ds : List Done) (d : Done) (values : Result (List Edn) AuditFault) → after_dones means all point (ds ++ d ∷ []) values ≡ and_done means all point d (after_dones means all point ds values)
@@ -25,17 +26,20 @@ after_dones-append means all point [] d values = refl
 after_dones-append means all point (x ∷ ds) d values = after_dones-append means all point ds d (and_done means all point x values)
 
 -- One more entry is one more step, at the next point.
-pub replay_from-append : (means : Means) (point : ℕ) (es : List Entry) (e : Entry) (values : Result (List Edn) AuditFault) → replay_from means point (es ++ e ∷ []) values ≡ and_step means (point + length es + 1) e (replay_from means point es values)
-replay_from-append means point [] e values =
+pub replay_from-append : (means : Means) (point : ℕ) (es : List Entry) (e : Entry) (state : Result PlainState AuditFault) → replay_from means point (es ++ e ∷ []) state ≡ and_step means (point + length es + 1) e (replay_from means point es state)
+replay_from-append means point [] e state =
     let next : point + 1 ≡ point + length {A = Entry} [] + 1 = omega arith in
-    ap (λ p. and_step means p e values) next
-replay_from-append means point (x ∷ es) e values =
+    ap (λ p. and_step means p e state) next
+replay_from-append means point (x ∷ es) e state =
     let next : point + 1 + length es + 1 ≡ point + length (x ∷ es) + 1 = omega arith in
-    replay_from-append means (point + 1) es e (and_step means (point + 1) x values) ∙ ap (λ p. and_step means p e (replay_from means (point + 1) es (and_step means (point + 1) x values))) next
+    replay_from-append means (point + 1) es e (and_step means (point + 1) x state) ∙ ap (λ p. and_step means p e (replay_from means (point + 1) es (and_step means (point + 1) x state))) next
 
 pub replay-append : (means : Means) (base : Base) (es : List Entry) (e : Entry) → replay means base (es ++ e ∷ []) ≡ and_step means (point_after base es + 1) e (replay means base es)
-replay-append means base es e =
-    replay_from-append means 0 es e (Ok base.refs) ∙ ap (λ p. and_step means (p + 1) e (replay means base es)) (zero-add (length es))
+replay-append means base es e = replay_from-append means base.point es e (Ok (state_of base))
+
+-- So it is where the log has a replay.
+pub replay-more : (means : Means) (base : Base) (es : List Entry) (e : Entry) (state after : PlainState) → replay means base es ≡ Ok state → step means (point_after base es + 1) e state ≡ Ok after → replay means base (es ++ e ∷ []) ≡ Ok after
+replay-more means base es e state after so_far next = replay-append means base es e ∙ (ap (and_step means (point_after base es + 1) e) so_far ∙ next)
 
 -- After a fault nothing changes.
 pub after_dones-Err : (means : Means) (all : List Done) (point : ℕ) (ds : List Done) (fault : AuditFault) → after_dones means all point ds (Err fault) ≡ Err fault
@@ -59,19 +63,19 @@ after_done-kept means all point d values v there gives =
     let free = not (is_protected all d.r) in
     ap (after_found means free point d values) there ∙ (ap (after_place free point d values) gives ∙ rw (is_kept-itself d, or-true free))
 
--- The last change of a ref moves to the point of an entry that touches it, and stays where it was at another entry.
-pub last_change_from-append : (point : ℕ) (es : List Entry) (e : Entry) (r before : ℕ) → last_change_from point (es ++ e ∷ []) r before ≡ (if is_touched_by e r then point + length es + 1 else last_change_from point es r before)
-last_change_from-append point [] e r before =
+-- The last change of a ref moves to the point of an entry that makes or touches it, and stays where it was at another entry.
+pub last_change_from-append : (point refs : ℕ) (es : List Entry) (e : Entry) (r before : ℕ) → last_change_from point refs (es ++ e ∷ []) r before ≡ (if is_changed_by (refs_after refs es) e r then point + length es + 1 else last_change_from point refs es r before)
+last_change_from-append point refs [] e r before =
     let next : point + 1 ≡ point + length {A = Entry} [] + 1 = omega arith in
-    ap (λ p. if is_touched_by e r then p else before) next
-last_change_from-append point (x ∷ es) e r before =
+    ap (λ p. if is_changed_by refs e r then p else before) next
+last_change_from-append point refs (x ∷ es) e r before =
     let next : point + 1 + length es + 1 ≡ point + length (x ∷ es) + 1 = omega arith in
-    let first = if is_touched_by x r then point + 1 else before in
-    last_change_from-append (point + 1) es e r first ∙ ap (λ p. if is_touched_by e r then p else last_change_from (point + 1) es r first) next
+    let more = refs_after_one refs x in
+    let first = if is_changed_by refs x r then point + 1 else before in
+    last_change_from-append (point + 1) more es e r first ∙ ap (λ p. if is_changed_by (refs_after more es) e r then p else last_change_from (point + 1) more es r first) next
 
-pub last_change-append : (base : Base) (es : List Entry) (e : Entry) (r : ℕ) → last_change base (es ++ e ∷ []) r ≡ (if is_touched_by e r then point_after base es + 1 else last_change base es r)
-last_change-append base es e r =
-    last_change_from-append 0 es e r 0 ∙ ap (λ p. if is_touched_by e r then p + 1 else last_change base es r) (zero-add (length es))
+pub last_change-append : (base : Base) (es : List Entry) (e : Entry) (r : ℕ) → last_change base (es ++ e ∷ []) r ≡ (if is_changed_by (refs_after (length base.refs) es) e r then point_after base es + 1 else last_change base es r)
+last_change-append base es e r = last_change_from-append base.point (length base.refs) es e r (slice_index_or base.last r 0)
 
 -- An operation that is applied sets its ref to its place.
 if-Ok : (b : Bool) (values after : List Edn) (fault : AuditFault) → (if b then Ok values else Err fault) ≡ Ok after → after ≡ values
@@ -149,9 +153,65 @@ after_dones-length means all point (d ∷ ds) values after is =
     let rest : after_dones means all point ds (Ok first.0) ≡ Ok after = ap (after_dones means all point ds) (sym first.1) ∙ is in
     after_dones-length means all point ds first.0 after rest ∙ after_done-length means all point d values first.0 first.1
 
--- An entry leaves the value of a ref that it doesn't touch, and there are as many refs as before.
-pub step-untouched : (means : Means) (point : ℕ) (e : Entry) (values after : List Edn) (r : ℕ) → step means point e values ≡ Ok after → is_touched_by e r ≡ false → slice_get after r ≡ slice_get values r
-step-untouched means point (Trans t) values after r is untouched = after_dones-untouched means t.dones point t.dones values after r is untouched
+-- What is at a number of a list with one element more, which isn't the number of that one.
+slice_get-append : (values : List Edn) (r : ℕ) (v : Edn) → (length values ≡ r → ⊥) → slice_get (values ++ v ∷ []) r ≡ slice_get values r
+slice_get-append [] zero v other = absurd (other refl)
+slice_get-append [] (suc r) v other = refl
+slice_get-append (x ∷ xs) zero v other = refl
+slice_get-append (x ∷ xs) (suc r) v other = slice_get-append xs r v (λ same. other (ap suc same))
 
-pub step-length : (means : Means) (point : ℕ) (e : Entry) (values after : List Edn) → step means point e values ≡ Ok after → length after ≡ length values
-step-length means point (Trans t) values after is = after_dones-length means t.dones point t.dones values after is
+length-append-one : (values : List Edn) (v : Edn) → length (values ++ v ∷ []) ≡ length values + 1
+length-append-one [] v = refl
+length-append-one (x ∷ xs) v =
+    let more = length-append-one xs v in
+    omega (arith, more)
+
+-- The refs after an entry, where it is applied.
+refs_of : (state after : PlainState) (refs : Result (List Edn) AuditFault) → with_refs state refs ≡ Ok after → refs ≡ Ok after.refs
+refs_of state after (Ok refs) is = ap Ok cc
+refs_of state after (Err fault) is = absurd cc
+
+atoms_leave : (state after : PlainState) (atoms : Result (List Edn) AuditFault) → with_atoms state atoms ≡ Ok after → after.refs ≡ state.refs
+atoms_leave state after (Ok atoms) is = cc
+atoms_leave state after (Err fault) is = absurd cc
+
+-- An entry leaves the value of a ref that it doesn't make or touch.
+pub step-untouched : (means : Means) (point : ℕ) (e : Entry) (state after : PlainState) (r : ℕ) → step means point e state ≡ Ok after → is_changed_by (length state.refs) e r ≡ false → slice_get after.refs r ≡ slice_get state.refs r
+step-untouched means point (Trans t) state after r is untouched = after_dones-untouched means t.dones point t.dones state.refs after.refs r (refs_of state after (after_dones means t.dones point t.dones (Ok state.refs)) is) untouched
+step-untouched means point (Atom a op answer) state after r is untouched = ap (λ l. slice_get l r) (atoms_leave state after (after_one means false point (done_of a op answer) state.atoms) is)
+step-untouched means point (MadeRef v) state after r is untouched =
+    let refs : after.refs ≡ state.refs ++ v ∷ [] = cc in
+    ap (λ l. slice_get l r) refs ∙ slice_get-append state.refs r v (eqb-false (length state.refs) r untouched)
+step-untouched means point (MadeAtom v) state after r is untouched =
+    let refs : after.refs ≡ state.refs = cc in
+    ap (λ l. slice_get l r) refs
+
+-- There are as many refs as were declared and made.
+pub step-refs : (means : Means) (point : ℕ) (e : Entry) (state after : PlainState) → step means point e state ≡ Ok after → length after.refs ≡ refs_after_one (length state.refs) e
+step-refs means point (Trans t) state after is = after_dones-length means t.dones point t.dones state.refs after.refs (refs_of state after (after_dones means t.dones point t.dones (Ok state.refs)) is)
+step-refs means point (Atom a op answer) state after is = ap (λ l. length l) (atoms_leave state after (after_one means false point (done_of a op answer) state.atoms) is)
+step-refs means point (MadeRef v) state after is =
+    let refs : after.refs ≡ state.refs ++ v ∷ [] = cc in
+    ap (λ l. length l) refs ∙ length-append-one state.refs v
+step-refs means point (MadeAtom v) state after is =
+    let refs : after.refs ≡ state.refs = cc in
+    ap (λ l. length l) refs
+
+-- Where all entries are applied, so is the first.
+replay_from-Ok : (means : Means) (point : ℕ) (es : List Entry) (former : Result PlainState AuditFault) (after : PlainState) → replay_from means point es former ≡ Ok after → (state : PlainState) × (former ≡ Ok state)
+replay_from-Ok means point es (Ok state) after is = (state, refl)
+replay_from-Ok means point es (Err fault) after is =
+    let fails : Err fault ≡ Ok after = sym (replay_from-Err means point es fault) ∙ is in
+    absurd cc
+
+pub replay_from-refs : (means : Means) (point : ℕ) (es : List Entry) (state after : PlainState) → replay_from means point es (Ok state) ≡ Ok after → length after.refs ≡ refs_after (length state.refs) es
+replay_from-refs means point [] state after is =
+    let refs : after.refs ≡ state.refs = cc in
+    ap (λ l. length l) refs
+replay_from-refs means point (e ∷ es) state after is =
+    let first = replay_from-Ok means (point + 1) es (step means (point + 1) e state) after is in
+    let rest : replay_from means (point + 1) es (Ok first.0) ≡ Ok after = ap (replay_from means (point + 1) es) (sym first.1) ∙ is in
+    replay_from-refs means (point + 1) es first.0 after rest ∙ ap (λ n. refs_after n es) (step-refs means (point + 1) e state first.0 first.1)
+
+pub replay-refs : (means : Means) (base : Base) (es : List Entry) (after : PlainState) → replay means base es ≡ Ok after → length after.refs ≡ refs_after (length base.refs) es
+replay-refs means base es after is = replay_from-refs means base.point es (state_of base) after is

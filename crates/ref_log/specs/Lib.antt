@@ -1,4 +1,5 @@
-pub mod AuditFault
+pub mod Faults
 pub mod Replay
 pub mod Tally
+pub mod Watches
 pub mod Laws

@@ -1,11 +1,11 @@
--- The replay of a log: its entries are applied in order, and their operations in order, to plain finite maps. The map of
--- the refs is the list of their values by number, since numbers begin at 0 and leave no gap. What the functions mean is
--- handed in.
+-- The replay of a log: its entries are applied in order, and their operations in order, to plain finite maps, that of the
+-- refs and that of the atoms. Such a map is the list of the values by number, since numbers begin at 0 and leave no gap.
+-- What the functions mean is handed in.
 --
--- In each operation it is asked, in this order: whether the ref is there; whether the function gives a value; whether
--- that value is the kept answer, where the transaction protects the ref. The first fault ends the replay, and names the
--- point of its entry.
-use Rattle.std.specs.Prelude.{ℕ, ◌+◌, Bool, true, false, not, ◌&&◌, ◌||◌, ◌==◌, if◌then◌else◌, Result, Ok, Err, Option, None, Some, List, [], ◌∷◌, ◌++◌, find, length, slice_get, slice_set, ◌≡◌}
+-- In each operation it is asked, in this order: whether the reference is there; whether the function gives a value; whether
+-- that value is the kept answer, but where a transaction doesn't protect the ref. The first fault ends the replay, and
+-- names the point of its entry.
+use Rattle.std.specs.Prelude.{ℕ, ◌+◌, Bool, true, false, not, ◌&&◌, ◌||◌, ◌==◌, if◌then◌else◌, Result, Ok, Err, Option, None, Some, List, [], ◌∷◌, ◌++◌, find, length, slice_get, slice_index_or, slice_set, ◌≡◌}
 use Rattle.std.specs.List.{list_any}
 use Rattle.std.specs.Ordering.{eq_by_cmp}
 use Rattle.ref_edn.specs.Edn.{Edn}
@@ -20,8 +20,9 @@ use Rattle.ref_log.specs.declared.operations.Op.{Op}
 use Rattle.ref_log.specs.declared.operations.Op.TheVariants.{Set, Alter, Commute, Ensure}
 use Rattle.ref_log.specs.declared.operations.Done.{Done}
 use Rattle.ref_log.specs.declared.entries.Entry.{Entry}
-use Rattle.ref_log.specs.declared.entries.Entry.TheVariants.{Trans}
+use Rattle.ref_log.specs.declared.entries.Entry.TheVariants.{Trans, Atom, MadeRef, MadeAtom}
 use Rattle.ref_log.specs.declared.states.Base.{Base}
+use Rattle.ref_log.specs.declared.states.PlainState.{PlainState}
 
 -- What an operation makes of a value, or the cause for which its function refuses. Clojure's page on refs: `ref-set` sets
 -- the ref to a value; `alter` sets it to the function of its value and the arguments; `commute` does so once more at the
@@ -88,43 +89,78 @@ abbrev pub after_dones : Means → List Done → ℕ → List Done → Result (L
 after_dones means all point [] values = values
 after_dones means all point (d ∷ ds) values = after_dones means all point ds (and_done means all point d values)
 
--- The values after the entry at a point.
-abbrev pub step : Means → ℕ → Entry → List Edn → Result (List Edn) AuditFault
-step means point (Trans t) values = after_dones means t.dones point t.dones (Ok values)
+-- ---- entries
 
-abbrev pub and_step : Means → ℕ → Entry → Result (List Edn) AuditFault → Result (List Edn) AuditFault
-and_step means point e (Ok values) = step means point e values
+-- what stands for the refs in the place of those of a state, and for the atoms
+abbrev pub with_refs : PlainState → Result (List Edn) AuditFault → Result PlainState AuditFault
+with_refs state (Ok refs) = Ok (record { refs = refs; atoms = state.atoms })
+with_refs state (Err fault) = Err fault
+
+abbrev pub with_atoms : PlainState → Result (List Edn) AuditFault → Result PlainState AuditFault
+with_atoms state (Ok atoms) = Ok (record { refs = state.refs; atoms = atoms })
+with_atoms state (Err fault) = Err fault
+
+-- What an entry about an atom says, as an operation on the value of that number. Its answer is always compared.
+abbrev pub done_of : ℕ → Op → Edn → Done
+done_of a op answer = record { r = a; op = op; answer = answer }
+
+-- The values after the entry at a point. A reference that is made gets the next number of its kind.
+abbrev pub step : Means → ℕ → Entry → PlainState → Result PlainState AuditFault
+step means point (Trans t) state = with_refs state (after_dones means t.dones point t.dones (Ok state.refs))
+step means point (Atom a op answer) state = with_atoms state (after_one means false point (done_of a op answer) state.atoms)
+step means point (MadeRef v) state = Ok (record { refs = state.refs ++ v ∷ []; atoms = state.atoms })
+step means point (MadeAtom v) state = Ok (record { refs = state.refs; atoms = state.atoms ++ v ∷ [] })
+
+abbrev pub and_step : Means → ℕ → Entry → Result PlainState AuditFault → Result PlainState AuditFault
+and_step means point e (Ok state) = step means point e state
 and_step means point e (Err fault) = Err fault
 
 -- The values after these entries, one at a time, the first of them at the point after this one.
-abbrev pub replay_from : Means → ℕ → List Entry → Result (List Edn) AuditFault → Result (List Edn) AuditFault
-replay_from means point [] values = values
-replay_from means point (e ∷ es) values = replay_from means (point + 1) es (and_step means (point + 1) e values)
+abbrev pub replay_from : Means → ℕ → List Entry → Result PlainState AuditFault → Result PlainState AuditFault
+replay_from means point [] state = state
+replay_from means point (e ∷ es) state = replay_from means (point + 1) es (and_step means (point + 1) e state)
 
--- The point of the last of these entries after the base: the k-th entry, from 1 on, has the base's point plus k. The
--- base is at point 0.
+-- The point of the last of these entries after the base: the k-th entry, from 1 on, has the base's point plus k.
 abbrev pub point_after : Base → List Entry → ℕ
-point_after base entries = length entries
+point_after base entries = base.point + length entries
+
+-- the values of a base
+abbrev pub state_of : Base → PlainState
+state_of base = record { refs = base.refs; atoms = base.atoms }
 
 -- The values after these entries on the base, or the first fault.
-abbrev pub replay : Means → Base → List Entry → Result (List Edn) AuditFault
-replay means base entries = replay_from means (point_after base []) entries (Ok base.refs)
+abbrev pub replay : Means → Base → List Entry → Result PlainState AuditFault
+replay means base entries = replay_from means base.point entries (Ok (state_of base))
 
 -- ---- last changes
 
--- Whether an entry touched a ref.
-abbrev pub is_touched_by : Entry → ℕ → Bool
-is_touched_by (Trans t) r = is_touched t.dones r
+-- Whether an entry made a ref or touched it, where there are so many refs before it.
+abbrev pub is_changed_by : ℕ → Entry → ℕ → Bool
+is_changed_by refs (Trans t) r = is_touched t.dones r
+is_changed_by refs (Atom a op answer) r = false
+is_changed_by refs (MadeRef v) r = refs == r
+is_changed_by refs (MadeAtom v) r = false
 
--- The point of the last change of a ref after these entries, the first of them at the point after this one: that of the
--- last entry which touched it, and `before` where none did.
-abbrev pub last_change_from : ℕ → List Entry → ℕ → ℕ → ℕ
-last_change_from point [] r before = before
-last_change_from point (e ∷ es) r before = last_change_from (point + 1) es r (if is_touched_by e r then point + 1 else before)
+-- how many refs there are after an entry, and after all of these
+abbrev pub refs_after_one : ℕ → Entry → ℕ
+refs_after_one refs (Trans t) = refs
+refs_after_one refs (Atom a op answer) = refs
+refs_after_one refs (MadeRef v) = refs + 1
+refs_after_one refs (MadeAtom v) = refs
 
--- The point of the last change of a ref; 0 where no entry touched it.
+abbrev pub refs_after : ℕ → List Entry → ℕ
+refs_after refs [] = refs
+refs_after refs (e ∷ es) = refs_after (refs_after_one refs e) es
+
+-- The point of the last change of a ref after these entries, the first of them at the point after this one, and so many
+-- refs before it: that of the last entry which made or touched the ref, and `before` where none did.
+abbrev pub last_change_from : ℕ → ℕ → List Entry → ℕ → ℕ → ℕ
+last_change_from point refs [] r before = before
+last_change_from point refs (e ∷ es) r before = last_change_from (point + 1) (refs_after_one refs e) es r (if is_changed_by refs e r then point + 1 else before)
+
+-- The point of the last change of a ref: the base tells it of what came before its entries.
 abbrev pub last_change : Base → List Entry → ℕ → ℕ
-last_change base entries r = last_change_from (point_after base []) entries r 0
+last_change base entries r = last_change_from base.point (length base.refs) entries r (slice_index_or base.last r 0)
 
 -- ---- the codes that a replay needs
 
@@ -135,7 +171,7 @@ codes_of (Alter code args) = code ∷ []
 codes_of (Commute code args) = code ∷ []
 codes_of Ensure = []
 
--- An operation on a ref that isn't there calls nothing.
+-- An operation on a reference that isn't there calls nothing.
 abbrev pub needed_of_found : Done → Option Edn → List ℕ
 needed_of_found d (Some v) = codes_of d.op
 needed_of_found d None = []
@@ -149,16 +185,23 @@ abbrev pub needed_of_dones : Means → List Done → ℕ → List Done → Resul
 needed_of_dones means all point [] values = []
 needed_of_dones means all point (d ∷ ds) values = needed_of_done d values ++ needed_of_dones means all point ds (and_done means all point d values)
 
-abbrev pub needed_of_entry : Means → ℕ → Entry → Result (List Edn) AuditFault → List ℕ
-needed_of_entry means point (Trans t) values = needed_of_dones means t.dones point t.dones values
+abbrev pub needed_of_step : Means → ℕ → Entry → PlainState → List ℕ
+needed_of_step means point (Trans t) state = needed_of_dones means t.dones point t.dones (Ok state.refs)
+needed_of_step means point (Atom a op answer) state = needed_of_done (done_of a op answer) (Ok state.atoms)
+needed_of_step means point (MadeRef v) state = []
+needed_of_step means point (MadeAtom v) state = []
 
-abbrev pub needed_from : Means → ℕ → List Entry → Result (List Edn) AuditFault → List ℕ
-needed_from means point [] values = []
-needed_from means point (e ∷ es) values = needed_of_entry means (point + 1) e values ++ needed_from means (point + 1) es (and_step means (point + 1) e values)
+abbrev pub needed_of_entry : Means → ℕ → Entry → Result PlainState AuditFault → List ℕ
+needed_of_entry means point e (Ok state) = needed_of_step means point e state
+needed_of_entry means point e (Err fault) = []
+
+abbrev pub needed_from : Means → ℕ → List Entry → Result PlainState AuditFault → List ℕ
+needed_from means point [] state = []
+needed_from means point (e ∷ es) state = needed_of_entry means (point + 1) e state ++ needed_from means (point + 1) es (and_step means (point + 1) e state)
 
 -- The functions that a replay calls, in order, up to its first fault.
 abbrev pub needed : Means → Base → List Entry → List ℕ
-needed means base entries = needed_from means (point_after base []) entries (Ok base.refs)
+needed means base entries = needed_from means base.point entries (Ok (state_of base))
 
 -- the first of these codes that a table doesn't know
 abbrev pub missing : (ℕ → Bool) → List ℕ → Option ℕ
@@ -175,8 +218,8 @@ PlaceAnswers lacks meant (Err (calls.Refused c)) = (lacks ≡ None) × (meant �
 PlaceAnswers lacks meant (Err calls.Memory) = lacks ≡ None
 
 -- A program's fault is that of the replay, or the first code that is needed and missing. In one operation a missing code
--- comes after a missing ref, and before what the function says. Want of memory is the program's own.
-abbrev pub FaultComes : Option ℕ → Result (List Edn) AuditFault → AuditFault → Type 0
+-- comes after a missing reference, and before what the function says. Want of memory is the program's own.
+abbrev pub FaultComes : {State : Type 0} → Option ℕ → Result State AuditFault → AuditFault → Type 0
 FaultComes lacks meant (Answer point) = (lacks ≡ None) × (meant ≡ Err (Answer point))
 FaultComes lacks meant (Refuses point) = (lacks ≡ None) × (meant ≡ Err (Refuses point))
 FaultComes lacks meant (NoSuch point) = (lacks ≡ None) × (meant ≡ Err (NoSuch point))

@@ -1,6 +1,7 @@
 //! What a log is made of.
 use crate::lists::SharedVec;
-use crate::operations::Done;
+use crate::operations::{Done, Op};
+use ref_edn::Value;
 
 /// Who made a commit: the number of the worker, and of the step in its work.
 #[derive(Clone, Copy, Debug, Drop, PartialEq, Eq)]
@@ -13,6 +14,12 @@ pub struct Stamp {
 #[derive(Drop)]
 pub enum Entry {
     Trans(Transaction),
+    /// An operation on the atom of this number, and the value that the atom got. The operation is a `Set` or an `Alter`.
+    Atom(u32, Op, Value),
+    /// A ref was made, with the next number and this value.
+    MadeRef(Value),
+    /// An atom was made, with the next number and this value.
+    MadeAtom(Value),
 }
 
 /// A committed transaction. All that it read is as of its read point, the point of the last entry before it began.

@@ -1,9 +1,11 @@
-//! Why a log has no replay.
+//! Why a log has no replay, and why a store of references refuses what can be asked of each kind.
 ghost use Rattle.std.specs.Prelude.{◌≡◌};
-ghost use Rattle.ref_log.specs.AuditFault.{audit_fault_number};
+ghost use Rattle.ref_log.specs.Faults.{audit_fault_number, make_fault_number, rule_fault_number, watch_fault_number};
 ghost use Rattle.ref_log.specs.declared.faults.AuditFault.TheVariants.{Memory};
+ghost use Rattle.ref_log.specs.declared.faults.MakeFault.TheVariants as makes;
+ghost use Rattle.ref_log.specs.declared.faults.WatchFault.TheVariants as watches;
 
-use std::alloc::AllocError;
+use std::alloc::{AllocError, AllocFailed};
 use thiserror::Error;
 
 /// Why entries have no replay. A point is that of the first entry at fault.
@@ -15,14 +17,62 @@ pub enum AuditFault {
     /// The function of an operation refuses.
     #[error("a function refuses in the entry at point {0}")]
     Refuses(u64),
-    /// The ref of an operation isn't there.
-    #[error("the entry at point {0} is about a ref that isn't there")]
+    /// The ref or the atom of an operation isn't there.
+    #[error("the entry at point {0} is about a reference that isn't there")]
     NoSuch(u64),
     #[error("out of memory")]
     Memory,
     /// The table has no function of this code, which an operation calls.
     #[error("no function has code {0}")]
     NoSuchFun(u32),
+}
+
+/// Why a reference wasn't made. The store is as it was.
+#[derive(Clone, Copy, Debug, Drop, PartialEq, Eq, Error)]
+pub enum MakeFault {
+    /// There are 2^20 of its kind.
+    #[error("there are too many references")]
+    Full,
+    /// There is a tally, or this value isn't an integer of 0 or more. Only a ref can be the tally.
+    #[error("a tally has to be the only one, and to start with an integer of 0 or more")]
+    BadTally,
+    /// The rule doesn't accept the value.
+    #[error("the rule doesn't accept the value")]
+    Invalid,
+    /// Points end at 2^62.
+    #[error("no point is left")]
+    PointLimit,
+    #[error("out of memory")]
+    Memory,
+    /// The table has no predicate of this code.
+    #[error("no predicate has code {0}")]
+    NoSuchFun(u32),
+}
+
+/// Why a reference wasn't given another rule. The store is as it was.
+#[derive(Clone, Copy, Debug, Drop, PartialEq, Eq, Error)]
+pub enum RuleFault {
+    /// There is no reference of this number.
+    #[error("there is no such reference")]
+    NoSuch,
+    /// The rule doesn't accept the value of the reference.
+    #[error("the rule doesn't accept the value")]
+    Invalid,
+    #[error("out of memory")]
+    Memory,
+    /// The table has no predicate of this code.
+    #[error("no predicate has code {0}")]
+    NoSuchFun(u32),
+}
+
+/// Why a watch wasn't added. The store is as it was.
+#[derive(Clone, Copy, Debug, Drop, PartialEq, Eq, Error)]
+pub enum WatchFault {
+    /// There is no reference of this number.
+    #[error("there is no such reference")]
+    NoSuch,
+    #[error("out of memory")]
+    Memory,
 }
 
 impl AuditFault {
@@ -45,5 +95,71 @@ impl From<AllocError> for AuditFault {
 
     fn from(_e: AllocError) -> AuditFault {
         AuditFault::Memory
+    }
+}
+
+impl MakeFault {
+    /// The number of the fault: its place in the order of the tests, and 9 where the table lacks a predicate.
+    pub fn number(&self) -> u8
+        ensures { result ≡ make_fault_number self.now }
+    {
+        match self {
+            MakeFault::Full => 1,
+            MakeFault::BadTally => 2,
+            MakeFault::Invalid => 3,
+            MakeFault::PointLimit => 4,
+            MakeFault::Memory => 5,
+            MakeFault::NoSuchFun(_) => 9,
+        }
+    }
+}
+
+impl From<AllocError> for MakeFault {
+    ghost from_gives = { λ _ f. f ≡ makes.Memory };
+
+    fn from(_e: AllocError) -> MakeFault {
+        MakeFault::Memory
+    }
+}
+
+impl RuleFault {
+    /// The number of the fault.
+    pub fn number(&self) -> u8
+        ensures { result ≡ rule_fault_number self.now }
+    {
+        match self {
+            RuleFault::NoSuch => 1,
+            RuleFault::Invalid => 2,
+            RuleFault::Memory => 3,
+            RuleFault::NoSuchFun(_) => 9,
+        }
+    }
+}
+
+impl WatchFault {
+    /// The number of the fault.
+    pub fn number(&self) -> u8
+        ensures { result ≡ watch_fault_number self.now }
+    {
+        match self {
+            WatchFault::NoSuch => 1,
+            WatchFault::Memory => 2,
+        }
+    }
+}
+
+impl From<AllocError> for WatchFault {
+    ghost from_gives = { λ _ f. f ≡ watches.Memory };
+
+    fn from(_e: AllocError) -> WatchFault {
+        WatchFault::Memory
+    }
+}
+
+impl<T: Drop> From<AllocFailed<T>> for WatchFault {
+    ghost from_gives = { λ _ f. f ≡ watches.Memory };
+
+    fn from(_e: AllocFailed<T>) -> WatchFault {
+        WatchFault::Memory
     }
 }

@@ -1,8 +1,9 @@
 //! The log of a world of references, and its replay.
 //!
-//! An [`Entry`] is one committed change and has a point: the entries after a [`Base`] have the points after the base's,
-//! one by one. [`replay_plain`] applies the entries to the base's values, slowly and plainly, and so tells what the
-//! values at the end of a log are, or the first entry whose kept answers can't be right.
+//! An [`Entry`] is one committed change, of refs by a transaction or of one atom, or the making of a reference. It has a
+//! point: the entries after a [`Base`] have the points after the base's, one by one. [`replay_plain`] applies the entries
+//! to the base's values, slowly and plainly, and so tells what the values at the end of a log are, or the first entry whose
+//! kept answers can't be right.
 #![tactic(auto)]
 
 pub mod entries;
@@ -11,15 +12,19 @@ pub mod lists;
 pub mod notices;
 pub mod operations;
 pub mod replay;
+pub mod sends;
 pub mod states;
 #[cfg(test)]
 mod tests;
+pub mod watches;
 
 pub use entries::{Entry, Stamp, Transaction};
-pub use faults::AuditFault;
+pub use faults::{AuditFault, MakeFault, RuleFault, WatchFault};
 pub use lists::SharedVec;
 pub use notices::{Notice, Who};
 pub use operations::{Done, Op};
 pub use ref_fun::Args;
 pub use replay::replay_plain;
+pub use sends::Sent;
 pub use states::{Base, PlainState};
+pub use watches::Watches;

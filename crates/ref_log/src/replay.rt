@@ -1,39 +1,111 @@
 //! The slow replay.
 ghost use Rattle.std.specs.BTreeSet.{contains};
 ghost use Rattle.std.specs.Ordering.{nat_cmp};
-ghost use Rattle.std.specs.Prelude.{◌≡◌, ◌+◌, ℕ, None, Ok, Err, IfOk, IfErr, OnOk, slice_get};
-ghost use Rattle.ref_log.specs.Replay.{FaultComes, after_dones, after_one, is_protected, missing, needed, needed_of_done, needed_of_dones, needed_of_entry, replay, step};
+ghost use Rattle.std.specs.Prelude.{◌≡◌, ◌<◌, ◌^◌, ◌++◌, ◌∷◌, [], ℕ, None, Ok, Err, IfOk, IfErr, OnOk, slice_get};
+ghost use Rattle.ref_log.specs.Replay.{FaultComes, after_dones, after_one, done_of, is_protected, missing, needed, needed_of_done, needed_of_dones, needed_of_step, point_after, replay, state_of, step};
 
 use crate::entries::Entry;
 use crate::faults::AuditFault;
 use crate::lists::SharedVec;
-use crate::operations::Done;
+use crate::operations::{Done, Op};
 use crate::states::{Base, PlainState};
 use ref_edn::Value;
 use ref_fun::{CallFault, Functions, Meaning};
 use std::alloc::{AllocError, Global};
 use std::collections::BTreeSet;
+use std::marker::Model;
 
 /// The values after these entries, applied to the base one by one, or the first fault on the way. The table has to have
-/// the functions of the operations up to there. Linear in the number of refs and operations, but for the look-ups in the
-/// table.
+/// the functions of the operations up to there. The points fit in 64 bits. Linear in the number of references and
+/// operations, but for the look-ups in the table.
 pub fn replay_plain<M: Meaning, F: Functions<M>>(
     alloc: Global,
     funs: &F,
     base: &Base,
     entries: &[Entry],
 ) -> Result<PlainState, AuditFault>
-    ensures ok { IfOk result (λ state. replay M.means base.now entries.now ≡ Ok state.refs) }
+    requires { point_after base.now entries.now < 2 ^ 64 }
+    ensures ok { IfOk result (λ state. replay M.means base.now entries.now ≡ Ok state) }
     ensures served { OnOk result (missing (F.knows_fun funs.now) (needed M.means base.now entries.now) ≡ None) }
     ensures err { IfErr result (λ fault. FaultComes (missing (F.knows_fun funs.now) (needed M.means base.now entries.now)) (replay M.means base.now entries.now) fault) }
 {
-    let mut values = share_all(alloc, &base.refs)?;
+    let mut values = Values::of(alloc, base)?;
     for (i, entry) in entries.iter().enumerate() {
-        let point = i as u64 + 1;
-        apply_entry(alloc, funs, point, entry, &mut values)?;
+        let point = base.point + i as u64 + 1;
+        values.apply(alloc, funs, point, entry)?;
     }
-    let refs = SharedVec::of(alloc, values)?;
-    Ok(PlainState { refs })
+    Ok(values.into_state(alloc)?)
+}
+
+// The values so far.
+#[derive(Drop)]
+struct Values {
+    refs: Vec<Value>,
+    atoms: Vec<Value>,
+}
+
+impl Model for Values {
+    ghost use Rattle.std.specs.Coded.{codes};
+    ghost use Rattle.ref_edn.specs.Code.{edn_code};
+    ghost use Rattle.ref_log.specs.declared.states.PlainState.{PlainState};
+
+    ghost Value = { PlainState };
+
+    ghost coded = { Prim.hlevel (codes, edn_code) };
+
+    ghost view = { λ a. record { refs = a.refs.items; atoms = a.atoms.items } };
+}
+
+impl Values {
+    fn of(alloc: Global, base: &Base) -> Result<Values, AllocError>
+        ensures { IfOk result (λ values. values ≡ state_of base.now) }
+    {
+        Ok(Values {
+            refs: share_all(alloc, &base.refs)?,
+            atoms: share_all(alloc, &base.atoms)?,
+        })
+    }
+
+    fn into_state(self, alloc: Global) -> Result<PlainState, AllocError>
+        ensures { IfOk result (λ state. state ≡ self) }
+    {
+        Ok(PlainState {
+            refs: SharedVec::of(alloc, self.refs)?,
+            atoms: SharedVec::of(alloc, self.atoms)?,
+        })
+    }
+
+    // Applies an entry.
+    fn apply<M: Meaning, F: Functions<M>>(
+        &mut self,
+        alloc: Global,
+        funs: &F,
+        point: u64,
+        entry: &Entry,
+    ) -> Result<(), AuditFault>
+        ensures ok { OnOk result (step M.means point entry.now self.old ≡ Ok self.new) }
+        ensures served { OnOk result (missing (F.knows_fun funs.now) (needed_of_step M.means point entry.now self.old) ≡ None) }
+        ensures err { IfErr result (λ fault. FaultComes (missing (F.knows_fun funs.now) (needed_of_step M.means point entry.now self.old)) (step M.means point entry.now self.old) fault) }
+    {
+        match entry {
+            Entry::Trans(transaction) => {
+                apply_dones(alloc, funs, point, &transaction.dones, &mut self.refs)
+            }
+            Entry::Atom(a, op, answer) => {
+                apply_op(alloc, funs, false, point, *a, op, answer, &mut self.atoms)
+            }
+            Entry::MadeRef(value) => Ok(push_shared(&mut self.refs, value)?),
+            Entry::MadeAtom(value) => Ok(push_shared(&mut self.atoms, value)?),
+        }
+    }
+}
+
+// Adds one more owner of a value.
+fn push_shared(values: &mut Vec<Value>, value: &Value) -> Result<(), AllocError>
+    ensures { OnOk result (values.new.items ≡ values.old.items ++ value.now ∷ []) }
+{
+    values.push(value.share()?)?;
+    Ok(())
 }
 
 // One more owner of each value.
@@ -45,22 +117,6 @@ fn share_all(alloc: Global, values: &SharedVec<Value>) -> Result<Vec<Value>, All
         all.push(value.share()?)?;
     }
     Ok(all)
-}
-
-fn apply_entry<M: Meaning, F: Functions<M>>(
-    alloc: Global,
-    funs: &F,
-    point: u64,
-    entry: &Entry,
-    values: &mut Vec<Value>,
-) -> Result<(), AuditFault>
-    ensures ok { OnOk result (step M.means point entry.now values.old.items ≡ Ok values.new.items) }
-    ensures served { OnOk result (missing (F.knows_fun funs.now) (needed_of_entry M.means point entry.now (Ok values.old.items)) ≡ None) }
-    ensures err { IfErr result (λ fault. FaultComes (missing (F.knows_fun funs.now) (needed_of_entry M.means point entry.now (Ok values.old.items))) (step M.means point entry.now values.old.items) fault) }
-{
-    match entry {
-        Entry::Trans(transaction) => apply_dones(alloc, funs, point, &transaction.dones, values),
-    }
 }
 
 // Applies the operations of a transaction.
@@ -78,7 +134,8 @@ fn apply_dones<M: Meaning, F: Functions<M>>(
     let protected = protected_refs(alloc, dones)?;
     for done in dones {
         let is_free = !protected.contains(&done.r);
-        apply_done(alloc, funs, is_free, point, done, values)?;
+        let (op, answer) = (&done.op, &done.answer);
+        apply_op(alloc, funs, is_free, point, done.r, op, answer, values)?;
     }
     Ok(())
 }
@@ -96,30 +153,33 @@ fn protected_refs(alloc: Global, dones: &SharedVec<Done>) -> Result<BTreeSet<u32
     Ok(refs)
 }
 
-// Applies an operation. Its answer is compared but where the ref is free: where its transaction doesn't protect it.
-fn apply_done<M: Meaning, F: Functions<M>>(
+// Applies an operation to the value of a number. Its answer is compared but where the number is free: where it is that of a
+// ref that the transaction doesn't protect.
+fn apply_op<M: Meaning, F: Functions<M>>(
     alloc: Global,
     funs: &F,
     is_free: bool,
     point: u64,
-    done: &Done,
+    number: u32,
+    op: &Op,
+    answer: &Value,
     values: &mut Vec<Value>,
 ) -> Result<(), AuditFault>
-    ensures ok { OnOk result (after_one M.means is_free point done.now values.old.items ≡ Ok values.new.items) }
-    ensures served { OnOk result (missing (F.knows_fun funs.now) (needed_of_done done.now (Ok values.old.items)) ≡ None) }
-    ensures err { IfErr result (λ fault. FaultComes (missing (F.knows_fun funs.now) (needed_of_done done.now (Ok values.old.items))) (after_one M.means is_free point done.now values.old.items) fault) }
+    ensures ok { OnOk result (after_one M.means is_free point (done_of number op.now answer.now) values.old.items ≡ Ok values.new.items) }
+    ensures served { OnOk result (missing (F.knows_fun funs.now) (needed_of_done (done_of number op.now answer.now) (Ok values.old.items)) ≡ None) }
+    ensures err { IfErr result (λ fault. FaultComes (missing (F.knows_fun funs.now) (needed_of_done (done_of number op.now answer.now) (Ok values.old.items))) (after_one M.means is_free point (done_of number op.now answer.now) values.old.items) fault) }
 {
-    let at = done.r as usize;
+    let at = number as usize;
     if at >= values.len() {
         return Err(AuditFault::NoSuch(point));
     }
-    let value = match done.op.place(alloc, funs, &values[at]) {
+    let value = match op.place(alloc, funs, &values[at]) {
         Ok(value) => value,
         Err(CallFault::NoSuchFun(code)) => return Err(AuditFault::NoSuchFun(code)),
         Err(CallFault::Refused(_)) => return Err(AuditFault::Refuses(point)),
         Err(CallFault::Memory) => return Err(AuditFault::Memory),
     };
-    if !is_free && value != done.answer {
+    if !is_free && value != *answer {
         return Err(AuditFault::Answer(point));
     }
     values[at] = value;

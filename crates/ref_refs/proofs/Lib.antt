@@ -2,3 +2,5 @@ pub mod Smallest
 pub mod Refs
 pub mod Legal
 pub mod Moved
+pub mod Accepted
+pub mod Since

@@ -11,7 +11,10 @@ use Rattle.ref_edn.specs.Edn.{Edn}
 use Rattle.ref_edn.specs.Order.{edn_cmp}
 use Rattle.ref_fun.specs.declared.faults.Cause.{Cause}
 use Rattle.ref_fun.specs.Meaning.{Means}
-use Rattle.ref_log.specs.Replay.{place, is_ensure, is_protected, is_touched, missing}
+use Rattle.ref_fun.specs.Rule.{Accepts, unknown}
+use Rattle.ref_fun.specs.declared.rules.Rule.{Rule}
+use Rattle.ref_log.specs.Replay.{after_dones, place, is_ensure, is_protected, is_touched, missing}
+use Rattle.ref_log.specs.declared.faults.AuditFault.{AuditFault}
 use Rattle.ref_log.specs.declared.entries.Entry.{Entry}
 use Rattle.ref_log.specs.declared.entries.Entry.TheVariants.{Trans}
 use Rattle.ref_log.specs.declared.entries.Stamp.{Stamp}
@@ -20,10 +23,16 @@ use Rattle.ref_log.specs.declared.operations.Op.TheVariants.{Set, Alter, Commute
 use Rattle.ref_log.specs.declared.operations.Done.{Done}
 use Rattle.ref_tx.specs.Inner.{fit_tally}
 use Rattle.ref_tx.specs.Seen.{TxSeen}
+use Rattle.ref_refs.specs.Rules.{is_accepted_at, rule_at}
 use Rattle.ref_refs.specs.Seen.{RefsSeen, changed_at}
+use Rattle.ref_refs.specs.Watches.{touched_refs}
 use Rattle.ref_refs.specs.declared.faults.Alien.TheVariants as aliens
 use Rattle.ref_refs.specs.declared.faults.CommitFault.{CommitFault}
-use Rattle.ref_refs.specs.declared.faults.CommitFault.TheVariants.{Foreign, Conflict, Refused, PointLimit, NoSuchFun}
+use Rattle.ref_refs.specs.declared.faults.CommitFault.TheVariants.{Foreign, Conflict, Refused, Invalid, PointLimit, NoSuchFun}
+
+abbrev pub or_fault : Option CommitFault → Option CommitFault → Option CommitFault
+or_fault (Some fault) later = Some fault
+or_fault None later = later
 
 -- ---- what is foreign to a store: a transaction that was begun elsewhere
 
@@ -57,6 +66,20 @@ commuted_codes (d ∷ ds) = commuted_code d.op ++ commuted_codes ds
 -- the first of them that the table doesn't know
 abbrev pub lacking : (ℕ → Bool) → List Done → Option CommitFault
 lacking knows ds = option_map NoSuchFun (missing knows (commuted_codes ds))
+
+-- ---- the predicates that a commit asks: the rules of the refs that it changes
+
+-- the rule that an operation calls for, if any
+abbrev pub needed_rule : List (Option Rule) → Done → Option Rule
+needed_rule rules d = if is_ensure d.op then None else rule_at rules d.r
+
+abbrev pub unknown_at : (ℕ → Bool) → List (Option Rule) → Done → Option CommitFault
+unknown_at knows rules d = option_map NoSuchFun (unknown knows (needed_rule rules d))
+
+-- the first of them whose predicate the table doesn't know
+abbrev pub lacking_rule : (ℕ → Bool) → List (Option Rule) → List Done → Option CommitFault
+lacking_rule knows rules [] = None
+lacking_rule knows rules (d ∷ ds) = or_fault (unknown_at knows rules d) (lacking_rule knows rules ds)
 
 -- ---- protected refs
 
@@ -99,6 +122,18 @@ abbrev pub refused : Means → List Done → List Edn → Option CommitFault
 refused means [] values = None
 refused means (d ∷ ds) values = refused_at d.r (option_map (place means d.op) (slice_get values d.r)) (λ v. refused means ds (slice_set values d.r v))
 
+-- ---- what the rules refuse
+
+-- the smallest of these refs whose rule doesn't accept its value
+abbrev pub first_invalid : Accepts → List (Option Rule) → List Edn → List ℕ → Option ℕ
+first_invalid accepts rules values rs = find (λ r. not (is_accepted_at accepts rules values r)) rs
+
+-- The rules of the refs that the operations change are asked of the values that they make. What refuses is told before, and
+-- doesn't count here.
+abbrev pub invalid : Accepts → List (Option Rule) → List Done → Result (List Edn) AuditFault → Option CommitFault
+invalid accepts rules ds (Ok after) = option_map Invalid (first_invalid accepts rules after (touched_refs ds))
+invalid accepts rules ds (Err fault) = None
+
 -- ---- the points end
 
 abbrev pub past_points : ℕ → Option CommitFault
@@ -106,28 +141,26 @@ past_points at = if nat_lt (2 ^ 62) at then Some PointLimit else None
 
 -- ---- all together
 
-abbrev pub or_fault : Option CommitFault → Option CommitFault → Option CommitFault
-or_fault (Some fault) later = Some fault
-or_fault None later = later
-
 -- what is foreign, but for the values
 abbrev pub alien : RefsSeen → ℕ → TxSeen → Option CommitFault
 alien store at tx = or_fault (alien_ref store.values tx.dones) (or_fault (alien_tally store.tally tx.dones) (alien_point at tx.read_point))
 
 -- The first fault that is known before any memory is taken.
-abbrev pub early_refusal : (ℕ → Bool) → RefsSeen → ℕ → TxSeen → Option CommitFault
-early_refusal knows store at tx =
+abbrev pub early_refusal : (ℕ → Bool) → (ℕ → Bool) → RefsSeen → ℕ → TxSeen → Option CommitFault
+early_refusal knows_fun knows_pred store at tx =
     or_fault (alien store at tx)
-    (or_fault (lacking knows tx.dones)
+    (or_fault (lacking knows_fun tx.dones)
+    (or_fault (lacking_rule knows_pred store.rules tx.dones)
     (or_fault (conflict store tx)
-    (alien_value store.values tx)))
+    (alien_value store.values tx))))
 
 -- The first fault of a commit at this point, if it has one.
-abbrev pub commit_refusal : Means → (ℕ → Bool) → RefsSeen → ℕ → TxSeen → Option CommitFault
-commit_refusal means knows store at tx =
-    or_fault (early_refusal knows store at tx)
+abbrev pub commit_refusal : Means → Accepts → (ℕ → Bool) → (ℕ → Bool) → RefsSeen → ℕ → TxSeen → Option CommitFault
+commit_refusal means accepts knows_fun knows_pred store at tx =
+    or_fault (early_refusal knows_fun knows_pred store at tx)
     (or_fault (refused means tx.dones store.values)
-    (past_points at))
+    (or_fault (invalid accepts store.rules tx.dones (after_dones means tx.dones at tx.dones (Ok store.values)))
+    (past_points at)))
 
 -- ---- the commit
 

@@ -4,8 +4,6 @@ use Rattle.ref_refs.specs.declared.faults.Alien.{Alien}
 use Rattle.ref_refs.specs.declared.faults.Alien.TheVariants as aliens
 use Rattle.ref_refs.specs.declared.faults.CommitFault.{CommitFault}
 use Rattle.ref_refs.specs.declared.faults.CommitFault.TheVariants as commits
-use Rattle.ref_refs.specs.declared.faults.MakeFault.{MakeFault}
-use Rattle.ref_refs.specs.declared.faults.MakeFault.TheVariants as makes
 
 -- A foreign value is told after a conflict.
 abbrev pub alien_number : Alien → ℕ
@@ -23,11 +21,3 @@ commit_fault_number (commits.Invalid r) = 5
 commit_fault_number commits.PointLimit = 6
 commit_fault_number commits.Memory = 7
 commit_fault_number (commits.NoSuchFun code) = 9
-
-abbrev pub make_fault_number : MakeFault → ℕ
-make_fault_number makes.Full = 1
-make_fault_number makes.BadTally = 2
-make_fault_number makes.Invalid = 3
-make_fault_number makes.PointLimit = 4
-make_fault_number makes.Memory = 5
-make_fault_number (makes.NoSuchFun code) = 9

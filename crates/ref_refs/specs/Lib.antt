@@ -1,4 +1,6 @@
 pub mod Seen
+pub mod Rules
+pub mod Watches
 pub mod Smaller
 pub mod Commit
 pub mod Make

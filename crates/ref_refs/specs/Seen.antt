@@ -2,13 +2,16 @@
 use Rattle.std.specs.Prelude.{ℕ, nat_lt, Bool, not, List, Option, slice_index_or}
 use Rattle.std.specs.List.{list_all}
 use Rattle.ref_edn.specs.Edn.{Edn}
+use Rattle.ref_fun.specs.declared.rules.Rule.{Rule}
 
 -- The values of the refs by number, and the point of each ref's last change: 0 where it was declared at the start and never
--- changed. At most one ref is the tally.
+-- changed. At most one ref is the tally. A ref may have a rule, and watches: their keys, in the order of adding.
 pub record RefsSeen : Type 0 where
   pub values : List Edn
   pub lasts : List ℕ
   pub tally : Option ℕ
+  pub rules : List (Option Rule)
+  pub watches : List (List Edn)
 
 -- the point of a ref's last change
 abbrev pub changed_at : List ℕ → ℕ → ℕ

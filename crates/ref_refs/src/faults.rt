@@ -1,8 +1,7 @@
-//! Why a store of refs refuses a call.
+//! Why a transaction isn't committed.
 ghost use Rattle.std.specs.Prelude.{◌≡◌};
-ghost use Rattle.ref_refs.specs.Faults.{alien_number, commit_fault_number, make_fault_number};
+ghost use Rattle.ref_refs.specs.Faults.{alien_number, commit_fault_number};
 ghost use Rattle.ref_refs.specs.declared.faults.CommitFault.TheVariants as commits;
-ghost use Rattle.ref_refs.specs.declared.faults.MakeFault.TheVariants as makes;
 
 use ref_fun::Cause;
 use std::alloc::{AllocError, AllocFailed};
@@ -61,30 +60,8 @@ pub enum CommitFault {
     PointLimit,
     #[error("out of memory")]
     Memory,
-    /// The table has no function of this code, which a `commute` names.
-    #[error("no function has code {0}")]
-    NoSuchFun(u32),
-}
-
-/// Why a ref wasn't made. The store is as it was.
-#[derive(Clone, Copy, Debug, Drop, PartialEq, Eq, Error)]
-pub enum MakeFault {
-    /// There are 2^20 refs.
-    #[error("there are too many refs")]
-    Full,
-    /// There is a tally, or this value isn't an integer of 0 or more.
-    #[error("a tally has to be the only one, and to start with an integer of 0 or more")]
-    BadTally,
-    /// The rule doesn't accept the value.
-    #[error("the rule doesn't accept the value")]
-    Invalid,
-    /// Points end at 2^62.
-    #[error("no point is left")]
-    PointLimit,
-    #[error("out of memory")]
-    Memory,
-    /// The table has no predicate of this code.
-    #[error("no predicate has code {0}")]
+    /// The table has no function of this code, which a `commute` names, or no predicate of this code, which a rule names.
+    #[error("the table lacks code {0}")]
     NoSuchFun(u32),
 }
 
@@ -101,7 +78,7 @@ impl Alien {
 }
 
 impl CommitFault {
-    /// The number of the fault: its place in the order of the tests, and 9 where the table lacks a function.
+    /// The number of the fault: its place in the order of the tests, and 9 where the table lacks a function or a predicate.
     pub fn number(&self) -> u8
         ensures { result ≡ commit_fault_number self.now }
     {
@@ -113,22 +90,6 @@ impl CommitFault {
             CommitFault::PointLimit => 6,
             CommitFault::Memory => 7,
             CommitFault::NoSuchFun(_) => 9,
-        }
-    }
-}
-
-impl MakeFault {
-    /// The number of the fault: its place in the order of the tests, and 9 where the table lacks a predicate.
-    pub fn number(&self) -> u8
-        ensures { result ≡ make_fault_number self.now }
-    {
-        match self {
-            MakeFault::Full => 1,
-            MakeFault::BadTally => 2,
-            MakeFault::Invalid => 3,
-            MakeFault::PointLimit => 4,
-            MakeFault::Memory => 5,
-            MakeFault::NoSuchFun(_) => 9,
         }
     }
 }
@@ -146,13 +107,5 @@ impl<T: Drop> From<AllocFailed<T>> for CommitFault {
 
     fn from(_e: AllocFailed<T>) -> CommitFault {
         CommitFault::Memory
-    }
-}
-
-impl From<AllocError> for MakeFault {
-    ghost from_gives = { λ _ f. f ≡ makes.Memory };
-
-    fn from(_e: AllocError) -> MakeFault {
-        MakeFault::Memory
     }
 }

@@ -3,7 +3,8 @@
 //! A [`RefStore`] hands out transactions over a snapshot of its values ([`RefStore::begin`]) and commits them
 //! ([`RefStore::commit`]). Clojure's page on refs and transactions names what happens: a transaction reads as of its *read
 //! point*; at its *write point* the refs that it set, altered or ensured must not have changed since, else it is in
-//! *conflict* and leaves nothing; what it commuted is made once more on the latest value.
+//! *conflict* and leaves nothing; what it commuted is made once more on the latest value. A ref may have a rule, Clojure's
+//! validator, which accepts its value at all times, and watches, whose notices the commit answers.
 //!
 //! Points number the states of all references together, so the store is handed the new point by whoever counts them.
 #![tactic(auto)]
@@ -11,9 +12,11 @@
 mod checking;
 pub mod faults;
 mod placing;
+mod rules;
 pub mod store;
 #[cfg(test)]
 mod tests;
+mod watches;
 
-pub use faults::{Alien, CommitFault, Conflict, MakeFault};
-pub use store::{Landed, RefStore};
+pub use faults::{Alien, CommitFault, Conflict};
+pub use store::{Landed, Prepared, RefStore};

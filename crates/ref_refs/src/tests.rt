@@ -2,13 +2,15 @@ ghost use Rattle.std.specs.Prelude.{◌≡◌, ◌≤◌, true, length};
 
 mod drawn;
 mod limits;
+mod rules;
 mod texts;
 
-use crate::{CommitFault, MakeFault, RefStore};
+use crate::{CommitFault, RefStore};
 use ref_edn::{Items, Node, Value};
-use ref_fun::{Core, Fun, FunFault, FunTable, Functions, StoredFun, code_of, core_fun};
-use ref_log::{Entry, Stamp};
+use ref_fun::{Core, Fun, FunFault, FunTable, Functions, Rule, StoredFun, code_of, core_fun};
+use ref_log::{Entry, MakeFault, Notice, Stamp};
 use ref_tx::{Tx, TxFault};
+use rules::{notices_value, rule_from, rule_now, unwatch, validate, watch};
 use std::alloc::{AllocError, Global};
 use std::test::Fail;
 use texts::{
@@ -28,48 +30,61 @@ struct Stage {
     log: Vec<Entry>,
 }
 
-// What a ref starts with: a value, or `[tally VALUE]`.
-fn start_of(start: &Value) -> (&Value, bool) {
-    let Node::Vector(items) = start.node() else {
-        return (start, false);
-    };
-    match items.get(1) {
-        Some(value) if symbol_at(items, 0) == b"tally".as_slice() => (value, true),
-        _ => (start, false),
+// What a ref starts with: a value, `[tally VALUE]`, or `[rule VALUE [>= 0]]`.
+fn start_of(alloc: Global, start: &Value) -> Result<(Value, Option<Rule>, bool), AllocError> {
+    if let Node::Vector(items) = start.node() {
+        match symbol_at(items, 0) {
+            b"tally" => return Ok((value_at(alloc, items, 1)?, None, true)),
+            b"rule" => {
+                let rule = rule_from(alloc, &value_at(alloc, items, 2)?)?;
+                return Ok((value_at(alloc, items, 1)?, rule, false));
+            }
+            _ => {}
+        }
     }
+    Ok((start.share()?, None, false))
 }
 
 // Makes a ref, where that is allowed.
-fn make(
+fn make<F: Functions<Core>>(
     alloc: Global,
+    funs: &F,
     store: &mut RefStore<Core>,
     at: u64,
     start: &Value,
 ) -> Result<u32, MakeFault> {
-    let (start, tally) = start_of(start);
+    let (start, rule, tally) = start_of(alloc, start)?;
     if !store.are_unchanged_since(at) {
-        return Err(MakeFault::Invalid);
+        return Err(MakeFault::Memory);
     }
-    store.make(alloc, at, start.share()?, tally)
+    store.make(alloc, funs, at, start, rule, tally)
 }
 
-fn store_of(alloc: Global, starts: &[Value]) -> Result<RefStore<Core>, AllocError> {
+fn store_of<F: Functions<Core>>(
+    alloc: Global,
+    funs: &F,
+    starts: &[Value],
+) -> Result<RefStore<Core>, AllocError> {
     let mut store = RefStore::empty(alloc);
     for start in starts {
-        if make(alloc, &mut store, 0, start).is_err() {
+        if make(alloc, funs, &mut store, 0, start).is_err() {
             return Err(AllocError);
         }
     }
     Ok(store)
 }
 
-fn stage_of(alloc: Global, starts: &[Value]) -> Result<Stage, AllocError> {
+fn stage_of<F: Functions<Core>>(
+    alloc: Global,
+    funs: &F,
+    starts: &[Value],
+) -> Result<Stage, AllocError> {
     let mut open = Vec::new(alloc);
     for _ in 0..5 {
         open.push(None)?;
     }
     Ok(Stage {
-        store: store_of(alloc, starts)?,
+        store: store_of(alloc, funs, starts)?,
         open,
         log: Vec::new(alloc),
     })
@@ -171,42 +186,51 @@ fn try_commit<F: Functions<Core>>(
     stage: &mut Stage,
     at: u64,
     tx: Tx<Core>,
-) -> Result<Result<(), (Tx<Core>, CommitFault)>, AllocError> {
+) -> Result<Result<Vec<Notice>, (Tx<Core>, CommitFault)>, AllocError> {
     if at == 0 || !stage.store.are_unchanged_since(at - 1) {
         return Err(AllocError);
     }
     match stage.store.commit(alloc, funs, at, STAMP, tx) {
         Ok(landed) => {
-            if !landed.notices.is_empty() {
-                return Err(AllocError);
-            }
             stage.log.push(landed.entry)?;
-            Ok(Ok(()))
+            Ok(Ok(landed.notices))
         }
         Err(refused) => Ok(Err(refused)),
     }
 }
 
-// The values and last changes of all refs, and the tally.
+// The values, last changes and rules of all refs, and the tally.
 #[derive(Drop)]
 struct Seen {
     values: Vec<Value>,
     lasts: Vec<u64>,
+    rules: Vec<Option<u32>>,
     tally: Option<u32>,
+}
+
+// The code of a ref's rule.
+fn rule_code(store: &RefStore<Core>, r: u32) -> Option<u32> {
+    match store.rule_of(r) {
+        Some(rule) => Some(rule.code),
+        None => None,
+    }
 }
 
 fn look_at(alloc: Global, store: &RefStore<Core>) -> Result<Seen, AllocError> {
     let mut values = Vec::new(alloc);
     let mut lasts = Vec::new(alloc);
+    let mut rules = Vec::new(alloc);
     for r in 0..8u32 {
         if let Some(value) = store.value_of(r) {
             values.push(value.share()?)?;
             lasts.push(store.changed_at(r))?;
+            rules.push(rule_code(store, r))?;
         }
     }
     Ok(Seen {
         values,
         lasts,
+        rules,
         tally: store.tally(),
     })
 }
@@ -218,6 +242,9 @@ fn is_as_seen(store: &RefStore<Core>, seen: &Seen) -> bool {
             return false;
         }
         if store.changed_at(r) != seen.lasts.get(i).copied().unwrap_or(0) {
+            return false;
+        }
+        if rule_code(store, r) != seen.rules.get(i).copied().unwrap_or(None) {
             return false;
         }
     }
@@ -236,8 +263,9 @@ fn settle<F: Functions<Core>>(
 ) -> Result<Value, AllocError> {
     let before = look_at(alloc, &stage.store)?;
     let (count, read_point) = (tx.dones().len(), tx.read_point());
-    let Err((tx, fault)) = try_commit(alloc, funs, stage, at, tx)? else {
-        return word(alloc, "ok");
+    let (tx, fault) = match try_commit(alloc, funs, stage, at, tx)? {
+        Ok(notices) => return notices_value(alloc, notices.as_slice()),
+        Err(refused) => refused,
     };
     let Err((tx, again)) = try_commit(alloc, funs, stage, at, tx)? else {
         return word(alloc, "another-outcome");
@@ -268,10 +296,16 @@ fn commit<F: Functions<Core>>(
 }
 
 // `[make 0 5 1]`: a ref is made at point 0 with the value 5, and is number 1.
-fn make_ref(alloc: Global, stage: &mut Stage, call: &Items) -> Result<Value, AllocError> {
+fn make_ref<F: Functions<Core>>(
+    alloc: Global,
+    funs: &F,
+    stage: &mut Stage,
+    call: &Items,
+) -> Result<Value, AllocError> {
     let before = look_at(alloc, &stage.store)?;
     match make(
         alloc,
+        funs,
         &mut stage.store,
         number_at(call, 1),
         &value_at(alloc, call, 2)?,
@@ -283,9 +317,14 @@ fn make_ref(alloc: Global, stage: &mut Stage, call: &Items) -> Result<Value, All
 }
 
 // `[other 5 6 2]`: another store, whose two refs start with 5 and 6, takes the place of the store.
-fn change_store(alloc: Global, stage: &mut Stage, call: &Items) -> Result<Value, AllocError> {
+fn change_store<F: Functions<Core>>(
+    alloc: Global,
+    funs: &F,
+    stage: &mut Stage,
+    call: &Items,
+) -> Result<Value, AllocError> {
     let starts = values_from(alloc, call, 1)?;
-    stage.store = store_of(alloc, starts.as_slice())?;
+    stage.store = store_of(alloc, funs, starts.as_slice())?;
     stage.log = Vec::new(alloc);
     number(alloc, stage.store.len() as u64)
 }
@@ -324,8 +363,14 @@ fn answer<F: Functions<Core>, G: Functions<Core>>(
         b"begin" => begin(alloc, stage, call),
         b"commit" => commit(alloc, funs, stage, call),
         b"commit-by-fewer" => commit(alloc, fewer, stage, call),
-        b"make" => make_ref(alloc, stage, call),
-        b"other" => change_store(alloc, stage, call),
+        b"make" => make_ref(alloc, funs, stage, call),
+        b"make-by-fewer" => make_ref(alloc, fewer, stage, call),
+        b"other" => change_store(alloc, funs, stage, call),
+        b"validate" => validate(alloc, funs, stage, call),
+        b"validate-by-fewer" => validate(alloc, fewer, stage, call),
+        b"rule" => rule_now(alloc, stage, call),
+        b"watch" => watch(alloc, stage, call),
+        b"unwatch" => unwatch(alloc, stage, call),
         b"now" => value_now(alloc, stage, call),
         b"changed" => {
             let r = number_of(&stage.store, symbol_at(call, 1));
@@ -380,7 +425,7 @@ fn are_right<F: Functions<Core>, G: Functions<Core>>(
     let Node::Vector(calls) = row.node() else {
         return Ok(false);
     };
-    let mut stage = stage_of(alloc, starts_of(alloc, calls)?.as_slice())?;
+    let mut stage = stage_of(alloc, funs, starts_of(alloc, calls)?.as_slice())?;
     for i in 1..calls.len() {
         if !is_right(alloc, funs, fewer, &mut stage, &value_at(alloc, calls, i)?)? {
             return Ok(false);

@@ -328,7 +328,17 @@ fn replays<F: Functions<Core>>(alloc: Global, funs: &F, tx: &Tx<Core>) -> Result
         read_point: 0,
         dones: SharedVec::of(alloc, dones)?,
     }))?;
-    let base = Base { refs: refs(alloc)? };
+    let starts = refs(alloc)?;
+    let last = vec![in alloc; 0u64; starts.len()]?;
+    let base = Base {
+        point: 0,
+        refs: starts,
+        last: SharedVec::of(alloc, last)?,
+        atoms: SharedVec::of(alloc, Vec::new(alloc))?,
+        tally: Some(T),
+        commits: 0,
+        added: 0,
+    };
     let Ok(state) = replay_plain::<Core, F>(alloc, funs, &base, &entries) else {
         return Ok(false);
     };

@@ -70,7 +70,7 @@ fn drawn_commit<F: Functions<Core>>(
 ) -> Result<bool, AllocError> {
     let at = (stage.log.len() as u64).saturating_add(1);
     match try_commit(alloc, funs, stage, at, tx)? {
-        Ok(()) => counts.commits = counts.commits.saturating_add(1),
+        Ok(_) => counts.commits = counts.commits.saturating_add(1),
         Err((_, CommitFault::Conflict(_))) => {
             counts.conflicts = counts.conflicts.saturating_add(1);
         }
@@ -118,8 +118,15 @@ fn replays<F: Functions<Core>>(
     starts: Vec<Value>,
     stage: &Stage,
 ) -> Result<bool, AllocError> {
+    let last = vec![in alloc; 0u64; starts.len()]?;
     let base = Base {
+        point: 0,
         refs: SharedVec::of(alloc, starts)?,
+        last: SharedVec::of(alloc, last)?,
+        atoms: SharedVec::of(alloc, Vec::new(alloc))?,
+        tally: None,
+        commits: 0,
+        added: 0,
     };
     let Ok(state) = replay_plain::<Core, F>(alloc, funs, &base, &stage.log) else {
         return Ok(false);
@@ -129,7 +136,7 @@ fn replays<F: Functions<Core>>(
             return Ok(false);
         }
     }
-    Ok(state.refs.len() == stage.store.len())
+    Ok(state.refs.len() == stage.store.len() && state.atoms.is_empty())
 }
 
 // Makes 80 steps, and says whether each could be made and the slow replay agrees.
@@ -139,7 +146,7 @@ fn interleave<F: Functions<Core>>(
     seed: &mut u64,
     counts: &mut Counts,
 ) -> Result<bool, AllocError> {
-    let mut stage = stage_of(alloc, drawn_starts(alloc)?.as_slice())?;
+    let mut stage = stage_of(alloc, funs, drawn_starts(alloc)?.as_slice())?;
     let start = look_at(alloc, &stage.store)?;
     for _ in 0..80 {
         if !drawn_step(alloc, funs, &mut stage, seed, counts)? {

@@ -3,9 +3,10 @@ ghost use Rattle.std.specs.Prelude.{◌≡◌, true};
 ghost use Rattle.ref_refs.specs.Seen.{are_unchanged_since};
 
 use super::texts::read;
-use crate::{Alien, CommitFault, Conflict, MakeFault, RefStore};
+use crate::{Alien, CommitFault, Conflict, RefStore};
 use ref_edn::Value;
-use ref_fun::{Cause, Core};
+use ref_fun::{Cause, Core, FunTable};
+use ref_log::MakeFault;
 use std::alloc::{AllocError, Global};
 use std::test::Fail;
 
@@ -17,18 +18,19 @@ struct Unchanged {
 }
 
 impl Unchanged {
-    fn add(&mut self, alloc: Global, start: Value) -> Result<u32, MakeFault> {
-        self.store.make(alloc, 0, start, false)
+    fn add(&mut self, alloc: Global, funs: &FunTable, start: Value) -> Result<u32, MakeFault> {
+        self.store.make(alloc, funs, 0, start, None, false)
     }
 }
 
 // A store with this many refs, each of which is nil.
 fn filled(alloc: Global, count: u32) -> Result<Option<Unchanged>, AllocError> {
     let nil = read(alloc, "nil")?;
+    let funs = FunTable::empty(alloc);
     let store: RefStore<Core> = RefStore::empty(alloc);
     let mut refs = Unchanged { store };
     for r in 0..count {
-        if refs.add(alloc, nil.share()?) != Ok(r) {
+        if refs.add(alloc, &funs, nil.share()?) != Ok(r) {
             return Ok(None);
         }
     }
@@ -39,7 +41,11 @@ fn filled(alloc: Global, count: u32) -> Result<Option<Unchanged>, AllocError> {
 fn a_full_store_takes_no_ref(rt: HostRuntime) -> Result<(), Fail> {
     let alloc = rt.alloc();
     let mut refs = filled(alloc, 1 << 20)?.ok_or("a ref wasn't made")?;
-    assert_eq!(rt; refs.add(alloc, read(alloc, "nil")?), Err(MakeFault::Full));
+    let funs = FunTable::empty(alloc);
+    assert_eq!(rt;
+        refs.add(alloc, &funs, read(alloc, "nil")?),
+        Err(MakeFault::Full)
+    );
     assert_eq!(rt; refs.store.len(), 1048576);
     assert_eq!(rt; refs.store.tally(), None);
     Ok(())
@@ -91,28 +97,7 @@ fn commit_faults_say_what_they_are(rt: HostRuntime) -> Result<(), Fail> {
         ),
         (CommitFault::PointLimit, 6, "no point is left"),
         (CommitFault::Memory, 7, "out of memory"),
-        (CommitFault::NoSuchFun(3), 9, "no function has code 3"),
-    ];
-    for (fault, number, words) in rows {
-        assert_eq!(rt; fault.number(), number);
-        assert_eq!(rt; format!(in rt.alloc(); "{fault}")?.as_str(), words);
-    }
-    Ok(())
-}
-
-#[test]
-fn make_faults_say_what_they_are(rt: HostRuntime) -> Result<(), Fail> {
-    let rows = [
-        (MakeFault::Full, 1, "there are too many refs"),
-        (
-            MakeFault::BadTally,
-            2,
-            "a tally has to be the only one, and to start with an integer of 0 or more",
-        ),
-        (MakeFault::Invalid, 3, "the rule doesn't accept the value"),
-        (MakeFault::PointLimit, 4, "no point is left"),
-        (MakeFault::Memory, 5, "out of memory"),
-        (MakeFault::NoSuchFun(3), 9, "no predicate has code 3"),
+        (CommitFault::NoSuchFun(3), 9, "the table lacks code 3"),
     ];
     for (fault, number, words) in rows {
         assert_eq!(rt; fault.number(), number);

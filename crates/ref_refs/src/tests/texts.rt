@@ -1,9 +1,10 @@
 //! Values, calls and faults as texts.
 ghost use Rattle.std.specs.Prelude.{◌≤◌, length};
 
-use crate::{Alien, CommitFault, Conflict, MakeFault};
+use crate::{Alien, CommitFault, Conflict};
 use ref_edn::{Items, Node, Value, read_one};
 use ref_fun::{Args, Cause, MOST_ARGUMENTS};
+use ref_log::MakeFault;
 use ref_tx::TxFault;
 use std::alloc::{AllocError, Global};
 

@@ -3,8 +3,8 @@ use Rattle.std.proofs.lemmas.Result.{err_from_is_err_and}
 use Rattle.ref_log.proofs.FirstFaults.{entry_fails}
 use Rattle.ref_log.proofs.replay.apply_dones.Goals as goal
 
-pub returns-in_err-apply_done-clause-err : goal.returns-in_err-apply_done-clause-err
-returns-in_err-apply_done-clause-err g c =
-    let p = err_from_is_err_and c.from_residual-in_err-apply_done.result c.from_residual-in_err-apply_done.ensures.1 in
+pub returns-in_err-apply_op-clause-err : goal.returns-in_err-apply_op-clause-err
+returns-in_err-apply_op-clause-err g c =
+    let p = err_from_is_err_and c.from_residual-in_err-apply_op.result c.from_residual-in_err-apply_op.ensures.1 in
     let free = ap not (c.contains-is_free.ensures ∙ c.in_ok-protected.ensures c.in-Some.done.now.r) in
-    rw (p.1, p.2) (entry_fails _ _ _ _ _ _ _ _ _ _ _ _ c.loop-done.invariant.stepped c.loop-done.invariant.needed c.in-Some.ensures.steps free c.in_err-apply_done.ensures.err)
+    rw (p.1, p.2) (entry_fails _ _ _ _ _ _ _ _ _ _ _ _ c.loop-done.invariant.stepped c.loop-done.invariant.needed c.in-Some.ensures.steps free c.in_err-apply_op.ensures.err)

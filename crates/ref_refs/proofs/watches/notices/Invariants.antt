@@ -1,0 +1,6 @@
+use Rattle.std.proofs.Common.{◌≡◌, ◌++◌, drop}
+use Rattle.ref_refs.specs.Watches.{notices}
+use Rattle.ref_refs.proofs.watches.notices.Given as goal
+
+abbrev pub invariant-loop-r : goal.invariant-loop-r
+invariant-loop-r l = l.all.items ++ notices l.watches l.before l.after (drop l.r-index l.touched) ≡ notices l.watches l.before l.after l.touched

@@ -1,0 +1,79 @@
+//! The notices that a commit gives the watches of refs.
+ghost use Rattle.std.specs.Prelude.{◌≡◌, ◌++◌, IfOk, OnOk, option_copied};
+ghost use Rattle.std.specs.BTreeSet.{keys};
+ghost use Rattle.ref_refs.specs.Watches.{notices, notices_at, notices_if_here, touched_refs};
+
+use ref_edn::Value;
+use ref_log::{Done, Notice, Watches, Who};
+use std::alloc::{AllocError, Global};
+use std::collections::BTreeSet;
+
+// The refs that these operations change, each once, in ascending order.
+pub(crate) fn touched_refs(alloc: Global, dones: &[Done]) -> Result<Vec<u32>, AllocError>
+    ensures { IfOk result (λ rs. rs.items ≡ touched_refs dones.now) }
+{
+    let mut refs = BTreeSet::new(alloc);
+    for done in dones {
+        if !done.op.is_ensure() {
+            refs.insert(done.r)?;
+        }
+    }
+    in_order(alloc, refs)
+}
+
+fn in_order(alloc: Global, refs: BTreeSet<u32>) -> Result<Vec<u32>, AllocError>
+    ensures { IfOk result (λ rs. rs.items ≡ keys refs) }
+{
+    let mut all = Vec::with_capacity(alloc, refs.len())?;
+    for r in refs {
+        all.push(r)?;
+    }
+    Ok(all)
+}
+
+// The notices of a commit that changes these refs.
+pub(crate) fn notices(
+    alloc: Global,
+    watches: &[Watches],
+    before: &[Value],
+    after: &[Value],
+    touched: &[u32],
+) -> Result<Vec<Notice>, AllocError>
+    ensures { IfOk result (λ ns. ns.items ≡ notices watches.now before.now after.now touched.now) }
+{
+    let mut all = Vec::new(alloc);
+    for r in touched {
+        tell(watches, before, after, *r, &mut all)?;
+    }
+    Ok(all)
+}
+
+// Adds the notices of one ref.
+fn tell(
+    watches: &[Watches],
+    before: &[Value],
+    after: &[Value],
+    r: u32,
+    all: &mut Vec<Notice>,
+) -> Result<(), AllocError>
+    ensures { OnOk result (all.new.items ≡ all.old.items ++ notices_at watches.now before.now after.now r) }
+{
+    let i = r as usize;
+    tell_each(watches.get(i), before.get(i), after.get(i), r, all)
+}
+
+// Adds the notices of a ref, if it is here.
+fn tell_each(
+    watches: Option<&Watches>,
+    before: Option<&Value>,
+    after: Option<&Value>,
+    r: u32,
+    all: &mut Vec<Notice>,
+) -> Result<(), AllocError>
+    ensures { OnOk result (all.new.items ≡ all.old.items ++ notices_if_here r (option_copied watches.entry) (option_copied before.entry) (option_copied after.entry)) }
+{
+    match (watches, before, after) {
+        (Some(watches), Some(before), Some(after)) => watches.tell(Who::Ref(r), before, after, all),
+        (None, _, _) | (Some(_), None, _) | (Some(_), Some(_), None) => Ok(()),
+    }
+}
