@@ -1,6 +1,5 @@
 -- Names in a list: what a test of equality and a search by it tell.
-use Rattle.std.proofs.Common.{◌≡◌, ℕ, Bool, true, false, not, List, [], ◌∷◌, ◌++◌, Contains, nat_eq, slice_get, position, is_some, Option, Some, None, sym, ◌∙◌, ap, get_or}
-use Rattle.std.specs.Bool.{OnFalse}
+use Rattle.std.proofs.Common.{◌≡◌, ℕ, Bool, true, false, List, [], Contains, nat_eq, slice_get, position, Some, sym, ◌∙◌, ap, get_or}
 use Rattle.std.specs.List.{list_any}
 use Rattle.std.specs.Cmp.Lexicographic.{pointwise, same_text}
 use Rattle.std.proofs.lemmas.Cmp.{nat_list_eq_equiv}

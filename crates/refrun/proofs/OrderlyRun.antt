@@ -1,26 +1,24 @@
 -- A plan whose first steps were run, one step after another.
-use Rattle.std.proofs.Common.{◌≡◌, ℕ, zero, suc, ◌+◌, ◌<◌, ◌≤◌, Bool, true, false, cond, List, [], ◌∷◌, ◌++◌, Option, Some, None, Result, Ok, Err, refl, sym, ap, subst, ◌∙◌, arith, get_or, length, add-one, inl, inr}
-use Rattle.std.specs.Prelude.{◌==◌, ◌&&◌, ◌⊎◌, All, AllPairs, IsSome, count_by, map, slice_get, slice_set, slice_index_or}
+use Rattle.std.proofs.Common.{◌≡◌, ℕ, zero, suc, ◌+◌, ◌<◌, ◌≤◌, Bool, true, false, cond, List, [], ◌∷◌, ◌++◌, Some, Result, Ok, Err, refl, sym, ap, ◌∙◌, arith, get_or, length, inl, inr}
+use Rattle.std.specs.Prelude.{◌==◌, ◌⊎◌, All, AllPairs, IsSome, count_by, map, slice_get, slice_set, slice_index_or}
 use Rattle.std.proofs.lemmas.Bool.Decides.{nat_tests}
-use Rattle.std.proofs.lemmas.List.{length_push, get_or_append_left}
+use Rattle.std.proofs.lemmas.List.{length-map, map-append}
 use Rattle.std.proofs.lemmas.List.Elements.{All-push}
 use Rattle.std.proofs.lemmas.List.Quantifiers.{all_pairs_push}
 use Rattle.std.proofs.lemmas.List.Sums.{sum_by_push}
-use Rattle.std.proofs.Math.Seq.{get_or-append_seam}
 use Rattle.ref_edn.specs.Edn.{Edn}
 use Rattle.ref_fun.specs.Core.{core_means}
-use Rattle.ref_fun.specs.declared.faults.Cause.{Cause}
-use Rattle.ref_log.specs.Replay.{place}
 use Rattle.ref_log.specs.declared.entries.Entry.{Entry}
 use Rattle.ref_log.specs.declared.entries.Entry.TheVariants.{Trans}
 use Rattle.ref_log.specs.declared.entries.Stamp.{Stamp}
+use Rattle.ref_log.specs.declared.entries.Transaction.{Transaction}
 use Rattle.ref_log.specs.declared.operations.Done.{Done}
 use Rattle.refrun.specs.declared.path.plans.Planned.{Planned}
 use Rattle.refrun.specs.declared.path.report.Refusal.{Refusal}
 use Rattle.refrun.specs.declared.path.transactions.TxFault.{TxFault}
 use Rattle.refrun.specs.Plan.{PlanSeen, values_of}
-use Rattle.refrun.specs.World.{WorldSeen, IsCommitted, entry_of, answers, answer, and_then_rest, with_first, done_of}
-use Rattle.refrun.specs.Orderly.{IsOrderly, stamp_of, read_point_of, dones_of, asked, step_of, is_stamp, entries_with, refusals_with, Follows, IsBefore}
+use Rattle.refrun.specs.World.{WorldSeen, base_of, IsCommitted, answers, answer, and_then_rest, with_first, done_of}
+use Rattle.refrun.specs.Orderly.{IsOrderly, asked, step_of, is_stamp, transactions_with, refusals_with, IsBefore}
 use Rattle.refrun.specs.Steps.{StepRan, IsRefused}
 
 -- the stamp of a step of the one worker
@@ -29,14 +27,16 @@ stamp_at k = record { worker = 0; step = k }
 
 -- The steps before k were run in order, and no other was.
 pub record HasRunTo (plan : PlanSeen) (k : ℕ) (world : WorldSeen) (refused : List Refusal) : Type 0 where
-  pub base : world.base.refs ≡ values_of plan.refs
-  pub entries : All (λ e. step_of plan (stamp_of e) ≡ Some (asked (dones_of e))) world.log
+  pub base : world.base ≡ base_of (values_of plan.refs)
+  pub transactions : List Transaction
+  pub log : world.log ≡ map (λ t. Trans t) transactions
+  pub entries : All (λ t. step_of plan t.stamp ≡ Some (asked t.dones)) transactions
   pub refusals : All (λ r. IsSome (step_of plan r.stamp)) refused
-  pub entry_steps : All (λ e. ((stamp_of e).worker ≡ 0) × ((stamp_of e).step < k)) world.log
+  pub entry_steps : All (λ t. (t.stamp.worker ≡ 0) × (t.stamp.step < k)) transactions
   pub refusal_steps : All (λ r. (r.stamp.worker ≡ 0) × (r.stamp.step < k)) refused
-  pub once : (stamp : Stamp) → stamp.worker ≡ 0 → stamp.step < k → entries_with stamp world.log + refusals_with stamp refused ≡ 1
-  pub read_points : (i : ℕ) (e : Entry) → i < length world.log → read_point_of (slice_index_or world.log i e) ≡ i
-  pub rise : AllPairs (λ e later. (stamp_of e).step < (stamp_of later).step) world.log
+  pub once : (stamp : Stamp) → stamp.worker ≡ 0 → stamp.step < k → transactions_with stamp transactions + refusals_with stamp refused ≡ 1
+  pub read_points : (i : ℕ) (t : Transaction) → i < length transactions → (slice_index_or transactions i t).read_point ≡ i
+  pub rise : AllPairs (λ t later. t.stamp.step < later.stamp.step) transactions
   pub listed : AllPairs IsBefore refused
 
 -- ---- what was asked for
@@ -94,9 +94,9 @@ pushed (y ∷ ys) x (suc i) d h = elim (pushed ys x i d (omega arith)) [
 -- ---- one more step
 
 module _ (plan : PlanSeen) (k : ℕ) (world : WorldSeen) (refused : List Refusal) (done : HasRunTo plan k world refused) where
-  -- No entry and no refusal has the stamp of a later step.
-  no_entry : (s : Stamp) → k ≤ s.step → entries_with s world.log ≡ 0
-  no_entry s h = none_of (λ e. is_stamp s (stamp_of e)) world.log (λ i d l. is_stamp_not s (stamp_of (get_or world.log i d)) (inr (omega (arith, (done.entry_steps i d l).1))))
+  -- No transaction and no refusal has the stamp of a later step.
+  no_entry : (s : Stamp) → k ≤ s.step → transactions_with s done.transactions ≡ 0
+  no_entry s h = none_of (λ t. is_stamp s t.stamp) done.transactions (λ i d l. is_stamp_not s (get_or done.transactions i d).stamp (inr (omega (arith, (done.entry_steps i d l).1))))
 
   no_refusal : (s : Stamp) → k ≤ s.step → refusals_with s refused ≡ 0
   no_refusal s h = none_of (λ r. is_stamp s r.stamp) refused (λ i d l. is_stamp_not s (get_or refused i d).stamp (inr (omega (arith, (done.refusal_steps i d l).1))))
@@ -119,24 +119,27 @@ module _ (plan : PlanSeen) (k : ℕ) (world : WorldSeen) (refused : List Refusal
 
   pub committed : (world' : WorldSeen) (ops : List Planned) → slice_get plan.steps k ≡ Some ops → IsCommitted (stamp_at k) ops world world' → HasRunTo plan (k + 1) world' refused
   committed world' ops step is =
-      let e : Entry = entry_of (stamp_at k) (length world.log) is.dones in
-      let log : world'.log ≡ world.log ++ e ∷ [] = is.log in
+      let t : Transaction = record { stamp = stamp_at k; read_point = length world.log; dones = is.dones } in
+      let ts : List Transaction = done.transactions in
       let named : asked is.dones ≡ ops = asked_answers ops world.values is.dones is.answered in
+      let read : t.read_point ≡ length ts = ap (λ (es : List Entry). length es) done.log ∙ length-map ts (λ u. Trans u) in
       record {
-        base = rw is.base done.base;
-        entries = rw log (All-push (λ f. step_of plan (stamp_of f) ≡ Some (asked (dones_of f))) world.log e done.entries (step ∙ ap Some (sym named)));
+        base = is.base ∙ done.base;
+        transactions = ts ++ t ∷ [];
+        log = is.log ∙ (ap (λ (es : List Entry). es ++ Trans t ∷ []) done.log ∙ sym (map-append (λ u. Trans u) ts (t ∷ [])));
+        entries = All-push (λ u. step_of plan u.stamp ≡ Some (asked u.dones)) ts t done.entries (step ∙ ap Some (sym named));
         refusals = done.refusals;
-        entry_steps = rw log (All-push (λ f. ((stamp_of f).worker ≡ 0) × ((stamp_of f).step < k + 1)) world.log e (λ i d l. let p = done.entry_steps i d l in (p.0, later _ p.1)) (refl, omega arith));
+        entry_steps = All-push (λ u. (u.stamp.worker ≡ 0) × (u.stamp.step < k + 1)) ts t (λ i d l. let p = done.entry_steps i d l in (p.0, later _ p.1)) (refl, omega arith);
         refusal_steps = λ i d l. let p = done.refusal_steps i d l in (p.0, later _ p.1);
         once = λ s w h.
-            let more : entries_with s world'.log ≡ entries_with s world.log + cond (is_stamp s (stamp_at k)) 1 0 = rw log (count_more (λ f. is_stamp s (stamp_of f)) world.log e) in
-            once_more (entries_with s world'.log + refusals_with s refused) (entries_with s world.log + refusals_with s refused) s w h (omega (arith, more)) (λ p. done.once s w p)
+            let more : transactions_with s (ts ++ t ∷ []) ≡ transactions_with s ts + cond (is_stamp s (stamp_at k)) 1 0 = count_more (λ u. is_stamp s u.stamp) ts t in
+            once_more (transactions_with s (ts ++ t ∷ []) + refusals_with s refused) (transactions_with s ts + refusals_with s refused) s w h (omega (arith, more)) (λ p. done.once s w p)
             (λ p. omega (arith, no_entry s p, no_refusal s p));
-        read_points = λ i d l. rw log (elim (pushed world.log e i d (rw log at l)) as (λ _. read_point_of (get_or (world.log ++ e ∷ []) i d) ≡ i) [
+        read_points = λ i d l. elim (pushed ts t i d l) as (λ _. (get_or (ts ++ t ∷ []) i d).read_point ≡ i) [
           | inl p ↦ rw p.1 (done.read_points i d p.0)
-          | inr p ↦ rw p.1 (sym p.0)
-        ]);
-        rise = rw log (all_pairs_push (λ f g. (stamp_of f).step < (stamp_of g).step) world.log e done.rise (λ i d l. (done.entry_steps i d l).1));
+          | inr p ↦ rw p.1 (read ∙ sym p.0)
+        ];
+        rise = all_pairs_push (λ u v. u.stamp.step < v.stamp.step) ts t done.rise (λ i d l. (done.entry_steps i d l).1);
         listed = done.listed;
       }
 
@@ -146,13 +149,15 @@ module _ (plan : PlanSeen) (k : ℕ) (world : WorldSeen) (refused : List Refusal
       let listed : refused' ≡ refused ++ r ∷ [] = is.listed in
       rw is.stays (record {
         base = done.base;
+        transactions = done.transactions;
+        log = done.log;
         entries = done.entries;
         refusals = rw listed (All-push (λ q. IsSome (step_of plan q.stamp)) refused r done.refusals (rw step refl));
         entry_steps = λ i d l. let p = done.entry_steps i d l in (p.0, later _ p.1);
         refusal_steps = rw listed (All-push (λ q. (q.stamp.worker ≡ 0) × (q.stamp.step < k + 1)) refused r (λ i d l. let p = done.refusal_steps i d l in (p.0, later _ p.1)) (refl, omega arith));
         once = λ s w h.
             let more : refusals_with s refused' ≡ refusals_with s refused + cond (is_stamp s (stamp_at k)) 1 0 = rw listed (count_more (λ q. is_stamp s q.stamp) refused r) in
-            once_more (entries_with s world.log + refusals_with s refused') (entries_with s world.log + refusals_with s refused) s w h (omega (arith, more)) (λ p. done.once s w p)
+            once_more (transactions_with s done.transactions + refusals_with s refused') (transactions_with s done.transactions + refusals_with s refused) s w h (omega (arith, more)) (λ p. done.once s w p)
             (λ p. omega (arith, no_entry s p, no_refusal s p));
         read_points = done.read_points;
         rise = done.rise;
@@ -165,17 +170,19 @@ module _ (plan : PlanSeen) (k : ℕ) (world : WorldSeen) (refused : List Refusal
 
 -- ---- before the first step, and behind the last
 
-pub at_start : (plan : PlanSeen) (world : WorldSeen) → world.base.refs ≡ values_of plan.refs → world.log ≡ [] → HasRunTo plan 0 world []
+pub at_start : (plan : PlanSeen) (world : WorldSeen) → world.base ≡ base_of (values_of plan.refs) → world.log ≡ [] → HasRunTo plan 0 world []
 at_start plan world base none =
     record {
       base = base;
-      entries = rw none (λ i d l. absurd (omega arith));
+      transactions = [];
+      log = none;
+      entries = λ i d l. absurd (omega arith);
       refusals = λ i d l. absurd (omega arith);
-      entry_steps = rw none (λ i d l. absurd (omega arith));
+      entry_steps = λ i d l. absurd (omega arith);
       refusal_steps = λ i d l. absurd (omega arith);
       once = λ s w h. absurd (omega arith);
-      read_points = rw none (λ i d l. absurd (omega arith));
-      rise = rw none (λ i j d l h. absurd (omega arith));
+      read_points = λ i d l. absurd (omega arith);
+      rise = λ i j d l h. absurd (omega arith);
       listed = λ i j d l h. absurd (omega arith);
     }
 
@@ -196,9 +203,11 @@ pub at_end : (plan : PlanSeen) (k : ℕ) (world : WorldSeen) (refused : List Ref
 at_end plan k world refused h done =
     record {
       base = done.base;
+      transactions = done.transactions;
+      log = done.log;
       entries = done.entries;
       refusals = done.refusals;
       once = λ s there. let p = step_is plan s there in done.once s p.0 (omega (arith, p.1));
-      rise = λ i j e l b. λ same. (done.rise i j e l b, omega (arith, done.read_points j e b));
+      rise = λ i j t l b. λ same. (done.rise i j t l b, omega (arith, done.read_points j t b));
       listed = done.listed;
     }

@@ -1,7 +1,7 @@
 -- The entries of a map, one after another.
-use Rattle.std.proofs.Common.{◌≡◌, ℕ, ◌+◌, ◌<◌, ◌≤◌, ◌&&◌, Bool, true, false, List, [], ◌∷◌, drop, length, get_or, arith, cond, refl, sym, ◌∙◌, ap, suc, add-one, drop-cons, subst, Some, None, Option}
+use Rattle.std.proofs.Common.{◌≡◌, ℕ, ◌+◌, ◌<◌, ◌&&◌, true, false, List, [], ◌∷◌, drop, length, get_or, arith, cond, refl, sym, ◌∙◌, ap, suc, add-one, drop-cons, subst, Some, None, Option}
 use Rattle.std.specs.List.{list_all}
-use Rattle.ref_edn.specs.Edn.{Edn, vector, items_of}
+use Rattle.ref_edn.specs.Edn.{Edn}
 use Rattle.refrun.specs.Kinds.{is_vector}
 use Rattle.refrun.specs.Workload.{is_known, is_word, part, refs_word, workers_word, AreStepForms, HasForms, IsVectorPart}
 use Rattle.refrun.proofs.References.{same_elements}

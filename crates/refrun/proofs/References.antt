@@ -1,11 +1,11 @@
 -- Forms of refs.
-use Rattle.std.proofs.Common.{◌≡◌, ◌≢◌, ℕ, ◌<◌, ◌+◌, zero, suc, List, [], ◌∷◌, ◌++◌, drop, length, length-append, map, get_or, refl, sym, subst, append_assoc, ◌∙◌, ap, arith, AllPairs, Contains}
+use Rattle.std.proofs.Common.{◌≡◌, ◌≢◌, ℕ, ◌<◌, ◌+◌, List, [], ◌∷◌, ◌++◌, drop, length, length-append, get_or, refl, sym, subst, append_assoc, ◌∙◌, ap, arith, AllPairs, Contains}
 use Rattle.std.proofs.Math.ListN.{get_or-append}
 use Rattle.std.proofs.Math.Seq.{get_or-append_seam}
 use Rattle.std.proofs.lemmas.List.{map-append, get_or_default}
 use Rattle.std.proofs.lemmas.List.Quantifiers.{all_pairs_push}
 use Rattle.std.specs.List.{AllZip}
-use Rattle.ref_edn.specs.Edn.{Edn, symbol, vector, item, items_of, list_of, list_of-items_of}
+use Rattle.ref_edn.specs.Edn.{Edn, symbol, vector, items_of, list_of, list_of-items_of}
 use Rattle.refrun.specs.declared.path.plans.Declared.{Declared}
 use Rattle.refrun.specs.Plan.{names_of}
 use Rattle.refrun.specs.Workload.{IsReference}

@@ -1,5 +1,5 @@
 -- What the faults of a run say of the text.
-use Rattle.std.proofs.Common.{◌≡◌, ℕ, ◌≤◌, List, [], ◌∷◌, refl, ap, arith, length}
+use Rattle.std.proofs.Common.{◌≡◌, ℕ, ◌≤◌, List, [], ◌∷◌, refl, arith, length}
 use Rattle.std.specs.Prelude.{◌≢◌, Result, Ok, Err, IfErr, IsErrAnd}
 use Rattle.std.specs.List.{AllZip}
 use Rattle.ref_edn.specs.Edn.{Edn}

@@ -6,7 +6,6 @@ use Rattle.std.specs.List.{AllZip, list_all}
 use Rattle.ref_edn.specs.Edn.{Edn}
 use Rattle.ref_edn.specs.Names.{bytes_eq}
 use Rattle.ref_fun.specs.Names.{code_in, core_names}
-use Rattle.ref_log.specs.declared.operations.Op.TheVariants.{Alter}
 use Rattle.ref_log.specs.Replay.{codes_of, missing}
 use Rattle.refrun.specs.declared.path.plans.Planned.{Planned}
 use Rattle.refrun.specs.Plan.{PlanSeen, names_of}

@@ -1,9 +1,8 @@
 -- What a value that isn't taken as a workload would have to be.
 use Rattle.std.proofs.Common.{◌≡◌, ◌≢◌, ℕ, List, [], ◌∷◌, AllPairs, refl, sym, ◌∙◌, ap, subst}
 use Rattle.std.specs.List.{AllZip}
-use Rattle.ref_edn.specs.Edn.{Edn, map, Entries, no_entries, entries_of, pairs_of, pairs_of-entries_of}
+use Rattle.ref_edn.specs.Edn.{Edn, map, entries_of, pairs_of, pairs_of-entries_of}
 use Rattle.refrun.specs.declared.path.plans.Declared.{Declared}
-use Rattle.refrun.specs.declared.path.plans.Planned.{Planned}
 use Rattle.refrun.specs.Plan.{PlanSeen, names_of}
 use Rattle.refrun.specs.Workload.{part, refs_word, workers_word, HasForms, IsReference, IsStep, IsWorkload}
 use Rattle.refrun.proofs.Forms.{SaysNothing}

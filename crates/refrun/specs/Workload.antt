@@ -5,7 +5,7 @@
 --    :workers [[[:tx [:alter NAME FUNCTION ARGUMENT ..] ..] ..]]}
 --
 -- Names are symbols. `:refs` and `:workers` may be left out, and are empty then. There is at most one worker.
-use Rattle.std.specs.Prelude.{◌≡◌, ◌≢◌, ◌≤◌, ℕ, pos, Bool, true, false, ◌||◌, ◌&&◌, List, [], ◌∷◌, Option, None, Some, IsTrue, All, AllPairs, cond, codes, length, slice_get}
+use Rattle.std.specs.Prelude.{◌≡◌, ◌≢◌, ◌≤◌, ℕ, pos, Bool, true, false, ◌||◌, List, [], ◌∷◌, Option, None, Some, All, AllPairs, cond, codes, length, slice_get}
 use Rattle.std.specs.List.{AllZip, list_all}
 use Rattle.ref_edn.specs.Edn.{Edn, int, keyword, symbol, vector, map, items_of, entries_of, nesting}
 use Rattle.ref_edn.specs.Names.{bytes_eq}

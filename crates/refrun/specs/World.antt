@@ -1,5 +1,5 @@
 -- Worlds of refs, and what a transaction does to one.
-use Rattle.std.specs.Prelude.{◌≡◌, ℕ, ◌+◌, Bool, List, [], ◌∷◌, ◌++◌, Option, None, Some, Result, Ok, Err, length, slice_get, slice_set}
+use Rattle.std.specs.Prelude.{◌≡◌, ℕ, ◌+◌, Bool, List, [], ◌∷◌, ◌++◌, Option, None, Some, Result, Ok, Err, length, replicate, slice_get, slice_set}
 use Rattle.ref_edn.specs.Edn.{Edn}
 use Rattle.ref_fun.specs.Core.{core_means}
 use Rattle.ref_fun.specs.Meaning.{Means}
@@ -10,6 +10,7 @@ use Rattle.ref_log.specs.declared.entries.Entry.TheVariants.{Trans}
 use Rattle.ref_log.specs.declared.entries.Stamp.{Stamp}
 use Rattle.ref_log.specs.declared.operations.Done.{Done}
 use Rattle.ref_log.specs.declared.states.Base.{Base}
+use Rattle.ref_log.specs.declared.states.PlainState.{PlainState}
 use Rattle.refrun.specs.declared.path.plans.Planned.{Planned}
 use Rattle.refrun.specs.declared.path.transactions.TxFault.{TxFault}
 use Rattle.refrun.specs.declared.path.transactions.TxFault.TheVariants.{NoSuchRef, Refused}
@@ -20,9 +21,17 @@ pub record WorldSeen : Type 0 where
   pub log : List Entry
   pub values : List Edn
 
--- The values now are those that the log gives when it is replayed on its base.
+-- What a log begins with where these refs were declared, and nothing else.
+abbrev pub base_of : List Edn → Base
+base_of values = record { point = 0; refs = values; last = replicate (length values) 0; atoms = []; tally = None; commits = 0; added = 0 }
+
+-- these values of refs, and no atom
+abbrev pub refs_alone : List Edn → PlainState
+refs_alone values = record { refs = values; atoms = [] }
+
+-- The values now are those that the log gives when it is replayed on its base, and it gives no atoms.
 abbrev pub IsReplayed : WorldSeen → Type 0
-IsReplayed world = replay core_means world.base world.log ≡ Ok world.values
+IsReplayed world = replay core_means world.base world.log ≡ Ok (refs_alone world.values)
 
 -- ---- what operations answer
 
@@ -69,4 +78,4 @@ pub record IsCommitted (stamp : Stamp) (ops : List Planned) (old new : WorldSeen
   pub answered : answers core_means ops old.values ≡ Ok dones
   pub base : new.base ≡ old.base
   pub log : new.log ≡ old.log ++ entry_of stamp (length old.log) dones ∷ []
-  pub values : step core_means (length old.log + 1) (entry_of stamp (length old.log) dones) old.values ≡ Ok new.values
+  pub values : step core_means (length old.log + 1) (entry_of stamp (length old.log) dones) (refs_alone old.values) ≡ Ok (refs_alone new.values)

@@ -13,7 +13,7 @@ use ref_log::{AuditFault, SharedVec, replay_plain};
 use std::alloc::Global;
 
 /// Replays the log of a world on its base, and compares what that gives with the values. Anything else than equal
-/// values is what a right program never meets. Linear in the number of refs and operations.
+/// values, and no atoms, is what a right program never meets. Linear in the number of refs and operations.
 pub(crate) fn audit<F: Functions<Core>>(
     alloc: Global,
     funs: &F,
@@ -24,7 +24,7 @@ pub(crate) fn audit<F: Functions<Core>>(
 {
     match replay_plain(alloc, funs, world.base(), world.log()) {
         Ok(state) => {
-            if has_values(world, &state.refs) {
+            if state.atoms.is_empty() && has_values(world, &state.refs) {
                 Ok(Verdict::Ok)
             } else {
                 Err(RunFault::Internal)

@@ -2,7 +2,7 @@
 ghost use Rattle.std.specs.Prelude.{◌≡◌, ◌≢◌, [], All, Err, IfOk, IfErr, OnOk, OnErr, length, slice_get};
 ghost use Rattle.std.specs.Option.{option_copied};
 ghost use Rattle.ref_fun.specs.Core.{core_means};
-ghost use Rattle.refrun.specs.World.{IsCommitted, IsReplayed, IsServed, answers};
+ghost use Rattle.refrun.specs.World.{IsCommitted, IsReplayed, IsServed, answers, base_of};
 
 use crate::path::plans::Planned;
 use crate::path::transactions::{TxFault, apply_all};
@@ -12,7 +12,7 @@ use ref_log::{Base, Entry, SharedVec, Stamp, Transaction};
 use std::alloc::{AllocError, Global};
 use std::marker::Model;
 
-/// The values of refs, numbered from 0, and the log of the transactions that were committed.
+/// The values of refs, numbered from 0, and the log of the transactions that were committed. There are no atoms.
 ///
 /// The values are always those that the log gives when it is replayed on its base. Points count from 0, which is the
 /// base's, so that the point of the last entry is the number of commits.
@@ -29,7 +29,7 @@ impl Model for World {
     ghost use Rattle.ref_edn.specs.Code.{edn_code};
     ghost use Rattle.ref_fun.specs.Core.{core_means};
     ghost use Rattle.ref_log.specs.Replay.{replay};
-    ghost use Rattle.refrun.specs.World.{WorldSeen};
+    ghost use Rattle.refrun.specs.World.{WorldSeen, refs_alone};
 
     ghost Value = { WorldSeen };
 
@@ -37,7 +37,7 @@ impl Model for World {
 
     ghost view = { λ a. record { base = a.base; log = a.log.items; values = a.values.items } };
 
-    ghost invariant = { λ a. replay core_means a.base a.log.items ≡ Ok a.values.items };
+    ghost invariant = { λ a. (a.base.point ≡ 0) × (replay core_means a.base a.log.items ≡ Ok (refs_alone a.values.items)) };
 }
 
 // One more owner of each value.
@@ -54,11 +54,20 @@ fn share_all(alloc: Global, values: &[Value]) -> Result<Vec<Value>, AllocError>
 impl World {
     /// A world with these refs, and nothing committed.
     pub fn make(alloc: Global, values: Vec<Value>) -> Result<World, AllocError>
-        ensures { IfOk result (λ w. w ≡ record { base = record { refs = values.items }; log = []; values = values.items }) }
+        ensures { IfOk result (λ w. w ≡ record { base = base_of values.items; log = []; values = values.items }) }
     {
-        let refs = SharedVec::of(alloc, share_all(alloc, values.as_slice())?)?;
+        let refs = share_all(alloc, values.as_slice())?;
+        let last = vec![in alloc; 0u64; values.len()]?;
         Ok(World {
-            base: Base { refs },
+            base: Base {
+                point: 0,
+                refs: SharedVec::of(alloc, refs)?,
+                last: SharedVec::of(alloc, last)?,
+                atoms: SharedVec::of(alloc, Vec::new(alloc))?,
+                tally: None,
+                commits: 0,
+                added: 0,
+            },
             log: Vec::new(alloc),
             values,
         })
@@ -109,7 +118,8 @@ impl World {
 
     /// What the log begins with.
     pub fn base(&self) -> &Base
-        ensures { result.now ≡ self.now.base }
+        ensures base { result.now ≡ self.now.base }
+        ensures point { result.now.point ≡ 0 }
     {
         &self.base
     }

@@ -76,6 +76,10 @@ fn append_entry(alloc: Global, entry: &Entry, out: &mut Vec<u8>) -> Result<(), A
                 append_done(alloc, done, out)?;
             }
         }
+        // A world makes no other entry.
+        Entry::Atom(_, _, _) | Entry::MadeRef(_) | Entry::MadeAtom(_) => {
+            out.extend_from_slice(b" | another entry")?
+        }
     }
     Ok(())
 }
@@ -110,6 +114,16 @@ fn begins_with_its_refs_and_no_commit(rt: HostRuntime) -> Result<(), Fail> {
     for r in [3, 4096, u32::MAX] {
         assert!(rt; world.value_of(r).is_none(), "ref {r}");
     }
+    let base = world.base();
+    assert_eq!(rt; base.point, 0);
+    assert_eq!(rt; base.last.len(), 3);
+    for last in base.last.iter() {
+        assert_eq!(rt; *last, 0);
+    }
+    assert!(rt; base.atoms.is_empty());
+    assert_eq!(rt; base.tally, None);
+    assert_eq!(rt; base.commits, 0);
+    assert_eq!(rt; base.added, 0);
     let none = World::make(alloc, Vec::new(alloc))?;
     assert_eq!(rt; seen(alloc, &none)?.as_str(), "from");
     Ok(())

@@ -1,4 +1,4 @@
-use Rattle.std.proofs.Common.{◌≡◌, ◌<◌, sym, length}
+use Rattle.std.proofs.Common.{◌<◌, sym, length}
 use Rattle.refrun.proofs.Parts.{not_vectors, no_work, too_many_refs, too_many_steps}
 use Rattle.refrun.proofs.path.parts.forms_of.Goals as goal
 

@@ -1,4 +1,4 @@
-use Rattle.std.proofs.Common.{◌≡◌, ◌<◌, ◌≤◌, length}
+use Rattle.std.proofs.Common.{◌<◌, length}
 use Rattle.refrun.specs.Workload.{IsReference}
 use Rattle.refrun.proofs.Forms.{goes_on_end}
 use Rattle.refrun.proofs.References.{collects_more, none_declared, taken_declared}

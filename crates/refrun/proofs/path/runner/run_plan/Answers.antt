@@ -2,8 +2,16 @@ use Rattle.std.proofs.Common.{◌≡◌, List, Some, refl, ap, arith, length, sy
 use Rattle.std.specs.Prelude.{slice_get}
 use Rattle.std.proofs.lemmas.Option.{slice_get_read}
 use Rattle.refrun.specs.declared.path.plans.Planned.{Planned}
-use Rattle.refrun.proofs.OrderlyRun.{one_step, at_end}
+use Rattle.refrun.specs.Plan.{values_of}
+use Rattle.refrun.specs.World.{WorldSeen, base_of}
+use Rattle.refrun.proofs.OrderlyRun.{at_start, one_step, at_end}
 use Rattle.refrun.proofs.path.runner.run_plan.Goals as goal
+
+pub loop-i-init : goal.loop-i-init
+loop-i-init g c =
+    let declared = c.in-Ok.ensures ∙ ap values_of c.refs.ensures in
+    let base = ap (λ (w : WorldSeen). w.base) c.in-Ok-make.ensures ∙ ap base_of declared in
+    rw c.new-refused.ensures.items (at_start c.args.plan.now c.in-Ok-make.world base (ap (λ (w : WorldSeen). w.log) c.in-Ok-make.ensures))
 
 pub loop-i-preserved : goal.loop-i-preserved
 loop-i-preserved g c =

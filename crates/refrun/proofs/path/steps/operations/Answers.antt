@@ -1,10 +1,8 @@
-use Rattle.std.proofs.Common.{◌≡◌, ◌≢◌, rules, subst}
-use Rattle.ref_edn.specs.Edn.{Edn}
-use Rattle.std.proofs.Common.{List}
+use Rattle.std.proofs.Common.{◌≢◌, rules}
 use Rattle.refrun.specs.Workload.{IsAlter}
-use Rattle.refrun.specs.declared.path.steps.Wrong.TheVariants.{Form, Memory}
+use Rattle.refrun.specs.declared.path.steps.Wrong.TheVariants.{Memory}
 use Rattle.refrun.proofs.Forms.{all_said}
-use Rattle.refrun.proofs.Steps.{Known, known_wrong}
+use Rattle.refrun.proofs.Steps.{known_wrong}
 use Rattle.refrun.proofs.path.steps.operations.Goals as goal
 
 pub returns-in-Err-Form-clause-wrong : goal.returns-in-Err-Form-clause-wrong

@@ -1,4 +1,4 @@
-use Rattle.std.proofs.Common.{◌≡◌, ◌<◌, length}
+use Rattle.std.proofs.Common.{◌<◌, length}
 use Rattle.refrun.specs.Workload.{IsStep}
 use Rattle.refrun.proofs.Forms.{goes_on_end, goes_on_fails}
 use Rattle.refrun.proofs.path.steps.steps.Goals as goal

@@ -1,4 +1,4 @@
-use Rattle.std.proofs.Common.{◌≡◌, ◌+◌, ◌<◌, length, arith}
+use Rattle.std.proofs.Common.{◌+◌, ◌<◌, length, arith}
 use Rattle.refrun.proofs.Steps.{too_long}
 use Rattle.refrun.proofs.path.steps.tx_in.Goals as goal
 
