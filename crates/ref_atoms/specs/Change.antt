@@ -1,0 +1,99 @@
+-- When an atom can be changed, and what comes of it.
+--
+-- Clojure's page on atoms: `swap!` sets an atom to the function of its value, `reset!` to a value regardless, and
+-- `compare-and-set!` to a value where the atom has the one that is given. Each asks the validator of the new value first.
+use Rattle.std.specs.Prelude.{◌≡◌, ℕ, ◌^◌, nat_lt, Bool, false, if◌then◌else◌, List, Option, None, Some, Result, Ok, Err, slice_get}
+use Rattle.std.specs.Option.{option_map, option_or}
+use Rattle.std.specs.Ordering.{eq_by_cmp}
+use Rattle.ref_edn.specs.Edn.{Edn}
+use Rattle.ref_edn.specs.Order.{edn_cmp}
+use Rattle.ref_fun.specs.Meaning.{Means}
+use Rattle.ref_fun.specs.Rule.{Accepts, passes, unknown}
+use Rattle.ref_fun.specs.declared.faults.Cause.{Cause}
+use Rattle.ref_log.specs.Replay.{codes_of, missing, place}
+use Rattle.ref_log.specs.Watches.{notices_of}
+use Rattle.ref_log.specs.declared.entries.Entry.TheVariants as entries
+use Rattle.ref_log.specs.declared.notices.Who.TheVariants as who
+use Rattle.ref_log.specs.declared.operations.Op.{Op}
+use Rattle.ref_log.specs.declared.operations.Op.TheVariants.{Set, Alter, Commute, Ensure}
+use Rattle.ref_atoms.specs.Atoms.{keys_at}
+use Rattle.ref_atoms.specs.declared.atoms.Atom.{Atom}
+use Rattle.ref_atoms.specs.declared.changes.Change.{Change}
+use Rattle.ref_atoms.specs.declared.faults.AtomFault.{AtomFault}
+use Rattle.ref_atoms.specs.declared.faults.AtomFault.TheVariants.{NoSuchAtom, NoSuchFun, Refused, Invalid, PointLimit}
+
+abbrev pub invalid : Accepts → Atom → Edn → Option AtomFault
+invalid accepts atom v = if passes accepts atom.rule v then None else Some Invalid
+
+abbrev pub past_points : ℕ → Option AtomFault
+past_points at = if nat_lt (2 ^ 62) at then Some PointLimit else None
+
+-- ---- swap and reset
+
+-- the codes that the table lacks: that of the function, and then that of the rule
+abbrev pub lacking : (ℕ → Bool) → (ℕ → Bool) → Atom → Op → Option AtomFault
+lacking knows_fun knows_pred atom op = option_or (option_map NoSuchFun (missing knows_fun (codes_of op))) (option_map NoSuchFun (unknown knows_pred atom.rule))
+
+-- what the function and the rule say
+abbrev pub late_refusal : Accepts → Atom → ℕ → Result Edn Cause → Option AtomFault
+late_refusal accepts atom at (Ok v) = option_or (invalid accepts atom v) (past_points at)
+late_refusal accepts atom at (Err cause) = Some (Refused cause)
+
+-- What is known before any memory is taken: of a value that is given, all; of a function, whether the table has it.
+abbrev pub given_refusal : Accepts → Atom → ℕ → Op → Option AtomFault
+given_refusal accepts atom at (Set v) = late_refusal accepts atom at (Ok v)
+given_refusal accepts atom at (Alter code args) = None
+given_refusal accepts atom at (Commute code args) = None
+given_refusal accepts atom at Ensure = None
+
+abbrev pub early_refusal_if_here : Accepts → (ℕ → Bool) → (ℕ → Bool) → ℕ → Op → Option Atom → Option AtomFault
+early_refusal_if_here accepts knows_fun knows_pred at op None = Some NoSuchAtom
+early_refusal_if_here accepts knows_fun knows_pred at op (Some atom) = option_or (lacking knows_fun knows_pred atom op) (given_refusal accepts atom at op)
+
+abbrev pub early_refusal : Accepts → (ℕ → Bool) → (ℕ → Bool) → List Atom → ℕ → ℕ → Op → Option AtomFault
+early_refusal accepts knows_fun knows_pred atoms at a op = early_refusal_if_here accepts knows_fun knows_pred at op (slice_get atoms a)
+
+abbrev pub refusal_if_here : Means → Accepts → (ℕ → Bool) → (ℕ → Bool) → ℕ → Op → Option Atom → Option AtomFault
+refusal_if_here means accepts knows_fun knows_pred at op None = Some NoSuchAtom
+refusal_if_here means accepts knows_fun knows_pred at op (Some atom) = option_or (lacking knows_fun knows_pred atom op) (late_refusal accepts atom at (place means op atom.value))
+
+-- the first fault of an operation on an atom, where it would be the entry at this point
+abbrev pub change_refusal : Means → Accepts → (ℕ → Bool) → (ℕ → Bool) → List Atom → ℕ → ℕ → Op → Option AtomFault
+change_refusal means accepts knows_fun knows_pred atoms at a op = refusal_if_here means accepts knows_fun knows_pred at op (slice_get atoms a)
+
+-- ---- compare and set
+
+-- whether an atom has a value
+abbrev pub is_same : Atom → Edn → Bool
+is_same atom old = eq_by_cmp edn_cmp atom.value old
+
+abbrev pub is_same_if_here : Option Atom → Edn → Bool
+is_same_if_here None old = false
+is_same_if_here (Some atom) old = is_same atom old
+
+abbrev pub is_same_at : List Atom → ℕ → Edn → Bool
+is_same_at atoms a old = is_same_if_here (slice_get atoms a) old
+
+-- The rule is asked of the new value, also where the atom has another one than the old. The points end only where an entry
+-- would be added.
+abbrev pub compare_refusal_if_here : Accepts → (ℕ → Bool) → ℕ → Edn → Edn → Option Atom → Option AtomFault
+compare_refusal_if_here accepts knows at old new None = Some NoSuchAtom
+compare_refusal_if_here accepts knows at old new (Some atom) =
+    option_or (option_map NoSuchFun (unknown knows atom.rule))
+    (option_or (invalid accepts atom new)
+    (if is_same atom old then past_points at else None))
+
+abbrev pub compare_refusal : Accepts → (ℕ → Bool) → List Atom → ℕ → ℕ → Edn → Edn → Option AtomFault
+compare_refusal accepts knows atoms at a old new = compare_refusal_if_here accepts knows at old new (slice_get atoms a)
+
+-- ---- what comes of it
+
+-- Of an atom with the value before: its value after the operation, its entry, what is answered and what its watches are
+-- told.
+abbrev pub IsChangeOf : Means → List Atom → ℕ → Op → Change → Type 0
+IsChangeOf means atoms a op change =
+    (option_map (λ atom. atom.value) (slice_get atoms a) ≡ Some change.swapped.old)
+    × (place means op change.swapped.old ≡ Ok change.swapped.new)
+    × (change.entry ≡ entries.Atom a op change.swapped.new)
+    × (change.swapped.notices.items ≡ notices_of (who.Atom a) (keys_at atoms a) change.swapped.old change.swapped.new)
+    × (change.a ≡ a) × (change.value ≡ change.swapped.new)

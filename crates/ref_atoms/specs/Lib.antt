@@ -1,0 +1,4 @@
+pub mod Atoms
+pub mod Change
+pub mod Make
+pub mod AtomFault

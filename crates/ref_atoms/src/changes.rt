@@ -1,0 +1,29 @@
+//! What a change of an atom answers.
+
+use ref_edn::Value;
+use ref_log::{Entry, Notice};
+
+/// What `swap` and `reset` answer: the values before and after, as Clojure's `swap-vals!` and `reset-vals!` do, and
+/// what the atom's watches are to be told.
+#[derive(Drop)]
+pub struct Swapped {
+    pub old: Value,
+    pub new: Value,
+    pub notices: Vec<Notice>,
+}
+
+/// What `compare_and_set` answers: whether the atom was set, and what its watches are to be told.
+#[derive(Drop)]
+pub struct Cas {
+    pub done: bool,
+    pub notices: Vec<Notice>,
+}
+
+/// A change of the atom of number `a` that was tested: its new value, its entry for a log, and what is answered.
+#[derive(Drop)]
+pub struct Change {
+    pub a: u32,
+    pub value: Value,
+    pub entry: Entry,
+    pub swapped: Swapped,
+}

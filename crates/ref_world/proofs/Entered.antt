@@ -1,0 +1,88 @@
+-- A world with an entry more.
+use Rattle.std.proofs.Common.{◌≡◌, ℕ, ◌+◌, ◌≤◌, ◌^◌, ◌∷◌, ◌++◌, [], cond, not, nat_lt, true, false, List, length, Ok, slice_set, refl, ap, sym, subst, ◌∙◌, arith}
+use Rattle.std.proofs.lemmas.Bool.{and_from, and_parts, le-ltb, ltb-false, not-true}
+use Rattle.ref_edn.specs.Edn.{Edn}
+use Rattle.ref_fun.specs.Meaning.{Means}
+use Rattle.ref_atoms.specs.Atoms.{values_of}
+use Rattle.ref_atoms.specs.declared.atoms.Atom.{Atom}
+use Rattle.ref_log.specs.Laws.{last_change-append, replay-more, replay-refs}
+use Rattle.ref_log.specs.Replay.{is_changed_by, point_after, refs_after, step}
+use Rattle.ref_log.specs.declared.entries.Entry.{Entry}
+use Rattle.ref_log.specs.declared.states.Base.{Base}
+use Rattle.ref_refs.specs.Seen.{RefsSeen, are_unchanged_since, changed_at}
+use Rattle.ref_world.specs.World.{HasLastChanges, IsWorld, values_now, with_tally}
+
+length_more : (log : List Entry) (e : Entry) → length (log ++ e ∷ []) ≡ length log + 1
+length_more [] e = refl
+length_more (x ∷ xs) e =
+    let more = length_more xs e in
+    omega (arith, more)
+
+point_more : (base : Base) (log : List Entry) (e : Entry) → point_after base log + 1 ≡ point_after base (log ++ e ∷ [])
+point_more base log e =
+    let more = length_more log e in
+    omega (arith, more)
+
+-- No ref has changed after the point that follows, either.
+not_later : (p last : ℕ) → not (nat_lt p last) ≡ true → not (nat_lt (p + 1) last) ≡ true
+not_later p last is =
+    let below = ltb-false p last (not-true (nat_lt p last) is) in
+    ap not (le-ltb (p + 1) last (omega (arith, below)))
+
+pub since_later : (lasts : List ℕ) (p : ℕ) → are_unchanged_since lasts p ≡ true → are_unchanged_since lasts (p + 1) ≡ true
+since_later [] p is = refl
+since_later (x ∷ xs) p is =
+    let parts = and_parts (not (nat_lt p x)) (are_unchanged_since xs p) is in
+    and_from (not (nat_lt (p + 1) x)) (are_unchanged_since xs (p + 1)) (not_later p x parts.0) (since_later xs p parts.1)
+
+module _ (means : Means) (base : Base) (log : List Entry) (refs : RefsSeen) (atoms : List Atom) (is : IsWorld means base log refs atoms) where
+  count : length refs.values ≡ refs_after (length base.refs) log
+  count = replay-refs means base log (values_now refs atoms) is.replayed
+
+  changed : (e : Entry) (after : RefsSeen) → ((r : ℕ) → changed_at after.lasts r ≡ cond (is_changed_by (length refs.values) e r) (point_after base log + 1) (changed_at refs.lasts r)) → HasLastChanges base (log ++ e ∷ []) after
+  changed e after moved r =
+      let point = point_after base log + 1 in
+      moved r
+      ∙ (ap (λ n. cond (is_changed_by n e r) point (changed_at refs.lasts r)) count
+      ∙ (ap (λ x. cond (is_changed_by (refs_after (length base.refs) log) e r) point x) (is.changed r)
+      ∙ sym (last_change-append base log e r)))
+
+  -- The base names the tally that the refs have then.
+  pub entered : (e : Entry) (after : RefsSeen) (atoms_after : List Atom)
+      → step means (point_after base log + 1) e (values_now refs atoms) ≡ Ok (values_now after atoms_after)
+      → ((r : ℕ) → changed_at after.lasts r ≡ cond (is_changed_by (length refs.values) e r) (point_after base log + 1) (changed_at refs.lasts r))
+      → are_unchanged_since after.lasts (point_after base log + 1) ≡ true
+      → point_after base log + 1 ≤ 2 ^ 62
+      → IsWorld means (with_tally after.tally base) (log ++ e ∷ []) after atoms_after
+  entered e after atoms_after next moved since limit = record {
+    replayed = replay-more means base log e (values_now refs atoms) (values_now after atoms_after) is.replayed next;
+    changed = changed e after moved;
+    tally = refl;
+    since = subst (λ p. are_unchanged_since after.lasts p ≡ true) (point_more base log e) since;
+    limit = subst (λ p. p ≤ 2 ^ 62) (point_more base log e) limit;
+  }
+
+  -- where the tally stays, so does the base
+  pub entered_same : (e : Entry) (after : RefsSeen) (atoms_after : List Atom)
+      → step means (point_after base log + 1) e (values_now refs atoms) ≡ Ok (values_now after atoms_after)
+      → ((r : ℕ) → changed_at after.lasts r ≡ cond (is_changed_by (length refs.values) e r) (point_after base log + 1) (changed_at refs.lasts r))
+      → are_unchanged_since after.lasts (point_after base log + 1) ≡ true
+      → point_after base log + 1 ≤ 2 ^ 62
+      → after.tally ≡ refs.tally
+      → IsWorld means base (log ++ e ∷ []) after atoms_after
+  entered_same e after atoms_after next moved since limit tally =
+      subst (λ t. IsWorld means (with_tally t base) (log ++ e ∷ []) after atoms_after) (tally ∙ sym is.tally) (entered e after atoms_after next moved since limit)
+
+  -- an entry about an atom
+  pub atom_entered : (e : Entry) (atoms_after : List Atom) (a : ℕ) (v : Edn)
+      → ((refs : List Edn) → step means (point_after base log + 1) e (record { refs = refs; atoms = values_of atoms }) ≡ Ok (record { refs = refs; atoms = slice_set (values_of atoms) a v }))
+      → values_of atoms_after ≡ slice_set (values_of atoms) a v
+      → ((n r : ℕ) → is_changed_by n e r ≡ false)
+      → point_after base log + 1 ≤ 2 ^ 62
+      → IsWorld means base (log ++ e ∷ []) refs atoms_after
+  atom_entered e atoms_after a v next set leaves limit =
+      let point = point_after base log + 1 in
+      entered_same e refs atoms_after
+      (next refs.values ∙ ap (λ vs. Ok (record { refs = refs.values; atoms = vs })) (sym set))
+      (λ r. ap (λ b. cond b point (changed_at refs.lasts r)) (sym (leaves (length refs.values) r)))
+      (since_later refs.lasts (point_after base log) is.since) limit refl

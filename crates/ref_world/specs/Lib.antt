@@ -1,0 +1,4 @@
+pub mod Seen
+pub mod World
+pub mod References
+pub mod Starts

@@ -1,0 +1,170 @@
+//! The references that a world begins with, and their base.
+ghost use Rattle.std.specs.Prelude.{◌≡◌, ◌≢◌, ◌≤◌, [], true, Ok, Err, IfOk, IfErr, OnOk, length};
+ghost use Rattle.ref_atoms.specs.Atoms.{values_of};
+ghost use Rattle.ref_log.specs.declared.faults.MakeFault.TheVariants as makes;
+ghost use Rattle.ref_refs.specs.Seen.{are_unchanged_since};
+ghost use Rattle.ref_world.specs.Starts.{base_of, no_refs, refusal_of, with_atom, with_declared_atoms, with_declared_refs, with_ref};
+
+use crate::starts::{AtomStart, RefStart};
+use ref_atoms::AtomStore;
+use ref_edn::Value;
+use ref_fun::{Functions, Meaning, Rule};
+use ref_log::{Base, MakeFault, SharedVec, Who};
+use ref_refs::RefStore;
+use std::alloc::{AllocError, Global};
+
+// The refs, made one by one.
+pub(crate) fn declared_refs<M: Meaning, F: Functions<M>>(
+    alloc: Global,
+    funs: &F,
+    starts: &[RefStart],
+) -> Result<RefStore<M>, (Who, MakeFault)>
+    ensures ok { IfOk result (λ refs. with_declared_refs M.accepts (F.knows_pred funs.now) starts.now (Ok no_refs) ≡ Ok refs) }
+    ensures since { IfOk result (λ refs. are_unchanged_since refs.lasts 0 ≡ true) }
+    ensures fault { IfErr result (λ e. e.1 ≢ makes.Memory → with_declared_refs M.accepts (F.knows_pred funs.now) starts.now (Ok no_refs) ≡ Err e) }
+{
+    let mut refs = RefStore::empty(alloc);
+    for start in starts {
+        if let Err(refused) = declare_ref(alloc, funs, start, &mut refs) {
+            return Err(refused);
+        }
+    }
+    Ok(refs)
+}
+
+fn declare_ref<M: Meaning, F: Functions<M>>(
+    alloc: Global,
+    funs: &F,
+    start: &RefStart,
+    refs: &mut RefStore<M>,
+) -> Result<(), (Who, MakeFault)>
+    requires { are_unchanged_since refs.old.lasts 0 ≡ true }
+    ensures ok { OnOk result (with_ref M.accepts (F.knows_pred funs.now) start.now refs.old ≡ Ok refs.new) }
+    ensures since { are_unchanged_since refs.new.lasts 0 ≡ true }
+    ensures fault { IfErr result (λ e. e.1 ≢ makes.Memory → with_ref M.accepts (F.knows_pred funs.now) start.now refs.old ≡ Err e) }
+    ensures memory { IfErr result (λ e. e.1 ≡ makes.Memory → refusal_of (with_ref M.accepts (F.knows_pred funs.now) start.now refs.old) ≡ None) }
+{
+    let who = Who::Ref(refs.len() as u32);
+    if let Err(fault) = refs.check_make(funs, 0, &start.value, &start.rule, start.tally) {
+        return Err((who, fault));
+    }
+    let Ok((value, rule)) = shared(&start.value, &start.rule) else {
+        return Err((who, MakeFault::Memory));
+    };
+    match refs.add(alloc, 0, value, rule, start.tally) {
+        Ok(_) => Ok(()),
+        Err(_) => Err((who, MakeFault::Memory)),
+    }
+}
+
+// The atoms, made one by one.
+pub(crate) fn declared_atoms<M: Meaning, F: Functions<M>>(
+    alloc: Global,
+    funs: &F,
+    starts: &[AtomStart],
+) -> Result<AtomStore<M>, (Who, MakeFault)>
+    ensures ok { IfOk result (λ atoms. with_declared_atoms M.accepts (F.knows_pred funs.now) starts.now (Ok []) ≡ Ok atoms) }
+    ensures fault { IfErr result (λ e. e.1 ≢ makes.Memory → with_declared_atoms M.accepts (F.knows_pred funs.now) starts.now (Ok []) ≡ Err e) }
+{
+    let mut atoms = AtomStore::empty(alloc);
+    for start in starts {
+        if let Err(refused) = declare_atom(alloc, funs, start, &mut atoms) {
+            return Err(refused);
+        }
+    }
+    Ok(atoms)
+}
+
+fn declare_atom<M: Meaning, F: Functions<M>>(
+    alloc: Global,
+    funs: &F,
+    start: &AtomStart,
+    atoms: &mut AtomStore<M>,
+) -> Result<(), (Who, MakeFault)>
+    ensures ok { OnOk result (with_atom M.accepts (F.knows_pred funs.now) start.now atoms.old ≡ Ok atoms.new) }
+    ensures fault { IfErr result (λ e. e.1 ≢ makes.Memory → with_atom M.accepts (F.knows_pred funs.now) start.now atoms.old ≡ Err e) }
+    ensures memory { IfErr result (λ e. e.1 ≡ makes.Memory → refusal_of (with_atom M.accepts (F.knows_pred funs.now) start.now atoms.old) ≡ None) }
+{
+    let who = Who::Atom(atoms.len() as u32);
+    if let Err(fault) = atoms.check_make(funs, 0, &start.value, &start.rule) {
+        return Err((who, fault));
+    }
+    let Ok((value, rule)) = shared(&start.value, &start.rule) else {
+        return Err((who, MakeFault::Memory));
+    };
+    match atoms.add(alloc, value, rule) {
+        Ok(_) => Ok(()),
+        Err(_) => Err((who, MakeFault::Memory)),
+    }
+}
+
+// One more owner of a value and of a rule.
+fn shared(value: &Value, rule: &Option<Rule>) -> Result<(Value, Option<Rule>), AllocError>
+    ensures { IfOk result (λ p. (p.0 ≡ value.now) × (p.1 ≡ rule.now)) }
+{
+    let rule = match rule {
+        Some(rule) => Some(rule.share()?),
+        None => None,
+    };
+    Ok((value.share()?, rule))
+}
+
+// The base of a world that begins with these.
+pub(crate) fn base_of<M: Meaning>(
+    alloc: Global,
+    refs: &RefStore<M>,
+    atoms: &AtomStore<M>,
+) -> Result<Base, AllocError>
+    ensures { IfOk result (λ base. base ≡ base_of refs.now atoms.now) }
+{
+    Ok(Base {
+        point: 0,
+        refs: SharedVec::of(alloc, values_of_refs(alloc, refs)?)?,
+        last: SharedVec::of(alloc, lasts_of_refs(alloc, refs)?)?,
+        atoms: SharedVec::of(alloc, values_of_atoms(alloc, atoms)?)?,
+        tally: refs.tally(),
+        commits: 0,
+        added: 0,
+    })
+}
+
+#[tactic(auto, using(crate::proofs::Starting::take_next))]
+fn values_of_refs<M: Meaning>(alloc: Global, refs: &RefStore<M>) -> Result<Vec<Value>, AllocError>
+    ensures { IfOk result (λ all. all.items ≡ refs.now.values) }
+{
+    let mut all = Vec::with_capacity(alloc, refs.len())?;
+    for r in 0..refs.len() {
+        match refs.value_of(r as u32) {
+            Some(value) => all.push(value.share()?)?,
+            None => unreachable!(),
+        }
+    }
+    Ok(all)
+}
+
+fn lasts_of_refs<M: Meaning>(alloc: Global, refs: &RefStore<M>) -> Result<Vec<u64>, AllocError>
+    ensures { IfOk result (λ all. all.items ≡ refs.now.lasts) }
+{
+    let mut all = Vec::with_capacity(alloc, refs.len())?;
+    for r in 0..refs.len() {
+        all.push(refs.changed_at(r as u32))?;
+    }
+    Ok(all)
+}
+
+#[tactic(auto, using(crate::proofs::Starting::take_next))]
+fn values_of_atoms<M: Meaning>(
+    alloc: Global,
+    atoms: &AtomStore<M>,
+) -> Result<Vec<Value>, AllocError>
+    ensures { IfOk result (λ all. all.items ≡ values_of atoms.now) }
+{
+    let mut all = Vec::with_capacity(alloc, atoms.len())?;
+    for a in 0..atoms.len() {
+        match atoms.value_of(a as u32) {
+            Some(value) => all.push(value.share()?)?,
+            None => unreachable!(),
+        }
+    }
+    Ok(all)
+}
