@@ -1,0 +1,128 @@
+-- Agents whose job has ended.
+use Rattle.std.proofs.Common.{◌≡◌, ◌∙◌, Bool, true, false, List, [], ◌∷◌, Option, None, Some, Result, Ok, Err, ℕ, is_some, get_or, slice_get, slice_set, if◌then◌else◌, refl, sym, ap, subst}
+use Rattle.std.proofs.lemmas.Option.{get_or_from_slice_get}
+use Rattle.ref_edn.specs.Edn.{Edn}
+use Rattle.ref_fun.specs.Meaning.{Means}
+use Rattle.ref_fun.specs.Rule.{Accepts, passes}
+use Rattle.ref_fun.specs.declared.faults.Cause.{Cause}
+use Rattle.ref_fun.specs.declared.rules.Rule.{Rule}
+use Rattle.ref_agents.specs.Account.{AccountSeen, after_marked, and_handled, fit_marks, fold_of, has_head, is_failed_mark, with_head_ended}
+use Rattle.ref_agents.specs.Agents.{AgentsSeen, IsAgent, ended, head_job, job_out, out_if_here, put_agent, with_agents}
+use Rattle.ref_agents.specs.Ends.{IsAnswer, IsAnswerIfHere, after_end, after_run, judged, with_finish}
+use Rattle.ref_agents.specs.Jobs.{JobSeen, RanSeen}
+use Rattle.ref_agents.specs.declared.accounts.Handled.{Handled}
+use Rattle.ref_agents.specs.declared.accounts.Mark.{Mark}
+use Rattle.ref_agents.specs.declared.accounts.Mark.TheVariants as marks
+use Rattle.ref_agents.specs.declared.accounts.Queued.{Queued}
+use Rattle.ref_agents.specs.declared.agents.Agent.{Agent}
+use Rattle.ref_agents.specs.declared.agents.ErrorMode.{ErrorMode}
+use Rattle.ref_agents.specs.declared.agents.ErrorMode.TheVariants.{Fail, Continue}
+use Rattle.ref_agents.specs.declared.ends.Finished.{Finished}
+use Rattle.ref_agents.specs.declared.faults.AgentError.{AgentError}
+use Rattle.ref_agents.specs.declared.faults.AgentError.TheVariants.{Invalid}
+use Rattle.ref_agents.proofs.Changed.{after_handled-append, fit_marks-append, seen}
+use Rattle.ref_agents.proofs.JobsOut.{made, some_of}
+
+-- ---- what a job says of its agent
+
+pub state_is : (g : ℕ) (x : Agent) (job : JobSeen) (queue : List Queued) → head_job g x queue ≡ Some job → job.state ≡ x.value
+state_is g x job [] is = cc
+state_is g x job (q ∷ qs) is = sym (ap (λ j. j.state) (some_of (made g x q) job is))
+
+pub head_has : (g : ℕ) (x : Agent) (job : JobSeen) (queue : List Queued) → head_job g x queue ≡ Some job → has_head queue ≡ true
+head_has g x job [] is = cc
+head_has g x job (q ∷ qs) is = refl
+
+-- ---- the account
+
+fold_ended : (means : Means) (account : AccountSeen) (g : ℕ) (x : Agent) (job : JobSeen) (mark : Mark) (v : Edn) (queue : List Queued)
+    → fold_of means account ≡ Ok x.value → head_job g x queue ≡ Some job → after_marked means mark job.action job.state ≡ Ok v
+    → fold_of means (with_head_ended account mark queue) ≡ Ok v
+fold_ended means account g x job mark v [] folded is marked = cc
+fold_ended means account g x job mark v (q ∷ qs) folded is marked =
+    let h : Handled = record { action = q.action; mark = mark } in
+    after_handled-append means account.handled h (Ok account.start)
+    ∙ ap (λ r. and_handled means h r) folded
+    ∙ ap (λ j. after_marked means mark j.action j.state) (some_of (made g x q) job is)
+    ∙ marked
+
+marks_ended : (account : AccountSeen) (g : ℕ) (x : Agent) (job : JobSeen) (mark : Mark) (failed : Bool) (queue : List Queued)
+    → fit_marks false account.handled ≡ true → head_job g x queue ≡ Some job → failed ≡ is_failed_mark mark
+    → fit_marks failed ((with_head_ended account mark queue).handled) ≡ true
+marks_ended account g x job mark failed [] fit is same = cc
+marks_ended account g x job mark failed (q ∷ qs) fit is same = fit_marks-append account.handled (record { action = q.action; mark = mark }) failed same fit
+
+-- ---- the agent
+
+ended_agent : (means : Means) (accepts : Accepts) (g : ℕ) (x : Agent) (job : JobSeen) (mark : Mark) (v : Edn) (error : Option AgentError)
+    → IsAgent means accepts x → is_some x.error ≡ false → head_job g x x.account.queue ≡ Some job
+    → passes accepts x.rule v ≡ true → after_marked means mark job.action job.state ≡ Ok v → is_some error ≡ is_failed_mark mark
+    → IsAgent means accepts (ended mark v error x)
+ended_agent means accepts g x job mark v error ok fine is accepted marked failed = record {
+  accepted = accepted;
+  folded = fold_ended means x.account g x job mark v x.account.queue ok.folded is marked;
+  marked = marks_ended x.account g x job mark (is_some error) x.account.queue (sym (ap (λ b. fit_marks b x.account.handled) fine) ∙ ok.marked) is failed;
+  single = refl;
+}
+
+abbrev value_or_error : Edn → Result Edn AgentError
+value_or_error v = Ok v
+
+ok_of : (w v : Edn) → value_or_error w ≡ value_or_error v → w ≡ v
+ok_of w v is = cc
+
+is_pass : (b : Bool) (w v : Edn) (e : AgentError) → (if b then Ok w else Err e) ≡ Ok v → (b ≡ true) × (w ≡ v)
+is_pass true w v e is = (refl, ok_of w v is)
+is_pass false w v e is = cc
+
+judged_ok : (accepts : Accepts) (rule : Option Rule) (outcome : Result Edn Cause) (v : Edn) → judged accepts rule outcome ≡ Ok v
+    → (passes accepts rule v ≡ true) × (outcome ≡ Ok v)
+judged_ok accepts rule (Ok w) v is =
+    let pass = is_pass (passes accepts rule w) w v Invalid is in
+    (subst (λ k. passes accepts rule k ≡ true) pass.1 pass.0, ap Ok pass.1)
+judged_ok accepts rule (Err cause) v is = cc
+
+end_agent : (means : Means) (accepts : Accepts) (g : ℕ) (x : Agent) (job : JobSeen) (mode : ErrorMode) (judgement : Result Edn AgentError)
+    → IsAgent means accepts x → is_some x.error ≡ false → head_job g x x.account.queue ≡ Some job
+    → ((v : Edn) → judgement ≡ Ok v → (passes accepts x.rule v ≡ true) × (means job.action.code job.action.args job.state ≡ Ok v))
+    → IsAgent means accepts (after_end mode judgement x)
+end_agent means accepts g x job mode (Ok v) ok fine is pass = ended_agent means accepts g x job marks.Done v None ok fine is ((pass v refl).0) ((pass v refl).1) refl
+end_agent means accepts g x job Fail (Err e) ok fine is pass = ended_agent means accepts g x job marks.Failed x.value (Some e) ok fine is ok.accepted (ap Ok (state_is g x job x.account.queue is)) refl
+end_agent means accepts g x job Continue (Err e) ok fine is pass = ended_agent means accepts g x job marks.Passed x.value None ok fine is ok.accepted (ap Ok (state_is g x job x.account.queue is)) refl
+
+-- what was so of an agent is so of it after its job
+pub agent_after : (means : Means) (accepts : Accepts) (g : ℕ) (x : Agent) (job : JobSeen) (outcome : Result Edn Cause) (judgement : Result Edn AgentError)
+    → IsAgent means accepts x → is_some x.error ≡ false → head_job g x x.account.queue ≡ Some job
+    → means job.action.code job.action.args job.state ≡ outcome → judgement ≡ judged accepts x.rule outcome
+    → IsAgent means accepts (after_end x.mode judgement x)
+agent_after means accepts g x job outcome judgement ok fine is meant same =
+    end_agent means accepts g x job x.mode judgement ok fine is (λ v gave.
+    let pass = judged_ok accepts x.rule outcome v (sym same ∙ gave) in
+    (pass.0, meant ∙ pass.1))
+
+-- ---- the store
+
+here_at : (agents : List Agent) (g : ℕ) (d : Agent) (job : JobSeen) (o : Option Agent) → slice_get agents g ≡ o → out_if_here g o ≡ Some job → slice_get agents g ≡ Some (get_or agents g d)
+here_at agents g d job None is out = cc
+here_at agents g d job (Some x) is out = is ∙ ap Some (sym (get_or_from_slice_get agents g x d is))
+
+-- the agent of a job that is on its way, which was indexed
+pub indexed : (items agents : List Agent) (i g : ℕ) (x : Agent) (job : JobSeen) → items ≡ agents → i ≡ g → job_out agents g ≡ Some job → x ≡ get_or items i x → slice_get agents g ≡ Some x
+indexed items agents i g x job same at out is =
+    here_at agents g x job (slice_get agents g) refl out ∙ ap Some (sym (is ∙ ap (λ l. get_or l i x) same ∙ ap (λ n. get_or agents n x) at))
+
+pub finished_store : (accepts : Accepts) (items : List Agent) (unreleased : List ℕ) (store : AgentsSeen) (ran : RanSeen) (i : ℕ) (x new : Agent)
+    → seen items unreleased ≡ store → i ≡ ran.job.agent → slice_get store.agents ran.job.agent ≡ Some x → new ≡ after_run accepts ran.outcome x
+    → seen (slice_set items i new) unreleased ≡ with_finish accepts store ran
+finished_store accepts items unreleased store ran i x new same at is ends =
+    ap (λ s. seen (slice_set s.agents i new) s.unreleased) same
+    ∙ ap (λ n. seen (slice_set store.agents n new) store.unreleased) at
+    ∙ ap (λ y. seen (slice_set store.agents ran.job.agent y) store.unreleased) ends
+    ∙ ap (λ o. with_agents store (put_agent store.agents ran.job.agent (after_run accepts ran.outcome) o)) (sym is)
+
+pub answered : (accepts : Accepts) (agents : List Agent) (ran : RanSeen) (i : ℕ) (x : Agent) (judgement : Result Edn AgentError) (answer : Finished)
+    → i ≡ ran.job.agent → slice_get agents ran.job.agent ≡ Some x → judgement ≡ judged accepts x.rule ran.outcome → IsAnswer x.mode i x judgement answer
+    → IsAnswerIfHere accepts ran answer (slice_get agents ran.job.agent)
+answered accepts agents ran i x judgement answer at is same told =
+    subst (λ o. IsAnswerIfHere accepts ran answer o) (sym is)
+    (subst (λ j. IsAnswer x.mode ran.job.agent x j answer) same (subst (λ n. IsAnswer x.mode n x judgement answer) at told))

@@ -1,0 +1,4 @@
+pub mod Changed
+pub mod JobsOut
+pub mod Ended
+pub mod SentBack

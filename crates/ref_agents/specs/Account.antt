@@ -1,0 +1,108 @@
+-- An agent's account: its start, the actions that it handled since then with their marks, and its queue.
+--
+-- Clojure's page on agents: actions are queued, and at most one of an agent runs at a time; where one fails the agent keeps
+-- its state, and takes no more or goes on, by its error mode.
+use Rattle.std.specs.Prelude.{ℕ, ◌-◌, length, take, Bool, true, false, not, ◌&&◌, List, [], ◌∷◌, ◌++◌, Option, None, Some, Result, Ok, Err}
+use Rattle.std.specs.BTreeMap.{is_at}
+use Rattle.std.specs.List.{list_any}
+use Rattle.std.specs.Ordering.{nat_cmp}
+use Rattle.ref_edn.specs.Edn.{Edn}
+use Rattle.ref_fun.specs.declared.actions.Action.{Action}
+use Rattle.ref_fun.specs.declared.faults.Cause.{Cause}
+use Rattle.ref_fun.specs.Meaning.{Means}
+use Rattle.ref_agents.specs.declared.accounts.Handled.{Handled}
+use Rattle.ref_agents.specs.declared.accounts.Mark.{Mark}
+use Rattle.ref_agents.specs.declared.accounts.Mark.TheVariants.{Done, Failed, Passed}
+use Rattle.ref_agents.specs.declared.accounts.Queued.{Queued}
+
+pub record AccountSeen : Type 0 where
+  -- the state at the last restart, or at the making
+  pub start : Edn
+  -- the actions that ended since then, in order
+  pub handled : List Handled
+  -- those that wait, in order; the first may be on its way
+  pub queue : List Queued
+
+-- ---- the state
+
+-- the state after an action by its mark: only one that was done changed it
+abbrev pub after_marked : Means → Mark → Action → Edn → Result Edn Cause
+after_marked means Done action v = means action.code action.args v
+after_marked means Failed action v = Ok v
+after_marked means Passed action v = Ok v
+
+abbrev pub and_handled : Means → Handled → Result Edn Cause → Result Edn Cause
+and_handled means h (Ok v) = after_marked means h.mark h.action v
+and_handled means h (Err cause) = Err cause
+
+abbrev pub after_handled : Means → List Handled → Result Edn Cause → Result Edn Cause
+after_handled means [] v = v
+after_handled means (h ∷ hs) v = after_handled means hs (and_handled means h v)
+
+-- The state after the done actions, none of them refusing: the start folded over them in order.
+abbrev pub fold_of : Means → AccountSeen → Result Edn Cause
+fold_of means account = after_handled means account.handled (Ok account.start)
+
+-- ---- the marks
+
+abbrev pub is_failed_mark : Mark → Bool
+is_failed_mark Done = false
+is_failed_mark Failed = true
+is_failed_mark Passed = false
+
+-- Whether an agent is failed exactly where a handled action is marked failed, and that one is the last.
+abbrev pub fit_marks : Bool → List Handled → Bool
+fit_marks failed [] = not failed
+fit_marks true (h ∷ []) = is_failed_mark h.mark
+fit_marks false (h ∷ []) = not (is_failed_mark h.mark)
+fit_marks failed (h ∷ next ∷ hs) = not (is_failed_mark h.mark) && fit_marks failed (next ∷ hs)
+
+-- ---- the queue
+
+-- whether a point is one of these
+abbrev pub has_point : List ℕ → ℕ → Bool
+has_point points point = list_any (is_at (nat_cmp point)) points
+
+-- Whether an action may be taken: it was sent outside of a transaction, or the commit that sent it is released.
+abbrev pub is_released_by : List ℕ → Option ℕ → Bool
+is_released_by unreleased None = true
+is_released_by unreleased (Some point) = not (has_point unreleased point)
+
+abbrev pub is_released : List ℕ → Queued → Bool
+is_released unreleased queued = is_released_by unreleased queued.commit
+
+-- whether there is a first action in a queue
+abbrev pub has_head : List Queued → Bool
+has_head [] = false
+has_head (q ∷ qs) = true
+
+-- whether there is one, and it may be taken
+abbrev pub has_released : List ℕ → List Queued → Bool
+has_released unreleased [] = false
+has_released unreleased (q ∷ qs) = is_released unreleased q
+
+-- ---- an account after an event
+
+-- with one more action that waits
+abbrev pub with_queued : AccountSeen → Queued → AccountSeen
+with_queued account queued = record { start = account.start; handled = account.handled; queue = account.queue ++ queued ∷ [] }
+
+-- without the last action that waits
+abbrev pub without_last : AccountSeen → AccountSeen
+without_last account = record { start = account.start; handled = account.handled; queue = take (length account.queue - 1) account.queue }
+
+abbrev pub with_head_ended : AccountSeen → Mark → List Queued → AccountSeen
+with_head_ended account mark [] = account
+with_head_ended account mark (q ∷ qs) = record { start = account.start; handled = account.handled ++ record { action = q.action; mark = mark } ∷ []; queue = qs }
+
+-- after its first action ended with a mark: it moved to the end of the handled ones
+abbrev pub with_ended : AccountSeen → Mark → AccountSeen
+with_ended account mark = with_head_ended account mark account.queue
+
+abbrev pub kept_queue : Bool → List Queued → List Queued
+kept_queue true queue = []
+kept_queue false queue = queue
+
+-- after a restart with this state, which clears the queue or keeps it
+abbrev pub restarted : AccountSeen → Edn → Bool → AccountSeen
+restarted account state clear = record { start = state; handled = []; queue = kept_queue clear account.queue }

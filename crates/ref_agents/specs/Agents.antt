@@ -1,0 +1,233 @@
+-- What a store of agents shows, and what is always so in it.
+use Rattle.std.specs.Prelude.{◌≡◌, ◌&&◌, ◌++◌, ◌∷◌, ℕ, [], Bool, true, false, not, if◌then◌else◌, List, length, map, Option, None, Some, Ok, is_some, slice_get, slice_set}
+use Rattle.std.specs.BTreeMap.{is_at}
+use Rattle.std.specs.BTreeSet.{insert_key}
+use Rattle.std.specs.Set.{remove_key}
+use Rattle.std.specs.Ordering.{nat_cmp}
+use Rattle.ref_edn.specs.Edn.{Edn}
+use Rattle.ref_fun.specs.Meaning.{Means}
+use Rattle.ref_fun.specs.Rule.{Accepts, passes, unknown}
+use Rattle.ref_fun.specs.declared.rules.Rule.{Rule}
+use Rattle.ref_log.specs.Watches.{has_key, without_key}
+use Rattle.ref_log.specs.declared.faults.RuleFault.{RuleFault}
+use Rattle.ref_log.specs.declared.faults.RuleFault.TheVariants.{NoSuch, NoSuchFun, Invalid}
+use Rattle.ref_log.specs.declared.sends.Sent.{Sent}
+use Rattle.ref_agents.specs.Account.{AccountSeen, fit_marks, fold_of, has_head, has_point, has_released, restarted, with_ended, with_queued, without_last}
+use Rattle.ref_agents.specs.declared.accounts.Mark.{Mark}
+use Rattle.ref_agents.specs.declared.accounts.Queued.{Queued}
+use Rattle.ref_agents.specs.declared.agents.Agent.{Agent}
+use Rattle.ref_agents.specs.declared.agents.ErrorMode.{ErrorMode}
+use Rattle.ref_agents.specs.declared.faults.AgentError.{AgentError}
+use Rattle.ref_agents.specs.declared.faults.SendFault.{SendFault}
+use Rattle.ref_agents.specs.declared.faults.SendFault.TheVariants as sends
+use Rattle.ref_agents.specs.Jobs.{JobSeen}
+
+-- the agents by number, and the points of the commits whose sends may not be taken yet
+pub record AgentsSeen : Type 0 where
+  pub agents : List Agent
+  pub unreleased : List ℕ
+
+-- ---- what is always so
+
+-- Of an agent: its rule accepts its state; its state is its start folded over its done actions; it is failed exactly where a
+-- handled action is marked failed, and that one is the last; and while it is failed no action of it is on its way.
+pub record IsAgent (means : Means) (accepts : Accepts) (agent : Agent) : Type 0 where
+  pub accepted : passes accepts agent.rule agent.value ≡ true
+  pub folded : fold_of means agent.account ≡ Ok agent.value
+  pub marked : fit_marks (is_some agent.error) agent.account.handled ≡ true
+  pub single : (agent.is_out && is_some agent.error) ≡ false
+
+abbrev pub IsAgentIfHere : Means → Accepts → Option Agent → Type 0
+IsAgentIfHere means accepts None = Unit {0}
+IsAgentIfHere means accepts (Some agent) = IsAgent means accepts agent
+
+abbrev pub AreAgents : Means → Accepts → List Agent → Type 0
+AreAgents means accepts agents = (g : ℕ) → IsAgentIfHere means accepts (slice_get agents g)
+
+-- Each agent with an action that waits is one of these.
+abbrev pub has_queue_if_here : Option Agent → Bool
+has_queue_if_here None = false
+has_queue_if_here (Some agent) = has_head agent.account.queue
+
+abbrev pub AreWaiting : List Agent → List ℕ → Type 0
+AreWaiting agents waiting = (g : ℕ) → has_queue_if_here (slice_get agents g) ≡ true → has_point waiting g ≡ true
+
+-- ---- what there is of an agent, if it is here
+
+abbrev pub values_of : List Agent → List Edn
+values_of agents = map (λ agent. agent.value) agents
+
+abbrev pub rule_if_here : Option Agent → Option Rule
+rule_if_here None = None
+rule_if_here (Some agent) = agent.rule
+
+abbrev pub rule_at : List Agent → ℕ → Option Rule
+rule_at agents g = rule_if_here (slice_get agents g)
+
+abbrev pub keys_if_here : Option Agent → List Edn
+keys_if_here None = []
+keys_if_here (Some agent) = agent.watches
+
+abbrev pub keys_at : List Agent → ℕ → List Edn
+keys_at agents g = keys_if_here (slice_get agents g)
+
+abbrev pub error_if_here : Option Agent → Option AgentError
+error_if_here None = None
+error_if_here (Some agent) = agent.error
+
+abbrev pub error_at : List Agent → ℕ → Option AgentError
+error_at agents g = error_if_here (slice_get agents g)
+
+abbrev pub account_if_here : Option Agent → Option AccountSeen
+account_if_here None = None
+account_if_here (Some agent) = Some agent.account
+
+abbrev pub account_at : List Agent → ℕ → Option AccountSeen
+account_at agents g = account_if_here (slice_get agents g)
+
+-- ---- jobs
+
+-- Whether an action of an agent may be taken: it isn't failed, none of its actions is on its way, and its first action that
+-- waits is released.
+abbrev pub is_ready : List ℕ → Agent → Bool
+is_ready unreleased agent = not (is_some agent.error) && not agent.is_out && has_released unreleased agent.account.queue
+
+abbrev pub is_ready_if_here : List ℕ → Option Agent → Bool
+is_ready_if_here unreleased None = false
+is_ready_if_here unreleased (Some agent) = is_ready unreleased agent
+
+abbrev pub is_ready_at : AgentsSeen → ℕ → Bool
+is_ready_at store g = is_ready_if_here store.unreleased (slice_get store.agents g)
+
+abbrev pub head_job : ℕ → Agent → List Queued → Option JobSeen
+head_job g agent [] = None
+head_job g agent (q ∷ qs) = Some (record { agent = g; number = length agent.account.handled; action = q.action; state = agent.value })
+
+-- The job that an agent's first action makes: with its number, that of the actions handled before it, and the state now.
+abbrev pub next_job : ℕ → Option Agent → Option JobSeen
+next_job g None = None
+next_job g (Some agent) = head_job g agent agent.account.queue
+
+abbrev pub out_if_here : ℕ → Option Agent → Option JobSeen
+out_if_here g None = None
+out_if_here g (Some agent) = if agent.is_out then head_job g agent agent.account.queue else None
+
+-- the job of an agent that is on its way
+abbrev pub job_out : List Agent → ℕ → Option JobSeen
+job_out agents g = out_if_here g (slice_get agents g)
+
+-- ---- an agent that is changed, if it is here
+
+abbrev pub put_agent : List Agent → ℕ → (Agent → Agent) → Option Agent → List Agent
+put_agent agents g change None = agents
+put_agent agents g change (Some agent) = slice_set agents g (change agent)
+
+abbrev pub change_agent : List Agent → ℕ → (Agent → Agent) → List Agent
+change_agent agents g change = put_agent agents g change (slice_get agents g)
+
+abbrev pub with_agents : AgentsSeen → List Agent → AgentsSeen
+with_agents store agents = record { agents = agents; unreleased = store.unreleased }
+
+-- with another rule, or none
+abbrev pub ruled : Option Rule → Agent → Agent
+ruled rule agent = record { value = agent.value; rule = rule; watches = agent.watches; mode = agent.mode; error = agent.error; account = agent.account; is_out = agent.is_out }
+
+abbrev pub with_rule : AgentsSeen → ℕ → Option Rule → AgentsSeen
+with_rule store g rule = with_agents store (change_agent store.agents g (ruled rule))
+
+-- with other watches
+abbrev pub watched : List Edn → Agent → Agent
+watched keys agent = record { value = agent.value; rule = agent.rule; watches = keys; mode = agent.mode; error = agent.error; account = agent.account; is_out = agent.is_out }
+
+-- with a watch more; a key that is there already stays where it is
+abbrev pub with_watch : AgentsSeen → ℕ → Edn → AgentsSeen
+with_watch store g key =
+    let keys = keys_at store.agents g in
+    if has_key keys key then store else with_agents store (change_agent store.agents g (watched (keys ++ key ∷ [])))
+
+abbrev pub without_watch : AgentsSeen → ℕ → Edn → AgentsSeen
+without_watch store g key = with_agents store (change_agent store.agents g (watched (without_key (keys_at store.agents g) key)))
+
+-- with another error mode, which takes no failure away
+abbrev pub moded : ErrorMode → Agent → Agent
+moded mode agent = record { value = agent.value; rule = agent.rule; watches = agent.watches; mode = mode; error = agent.error; account = agent.account; is_out = agent.is_out }
+
+abbrev pub with_mode : AgentsSeen → ℕ → ErrorMode → AgentsSeen
+with_mode store g mode = with_agents store (change_agent store.agents g (moded mode))
+
+-- with one more action that waits
+abbrev pub queuing : Queued → Agent → Agent
+queuing queued agent = record { value = agent.value; rule = agent.rule; watches = agent.watches; mode = agent.mode; error = agent.error; account = with_queued agent.account queued; is_out = agent.is_out }
+
+abbrev pub with_send : List Agent → ℕ → Queued → List Agent
+with_send agents g queued = change_agent agents g (queuing queued)
+
+-- with the sends of the commit at a point, in order
+abbrev pub with_sends : ℕ → List Sent → List Agent → List Agent
+with_sends point [] agents = agents
+with_sends point (s ∷ ss) agents = with_sends point ss (with_send agents s.agent (record { action = s.action; commit = Some point }))
+
+-- without the last action that waits for an agent
+abbrev pub unqueuing : Agent → Agent
+unqueuing agent = record { value = agent.value; rule = agent.rule; watches = agent.watches; mode = agent.mode; error = agent.error; account = without_last agent.account; is_out = agent.is_out }
+
+abbrev pub without_send : List Agent → ℕ → List Agent
+without_send agents g = change_agent agents g unqueuing
+
+-- without what these sends added, the last first
+abbrev pub without_sends : List Sent → List Agent → List Agent
+without_sends [] agents = agents
+without_sends (s ∷ ss) agents = without_send (without_sends ss agents) s.agent
+
+-- The points of the commits whose sends may not be taken yet, with one more where it has sends.
+abbrev pub with_unreleased : ℕ → List Sent → List ℕ → List ℕ
+with_unreleased point [] points = points
+with_unreleased point (s ∷ ss) points = insert_key nat_cmp points point
+
+-- a store with the sends of the commit at a point
+abbrev pub with_commit : AgentsSeen → ℕ → List Sent → AgentsSeen
+with_commit store point sends = record { agents = with_sends point sends store.agents; unreleased = with_unreleased point sends store.unreleased }
+
+-- after the release of a commit
+abbrev pub with_release : AgentsSeen → ℕ → AgentsSeen
+with_release store point = record { agents = store.agents; unreleased = remove_key (is_at (nat_cmp point)) store.unreleased }
+
+-- with its first action on its way, or not any more
+abbrev pub outed : Bool → Agent → Agent
+outed is_out agent = record { value = agent.value; rule = agent.rule; watches = agent.watches; mode = agent.mode; error = agent.error; account = agent.account; is_out = is_out }
+
+abbrev pub with_out : AgentsSeen → ℕ → Bool → AgentsSeen
+with_out store g is_out = with_agents store (change_agent store.agents g (outed is_out))
+
+-- after its first action ended: with its mark, the state and the error after it
+abbrev pub ended : Mark → Edn → Option AgentError → Agent → Agent
+ended mark value error agent = record { value = value; rule = agent.rule; watches = agent.watches; mode = agent.mode; error = error; account = with_ended agent.account mark; is_out = false }
+
+-- after a restart
+abbrev pub revived : Edn → Bool → Agent → Agent
+revived state clear agent = record { value = state; rule = agent.rule; watches = agent.watches; mode = agent.mode; error = None; account = restarted agent.account state clear; is_out = agent.is_out }
+
+abbrev pub with_restart : AgentsSeen → ℕ → Edn → Bool → AgentsSeen
+with_restart store g state clear = with_agents store (change_agent store.agents g (revived state clear))
+
+-- ---- when an agent can be given another rule
+
+abbrev pub rule_fault : Option ℕ → Bool → Option RuleFault
+rule_fault (Some code) ok = Some (NoSuchFun code)
+rule_fault None ok = if ok then None else Some Invalid
+
+abbrev pub rule_refusal_if_here : Accepts → (ℕ → Bool) → Option Rule → Option Agent → Option RuleFault
+rule_refusal_if_here accepts knows rule None = Some NoSuch
+rule_refusal_if_here accepts knows rule (Some agent) = rule_fault (unknown knows rule) (passes accepts rule agent.value)
+
+abbrev pub rule_refusal : Accepts → (ℕ → Bool) → List Agent → ℕ → Option Rule → Option RuleFault
+rule_refusal accepts knows agents g rule = rule_refusal_if_here accepts knows rule (slice_get agents g)
+
+-- ---- when an action can be sent
+
+abbrev pub send_refusal_if_here : Option Agent → Option SendFault
+send_refusal_if_here None = Some sends.NoSuchAgent
+send_refusal_if_here (Some agent) = if is_some agent.error then Some sends.Failed else None
+
+abbrev pub send_refusal : List Agent → ℕ → Option SendFault
+send_refusal agents g = send_refusal_if_here (slice_get agents g)

@@ -1,0 +1,137 @@
+//! An agent's account.
+ghost use Rattle.std.specs.Prelude.{◌≡◌, [], length, OnErr, OnOk, slice_get, option_copied};
+ghost use Rattle.ref_agents.specs.Account.{restarted, with_ended, with_queued, without_last};
+
+use ref_edn::Value;
+use ref_fun::Action;
+use std::alloc::{AllocError, Global};
+use std::collections::VecDeque;
+use std::marker::Model;
+
+/// How an action ended.
+#[derive(Clone, Copy, Debug, Drop, PartialEq, Eq)]
+pub enum Mark {
+    /// Its value became the agent's state.
+    Done,
+    /// It failed, or the rule refused its value, and so the agent failed.
+    Failed,
+    /// It failed, or the rule refused its value, and the agent went on.
+    Passed,
+}
+
+/// An action that ended.
+#[derive(Drop)]
+pub struct Handled {
+    pub action: Action,
+    pub mark: Mark,
+}
+
+/// An action that waits.
+#[derive(Drop)]
+pub struct Queued {
+    pub action: Action,
+    /// The point of the commit that sent it, or none where it was sent outside of a transaction.
+    pub commit: Option<u64>,
+}
+
+/// What an agent was given to do: its start, the actions that ended since then, and those that wait. Contracts see lists.
+#[derive(Drop)]
+pub struct Account {
+    start: Value,
+    handled: Vec<Handled>,
+    queue: VecDeque<Queued>,
+}
+
+impl Model for Account {
+    ghost use Rattle.std.specs.Coded.{codes};
+    ghost use Rattle.ref_edn.specs.Code.{edn_code};
+    ghost use Rattle.ref_agents.specs.Account.{AccountSeen};
+
+    ghost Value = { AccountSeen };
+
+    ghost coded = { Prim.hlevel (codes, edn_code) };
+
+    ghost view = { λ a. record { start = a.start; handled = a.handled.items; queue = a.queue.items } };
+}
+
+impl Account {
+    /// An account that begins with this state. It takes no memory.
+    pub fn new(alloc: Global, start: Value) -> Account
+        ensures { result ≡ record { start = start; handled = []; queue = [] } }
+    {
+        Account {
+            start,
+            handled: Vec::new(alloc),
+            queue: VecDeque::new(alloc),
+        }
+    }
+
+    /// The state at the last restart, or at the making.
+    pub fn start(&self) -> &Value
+        ensures { result.now ≡ self.now.start }
+    {
+        &self.start
+    }
+
+    /// The actions that ended since then, in order.
+    pub fn handled(&self) -> &[Handled]
+        ensures { result.now ≡ self.now.handled }
+    {
+        self.handled.as_slice()
+    }
+
+    /// How many actions wait. The first may be on its way.
+    pub fn waiting(&self) -> usize
+        ensures { result ≡ length self.now.queue }
+    {
+        self.queue.len()
+    }
+
+    /// The action that waits at this place, from 0.
+    pub fn waiting_at(&self, i: usize) -> Option<&Queued>
+        ensures { option_copied result ≡ slice_get self.now.queue i }
+    {
+        self.queue.get(i)
+    }
+
+    // One more action waits.
+    pub(crate) fn push(&mut self, action: Action, commit: Option<u64>) -> Result<(), AllocError>
+        ensures ok { OnOk result (self.new ≡ with_queued self.old (record { action = action; commit = commit })) }
+        ensures err { OnErr result (self.new ≡ self.old) }
+    {
+        self.queue.push_back(Queued { action, commit })?;
+        Ok(())
+    }
+
+    // The last action that waits is taken away again.
+    pub(crate) fn pop(&mut self)
+        ensures { self.new ≡ without_last self.old }
+    {
+        self.queue.pop_back();
+    }
+
+    // The first action that waits ended with this mark.
+    pub(crate) fn end(&mut self, mark: Mark) -> Result<(), AllocError>
+        ensures ok { OnOk result (self.new ≡ with_ended self.old mark) }
+        ensures err { OnErr result (self.new ≡ self.old) }
+    {
+        self.handled.reserve(1)?;
+        if let Some(Queued { action, .. }) = self.queue.pop_front() {
+            if self.handled.push(Handled { action, mark }).is_err() {
+                unreachable!();
+            }
+        }
+        Ok(())
+    }
+
+    // Begins anew with this state, with an empty queue or with the same.
+    pub(crate) fn restart(&mut self, state: Value, clear: bool)
+        ensures { self.new ≡ restarted self.old state clear }
+    {
+        self.start = state;
+        self.handled.clear();
+        if clear {
+            self.queue.clear();
+        }
+    }
+}
