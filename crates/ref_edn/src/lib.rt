@@ -18,8 +18,6 @@ pub mod names;
 pub mod order;
 pub mod printer;
 pub mod reader;
-#[cfg(test)]
-mod reader_table;
 pub mod sets;
 mod sort_keys;
 pub mod streams;

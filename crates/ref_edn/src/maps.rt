@@ -394,6 +394,3 @@ impl<'a> IntoIterator for &'a Entries {
         self.iter()
     }
 }
-
-#[cfg(test)]
-mod tests;

@@ -235,6 +235,3 @@ fn append_map(entries: &Entries, out: &mut Vec<u8>) -> Result<(), AllocError>
 pub fn reads_back()
     ensures { (v : Edn) → IsLawful v → IsText (printed v) v }
 {}
-
-#[cfg(test)]
-mod tests;

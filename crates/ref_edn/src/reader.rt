@@ -97,6 +97,3 @@ fn series(alloc: Global, text: &[u8]) -> Result<Vec<Value>, ReadError>
         rest = behind;
     }
 }
-
-#[cfg(test)]
-mod tests;

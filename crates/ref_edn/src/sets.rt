@@ -349,6 +349,3 @@ impl<'a> IntoIterator for &'a Elements {
         self.iter()
     }
 }
-
-#[cfg(test)]
-mod tests;

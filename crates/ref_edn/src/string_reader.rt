@@ -126,6 +126,3 @@ pub(crate) fn string(alloc: Global, text: &[u8]) -> Result<(Value, &[u8]), ReadE
         Err(_) => Err(ReadError::at(Kind::NotUtf8, text)),
     }
 }
-
-#[cfg(test)]
-mod tests;

@@ -195,6 +195,3 @@ pub(crate) fn token(alloc: Global, text: &[u8]) -> Result<(Value, &[u8]), ReadEr
         Err(kind) => Err(ReadError::at(kind, text)),
     }
 }
-
-#[cfg(test)]
-mod tests;

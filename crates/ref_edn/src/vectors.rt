@@ -224,6 +224,3 @@ impl<'a> IntoIterator for &'a Items {
         self.iter()
     }
 }
-
-#[cfg(test)]
-mod tests;

@@ -19,8 +19,6 @@ pub mod predicates;
 pub mod rules;
 pub mod stored;
 pub mod tables;
-#[cfg(test)]
-mod tests;
 
 pub use actions::Action;
 pub use arguments::{Args, MOST_ARGUMENTS};

@@ -11,9 +11,6 @@ use ref_edn::Value;
 use std::alloc::Global;
 use std::collections::BTreeMap;
 
-#[cfg(test)]
-mod tests;
-
 /// How many functions a table may have, and how many predicates.
 pub const MOST_FUNCTIONS: usize = 64;
 

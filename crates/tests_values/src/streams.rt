@@ -1,7 +1,8 @@
 //! Reading and writing in pieces, with failures in mid-stream.
 ghost use Rattle.std.specs.Prelude.{None};
 
-use super::{Counted, Failed, InputFault, Sink, Source, read_to_end, write_all};
+use ref_edn::{Counted, Failed, InputFault, Sink, Source, read_to_end, write_all};
+use std::alloc::{AllocError, Global};
 use std::io;
 use std::io::{Cursor, ErrorKind, Read};
 use std::test::Fail;
@@ -13,6 +14,17 @@ struct Pieces<'a> {
     piece: usize,
     good: u64,
     failures: u64,
+}
+
+impl<'a> Pieces<'a> {
+    fn new(bytes: &'a [u8], piece: usize, good: u64) -> Pieces<'a> {
+        Pieces {
+            bytes,
+            piece,
+            good,
+            failures: 0,
+        }
+    }
 }
 
 impl<'a> Source for Pieces<'a> {
@@ -40,6 +52,17 @@ struct Narrow {
     piece: usize,
     room: usize,
     failures: u64,
+}
+
+impl Narrow {
+    fn new(alloc: Global, piece: usize, room: usize) -> Narrow {
+        Narrow {
+            taken: Vec::new(alloc),
+            piece,
+            room,
+            failures: 0,
+        }
+    }
 }
 
 impl Sink for Narrow {
@@ -77,8 +100,8 @@ impl Read for Breaks {
 
 const LONG: usize = 200_000;
 
-fn long_text(rt: &HostRuntime) -> Result<Vec<u8>, Fail> {
-    let mut text = vec![in rt.alloc(); b'a'; LONG]?;
+fn long_text(alloc: Global) -> Result<Vec<u8>, AllocError> {
+    let mut text = vec![in alloc; b'a'; LONG]?;
     for i in 0..text.len() {
         text[i] = (i % 251) as u8;
     }
@@ -86,77 +109,49 @@ fn long_text(rt: &HostRuntime) -> Result<Vec<u8>, Fail> {
 }
 
 #[test]
-fn reads_to_the_end_in_pieces(rt: HostRuntime) -> Result<(), Fail> {
-    let text = long_text(&rt)?;
+fn reads_to_the_end_or_to_the_limit(rt: HostRuntime) -> Result<(), Fail> {
+    let text = long_text(rt.alloc())?;
     for (piece, limit) in [(7, LONG), (65_536, LONG), (1_000_000, usize::MAX)] {
-        let mut source = Pieces {
-            bytes: &text,
-            piece,
-            good: u64::MAX,
-            failures: 0,
-        };
+        let mut source = Pieces::new(&text, piece, u64::MAX);
         let read = read_to_end(rt.alloc(), &mut source, limit)?;
         assert!(rt; read == text, "in pieces of {piece}");
         assert_eq!(rt; source.failures, 0);
     }
-    let mut source = Counted::new(text.as_slice());
-    assert!(rt; read_to_end(rt.alloc(), &mut source, LONG)? == text);
-    let mut source = Counted::new(b"".as_slice());
-    assert!(rt; read_to_end(rt.alloc(), &mut source, 0)?.is_empty());
-    Ok(())
-}
-
-#[test]
-fn refuses_what_is_too_long(rt: HostRuntime) -> Result<(), Fail> {
-    let text = long_text(&rt)?;
     for (piece, limit) in [(7, LONG - 1), (1_000_000, LONG - 1), (1_000_000, 0)] {
-        let mut source = Pieces {
-            bytes: &text,
-            piece,
-            good: u64::MAX,
-            failures: 0,
-        };
+        let mut source = Pieces::new(&text, piece, u64::MAX);
         let fault = read_to_end(rt.alloc(), &mut source, limit).err();
-        assert!(rt; fault == Some(InputFault::TooLong), "at {limit}");
+        assert_eq!(rt; fault, Some(InputFault::TooLong), "at {limit}");
         assert_eq!(rt; source.bytes.len(), LONG - limit - 1);
         assert_eq!(rt; source.failures, 0);
+    }
+    for text in [text.as_slice(), b""] {
+        let mut source = Counted::new(text);
+        assert!(rt; *read_to_end(rt.alloc(), &mut source, text.len())? == *text);
     }
     Ok(())
 }
 
 #[test]
-fn tells_a_read_that_fails(rt: HostRuntime) -> Result<(), Fail> {
+fn tells_a_read_that_fails(rt: HostRuntime) {
     for good in [0, 1, 5] {
-        let mut source = Pieces {
-            bytes: b"abcdefghij",
-            piece: 2,
-            good,
-            failures: 0,
-        };
+        let mut source = Pieces::new(b"abcdefghij", 2, good);
         for failures in 1..3 {
             let fault = read_to_end(rt.alloc(), &mut source, 100).err();
-            assert!(rt; fault == Some(InputFault::Read), "after {good} reads");
+            assert_eq!(rt; fault, Some(InputFault::Read), "after {good} reads");
             assert_eq!(rt; source.failures, failures);
         }
         let mut source = Counted::new(Breaks { good });
         let fault = read_to_end(rt.alloc(), &mut source, 100).err();
-        assert!(rt; fault == Some(InputFault::Read), "after {good} reads");
+        assert_eq!(rt; fault, Some(InputFault::Read), "after {good} reads");
         assert_eq!(rt; source.failures, 1);
     }
-    Ok(())
 }
 
 #[test]
 fn writes_all_in_pieces(rt: HostRuntime) -> Result<(), Fail> {
-    let text = long_text(&rt)?;
+    let text = long_text(rt.alloc())?;
     for piece in [7, 65_536, 1_000_000] {
-        let taken = Vec::new(rt.alloc());
-        let mut sink = Narrow {
-            taken,
-            piece,
-            room: LONG,
-            failures: 0,
-        };
+        let mut sink = Narrow::new(rt.alloc(), piece, LONG);
         write_all(&mut sink, &text)?;
         assert!(rt; sink.taken == text, "in pieces of {piece}");
         assert_eq!(rt; sink.failures, 0);
@@ -168,25 +163,18 @@ fn writes_all_in_pieces(rt: HostRuntime) -> Result<(), Fail> {
 }
 
 #[test]
-fn tells_a_write_that_fails(rt: HostRuntime) -> Result<(), Fail> {
+fn tells_a_write_that_fails(rt: HostRuntime) {
     for (piece, room) in [(2, 5), (10, 0), (10, 9)] {
-        let taken = Vec::new(rt.alloc());
-        let mut sink = Narrow {
-            taken,
-            piece,
-            room,
-            failures: 0,
-        };
-        assert!(rt; write_all(&mut sink, b"abcdefghij") == Err(Failed));
-        assert!(rt; sink.taken.as_slice() == &b"abcdefghij"[..room]);
+        let mut sink = Narrow::new(rt.alloc(), piece, room);
+        assert_eq!(rt; write_all(&mut sink, b"abcdefghij"), Err(Failed));
+        assert_eq!(rt; sink.taken.as_slice(), &b"abcdefghij"[..room]);
         assert_eq!(rt; sink.failures, 1);
     }
     // Where its room ends, this writer answers that it took 0 bytes.
     let mut sink = Counted::new(Cursor::new([0; 3]));
-    assert!(rt; write_all(&mut sink, b"abcdefghij") == Err(Failed));
+    assert_eq!(rt; write_all(&mut sink, b"abcdefghij"), Err(Failed));
     assert_eq!(rt; sink.failures, 1);
-    assert!(rt; sink.inner.into_inner() == *b"abc");
-    Ok(())
+    assert_eq!(rt; sink.inner.into_inner(), *b"abc");
 }
 
 #[test]
@@ -196,11 +184,9 @@ fn says_what_failed(rt: HostRuntime) -> Result<(), Fail> {
         (InputFault::TooLong, "the input is too long"),
         (InputFault::Memory, "out of memory"),
     ] {
-        assert_eq!(rt; format!(in rt.alloc(); "{fault}")?.as_str(), text);
+        assert_eq!(rt; fault.to_string(rt.alloc())?.as_str(), text);
     }
-    assert_eq!(rt;
-        format!(in rt.alloc(); "{}", Failed)?.as_str(),
-        "a read or a write failed"
-    );
+    let failed = Failed.to_string(rt.alloc())?;
+    assert_eq!(rt; failed.as_str(), "a read or a write failed");
     Ok(())
 }
