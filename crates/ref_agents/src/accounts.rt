@@ -117,9 +117,7 @@ impl Account {
     {
         self.handled.reserve(1)?;
         if let Some(Queued { action, .. }) = self.queue.pop_front() {
-            if self.handled.push(Handled { action, mark }).is_err() {
-                unreachable!();
-            }
+            self.handled.push_reserved(Handled { action, mark });
         }
         Ok(())
     }

@@ -21,9 +21,17 @@ pub const MOST_NESTED: u8 = 64;
 /// equals, and at most 64 collections are open at its deepest place. It takes 16 bytes; texts and collections may have
 /// several owners.
 #[cycle(value)]
-#[derive(Drop)]
 pub struct Value {
     node: Node,
+}
+
+// A function of its own, which whoever lets a value go calls; a derived one would be written out there, with all that a
+// value may be made of.
+impl Drop for Value {
+    #[cycle(drop)]
+    fn drop(self) {
+        let Value { node: _node } = self;
+    }
 }
 
 /// What a value is made of. A node may be unlawful; [`Value::of`] is the test.

@@ -257,13 +257,10 @@ impl<M: Meaning> RefStore<M> {
         self.lasts.reserve(1)?;
         self.rules.reserve(1)?;
         self.watches.reserve(1)?;
-        if self.lasts.push(at).is_err()
-            || self.rules.push(rule).is_err()
-            || self.watches.push(Watches::empty(alloc)).is_err()
-            || self.values.push(start).is_err()
-        {
-            unreachable!();
-        }
+        self.lasts.push_reserved(at);
+        self.rules.push_reserved(rule);
+        self.watches.push_reserved(Watches::empty(alloc));
+        self.values.push_reserved(start);
         if tally {
             self.tally = Some(r);
         }

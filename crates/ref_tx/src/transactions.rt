@@ -245,10 +245,8 @@ impl<M: Meaning> Tx<M> {
         let answer = value.share()?;
         self.dones.reserve(1)?;
         put(&mut self.own, r, kept, commuted)?;
-        match self.dones.push(Done { r, op, answer }) {
-            Ok(()) => Ok(value),
-            Err(_) => unreachable!(),
-        }
+        self.dones.push_reserved(Done { r, op, answer });
+        Ok(value)
     }
 }
 

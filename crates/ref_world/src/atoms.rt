@@ -122,9 +122,7 @@ impl<M: Meaning> World<M> {
     {
         self.log.reserve(1)?;
         self.atoms.install(a, change.value);
-        if self.log.push(change.entry).is_err() {
-            unreachable!();
-        }
+        self.log.push_reserved(change.entry);
         Ok(change.swapped)
     }
 }

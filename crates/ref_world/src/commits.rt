@@ -70,9 +70,7 @@ impl<M: Meaning> World<M> {
         let Prepared { values, landed } = prepared;
         let Landed { entry, notices } = landed;
         self.refs.install(at, values, tx.dones());
-        if self.log.push(entry).is_err() {
-            unreachable!();
-        }
+        self.log.push_reserved(entry);
         Ok(Receipt {
             point: at,
             stamp,

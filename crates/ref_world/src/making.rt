@@ -39,9 +39,7 @@ impl<M: Meaning> World<M> {
         let entry = Entry::MadeRef(value.share()?);
         self.log.reserve(1)?;
         let r = self.refs.add(alloc, at, value, rule, tally)?;
-        if self.log.push(entry).is_err() {
-            unreachable!();
-        }
+        self.log.push_reserved(entry);
         self.base.tally = self.refs.tally();
         Ok(r)
     }
@@ -67,9 +65,7 @@ impl<M: Meaning> World<M> {
         let entry = Entry::MadeAtom(value.share()?);
         self.log.reserve(1)?;
         let a = self.atoms.add(alloc, value, rule)?;
-        if self.log.push(entry).is_err() {
-            unreachable!();
-        }
+        self.log.push_reserved(entry);
         Ok(a)
     }
 }

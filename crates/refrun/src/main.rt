@@ -1,8 +1,6 @@
 //! `refrun` runs EDN workloads on Clojure's reference types, reports what came of them, and prints EDN.
 #![tactic(auto)]
 
-#[cfg(test)]
-mod fakes;
 pub mod faults;
 mod lines;
 pub mod path;

@@ -62,6 +62,3 @@ fn lines_of(alloc: Global, values: &[Value]) -> Result<Vec<u8>, AllocError>
     }
     Ok(output)
 }
-
-#[cfg(test)]
-mod tests;

@@ -135,6 +135,3 @@ fn append_number(n: u64, out: &mut Vec<u8>) -> Result<(), AllocError>
 {
     out.extend_from_slice(Buffer::new().format(n).as_bytes())
 }
-
-#[cfg(test)]
-mod tests;

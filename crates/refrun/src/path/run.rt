@@ -80,6 +80,3 @@ fn report_of_plan<F: Functions<Core>>(
         Err(_) => Err(RunFault::Memory),
     }
 }
-
-#[cfg(test)]
-mod tests;

@@ -131,6 +131,3 @@ impl World {
         self.log.as_slice()
     }
 }
-
-#[cfg(test)]
-mod tests;

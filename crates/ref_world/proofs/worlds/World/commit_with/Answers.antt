@@ -16,8 +16,8 @@ invariant_of-self-2 g c =
     let e = entry_of c.args.stamp tx in
     let after = c.install.new.self in
     let prepared = c.in-Ok.prepared in
-    let pushed : c.push.new.self.items ≡ log ++ prepared.landed.entry ∷ [] = search rules in
-    let items : c.push.new.self.items ≡ log ++ e ∷ [] = pushed ∙ ap (λ x. log ++ x ∷ []) c.in-Ok.ensures.entry in
+    let pushed : c.push_reserved.new.self.items ≡ log ++ prepared.landed.entry ∷ [] = search rules in
+    let items : c.push_reserved.new.self.items ≡ log ++ e ∷ [] = pushed ∙ ap (λ x. log ++ x ∷ []) c.in-Ok.ensures.entry in
     let point : c.point-at.result ≡ point_after w.base log = c.point-at.ensures.value ∙ ap point_of (sym c.self.view_is) in
     let values = c.in-Ok.ensures.values (values_of w.atoms) in
     let here = subst (λ p. step means (p + 1) e (values_now w.refs w.atoms) ≡ Ok (record { refs = prepared.values.items; atoms = values_of w.atoms })) point values in

@@ -8,7 +8,7 @@ invariant_of-self-2 g c =
     let w = c.self.inside in
     let log = w.log.items in
     let change = c.args.change in
-    let items : c.push.new.self.items ≡ log ++ change.entry ∷ [] = search rules in
+    let items : c.push_reserved.new.self.items ≡ log ++ change.entry ∷ [] = search rules in
     let next = rw (← c.self.view_is) at c.requires.step in
     let limit = rw (← c.self.view_is) at c.requires.limit in
     subst (λ l. IsWorld g.M.Meaning.means w.base l w.refs c.install.new.self) (sym items)

@@ -11,7 +11,7 @@ invariant_of-self-2 g c =
     let log = w.log.items in
     let v = c.args.value in
     let is = c.self.invariant in
-    let items : c.push.new.self.items ≡ log ++ MadeAtom v ∷ [] = search rules in
+    let items : c.push_reserved.new.self.items ≡ log ++ MadeAtom v ∷ [] = search rules in
     let point : c.point-at.result ≡ point_after w.base log = c.point-at.ensures.value ∙ ap point_of (sym c.self.view_is) in
     let limit = subst (λ p. p + 1 ≤ 2 ^ 62) point c.in_ok-check_make.ensures.limit in
     subst (λ l. IsWorld g.M.Meaning.means w.base l w.refs c.add.new.self) (sym items)

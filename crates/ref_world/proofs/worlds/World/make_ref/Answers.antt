@@ -20,12 +20,12 @@ invariant_of-self-2 g c =
     let log = w.log.items in
     let v = c.args.value in
     let after = c.add.new.self in
-    let items : c.push.new.self.items ≡ log ++ MadeRef v ∷ [] = search rules in
+    let items : c.push_reserved.new.self.items ≡ log ++ MadeRef v ∷ [] = search rules in
     let point : c.point-at.result ≡ point_after w.base log = c.point-at.ensures.value ∙ ap point_of (sym c.self.view_is) in
     let limit = subst (λ p. p + 1 ≤ 2 ^ 62) point c.in_ok-check_make.ensures.limit in
     let moved = subst (λ p. (r : ℕ) → changed_at after.lasts r ≡ made_at w.refs (p + 1) r) point c.in_ok-r.ensures.lasts in
     let adds = c.in_ok-r.ensures.adds in
     let since = subst (λ p. are_unchanged_since after.lasts (p + 1) ≡ true) point c.add.ensures.since in
-    subst (λ t. IsWorld g.M.Meaning.means (with_tally t w.base) c.push.new.self.items after w.atoms) (sym c.tally-self-inside.ensures)
+    subst (λ t. IsWorld g.M.Meaning.means (with_tally t w.base) c.push_reserved.new.self.items after w.atoms) (sym c.tally-self-inside.ensures)
     (subst (λ l. IsWorld g.M.Meaning.means (with_tally after.tally w.base) l after w.atoms) (sym items)
     (entered g.M.Meaning.means w.base log w.refs w.atoms c.self.invariant (MadeRef v) after w.atoms (ap (λ (s : RefsSeen). Ok (record { refs = s.values; atoms = values_of w.atoms })) (sym adds)) moved since limit))

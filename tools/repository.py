@@ -1,0 +1,102 @@
+"""What the commands `quick` and `wrong-bodies` share: the crates, and the wrong bodies beside them."""
+
+import os
+import shutil
+from pathlib import Path
+
+TOP = Path(__file__).resolve().parent.parent
+
+# What a check reads of a crate.
+SOURCES = ("src", "specs", "proofs")
+
+# Where wrong bodies stand: the gate tries those of the first folder, and `wrong-bodies` those of the second.
+EDITS = ("must-fail", "wrong-bodies")
+
+
+def crates(top=TOP):
+    """The crates by name, each with the names of those that it stands on."""
+    found = {}
+    for line in (top / "crates.txt").read_text(encoding="utf-8").splitlines():
+        name, _, below = line.partition("#")[0].partition(":")
+        if name.strip():
+            found[name.split()[0]] = below.split()
+    return {name: [it for it in below if it in found] for name, below in found.items()}
+
+
+def lowest_first(names, below):
+    """These crates, each behind those that it stands on."""
+    depth = {}
+
+    def depth_of(name):
+        if name not in depth:
+            depth[name] = 1 + max((depth_of(it) for it in below[name]), default=0)
+        return depth[name]
+
+    return sorted(names, key=lambda name: (depth_of(name), name))
+
+
+def with_those_below(names, below):
+    """These crates and all that they stand on."""
+    found, left = set(), list(names)
+    while left:
+        name = left.pop()
+        if name not in found:
+            found.add(name)
+            left += below[name]
+    return found
+
+
+def edits(name, folder, top=TOP):
+    """The wrong bodies of a crate in one of its folders."""
+    return sorted((top / "crates" / name / folder).glob("*.edit"))
+
+
+def misfit(edit):
+    """Why a wrong body can't be put in the place of the right one, or None."""
+    crate, path, old, texts = edit.parent.parent, None, None, {}
+    for line in edit.read_text(encoding="utf-8").split("\n"):
+        if line.startswith("file: "):
+            path = line[len("file: ") :].strip()
+        elif line.startswith("old: "):
+            old = line[len("old: ") :]
+        elif line.startswith("new:"):
+            if not path or not old:
+                return "a line 'new:' stands before a line 'file:' or 'old:'"
+            if path not in texts:
+                if not (crate / path).is_file():
+                    return f"there is no file {path}"
+                texts[path] = (crate / path).read_text(encoding="utf-8")
+            count = texts[path].count(old)
+            if count != 1:
+                return f"its old text stands {count} times in {path}, and not once"
+            texts[path] = texts[path].replace(old, line[len("new:") :].removeprefix(" "))
+            old = None
+    return None if texts else "it has no lines 'file:', 'old:' and 'new:'"
+
+
+def copy_sources(names, to, top=TOP):
+    """Copies what a check reads of these crates, but not what earlier checks made."""
+    for file in ("crates.txt", "HANDLES"):
+        shutil.copyfile(top / file, to / file)
+    (to / ".git").mkdir()
+    for name in names:
+        (to / "crates" / name).mkdir(parents=True)
+        for part in SOURCES:
+            if (top / "crates" / name / part).is_dir():
+                shutil.copytree(top / "crates" / name / part, to / "crates" / name / part)
+
+
+def link_tree(source, to):
+    """Copies a folder; its files become second names of the same files, where that can be."""
+
+    def link(a, b):
+        try:
+            os.link(a, b)
+        except OSError:
+            shutil.copy2(a, b)
+
+    shutil.copytree(source, to, copy_function=link)
+
+
+def processors():
+    return len(os.sched_getaffinity(0))
