@@ -18,8 +18,6 @@ pub mod jobs;
 mod rules;
 mod sends;
 mod taking;
-#[cfg(test)]
-mod tests;
 
 pub use accounts::{Account, Handled, Mark, Queued};
 pub use agents::{Agent, AgentStore, ErrorMode};

@@ -13,8 +13,6 @@
 pub mod atoms;
 pub mod changes;
 pub mod faults;
-#[cfg(test)]
-mod tests;
 
 pub use atoms::{Atom, AtomStore};
 pub use changes::{Cas, Change, Swapped};

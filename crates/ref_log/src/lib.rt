@@ -14,8 +14,6 @@ pub mod operations;
 pub mod replay;
 pub mod sends;
 pub mod states;
-#[cfg(test)]
-mod tests;
 pub mod watches;
 
 pub use entries::{Entry, Stamp, Transaction};

@@ -14,8 +14,6 @@ pub mod faults;
 mod placing;
 mod rules;
 pub mod store;
-#[cfg(test)]
-mod tests;
 mod watches;
 
 pub use faults::{Alien, CommitFault, Conflict};

@@ -10,8 +10,6 @@
 
 pub mod faults;
 mod owns;
-#[cfg(test)]
-mod tests;
 pub mod transactions;
 
 pub use faults::TxFault;

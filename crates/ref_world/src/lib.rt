@@ -16,8 +16,6 @@ mod declared;
 mod making;
 mod references;
 pub mod starts;
-#[cfg(test)]
-mod tests;
 pub mod worlds;
 
 pub use commits::Receipt;

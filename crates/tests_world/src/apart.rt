@@ -1,0 +1,312 @@
+//! The stores side by side as the subject of rows. They are called as a world calls them; the present point and the log are kept
+//! here. The present point can be set by hand, so that rows reach the last one.
+use crate::forms::Start;
+use crate::subjects::{By, Committed, Extent, Kind, Look, Open, STAMP, Starts, Subject};
+use ref_agents::{
+    AgentStore, ErrorMode, FinishFault, Finished, Job, NoSuchAgent, Ran, RestartFault, SendFault,
+};
+use ref_atoms::{AtomFault, AtomStore, Cas, Swapped};
+use ref_edn::Value;
+use ref_fun::{Action, Args, Core, Rule};
+use ref_log::{Base, Entry, MakeFault, Op, RuleFault, Sent, SharedVec, WatchFault, Who};
+use ref_refs::RefStore;
+use ref_tx::TxFault;
+use ref_world::Receipt;
+use std::alloc::{AllocError, Global};
+
+#[derive(Drop)]
+pub(crate) struct Apart {
+    refs: RefStore<Core>,
+    atoms: AtomStore<Core>,
+    agents: AgentStore<Core>,
+    base: Base,
+    point: u64,
+    log: Vec<Entry>,
+}
+
+fn values_of(alloc: Global, starts: &[Start]) -> Result<SharedVec<Value>, AllocError> {
+    let mut values = Vec::new(alloc);
+    for start in starts {
+        values.push(start.value.share()?)?;
+    }
+    SharedVec::of(alloc, values)
+}
+
+// What a making answers, where the test before it told the same.
+fn agreed(told: Result<(), MakeFault>, made: Result<u32, MakeFault>) -> Result<u32, MakeFault> {
+    match (told, made) {
+        (Ok(()), Ok(n)) => Ok(n),
+        (Err(before), Err(fault)) if before == fault => Err(fault),
+        _ => Err(MakeFault::Memory),
+    }
+}
+
+impl Apart {
+    // Stores without references, on the base of these.
+    fn empty(alloc: Global, starts: &Starts) -> Result<Apart, AllocError> {
+        let last = vec![in alloc; 0u64; starts.refs.len()]?;
+        Ok(Apart {
+            refs: RefStore::empty(alloc),
+            atoms: AtomStore::empty(alloc),
+            agents: AgentStore::empty(alloc),
+            base: Base {
+                point: 0,
+                refs: values_of(alloc, &starts.refs)?,
+                last: SharedVec::of(alloc, last)?,
+                atoms: values_of(alloc, &starts.atoms)?,
+                tally: None,
+                commits: 0,
+                added: 0,
+            },
+            point: 0,
+            log: Vec::new(alloc),
+        })
+    }
+
+    fn make_ref(&mut self, by: By, at: u64, start: Start) -> Result<u32, MakeFault> {
+        let Start {
+            value,
+            rule,
+            tally,
+            ..
+        } = start;
+        if !self.refs.are_unchanged_since(at) {
+            return Err(MakeFault::Memory);
+        }
+        let told = self.refs.check_make(by.funs, at, &value, &rule, tally);
+        let made = self.refs.make(by.alloc, by.funs, at, value, rule, tally);
+        self.base.tally = self.refs.tally();
+        agreed(told, made)
+    }
+
+    fn make_atom(&mut self, by: By, at: u64, start: Start) -> Result<u32, MakeFault> {
+        let Start { value, rule, .. } = start;
+        let told = self.atoms.check_make(by.funs, at, &value, &rule);
+        let made = self.atoms.make(by.alloc, by.funs, at, value, rule);
+        agreed(told, made)
+    }
+
+    fn make_agent(&mut self, by: By, start: Start) -> Result<u32, MakeFault> {
+        let Start {
+            value,
+            rule,
+            mode,
+            ..
+        } = start;
+        self.agents.make(by.alloc, by.funs, value, rule, mode)
+    }
+
+    fn make_all(&mut self, by: By, starts: Starts) -> Result<(), (Who, MakeFault)> {
+        for start in starts.refs {
+            if let Err(fault) = self.make_ref(by, 0, start) {
+                return Err((Who::Ref(self.refs.len() as u32), fault));
+            }
+        }
+        for start in starts.atoms {
+            if let Err(fault) = self.make_atom(by, 0, start) {
+                return Err((Who::Atom(self.atoms.len() as u32), fault));
+            }
+        }
+        for start in starts.agents {
+            if let Err(fault) = self.make_agent(by, start) {
+                return Err((Who::Agent(self.agents.len() as u32), fault));
+            }
+        }
+        Ok(())
+    }
+
+    fn next_point(&self) -> u64 {
+        self.point.saturating_add(1)
+    }
+
+    fn enter(&mut self, entry: Entry) -> Result<(), AllocError> {
+        self.log.push(entry)?;
+        self.point = self.next_point();
+        Ok(())
+    }
+}
+
+impl Subject for Apart {
+    fn start(by: By, starts: Starts) -> Result<Apart, (Who, MakeFault)> {
+        let Ok(mut apart) = Apart::empty(by.alloc, &starts) else {
+            return Err((Who::Ref(0), MakeFault::Memory));
+        };
+        apart.make_all(by, starts)?;
+        Ok(apart)
+    }
+
+    fn begin(&self, alloc: Global) -> Result<Open, AllocError> {
+        if !self.refs.are_unchanged_since(self.point) {
+            return Err(AllocError);
+        }
+        Ok(Open {
+            tx: self.refs.begin(alloc, self.point)?,
+            sends: Vec::new(alloc),
+        })
+    }
+
+    fn commit(&mut self, by: By, open: Open) -> Committed {
+        let Open { tx, sends } = open;
+        if self.point == u64::MAX || !self.refs.are_unchanged_since(self.point) {
+            return Err(AllocError);
+        }
+        let at = self.point + 1;
+        let landed = match self.refs.commit(by.alloc, by.funs, at, STAMP, tx) {
+            Ok(landed) => landed,
+            Err((tx, fault)) => return Ok(Err((Open { tx, sends }, fault))),
+        };
+        self.enter(landed.entry)?;
+        self.agents.send_held(by.alloc, at, &sends)?;
+        Ok(Ok(Receipt {
+            point: at,
+            stamp: STAMP,
+            notices: landed.notices,
+        }))
+    }
+
+    fn swap(&mut self, by: By, a: u32, code: u32, args: Args) -> Result<Swapped, AtomFault> {
+        let (at, op) = (self.next_point(), Op::Alter(code, args.share()?));
+        let swapped = self.atoms.swap(by.alloc, by.funs, at, a, code, args)?;
+        self.enter(Entry::Atom(a, op, swapped.new.share()?))?;
+        Ok(swapped)
+    }
+
+    fn reset(&mut self, by: By, a: u32, value: Value) -> Result<Swapped, AtomFault> {
+        let (at, op) = (self.next_point(), Op::Set(value.share()?));
+        let swapped = self.atoms.reset(by.alloc, by.funs, at, a, value)?;
+        self.enter(Entry::Atom(a, op, swapped.new.share()?))?;
+        Ok(swapped)
+    }
+
+    fn cas(&mut self, by: By, a: u32, old: &Value, new: Value) -> Result<Cas, AtomFault> {
+        let (By { alloc, funs }, at) = (by, self.next_point());
+        let entry = Entry::Atom(a, Op::Set(new.share()?), new.share()?);
+        let cas = self.atoms.compare_and_set(alloc, funs, at, a, old, new)?;
+        if cas.done {
+            self.enter(entry)?;
+        }
+        Ok(cas)
+    }
+
+    fn make(&mut self, by: By, kind: Kind, start: Start) -> Result<Who, MakeFault> {
+        let (at, value) = (self.next_point(), start.value.share()?);
+        match kind {
+            Kind::Ref => {
+                let r = self.make_ref(by, at, start)?;
+                self.enter(Entry::MadeRef(value))?;
+                Ok(Who::Ref(r))
+            }
+            Kind::Atom => {
+                let a = self.make_atom(by, at, start)?;
+                self.enter(Entry::MadeAtom(value))?;
+                Ok(Who::Atom(a))
+            }
+            Kind::Agent => Ok(Who::Agent(self.make_agent(by, start)?)),
+        }
+    }
+
+    fn set_validator(&mut self, by: By, who: Who, rule: Option<Rule>) -> Result<(), RuleFault> {
+        let By { alloc, funs } = by;
+        match who {
+            Who::Ref(r) => self.refs.set_validator(alloc, funs, r, rule),
+            Who::Atom(a) => self.atoms.set_validator(alloc, funs, a, rule),
+            Who::Agent(g) => self.agents.set_validator(alloc, funs, g, rule),
+        }
+    }
+
+    fn add_watch(&mut self, alloc: Global, who: Who, key: Value) -> Result<bool, WatchFault> {
+        match who {
+            Who::Ref(r) => self.refs.add_watch(alloc, r, key),
+            Who::Atom(a) => self.atoms.add_watch(alloc, a, key),
+            Who::Agent(g) => self.agents.add_watch(alloc, g, key),
+        }
+    }
+
+    fn remove_watch(&mut self, who: Who, key: &Value) -> bool {
+        match who {
+            Who::Ref(r) => self.refs.remove_watch(r, key),
+            Who::Atom(a) => self.atoms.remove_watch(a, key),
+            Who::Agent(g) => self.agents.remove_watch(g, key),
+        }
+    }
+
+    fn served_by(&self, by: By) -> bool {
+        self.refs.are_rules_known(by.funs)
+            && self.atoms.are_rules_known(by.funs)
+            && self.agents.are_rules_known(by.funs)
+    }
+
+    fn look(&self, alloc: Global, who: Who) -> Result<Look, AllocError> {
+        let Apart {
+            refs,
+            atoms,
+            agents,
+            ..
+        } = self;
+        match who {
+            Who::Ref(r) => Look::of(alloc, refs.value_of(r), refs.rule_of(r), refs.changed_at(r)),
+            Who::Atom(a) => Look::of(alloc, atoms.value_of(a), atoms.rule_of(a), 0),
+            Who::Agent(g) => Look::of(alloc, agents.value_of(g), agents.rule_of(g), 0)?.with(
+                alloc,
+                agents.error_of(g),
+                agents.account(g),
+            ),
+        }
+    }
+
+    fn extent(&self) -> Extent {
+        Extent {
+            refs: self.refs.len(),
+            atoms: self.atoms.len(),
+            agents: self.agents.len(),
+            entries: self.log.len(),
+            tally: self.refs.tally(),
+            point: self.point,
+        }
+    }
+
+    fn log(&self) -> Option<(&Base, &[Entry])> {
+        Some((&self.base, self.log.as_slice()))
+    }
+
+    fn set_point(&mut self, point: u64) -> bool {
+        let can_be = self.refs.are_unchanged_since(point);
+        if can_be {
+            self.point = point;
+        }
+        can_be
+    }
+
+    fn send(&mut self, alloc: Global, g: u32, action: Action) -> Result<(), SendFault> {
+        self.agents.send(alloc, g, action)
+    }
+
+    fn send_in(&self, open: &mut Open, agent: u32, action: Action) -> Result<(), TxFault> {
+        open.sends.push(Sent { agent, action })?;
+        Ok(())
+    }
+
+    fn release(&mut self, point: u64) -> bool {
+        self.agents.release(point)
+    }
+
+    fn take(&mut self) -> Result<Option<Job>, AllocError> {
+        self.agents.take()
+    }
+
+    fn put_back(&mut self, job: Job) -> Result<(), Job> {
+        self.agents.put_back(job)
+    }
+
+    fn finish(&mut self, by: By, ran: Ran<Core>) -> Result<Finished, (Ran<Core>, FinishFault)> {
+        self.agents.finish(by.alloc, by.funs, ran)
+    }
+
+    fn restart(&mut self, by: By, g: u32, state: Value, clear: bool) -> Result<(), RestartFault> {
+        self.agents.restart(by.alloc, by.funs, g, state, clear)
+    }
+
+    fn set_error_mode(&mut self, g: u32, mode: ErrorMode) -> Result<(), NoSuchAgent> {
+        self.agents.set_error_mode(g, mode)
+    }
+}

@@ -1,0 +1,241 @@
+//! Transactions that are drawn, against the slow replay.
+use crate::apart::Apart;
+use crate::calls::{Stage, put_back, taken};
+use crate::forms::{args_from, read};
+use crate::rows::{is_replayed, no_open, starts_of};
+use crate::subjects::{By, STAMP, Subject};
+use crate::tables::fill;
+use crate::whole::Whole;
+use ref_edn::{Node, Value};
+use ref_fun::{Cause, Core, FunTable};
+use ref_log::{Base, Entry, SharedVec, Transaction, replay_plain};
+use ref_refs::CommitFault;
+use ref_tx::{Tx, TxFault};
+use std::alloc::{AllocError, Global};
+use std::test::Fail;
+
+fn next(seed: &mut u64) -> u64 {
+    *seed = seed
+        .wrapping_mul(6364136223846793005)
+        .wrapping_add(1442695040888963407);
+    *seed >> 33
+}
+
+// What is drawn for an operation: a ref, a function, its argument, and the kind of operation.
+#[derive(Clone, Copy, Drop)]
+struct Draw {
+    r: u64,
+    code: u64,
+    n: u64,
+    kind: u64,
+}
+
+fn next_draw(seed: &mut u64) -> Draw {
+    Draw {
+        r: next(seed),
+        code: next(seed),
+        n: next(seed),
+        kind: next(seed),
+    }
+}
+
+fn operate(by: By, tx: &mut Tx<Core>, r: u32, n: i64, drawn: Draw) -> Result<Value, TxFault> {
+    let By { alloc, funs } = by;
+    let code = if drawn.code % 4 == 0 { 2 } else { 1 };
+    let mut values = Vec::new(alloc);
+    values.push(Value::of(Node::Int(n)).map_err(|_| AllocError)?)?;
+    let args = args_from(alloc, &values, 0)?;
+    match drawn.kind % 4 {
+        0 => tx.ref_set(alloc, r, values[0].share()?),
+        1 => tx.alter(alloc, funs, r, code, args),
+        2 => tx.ensure(alloc, r),
+        _ => tx.commute(alloc, funs, r, code, args),
+    }
+}
+
+// ---- One transaction
+
+// Two integers, the tally, and nil.
+const STARTS: &str = "[0 10 [tally 5] nil]";
+
+fn subject_of<S: Subject>(by: By, starts: &str) -> Result<S, AllocError> {
+    let row = read(by.alloc, starts)?;
+    S::start(by, starts_of(by.alloc, &row)?).map_err(|_| AllocError)
+}
+
+// Makes up to 8 operations on the first three refs, and tells how many were refused.
+fn operate_often(by: By, tx: &mut Tx<Core>, seed: &mut u64) -> Result<usize, AllocError> {
+    let mut refused: usize = 0;
+    for _ in 0..next(seed) % 9 {
+        let drawn = next_draw(seed);
+        let (r, n) = ((drawn.r % 3) as u32, (drawn.n % 7) as i64 - 1);
+        match operate(by, tx, r, n, drawn) {
+            Ok(_) => {}
+            Err(TxFault::Memory) => return Err(AllocError),
+            Err(_) => refused = refused.saturating_add(1),
+        }
+    }
+    Ok(refused)
+}
+
+fn entry_of(alloc: Global, tx: &Tx<Core>) -> Result<Entry, AllocError> {
+    let mut dones = Vec::new(alloc);
+    for done in tx.dones() {
+        dones.push(done.share()?)?;
+    }
+    Ok(Entry::Trans(Transaction {
+        stamp: STAMP,
+        read_point: 0,
+        dones: SharedVec::of(alloc, dones)?,
+    }))
+}
+
+// Whether the slow replay of the operations, on the values of the beginning, gives the in-transaction values.
+fn agrees(by: By, base: &Base, tx: &Tx<Core>) -> Result<bool, AllocError> {
+    let entries = vec![in by.alloc; entry_of(by.alloc, tx)?]?;
+    if base.point > 0 {
+        return Ok(false);
+    }
+    let Ok(state) = replay_plain(by.alloc, by.funs, base, &entries) else {
+        return Ok(false);
+    };
+    for r in 0..4u32 {
+        if state.refs.get(r as usize) != tx.deref(r).ok() {
+            return Ok(false);
+        }
+    }
+    Ok(state.refs.len() == 4)
+}
+
+#[test]
+fn in_transaction_values_are_replayed(rt: HostRuntime) -> Result<(), Fail> {
+    let alloc = rt.alloc();
+    let mut funs = FunTable::empty(alloc);
+    fill(alloc, &mut funs, &[1, 2], &[])?;
+    let by = By { alloc, funs: &funs };
+    let world: Whole = subject_of(by, STARTS)?;
+    let (base, _) = world.log().ok_or("no log")?;
+    let mut seed: u64 = 20;
+    let mut recorded: usize = 0;
+    let mut refused: usize = 0;
+    for i in 0..1000 {
+        let mut tx: Tx<Core> = Tx::start(alloc, 0, base.refs.share()?, base.tally);
+        refused = refused.saturating_add(operate_often(by, &mut tx, &mut seed)?);
+        recorded = recorded.saturating_add(tx.dones().len());
+        assert!(rt; agrees(by, base, &tx)?, "transaction {i}");
+    }
+    // Enough of both was drawn.
+    assert!(rt; recorded > 2000, "{recorded} operations");
+    assert!(rt; refused > 500, "{refused} refusals");
+    Ok(())
+}
+
+// ---- Four transactions at a time, on three refs and the tally
+
+// What came of the commits that were tried.
+#[derive(Clone, Copy, Debug, Drop, PartialEq)]
+struct Outcomes {
+    commits: usize,
+    conflicts: usize,
+    refused: usize,
+}
+
+// One of the refs is near the last integer.
+const NEAR_THE_END: &str = "[0 10 9223372036854775803 [tally 5]]";
+
+// Begins a transaction in a place where none is open, and else makes an operation or commits. One that is refused is dropped.
+fn step<S: Subject>(
+    by: By,
+    stage: &mut Stage<S>,
+    seed: &mut u64,
+    outcomes: &mut Outcomes,
+) -> Result<bool, AllocError> {
+    let i = (next(seed) % 4) as usize;
+    let Some(mut open) = taken(&mut stage.open, i) else {
+        let begun = stage.subject.begin(by.alloc)?;
+        put_back(&mut stage.open, i, begun);
+        return Ok(true);
+    };
+    if next(seed) % 8 == 0 {
+        match stage.subject.commit(by, open)? {
+            Ok(_) => outcomes.commits = outcomes.commits.saturating_add(1),
+            Err((_, CommitFault::Conflict(_))) => {
+                outcomes.conflicts = outcomes.conflicts.saturating_add(1);
+            }
+            Err((_, CommitFault::Refused(_, Cause::Overflow))) => {
+                outcomes.refused = outcomes.refused.saturating_add(1);
+            }
+            Err(_) => return Ok(false),
+        }
+        return Ok(true);
+    }
+    let drawn = next_draw(seed);
+    let answer = operate(
+        by,
+        &mut open.tx,
+        (drawn.r % 4) as u32,
+        (drawn.n % 4) as i64,
+        drawn,
+    );
+    put_back(&mut stage.open, i, open);
+    match answer {
+        Err(TxFault::Memory) => Err(AllocError),
+        _ => Ok(true),
+    }
+}
+
+// Makes 80 steps, and says whether each could be made and the slow replay agrees.
+fn interleave<S: Subject>(
+    by: By,
+    seed: &mut u64,
+    outcomes: &mut Outcomes,
+) -> Result<bool, AllocError> {
+    let mut stage: Stage<S> = Stage {
+        subject: subject_of(by, NEAR_THE_END)?,
+        open: no_open(by.alloc)?,
+    };
+    for _ in 0..80 {
+        if !step(by, &mut stage, seed, outcomes)? {
+            return Ok(false);
+        }
+    }
+    is_replayed(by, &stage.subject)
+}
+
+// What comes of 2,000 interleavings; none where the slow replay of one disagrees.
+fn counted<S: Subject>(alloc: Global) -> Result<Option<Outcomes>, AllocError> {
+    let mut funs = FunTable::empty(alloc);
+    fill(alloc, &mut funs, &[1, 2], &[])?;
+    let by = By { alloc, funs: &funs };
+    let mut seed: u64 = 30;
+    let mut outcomes = Outcomes {
+        commits: 0,
+        conflicts: 0,
+        refused: 0,
+    };
+    for _ in 0..2000 {
+        if !interleave::<S>(by, &mut seed, &mut outcomes)? {
+            return Ok(None);
+        }
+    }
+    Ok(Some(outcomes))
+}
+
+// So many as another program outcomes, which draws the same. More than a third of what was tried met a conflict.
+const WANTED: Outcomes = Outcomes {
+    commits: 11278,
+    conflicts: 5879,
+    refused: 21,
+};
+
+#[test]
+fn interleavings_are_replayed_in_a_world(rt: HostRuntime) -> Result<(), Fail> {
+    assert_eq!(rt; counted::<Whole>(rt.alloc())?, Some(WANTED));
+    Ok(())
+}
+
+#[test]
+fn interleavings_are_replayed_apart(rt: HostRuntime) -> Result<(), Fail> {
+    assert_eq!(rt; counted::<Apart>(rt.alloc())?, Some(WANTED));
+    Ok(())
+}

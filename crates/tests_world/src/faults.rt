@@ -1,0 +1,126 @@
+//! Faults: their numbers, and their words on a line.
+use ref_agents::{FinishFault, JobFault, RestartFault, SendFault};
+use ref_atoms::AtomFault;
+use ref_fun::Cause;
+use ref_log::{AuditFault, MakeFault, RuleFault, WatchFault};
+use ref_refs::{Alien, CommitFault, Conflict};
+use ref_tx::TxFault;
+use std::test::Fail;
+
+// A fault, its number, and its words.
+macro_rules! assert_said {
+    ($rt:expr; $($fault:expr => $number:literal, $words:literal;)+) => {
+        for (fault, number, words) in [$(($fault, $number, $words)),+] {
+            assert_eq!($rt; fault.number(), number);
+            assert_eq!($rt; format!(in $rt.alloc(); "{fault}")?.as_str(), words);
+        }
+    };
+}
+
+#[test]
+fn faults_of_logs_and_transactions(rt: HostRuntime) -> Result<(), Fail> {
+    assert_said! { rt;
+        AuditFault::Answer(3) => 1, "the entry at point 3 keeps a wrong answer";
+        AuditFault::Refuses(3) => 2, "a function refuses in the entry at point 3";
+        AuditFault::NoSuch(3) => 3, "the entry at point 3 is about a reference that isn't there";
+        AuditFault::Memory => 4, "out of memory";
+        AuditFault::NoSuchFun(7) => 9, "no function has code 7";
+    }
+    assert_said! { rt;
+        TxFault::NoSuchRef => 1, "no such ref";
+        TxFault::SetAfterCommute => 2, "set after commute";
+        TxFault::TallyOnly => 3, "the tally can only be added to";
+        TxFault::Refused(Cause::Overflow) => 4, "refused: integer overflow";
+        TxFault::NoSuchFun(4) => 5, "no function has code 4";
+        TxFault::NoSuchAgent => 6, "no such agent";
+        TxFault::NotMet => 7, "the requirement is not met";
+        TxFault::Memory => 8, "out of memory";
+    }
+    Ok(())
+}
+
+#[test]
+fn faults_of_references(rt: HostRuntime) -> Result<(), Fail> {
+    assert_said! { rt;
+        MakeFault::Full => 1, "there are too many references";
+        MakeFault::BadTally => 2, "a tally has to be the only one, and to start with an integer of 0 or more";
+        MakeFault::Invalid => 3, "the rule doesn't accept the value";
+        MakeFault::PointLimit => 4, "no point is left";
+        MakeFault::Memory => 5, "out of memory";
+        MakeFault::NoSuchFun(3) => 9, "no predicate has code 3";
+    }
+    assert_said! { rt;
+        RuleFault::NoSuch => 1, "there is no such reference";
+        RuleFault::Invalid => 2, "the rule doesn't accept the value";
+        RuleFault::Memory => 3, "out of memory";
+        RuleFault::NoSuchFun(3) => 9, "no predicate has code 3";
+    }
+    assert_said! { rt;
+        WatchFault::NoSuch => 1, "there is no such reference";
+        WatchFault::Memory => 2, "out of memory";
+    }
+    Ok(())
+}
+
+#[test]
+fn faults_of_commits(rt: HostRuntime) -> Result<(), Fail> {
+    let conflict = Conflict {
+        r: 3,
+        read_point: 4,
+        changed_at: 5,
+    };
+    assert_said! { rt;
+        CommitFault::Foreign(Alien::Ref(3)) => 1, "a transaction of another store: there is no ref 3 here";
+        CommitFault::Foreign(Alien::Agent(3)) => 1, "a transaction of another store: there is no agent 3 here";
+        CommitFault::Foreign(Alien::Tally) => 1, "a transaction of another store: the tally here can only be added to";
+        CommitFault::Foreign(Alien::Point(3)) => 1, "a transaction of another store: point 3 is still to come";
+        CommitFault::Foreign(Alien::Value(3)) => 3, "a transaction of another store: ref 3 had another value here";
+        CommitFault::Conflict(conflict) => 2, "ref 3 has changed";
+        CommitFault::Refused(3, Cause::Overflow) => 4, "refused at ref 3: integer overflow";
+        CommitFault::Invalid(3) => 5, "the rule of ref 3 doesn't accept its value";
+        CommitFault::PointLimit => 6, "no point is left";
+        CommitFault::Memory => 7, "out of memory";
+        CommitFault::NoSuchFun(3) => 9, "the table lacks code 3";
+    }
+    Ok(())
+}
+
+#[test]
+fn faults_of_atoms(rt: HostRuntime) -> Result<(), Fail> {
+    assert_said! { rt;
+        AtomFault::NoSuchAtom => 1, "there is no such atom";
+        AtomFault::NoSuchFun(7) => 2, "the table lacks code 7";
+        AtomFault::Refused(Cause::Overflow) => 3, "refused: integer overflow";
+        AtomFault::Refused(Cause::WrongKind) => 3, "refused: wrong kind of value";
+        AtomFault::Invalid => 4, "the rule doesn't accept the value";
+        AtomFault::PointLimit => 5, "no point is left";
+        AtomFault::Memory => 6, "out of memory";
+    }
+    Ok(())
+}
+
+#[test]
+fn faults_of_agents(rt: HostRuntime) -> Result<(), Fail> {
+    assert_said! { rt;
+        SendFault::NoSuchAgent => 1, "there is no such agent";
+        SendFault::Failed => 2, "the agent is failed";
+        SendFault::Memory => 3, "out of memory";
+    }
+    assert_said! { rt;
+        JobFault::NoSuchFun(3) => 1, "the table lacks code 3";
+        JobFault::Memory => 2, "out of memory";
+    }
+    assert_said! { rt;
+        FinishFault::Foreign => 1, "no such job is on its way here";
+        FinishFault::Memory => 2, "out of memory";
+        FinishFault::NoSuchFun(3) => 9, "the table lacks code 3";
+    }
+    assert_said! { rt;
+        RestartFault::NoSuchAgent => 1, "there is no such agent";
+        RestartFault::NotFailed => 2, "the agent is not failed";
+        RestartFault::Invalid => 3, "the rule doesn't accept the value";
+        RestartFault::Memory => 4, "out of memory";
+        RestartFault::NoSuchFun(3) => 9, "the table lacks code 3";
+    }
+    Ok(())
+}

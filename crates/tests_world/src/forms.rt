@@ -1,0 +1,206 @@
+//! Reading forms: names, values, functions with arguments, and what references start with.
+ghost use Rattle.std.specs.Prelude.{◌≤◌, length};
+
+use ref_agents::ErrorMode;
+use ref_edn::{Node, Value, read_all};
+use ref_fun::{Action, Args, MOST_ARGUMENTS, Rule, code_of};
+use ref_log::Who;
+use std::alloc::{AllocError, Global};
+
+/// The number of a reference that isn't there.
+const NOWHERE: u32 = 99;
+
+/// The reference that a name names.
+pub(crate) fn who_of(name: &[u8], tally: Option<u32>) -> Who {
+    match name {
+        b"a" => Who::Ref(0),
+        b"b" => Who::Ref(1),
+        b"c" => Who::Ref(2),
+        b"d" => Who::Ref(3),
+        b"e" => Who::Ref(4),
+        b"t" => Who::Ref(tally.unwrap_or(NOWHERE)),
+        b"x" => Who::Atom(0),
+        b"y" => Who::Atom(1),
+        b"z" => Who::Atom(2),
+        b"g" => Who::Agent(0),
+        b"h" => Who::Agent(1),
+        b"i" => Who::Agent(2),
+        _ => Who::Ref(NOWHERE),
+    }
+}
+
+/// The name of a reference in an answer, where a tally has that of its number.
+pub(crate) fn name_of(who: Who) -> &'static str {
+    match who {
+        Who::Ref(0) => "a",
+        Who::Ref(1) => "b",
+        Who::Ref(2) => "c",
+        Who::Ref(3) => "d",
+        Who::Ref(4) => "e",
+        Who::Atom(0) => "x",
+        Who::Atom(1) => "y",
+        Who::Atom(2) => "z",
+        Who::Agent(0) => "g",
+        Who::Agent(1) => "h",
+        Who::Agent(2) => "i",
+        _ => "nameless",
+    }
+}
+
+/// The elements of a text.
+pub(crate) fn read(alloc: Global, text: &str) -> Result<Vec<Value>, AllocError> {
+    read_all(alloc, text.as_bytes()).map_err(|_| AllocError)
+}
+
+/// The members of a vector, and none of any other value.
+pub(crate) fn members(alloc: Global, form: &Value) -> Result<Vec<Value>, AllocError> {
+    let mut all = Vec::new(alloc);
+    if let Node::Vector(items) = form.node() {
+        for item in items {
+            all.push(item.share()?)?;
+        }
+    }
+    Ok(all)
+}
+
+pub(crate) fn word_at(call: &[Value], i: usize) -> &[u8] {
+    match call.get(i) {
+        Some(value) => match value.node() {
+            Node::Symbol(name) => name.as_bytes(),
+            _ => b"",
+        },
+        None => b"",
+    }
+}
+
+pub(crate) fn number_at(call: &[Value], i: usize) -> u64 {
+    match call.get(i) {
+        Some(value) => match value.node() {
+            Node::Int(n) => u64::try_from(*n).unwrap_or(u64::MAX),
+            _ => u64::MAX,
+        },
+        None => u64::MAX,
+    }
+}
+
+/// The value at a place. A row that has none there can't be run.
+pub(crate) fn value_at(call: &[Value], i: usize) -> Result<Value, AllocError> {
+    match call.get(i) {
+        Some(value) => value.share(),
+        None => Err(AllocError),
+    }
+}
+
+pub(crate) fn ref_at(call: &[Value], i: usize, tally: Option<u32>) -> u32 {
+    match who_of(word_at(call, i), tally) {
+        Who::Ref(r) => r,
+        _ => NOWHERE,
+    }
+}
+
+pub(crate) fn atom_at(call: &[Value], i: usize) -> u32 {
+    match who_of(word_at(call, i), None) {
+        Who::Atom(a) => a,
+        _ => NOWHERE,
+    }
+}
+
+pub(crate) fn agent_at(call: &[Value], i: usize) -> u32 {
+    match who_of(word_at(call, i), None) {
+        Who::Agent(g) => g,
+        _ => NOWHERE,
+    }
+}
+
+/// The code of a function or a predicate by its name, or a code; 0 where neither stands there.
+pub(crate) fn code_at(call: &[Value], i: usize) -> u32 {
+    match u32::try_from(number_at(call, i)) {
+        Ok(code) => code,
+        Err(_) => code_of(word_at(call, i)).unwrap_or(0),
+    }
+}
+
+/// The values from a place on, as arguments.
+pub(crate) fn args_from(alloc: Global, call: &[Value], start: usize) -> Result<Args, AllocError> {
+    let mut values = Vec::new(alloc);
+    for i in start..call.len() {
+        values.push(value_at(call, i)?)?;
+    }
+    if values.len() > MOST_ARGUMENTS {
+        return Err(AllocError);
+    }
+    Args::of(alloc, values)
+}
+
+/// `+ 1`: a function with its arguments, from a place on.
+pub(crate) fn action_from(
+    alloc: Global,
+    call: &[Value],
+    start: usize,
+) -> Result<Action, AllocError> {
+    Ok(Action {
+        code: code_at(call, start),
+        args: args_from(alloc, call, start.saturating_add(1))?,
+    })
+}
+
+/// `[>= 0]` is a rule, and `nil` is none.
+pub(crate) fn rule_at(alloc: Global, call: &[Value], i: usize) -> Result<Option<Rule>, AllocError> {
+    let form = members(alloc, &value_at(call, i)?)?;
+    if form.is_empty() {
+        return Ok(None);
+    }
+    Ok(Some(Rule {
+        code: code_at(&form, 0),
+        args: args_from(alloc, &form, 1)?,
+    }))
+}
+
+/// What a reference starts with.
+#[derive(Drop)]
+pub(crate) struct Start {
+    pub(crate) value: Value,
+    pub(crate) rule: Option<Rule>,
+    pub(crate) tally: bool,
+    pub(crate) mode: ErrorMode,
+}
+
+/// A value, `[tally VALUE]`, `[rule VALUE [>= 0]]`, or of an agent `[continue VALUE [>= 0]]`.
+pub(crate) fn start_of(alloc: Global, form: &Value) -> Result<Start, AllocError> {
+    let parts = members(alloc, form)?;
+    let (tally, mode) = match word_at(&parts, 0) {
+        b"tally" => (true, ErrorMode::Fail),
+        b"rule" => (false, ErrorMode::Fail),
+        b"continue" => (false, ErrorMode::Continue),
+        _ => {
+            return Ok(Start {
+                value: form.share()?,
+                rule: None,
+                tally: false,
+                mode: ErrorMode::Fail,
+            });
+        }
+    };
+    let rule = if tally {
+        None
+    } else {
+        rule_at(alloc, &parts, 2)?
+    };
+    Ok(Start {
+        value: value_at(&parts, 1)?,
+        rule,
+        tally,
+        mode,
+    })
+}
+
+/// What the references of one kind start with, and of those that are left out none.
+pub(crate) fn starts_at(alloc: Global, row: &[Value], i: usize) -> Result<Vec<Start>, AllocError> {
+    let mut starts = Vec::new(alloc);
+    if let Some(forms) = row.get(i) {
+        for form in members(alloc, forms)? {
+            starts.push(start_of(alloc, &form)?)?;
+        }
+    }
+    Ok(starts)
+}

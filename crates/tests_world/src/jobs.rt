@@ -1,0 +1,133 @@
+//! The calls of a row on agents.
+use crate::calls::{Answer, Told, left, made, refused, settled, wrong};
+use crate::forms::{action_from, agent_at, number_at, read, value_at, word_at};
+use crate::rows::starts_of;
+use crate::subjects::{By, Subject};
+use crate::words::{Form, error_word, name, number, told_form, truth, vector, word};
+use ref_agents::{ErrorMode, FinishFault, Finished, Job, Ran};
+use ref_edn::Value;
+use ref_fun::Core;
+use ref_log::Who;
+use std::alloc::{AllocError, Global};
+
+fn finished_form(alloc: Global, finished: &Finished) -> Form {
+    let (how, error) = match finished {
+        Finished::Changed(notices) => {
+            return told_form(alloc, vec![in alloc; word(alloc, "changed")?]?, notices);
+        }
+        Finished::Failed(error) => ("failed", *error),
+        Finished::Continued(error) => ("continued", *error),
+    };
+    let (how, error) = (word(alloc, how)?, word(alloc, error_word(error))?);
+    vector(alloc, vec![in alloc; how, error]?)
+}
+
+// Tries a refused end again: the fault has to be the same. The job doesn't come back.
+fn retried<S: Subject>(by: By, subject: &mut S, ran: Ran<Core>, fault: FinishFault) -> Answer {
+    let Err((ran, again)) = subject.finish(by, ran) else {
+        return wrong(by.alloc, "another-outcome");
+    };
+    ran.into_job().forsake();
+    if again != fault {
+        return wrong(by.alloc, "another-outcome");
+    }
+    refused(by.alloc, &fault)
+}
+
+// Runs a job and finishes it.
+fn run<S: Subject>(by: By, subject: &mut S, job: Job) -> Answer {
+    let ran = match job.run(by.alloc, by.funs) {
+        Ok(ran) => ran,
+        Err((job, fault)) => {
+            job.forsake();
+            return refused(by.alloc, &fault);
+        }
+    };
+    match subject.finish(by, ran) {
+        Ok(finished) => made(finished_form(by.alloc, &finished)?),
+        Err((ran, fault)) => retried(by, subject, ran, fault),
+    }
+}
+
+fn act<S: Subject>(by: By, subject: &mut S) -> Answer {
+    match subject.take()? {
+        Some(job) => run(by, subject, job),
+        None => wrong(by.alloc, "none"),
+    }
+}
+
+fn next<S: Subject>(alloc: Global, subject: &mut S) -> Answer {
+    let Some(job) = subject.take()? else {
+        return wrong(alloc, "none");
+    };
+    let (who, n) = (Who::Agent(job.agent()), job.number());
+    if let Err(job) = subject.put_back(job) {
+        job.forsake();
+        return wrong(alloc, "not-back");
+    }
+    let (who, n) = (name(alloc, who)?, number(n)?);
+    left(vector(alloc, vec![in alloc; who, n]?)?)
+}
+
+fn lose<S: Subject>(alloc: Global, subject: &mut S) -> Answer {
+    let Some(job) = subject.take()? else {
+        return wrong(alloc, "none");
+    };
+    let who = Who::Agent(job.agent());
+    job.forsake();
+    left(name(alloc, who)?)
+}
+
+fn stranger<S: Subject>(by: By, subject: &mut S, call: &[Value]) -> Answer {
+    let alloc = by.alloc;
+    let starts = starts_of(alloc, &read(alloc, "[] [] [0]")?)?;
+    let Ok(mut other) = S::start(by, starts) else {
+        return wrong(alloc, "no-agents");
+    };
+    let sent = other.send(alloc, agent_at(call, 1), action_from(alloc, call, 2)?);
+    match other.take()? {
+        Some(job) if sent.is_ok() => run(by, subject, job),
+        Some(job) => {
+            job.forsake();
+            wrong(alloc, "not-sent")
+        }
+        None => wrong(alloc, "none"),
+    }
+}
+
+fn restart<S: Subject>(by: By, subject: &mut S, call: &[Value]) -> Answer {
+    let (g, state) = (agent_at(call, 1), value_at(call, 2)?);
+    let clear = matches!(word_at(call, 3), b"clear");
+    settled(by.alloc, subject.restart(by, g, state, clear))
+}
+
+fn set_mode<S: Subject>(alloc: Global, subject: &mut S, call: &[Value]) -> Answer {
+    let mode = match word_at(call, 2) {
+        b"continue" => ErrorMode::Continue,
+        _ => ErrorMode::Fail,
+    };
+    settled(alloc, subject.set_error_mode(agent_at(call, 1), mode))
+}
+
+/// What a call on agents answers, if it is one.
+pub(crate) fn agents_answer<S: Subject>(
+    by: By,
+    subject: &mut S,
+    called: &[u8],
+    call: &[Value],
+) -> Result<Option<Told>, AllocError> {
+    let alloc = by.alloc;
+    let g = agent_at(call, 1);
+    let told = match called {
+        b"send" => settled(alloc, subject.send(alloc, g, action_from(alloc, call, 2)?)),
+        b"release" => made(truth(subject.release(number_at(call, 1)))?),
+        b"act" => act(by, subject),
+        b"next" => next(alloc, subject),
+        b"lose" => lose(alloc, subject),
+        b"stranger" => stranger(by, subject, call),
+        b"restart" => restart(by, subject, call),
+        b"mode" => set_mode(alloc, subject, call),
+        _ => return Ok(None),
+    };
+    Ok(Some(told?))
+}

@@ -1,0 +1,138 @@
+//! Where it ends: stores without references, full ones, and the last point.
+ghost use Rattle.std.specs.Prelude.{◌≡◌, true};
+ghost use Rattle.ref_refs.specs.Seen.{are_unchanged_since};
+
+use crate::apart::Apart;
+use crate::forms::{read, rule_at};
+use crate::rows::first_wrong;
+use crate::tables::fill;
+use crate::words::form;
+use ref_agents::{AgentStore, ErrorMode};
+use ref_atoms::AtomStore;
+use ref_edn::{Node, Value};
+use ref_fun::{Core, FunTable};
+use ref_log::MakeFault;
+use ref_refs::RefStore;
+use std::alloc::{AllocError, Global};
+use std::test::Fail;
+
+// A store of which no ref has changed since the start.
+#[derive(Drop)]
+struct Unchanged {
+    store: RefStore<Core>,
+    ghost since_start: { are_unchanged_since store.lasts 0 ≡ true },
+}
+
+impl Unchanged {
+    fn add(&mut self, alloc: Global, funs: &FunTable) -> Result<u32, MakeFault> {
+        let nil = Value::of(Node::Nil).map_err(|_| AllocError)?;
+        self.store.make(alloc, funs, 0, nil, None, false)
+    }
+}
+
+// A store with this many refs, each of which is nil.
+fn refs_of(alloc: Global, funs: &FunTable, count: u32) -> Result<Option<Unchanged>, AllocError> {
+    let store: RefStore<Core> = RefStore::empty(alloc);
+    let mut refs = Unchanged { store };
+    for r in 0..count {
+        if refs.add(alloc, funs) != Ok(r) {
+            return Ok(None);
+        }
+    }
+    Ok(Some(refs))
+}
+
+#[test]
+fn a_full_store_takes_no_ref(rt: HostRuntime) -> Result<(), Fail> {
+    let alloc = rt.alloc();
+    let funs = FunTable::empty(alloc);
+    let mut refs = refs_of(alloc, &funs, 1 << 20)?.ok_or("a ref wasn't made")?;
+    assert_eq!(rt; refs.add(alloc, &funs), Err(MakeFault::Full));
+    assert_eq!(rt; refs.store.len(), 1048576);
+    assert_eq!(rt; refs.store.tally(), None);
+    Ok(())
+}
+
+// A store with this many atoms, each of which is nil.
+fn atoms_of(
+    alloc: Global,
+    funs: &FunTable,
+    count: u32,
+) -> Result<Option<AtomStore<Core>>, AllocError> {
+    let mut store: AtomStore<Core> = AtomStore::empty(alloc);
+    for a in 0..count {
+        let nil = Value::of(Node::Nil).map_err(|_| AllocError)?;
+        if store.make(alloc, funs, 0, nil, None) != Ok(a) {
+            return Ok(None);
+        }
+    }
+    Ok(Some(store))
+}
+
+#[test]
+fn a_full_store_takes_no_atom(rt: HostRuntime) -> Result<(), Fail> {
+    let alloc = rt.alloc();
+    let mut funs = FunTable::empty(alloc);
+    fill(alloc, &mut funs, &[], &[101])?;
+    let mut store = atoms_of(alloc, &funs, 1 << 20)?.ok_or("an atom wasn't made")?;
+    // A missing predicate is told before it, and the rule and the last point after.
+    let rows = [
+        (0, "nil", MakeFault::Full),
+        (0, "[<= 0]", MakeFault::NoSuchFun(102)),
+        (0, "[>= 0]", MakeFault::Full),
+        (4611686018427387905, "nil", MakeFault::Full),
+    ];
+    for (at, rule, fault) in rows {
+        let rule = rule_at(alloc, &read(alloc, rule)?, 0)?;
+        let told = store.make(alloc, &funs, at, form(alloc, "nil")?, rule);
+        assert_eq!(rt; told, Err(fault));
+        assert_eq!(rt; store.len(), 1048576);
+    }
+    Ok(())
+}
+
+#[test]
+fn stores_begin_empty(rt: HostRuntime) -> Result<(), Fail> {
+    let alloc = rt.alloc();
+    let funs = FunTable::empty(alloc);
+    assert!(rt; RefStore::<Core>::empty(alloc).is_empty());
+    let refs = refs_of(alloc, &funs, 1)?.ok_or("a ref wasn't made")?;
+    assert!(rt; !refs.store.is_empty());
+    assert!(rt; AtomStore::<Core>::empty(alloc).is_empty());
+    let atoms = atoms_of(alloc, &funs, 1)?.ok_or("an atom wasn't made")?;
+    assert!(rt; !atoms.is_empty());
+    let mut agents: AgentStore<Core> = AgentStore::empty(alloc);
+    assert!(rt; agents.is_empty());
+    let made = agents.make(alloc, &funs, form(alloc, "7")?, None, ErrorMode::Fail);
+    assert_eq!(rt; made, Ok(0));
+    assert!(rt; !agents.is_empty());
+    Ok(())
+}
+
+// No world reaches the last point in a test, so the rows are run on the stores apart, whose present point is set by hand. After
+// 4611686018427387904 there is none, and a call is refused for that where nothing else refuses it before.
+#[test]
+fn points_end(rt: HostRuntime) -> Result<(), Fail> {
+    let rows = [
+        // Commits.
+        "[0] [] [] [begin 1 0] [1 alter a + 1 1] [at 4611686018427387904 :ok] [commit 1 :point-limit] [1 deref a 1] [now a 0] [at 4611686018427387903 :ok] [commit 1 4611686018427387904] [now a 1] [changed a 4611686018427387904]",
+        "[0] [] [] [begin 1 0] [1 commute a + 1 1] [other [9223372036854775807] :ok] [at 4611686018427387904 :ok] [commit 1 [:refused a :overflow]]",
+        "[[rule 0 [>= 0]]] [] [] [begin 1 0] [1 set a -1 -1] [begin 2 0] [2 set a 1 1] [at 4611686018427387904 :ok] [commit 1 [:invalid a]] [commit 2 :point-limit]",
+        // Changes of atoms.
+        "[] [1] [] [at 4611686018427387904 :ok] [swap x + 1 :point-limit] [now x 1] [at 4611686018427387903 :ok] [swap x + 1 [1 2]]",
+        "[] [1] [] [at 4611686018427387904 :ok] [reset x 7 :point-limit] [now x 1] [at 4611686018427387903 :ok] [reset x 7 [1 7]]",
+        "[] [1] [] [at 4611686018427387904 :ok] [cas x 1 2 :point-limit] [now x 1] [cas x 9 2 false] [at 4611686018427387903 :ok] [cas x 1 2 true] [now x 2]",
+        "[] [1] [] [swap-by-fewer y - 1 :no-such-atom] [at 4611686018427387904 :ok] [swap y + 1 :no-such-atom] [cas y 1 1 :no-such-atom] [reset y 1 :no-such-atom]",
+        "[] [[rule :k [some?]]] [] [at 4611686018427387904 :ok] [swap-by-fewer x - 1 [:no-such-fun 2]] [swap-by-fewer x + 1 [:no-such-fun 109]] [swap x + 1 :wrong-kind]",
+        "[] [[rule 1 [<= 5]]] [] [at 4611686018427387904 :ok] [reset-by-fewer x 9 [:no-such-fun 102]] [cas-by-fewer x 1 9 [:no-such-fun 102]]",
+        "[] [[rule 9223372036854775807 [>= 0]]] [] [at 4611686018427387904 :ok] [swap x + 1 :overflow]",
+        "[] [[rule 1 [<= 5]]] [] [at 4611686018427387904 :ok] [swap x + 5 :invalid] [reset x 6 :invalid] [cas x 1 6 :invalid] [cas x 9 6 :invalid] [now x 1]",
+        // Makings.
+        "[0] [] [] [at 4611686018427387904 :ok] [make-ref 0 :point-limit] [refs 1] [make-ref [tally -1] :bad-tally] [make-ref [tally 0] :point-limit] [tally :none] [at 4611686018427387903 :ok] [make-ref 0 b] [refs 2] [changed b 4611686018427387904]",
+        "[[rule 5 [<= 5]]] [] [] [at 4611686018427387904 :ok] [make-ref [rule 6 [<= 5]] :invalid] [make-ref [rule 5 [<= 5]] :point-limit] [refs 1]",
+        "[] [] [] [at 4611686018427387904 :ok] [make-atom 0 :point-limit] [make-atom [rule 6 [<= 5]] :invalid] [make-atom [rule 5 [<= 5]] :point-limit] [make-atom-by-fewer [rule 5 [<= 5]] [:no-such-fun 102]] [atoms 0] [at 4611686018427387903 :ok] [make-atom 0 x] [atoms 1]",
+    ];
+    let wrong = first_wrong::<Apart>(rt.alloc(), "", &rows)?;
+    assert!(rt; wrong.is_none(), "{wrong:?}");
+    Ok(())
+}

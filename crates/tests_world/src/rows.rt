@@ -1,0 +1,202 @@
+//! Rows, and how they are run.
+//!
+//! A row is a text. It begins with what there is at the start: a vector of the refs, one of the atoms, one of the agents. Each
+//! is a value, `[tally VALUE]`, `[rule VALUE [>= 0]]`, or of an agent `[continue VALUE [>= 0]]`, which goes on where an action
+//! fails. Where they can't be made, `[refused x :invalid]` says which is the first and why, and the row ends. Else calls follow,
+//! each a vector that ends with what it answers.
+//!
+//! Names say kind and number: a b c d e are refs and t is the tally, x y z are atoms, g h i agents. A function is written as its
+//! name and its arguments; `[>= 0]` is a rule. Faults are words, as `:invalid`, with what they tell, as `[:conflict a 0 1]`.
+//! Notices stand behind an answer, as in `[swap x inc [1 2 [x :k 1 2]]]`. A call whose name ends in `-by-fewer` is made by the
+//! table with fewer functions.
+//!
+//! | Call | |
+//! |---|---|
+//! | `[begin 1 0]` | transaction 1 begins; its read point is 0 |
+//! | `[1 alter a + 5 5]`, `[1 commute a + 5 5]`, `[1 set a 5 5]`, `[1 deref a 5]`, `[1 ensure a 5]` | its operations |
+//! | `[1 require a >= 1 :ok]`, `[1 send g + 1 :ok]`, `[1 began [0 1]]` | what it requires, what it sends, what it began with |
+//! | `[commit 1 2]` | it is committed at point 2 |
+//! | `[swap x + 1 [1 2]]`, `[reset x 2 [1 2]]`, `[cas x 1 2 true]` | an atom is changed: the values before and after |
+//! | `[make-ref 5 b]`, `[make-atom 5 y]`, `[make-agent 5 h]` | a reference is made, and is b |
+//! | `[validate a [>= 0] :ok]`, `[watch a :k true]`, `[unwatch a :k true]` | a rule, or `nil`; a key that is new, that was there |
+//! | `[send g + 1 :ok]`, `[release 1 true]` | an action is sent; the sends of the commit at point 1 may be taken |
+//! | `[act :changed]`, `[next [g 0]]`, `[lose g]` | a job is taken; it is run and finished, put back, or never comes back |
+//! | `[stranger g + 1 :foreign]` | a job of another subject's agent g, which is 0, has run and is finished here |
+//! | `[restart g 5 :ok]`, `[restart g 5 clear :ok]`, `[mode g continue :ok]` | a failed agent begins anew, its queue cleared; an error mode |
+//! | `[now a 5]`, `[rule a [>= 0]]`, `[changed a 1]` | a value, a rule, the point of a ref's last change |
+//! | `[error g :invalid]`, `[account g [5 :done 2]]` | why it is failed; start, actions that ended, how many wait |
+//! | `[refs 1]`, `[atoms 1]`, `[agents 1]`, `[tally a]` | how many there are, which ref is the tally |
+//! | `[point 2]`, `[base [0 [1 2] [3]]]`, `[entries 2]`, `[kept 1 2 5]` | the log; of entry 1 the answer of operation 2 |
+//! | `[served true]` | whether the table has the predicates of all rules |
+//! | `[other [5] [] [] :ok]` | another subject takes this one's place; the open transactions stay |
+//! | `[at 7 :ok]` | the present point is set by hand |
+//!
+//! Where a call is refused or only tells something, the subject has to be as it was before. At the end the slow replay of its
+//! log has to give its values.
+use crate::apart::Apart;
+use crate::calls::{Stage, answer};
+use crate::forms::{members, read, starts_at};
+use crate::subjects::{By, Extent, Look, Open, Starts, Subject};
+use crate::tables::{Tables, fill};
+use crate::whole::Whole;
+use crate::words::{Form, InWords, form, name, value_form, vector};
+use ref_edn::Value;
+use ref_fun::{Core, FunTable};
+use ref_log::{MakeFault, Who, replay_plain};
+use std::alloc::{AllocError, Global};
+
+const LAST_POINT: u64 = 1 << 62;
+
+const ALL_PREDS: [u32; 9] = [101, 102, 103, 104, 105, 106, 107, 108, 109];
+
+/// What the references of a row start with.
+pub(crate) fn starts_of(alloc: Global, row: &[Value]) -> Result<Starts, AllocError> {
+    Ok(Starts {
+        refs: starts_at(alloc, row, 0)?,
+        atoms: starts_at(alloc, row, 1)?,
+        agents: starts_at(alloc, row, 2)?,
+    })
+}
+
+// What a subject shows.
+#[derive(Drop, PartialEq)]
+struct Seen {
+    looks: Vec<Look>,
+    extent: Extent,
+}
+
+fn look_at<S: Subject>(alloc: Global, subject: &S) -> Result<Seen, AllocError> {
+    let mut looks = Vec::new(alloc);
+    for n in 0..6u32 {
+        looks.push(subject.look(alloc, Who::Ref(n))?)?;
+        looks.push(subject.look(alloc, Who::Atom(n))?)?;
+        looks.push(subject.look(alloc, Who::Agent(n))?)?;
+    }
+    let extent = subject.extent();
+    Ok(Seen { looks, extent })
+}
+
+/// Whether the slow replay of a subject's log gives its values.
+pub(crate) fn is_replayed<S: Subject>(by: By, subject: &S) -> Result<bool, AllocError> {
+    let alloc = by.alloc;
+    let Some((base, log)) = subject.log() else {
+        return Ok(true);
+    };
+    if base.point > LAST_POINT {
+        return Ok(false);
+    }
+    let Ok(state) = replay_plain::<Core, FunTable>(alloc, by.funs, base, log) else {
+        return Ok(false);
+    };
+    for n in 0..6u32 {
+        let (r, a) = (state.refs.get(n as usize), state.atoms.get(n as usize));
+        if value_form(alloc, r)? != subject.look(alloc, Who::Ref(n))?.value
+            || value_form(alloc, a)? != subject.look(alloc, Who::Atom(n))?.value
+        {
+            return Ok(false);
+        }
+    }
+    let extent = subject.extent();
+    Ok(state.refs.len() == extent.refs && state.atoms.len() == extent.atoms)
+}
+
+// Whether a call answers what is wanted and leaves what it has to leave.
+fn is_right<S: Subject>(
+    tables: &Tables,
+    stage: &mut Stage<S>,
+    form: &Value,
+) -> Result<bool, AllocError> {
+    let alloc = tables.alloc;
+    let parts = members(alloc, form)?;
+    let Some((wanted, call)) = parts.split_last() else {
+        return Ok(false);
+    };
+    let before = look_at(alloc, &stage.subject)?;
+    let told = answer(tables, stage, call)?;
+    let stays = !told.leaves || look_at(alloc, &stage.subject)? == before;
+    Ok(stays && told.answer == *wanted)
+}
+
+/// Places for transactions, none of which is open.
+pub(crate) fn no_open(alloc: Global) -> Result<Vec<Option<Open>>, AllocError> {
+    let mut open = Vec::new(alloc);
+    for _ in 0..6 {
+        open.push(None)?;
+    }
+    Ok(open)
+}
+
+// The first element of a row that is a wrong call, by its place; the end of the row where the slow replay disagrees.
+fn wrong_place<S: Subject>(
+    tables: &Tables,
+    subject: S,
+    row: &[Value],
+) -> Result<Option<usize>, AllocError> {
+    let mut stage = Stage {
+        subject,
+        open: no_open(tables.alloc)?,
+    };
+    for (i, form) in row.iter().enumerate().skip(3) {
+        if !is_right(tables, &mut stage, form)? {
+            return Ok(Some(i));
+        }
+    }
+    if is_replayed(tables.all(), &stage.subject)? {
+        return Ok(None);
+    }
+    Ok(Some(row.len()))
+}
+
+// `[refused x :invalid]`: what a row says whose references can't be made.
+fn refused_form(alloc: Global, who: Who, fault: MakeFault) -> Form {
+    let (who, fault) = (name(alloc, who)?, fault.words(alloc)?);
+    vector(alloc, vec![in alloc; form(alloc, "refused")?, who, fault]?)
+}
+
+fn wrong_place_of<S: Subject>(tables: &Tables, row: &str) -> Result<Option<usize>, AllocError> {
+    let alloc = tables.alloc;
+    let row = read(alloc, row)?;
+    match S::start(tables.all(), starts_of(alloc, &row)?) {
+        Ok(subject) => wrong_place::<S>(tables, subject, &row),
+        Err((who, fault)) => match row.as_slice() {
+            [_, _, _, told] if *told == refused_form(alloc, who, fault)? => Ok(None),
+            _ => Ok(Some(3)),
+        },
+    }
+}
+
+/// The first row that is wrong on a subject, with the place in it. Each begins with the same start.
+pub(crate) fn first_wrong<S: Subject>(
+    alloc: Global,
+    start: &str,
+    rows: &[&str],
+) -> Result<Option<String>, AllocError> {
+    let mut funs = FunTable::empty(alloc);
+    fill(alloc, &mut funs, &[1, 2, 3], &ALL_PREDS)?;
+    let mut fewer = FunTable::empty(alloc);
+    fill(alloc, &mut fewer, &[1], &[])?;
+    let tables = Tables {
+        alloc,
+        funs: &funs,
+        fewer: &fewer,
+    };
+    for row in rows {
+        let row = format!(in alloc; "{start} {row}")?;
+        if let Some(i) = wrong_place_of::<S>(&tables, row.as_str())? {
+            return Ok(Some(format!(in alloc; "at {i}: {row}")?));
+        }
+    }
+    Ok(None)
+}
+
+/// The first row that is wrong in a world or on the stores apart.
+pub(crate) fn first_wrong_anywhere(
+    alloc: Global,
+    start: &str,
+    rows: &[&str],
+) -> Result<Option<String>, AllocError> {
+    match first_wrong::<Whole>(alloc, start, rows)? {
+        Some(wrong) => Ok(Some(format!(in alloc; "in a world, {wrong}")?)),
+        None => first_wrong::<Apart>(alloc, start, rows),
+    }
+}

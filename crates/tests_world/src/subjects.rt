@@ -1,0 +1,156 @@
+//! What rows are run on.
+use crate::forms::Start;
+use crate::words::{Form, account_form, error_word, number, rule_form, value_form, word};
+use ref_agents::{
+    Account, AgentError, ErrorMode, FinishFault, Finished, Job, NoSuchAgent, Ran, RestartFault,
+    SendFault,
+};
+use ref_atoms::{AtomFault, Cas, Swapped};
+use ref_edn::Value;
+use ref_fun::{Action, Args, Core, FunTable, Rule};
+use ref_log::{Base, Entry, MakeFault, RuleFault, Sent, Stamp, WatchFault, Who};
+use ref_refs::CommitFault;
+use ref_tx::{Tx, TxFault};
+use ref_world::Receipt;
+use std::alloc::{AllocError, Global};
+
+/// By what a call is made.
+#[derive(Clone, Copy, Drop)]
+pub(crate) struct By<'a> {
+    pub(crate) alloc: Global,
+    pub(crate) funs: &'a FunTable,
+}
+
+/// The stamp of each commit.
+pub(crate) const STAMP: Stamp = Stamp { worker: 1, step: 2 };
+
+#[derive(Clone, Copy, Drop)]
+pub(crate) enum Kind {
+    Ref,
+    Atom,
+    Agent,
+}
+
+/// What the references start with.
+#[derive(Drop)]
+pub(crate) struct Starts {
+    pub(crate) refs: Vec<Start>,
+    pub(crate) atoms: Vec<Start>,
+    pub(crate) agents: Vec<Start>,
+}
+
+/// An open transaction, and what it sends.
+#[derive(Drop)]
+pub(crate) struct Open {
+    pub(crate) tx: Tx<Core>,
+    pub(crate) sends: Vec<Sent>,
+}
+
+/// What a commit answers. Want of memory is also where the subject is in no state to commit.
+pub(crate) type Committed = Result<Result<Receipt, (Open, CommitFault)>, AllocError>;
+
+/// What a reference shows, as forms.
+#[derive(Drop, PartialEq)]
+pub(crate) struct Look {
+    pub(crate) value: Value,
+    pub(crate) rule: Value,
+    pub(crate) changed: Value,
+    pub(crate) error: Value,
+    pub(crate) account: Value,
+}
+
+impl Look {
+    /// What a ref or an atom shows.
+    pub(crate) fn of(
+        alloc: Global,
+        value: Option<&Value>,
+        rule: Option<&Rule>,
+        changed: u64,
+    ) -> Result<Look, AllocError> {
+        Ok(Look {
+            value: value_form(alloc, value)?,
+            rule: rule_form(alloc, rule)?,
+            changed: number(changed)?,
+            error: word(alloc, "none")?,
+            account: word(alloc, "none")?,
+        })
+    }
+
+    /// With what an agent shows.
+    pub(crate) fn with(
+        self,
+        alloc: Global,
+        error: Option<AgentError>,
+        account: Option<&Account>,
+    ) -> Result<Look, AllocError> {
+        Ok(Look {
+            error: word(alloc, error.map_or("none", error_word))?,
+            account: account_form(alloc, account)?,
+            ..self
+        })
+    }
+}
+
+/// How many references of each kind there are, and entries in the log; which ref is the tally; and the present point.
+#[derive(Clone, Copy, Drop, PartialEq)]
+pub(crate) struct Extent {
+    pub(crate) refs: usize,
+    pub(crate) atoms: usize,
+    pub(crate) agents: usize,
+    pub(crate) entries: usize,
+    pub(crate) tally: Option<u32>,
+    pub(crate) point: u64,
+}
+
+/// References with a log, and the calls on them.
+pub(crate) trait Subject: Drop + Sized {
+    /// The references, made one by one at point 0; or the first that can't be made, and why.
+    fn start(by: By, starts: Starts) -> Result<Self, (Who, MakeFault)>;
+
+    fn begin(&self, alloc: Global) -> Result<Open, AllocError>;
+
+    fn commit(&mut self, by: By, open: Open) -> Committed;
+
+    fn swap(&mut self, by: By, a: u32, code: u32, args: Args) -> Result<Swapped, AtomFault>;
+
+    fn reset(&mut self, by: By, a: u32, value: Value) -> Result<Swapped, AtomFault>;
+
+    fn cas(&mut self, by: By, a: u32, old: &Value, new: Value) -> Result<Cas, AtomFault>;
+
+    fn make(&mut self, by: By, kind: Kind, start: Start) -> Result<Who, MakeFault>;
+
+    fn set_validator(&mut self, by: By, who: Who, rule: Option<Rule>) -> Result<(), RuleFault>;
+
+    fn add_watch(&mut self, alloc: Global, who: Who, key: Value) -> Result<bool, WatchFault>;
+
+    fn remove_watch(&mut self, who: Who, key: &Value) -> bool;
+
+    fn served_by(&self, by: By) -> bool;
+
+    fn look(&self, alloc: Global, who: Who) -> Result<Look, AllocError>;
+
+    fn extent(&self) -> Extent;
+
+    /// The base, and the entries after it, if the subject can lend them.
+    fn log(&self) -> Option<(&Base, &[Entry])>;
+
+    /// Sets the present point by hand, where the subject lets it be set and no ref has changed after it.
+    fn set_point(&mut self, point: u64) -> bool;
+
+    fn send(&mut self, alloc: Global, g: u32, action: Action) -> Result<(), SendFault>;
+
+    /// An action that a transaction sends.
+    fn send_in(&self, open: &mut Open, g: u32, action: Action) -> Result<(), TxFault>;
+
+    fn release(&mut self, point: u64) -> bool;
+
+    fn take(&mut self) -> Result<Option<Job>, AllocError>;
+
+    fn put_back(&mut self, job: Job) -> Result<(), Job>;
+
+    fn finish(&mut self, by: By, ran: Ran<Core>) -> Result<Finished, (Ran<Core>, FinishFault)>;
+
+    fn restart(&mut self, by: By, g: u32, state: Value, clear: bool) -> Result<(), RestartFault>;
+
+    fn set_error_mode(&mut self, g: u32, mode: ErrorMode) -> Result<(), NoSuchAgent>;
+}
