@@ -11,7 +11,7 @@ fn agents_by_hand(rt: HostRuntime) -> Result<(), Fail> {
         // A restart that clears drops it.
         "[] [] [[rule 0 [>= 0]]] [send g + 1 :ok] [send g - 5 :ok] [send g + 2 :ok] [act :changed] [act [:failed :invalid]] [restart g 10 clear :ok] [now g 10] [account g [10 0]] [act :none]",
         // In the other mode the agent goes on as if neither action nor error had been.
-        "[] [] [[continue 0 [>= 0]]] [send g + 1 :ok] [send g - 5 :ok] [send g + :k :ok] [send g + 2 :ok] [act :changed] [act [:continued :invalid]] [act [:continued :wrong-kind]] [error g :none] [act :changed] [now g 3] [account g [0 :done :passed :passed :done 0]] [restart g 1 :not-failed]",
+        "[] [] [[continue 0 [>= 0]]] [send g + 1 :ok] [send g - 5 :ok] [send g + :k :ok] [send g + 2 :ok] [act :changed] [act [:continued :invalid]] [act [:continued [:refused :wrong-kind]]] [error g :none] [act :changed] [now g 3] [account g [0 :done :passed :passed :done 0]] [restart g 1 :not-failed]",
         // What a commit sent can be taken once it is released.
         "[] [] [0] [begin 1 0] [1 send g + 1 :ok] [commit 1 1] [act :none] [account g [0 1]] [release 2 false] [release 1 true] [release 1 false] [act :changed] [now g 1]",
         // It waits in its place: what was sent later waits behind it.
@@ -23,13 +23,13 @@ fn agents_by_hand(rt: HostRuntime) -> Result<(), Fail> {
         // A cleared send leaves its commit to be released.
         "[] [] [[rule 0 [>= 0]]] [send g - 1 :ok] [act [:failed :invalid]] [begin 1 0] [1 send g + 2 :ok] [commit 1 1] [restart g 5 clear :ok] [account g [5 0]] [release 1 true]",
         // A transaction that isn't committed sends nothing.
-        "[0] [] [0] [begin 1 0] [1 set a 1 1] [1 send g + 1 :ok] [begin 2 0] [2 set a 2 2] [commit 2 1] [commit 1 [:conflict a 0 1]] [account g [0 0]] [release 1 false] [act :none]",
+        "[0] [] [0] [begin 1 0] [1 set a 1 1] [1 send g + 1 :ok] [begin 2 0] [2 set a 2 2] [commit 2 1] [commit 1 [:conflict 0 0 1]] [account g [0 0]] [release 1 false] [act :none]",
         // At most one job of an agent is on its way; its number counts the handled ones.
         "[] [] [0 0] [send g + 1 :ok] [send g + 1 :ok] [send h + 1 :ok] [next [g 0]] [next [h 0]] [act :changed] [now g 1] [next [h 0]] [act :changed] [now g 2] [account g [0 :done :done 0]] [lose h] [act :none] [account h [0 1]] [send h + 1 :ok] [act :none] [restart h 5 :not-failed] [send g + 1 :ok] [next [g 2]]",
         // A job that isn't on its way here is foreign.
         "[] [] [0] [stranger g + 1 :foreign] [send g + 2 :ok] [stranger g + 2 :foreign] [lose g] [stranger g + 1 :foreign] [now g 0] [stranger g + 2 :changed] [now g 2]",
         // Watches are told, but not of a restart.
-        "[] [] [0] [watch g :k true] [watch g :k false] [watch g :l true] [watch h :k :no-such] [send g + 1 :ok] [act [:changed [g :k 0 1] [g :l 0 1]]] [unwatch g :k true] [unwatch g :k false] [unwatch h :l false] [send g + :k :ok] [act [:failed :wrong-kind]] [restart g 1 :ok] [send g + 0 :ok] [act [:changed [g :l 1 1]]]",
+        "[] [] [0] [watch g :k true] [watch g :k false] [watch g :l true] [watch h :k :no-such] [send g + 1 :ok] [act [:changed [g :k 0 1] [g :l 0 1]]] [unwatch g :k true] [unwatch g :k false] [unwatch h :l false] [send g + :k :ok] [act [:failed [:refused :wrong-kind]]] [restart g 1 :ok] [send g + 0 :ok] [act [:changed [g :l 1 1]]]",
         // What a table lacks is told: the function, and the predicate of the rule.
         "[] [] [[rule 0 [>= 0]]] [served true] [served-by-fewer false] [send g inc :ok] [act-by-fewer [:no-such-fun 3]] [act :none] [stranger g inc :changed] [send g - 5 :ok] [act [:failed :invalid]] [restart-by-fewer g 1 [:no-such-fun 101]] [restart-by-fewer h 1 :no-such-agent]",
         "[] [] [[rule 0 [>= 0]]] [send g + 1 :ok] [act-by-fewer [:no-such-fun 101]] [act :none] [now g 0] [account g [0 1]]",

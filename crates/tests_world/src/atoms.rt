@@ -22,9 +22,9 @@ fn changes_of_atoms_by_hand(rt: HostRuntime) -> Result<(), Fail> {
         "[] [[rule 1 [<= 5]]] [] [swap-by-fewer x - 1 [:no-such-fun 2]] [swap-by-fewer x + 1 [:no-such-fun 102]] [swap x conj 1 [:no-such-fun 7]] [now x 1]",
         "[] [[rule 1 [<= 5]] 1] [] [reset-by-fewer x 1 [:no-such-fun 102]] [cas-by-fewer x 1 1 [:no-such-fun 102]] [cas-by-fewer x 9 1 [:no-such-fun 102]] [swap-by-fewer y + 1 [1 2]] [swap-by-fewer y - 1 [:no-such-fun 2]] [reset-by-fewer y 0 [2 0]] [cas-by-fewer y 0 1 true]",
         // A function that refuses.
-        "[] [9223372036854775806] [] [swap x + 1 [9223372036854775806 9223372036854775807]] [swap x + 1 :overflow] [now x 9223372036854775807]",
-        "[] [:k 1] [] [swap x + 1 :wrong-kind] [swap y + :k :wrong-kind] [swap y inc 1 :wrong-arity] [now x :k] [now y 1]",
-        "[0] [1] [] [swap y + 1 :no-such-atom] [swap x conj 1 [:no-such-fun 7]] [swap x + :k :wrong-kind] [now x 1] [point 0]",
+        "[] [9223372036854775806] [] [swap x + 1 [9223372036854775806 9223372036854775807]] [swap x + 1 [:refused :overflow]] [now x 9223372036854775807]",
+        "[] [:k 1] [] [swap x + 1 [:refused :wrong-kind]] [swap y + :k [:refused :wrong-kind]] [swap y inc 1 [:refused :wrong-arity]] [now x :k] [now y 1]",
+        "[0] [1] [] [swap y + 1 :no-such-atom] [swap x conj 1 [:no-such-fun 7]] [swap x + :k [:refused :wrong-kind]] [now x 1] [point 0]",
         // A value that the rule doesn't accept.
         "[] [[rule 1 [<= 5]]] [] [swap x + 5 :invalid] [swap x + 4 [1 5]] [reset x 6 :invalid] [reset x :k :invalid] [cas x 5 6 :invalid] [now x 5]",
         "[] [[rule 1 [<= 5]]] [] [reset x 9 :invalid] [reset y 0 :no-such-atom] [now x 1] [entries 0] [reset x 1 [1 1]] [entries 1]",
@@ -51,7 +51,7 @@ fn rules_and_watches_of_atoms_by_hand(rt: HostRuntime) -> Result<(), Fail> {
         // A watch is told also where the value is the same as before, and only by its own atom.
         "[] [0 0] [] [watch y :k true] [reset x 1 [0 1]] [reset y 0 [0 0 [y :k 0 0]]] [cas y 0 0 [true [y :k 0 0]]] [swap y + 0 [0 0 [y :k 0 0]]]",
         // It isn't told where nothing is set.
-        "[] [[rule 1 [<= 5]]] [] [watch x :k true] [cas x 9 2 false] [reset x 9 :invalid] [swap x + :k :wrong-kind] [reset x 2 [1 2 [x :k 1 2]]]",
+        "[] [[rule 1 [<= 5]]] [] [watch x :k true] [cas x 9 2 false] [reset x 9 :invalid] [swap x + :k [:refused :wrong-kind]] [reset x 2 [1 2 [x :k 1 2]]]",
         "[] [0] [] [watch y :k :no-such] [unwatch y :k false] [unwatch x :k false] [reset x 1 [0 1]]",
         // Watches, rules and values leave each other as they are.
         "[] [[rule 1 [<= 5]]] [] [watch x :k true] [now x 1] [rule x [<= 5]] [validate x nil :ok] [now x 1] [validate x [<= 9] :ok] [reset x 9 [1 9 [x :k 1 9]]] [rule x [<= 9]] [unwatch x :k true] [now x 9] [rule x [<= 9]]",

@@ -8,7 +8,7 @@ use crate::rows::starts_of;
 use crate::subjects::{By, Kind, Open, STAMP, Subject};
 use crate::tables::Tables;
 use crate::words::{
-    Form, InWords, name, number, open_form, told_form, truth, values_form, vector, word,
+    Form, name, number, open_form, told_form, truth, values_form, variant_form, vector, word,
 };
 use ref_atoms::{AtomFault, Swapped};
 use ref_edn::{Node, Value};
@@ -18,6 +18,7 @@ use ref_refs::CommitFault;
 use ref_tx::TxFault;
 use ref_world::Receipt;
 use std::alloc::{AllocError, Global};
+use std::fmt::Debug;
 
 /// A subject, and the open transactions by number.
 #[derive(Drop)]
@@ -49,12 +50,12 @@ pub(crate) fn left(answer: Value) -> Answer {
     })
 }
 
-pub(crate) fn refused<F: InWords>(alloc: Global, fault: &F) -> Answer {
-    left(fault.words(alloc)?)
+pub(crate) fn refused<F: Debug>(alloc: Global, fault: &F) -> Answer {
+    left(variant_form(alloc, fault)?)
 }
 
 /// A call that is either done or refused.
-pub(crate) fn settled<F: InWords + Drop>(alloc: Global, answer: Result<(), F>) -> Answer {
+pub(crate) fn settled<F: Debug + Drop>(alloc: Global, answer: Result<(), F>) -> Answer {
     match answer {
         Ok(()) => made(word(alloc, "ok")?),
         Err(fault) => refused(alloc, &fault),
@@ -139,14 +140,14 @@ fn operated(by: By, open: &mut Open, called: &[u8], r: u32, call: &[Value]) -> F
     }
     match answer {
         Ok(value) => Ok(value),
-        Err(fault) => fault.words(alloc),
+        Err(fault) => variant_form(alloc, &fault),
     }
 }
 
 fn sent<S: Subject>(alloc: Global, subject: &S, open: &mut Open, call: &[Value]) -> Form {
     match subject.send_in(open, agent_at(call, 1), action_from(alloc, call, 2)?) {
         Ok(()) => word(alloc, "ok"),
-        Err(fault) => fault.words(alloc),
+        Err(fault) => variant_form(alloc, &fault),
     }
 }
 

@@ -3,7 +3,7 @@ use crate::apart::Apart;
 use crate::calls::{Stage, put_back, taken};
 use crate::forms::{args_from, read};
 use crate::rows::{is_replayed, no_open, starts_of};
-use crate::subjects::{By, STAMP, Subject};
+use crate::subjects::{By, Open, STAMP, Subject};
 use crate::tables::fill;
 use crate::whole::Whole;
 use ref_edn::{Node, Value};
@@ -42,11 +42,10 @@ fn next_draw(seed: &mut u64) -> Draw {
 fn operate(by: By, tx: &mut Tx<Core>, r: u32, n: i64, drawn: Draw) -> Result<Value, TxFault> {
     let By { alloc, funs } = by;
     let code = if drawn.code % 4 == 0 { 2 } else { 1 };
-    let mut values = Vec::new(alloc);
-    values.push(Value::of(Node::Int(n)).map_err(|_| AllocError)?)?;
-    let args = args_from(alloc, &values, 0)?;
+    let n = Value::of(Node::Int(n)).map_err(|_| AllocError)?;
+    let args = args_from(alloc, &vec![in alloc; n.share()?]?, 0)?;
     match drawn.kind % 4 {
-        0 => tx.ref_set(alloc, r, values[0].share()?),
+        0 => tx.ref_set(alloc, r, n),
         1 => tx.alter(alloc, funs, r, code, args),
         2 => tx.ensure(alloc, r),
         _ => tx.commute(alloc, funs, r, code, args),
@@ -143,6 +142,22 @@ struct Outcomes {
 // One of the refs is near the last integer.
 const NEAR_THE_END: &str = "[0 10 9223372036854775803 [tally 5]]";
 
+fn commit<S: Subject>(
+    by: By,
+    subject: &mut S,
+    open: Open,
+    outcomes: &mut Outcomes,
+) -> Result<bool, AllocError> {
+    let count = match subject.commit(by, open)? {
+        Ok(_) => &mut outcomes.commits,
+        Err((_, CommitFault::Conflict(_))) => &mut outcomes.conflicts,
+        Err((_, CommitFault::Refused(_, Cause::Overflow))) => &mut outcomes.refused,
+        Err(_) => return Ok(false),
+    };
+    *count = count.saturating_add(1);
+    Ok(true)
+}
+
 // Begins a transaction in a place where none is open, and else makes an operation or commits. One that is refused is dropped.
 fn step<S: Subject>(
     by: By,
@@ -157,26 +172,11 @@ fn step<S: Subject>(
         return Ok(true);
     };
     if next(seed) % 8 == 0 {
-        match stage.subject.commit(by, open)? {
-            Ok(_) => outcomes.commits = outcomes.commits.saturating_add(1),
-            Err((_, CommitFault::Conflict(_))) => {
-                outcomes.conflicts = outcomes.conflicts.saturating_add(1);
-            }
-            Err((_, CommitFault::Refused(_, Cause::Overflow))) => {
-                outcomes.refused = outcomes.refused.saturating_add(1);
-            }
-            Err(_) => return Ok(false),
-        }
-        return Ok(true);
+        return commit(by, &mut stage.subject, open, outcomes);
     }
     let drawn = next_draw(seed);
-    let answer = operate(
-        by,
-        &mut open.tx,
-        (drawn.r % 4) as u32,
-        (drawn.n % 4) as i64,
-        drawn,
-    );
+    let (r, n) = ((drawn.r % 4) as u32, (drawn.n % 4) as i64);
+    let answer = operate(by, &mut open.tx, r, n, drawn);
     put_back(&mut stage.open, i, open);
     match answer {
         Err(TxFault::Memory) => Err(AllocError),
@@ -208,11 +208,7 @@ fn counted<S: Subject>(alloc: Global) -> Result<Option<Outcomes>, AllocError> {
     fill(alloc, &mut funs, &[1, 2], &[])?;
     let by = By { alloc, funs: &funs };
     let mut seed: u64 = 30;
-    let mut outcomes = Outcomes {
-        commits: 0,
-        conflicts: 0,
-        refused: 0,
-    };
+    let mut outcomes = NOTHING;
     for _ in 0..2000 {
         if !interleave::<S>(by, &mut seed, &mut outcomes)? {
             return Ok(None);
@@ -221,7 +217,13 @@ fn counted<S: Subject>(alloc: Global) -> Result<Option<Outcomes>, AllocError> {
     Ok(Some(outcomes))
 }
 
-// So many as another program outcomes, which draws the same. More than a third of what was tried met a conflict.
+const NOTHING: Outcomes = Outcomes {
+    commits: 0,
+    conflicts: 0,
+    refused: 0,
+};
+
+// So many as another program counts, which draws the same. More than a third of what was tried met a conflict.
 const WANTED: Outcomes = Outcomes {
     commits: 11278,
     conflicts: 5879,

@@ -1,4 +1,4 @@
-//! Faults: their numbers, and their words on a line.
+//! Faults: their numbers, and what they say on a line.
 use ref_agents::{FinishFault, JobFault, RestartFault, SendFault};
 use ref_atoms::AtomFault;
 use ref_fun::Cause;

@@ -3,7 +3,7 @@ use crate::calls::{Answer, Told, left, made, refused, settled, wrong};
 use crate::forms::{action_from, agent_at, number_at, read, value_at, word_at};
 use crate::rows::starts_of;
 use crate::subjects::{By, Subject};
-use crate::words::{Form, error_word, name, number, told_form, truth, vector, word};
+use crate::words::{Form, name, number, told_form, truth, variant_form, vector, word};
 use ref_agents::{ErrorMode, FinishFault, Finished, Job, Ran};
 use ref_edn::Value;
 use ref_fun::Core;
@@ -15,10 +15,10 @@ fn finished_form(alloc: Global, finished: &Finished) -> Form {
         Finished::Changed(notices) => {
             return told_form(alloc, vec![in alloc; word(alloc, "changed")?]?, notices);
         }
-        Finished::Failed(error) => ("failed", *error),
-        Finished::Continued(error) => ("continued", *error),
+        Finished::Failed(error) => ("failed", error),
+        Finished::Continued(error) => ("continued", error),
     };
-    let (how, error) = (word(alloc, how)?, word(alloc, error_word(error))?);
+    let (how, error) = (word(alloc, how)?, variant_form(alloc, error)?);
     vector(alloc, vec![in alloc; how, error]?)
 }
 

@@ -1,4 +1,15 @@
-//! Tests of transactions, refs, atoms, agents and worlds by their public calls. There is nothing else here.
+//! Tests of logs, transactions, refs, atoms, agents and worlds by their public calls. There is nothing else here.
+//!
+//! Most are rows: a text with what there is at the start, and calls, each with what it answers last, as in
+//! `[0] [1] [] [begin 1 0] [1 alter a + 5 5] [commit 1 1] [swap x + 1 [1 2]]`. The head of `rows` tells their language.
+//!
+//! | Modules | |
+//! |---|---|
+//! | `transactions`, `conflicts`, `rules`, `atoms`, `agents`, `makings` | the rows |
+//! | `limits`, `pieces`, `replay`, `faults`, `drawn` | full stores and the last point, small types, logs by hand, what faults say, drawn transactions |
+//! | `rows`, `calls`, `jobs` | what runs rows: the calls of transactions, refs and atoms, and those of agents |
+//! | `forms`, `words`, `tables` | reading what a row is written with, writing what is answered, tables of functions |
+//! | `subjects`, `whole`, `apart` | what rows are run on: a world, or the stores side by side |
 #![tactic(auto)]
 
 #[cfg(test)]

@@ -116,16 +116,16 @@ fn points_end(rt: HostRuntime) -> Result<(), Fail> {
     let rows = [
         // Commits.
         "[0] [] [] [begin 1 0] [1 alter a + 1 1] [at 4611686018427387904 :ok] [commit 1 :point-limit] [1 deref a 1] [now a 0] [at 4611686018427387903 :ok] [commit 1 4611686018427387904] [now a 1] [changed a 4611686018427387904]",
-        "[0] [] [] [begin 1 0] [1 commute a + 1 1] [other [9223372036854775807] :ok] [at 4611686018427387904 :ok] [commit 1 [:refused a :overflow]]",
-        "[[rule 0 [>= 0]]] [] [] [begin 1 0] [1 set a -1 -1] [begin 2 0] [2 set a 1 1] [at 4611686018427387904 :ok] [commit 1 [:invalid a]] [commit 2 :point-limit]",
+        "[0] [] [] [begin 1 0] [1 commute a + 1 1] [other [9223372036854775807] :ok] [at 4611686018427387904 :ok] [commit 1 [:refused 0 :overflow]]",
+        "[[rule 0 [>= 0]]] [] [] [begin 1 0] [1 set a -1 -1] [begin 2 0] [2 set a 1 1] [at 4611686018427387904 :ok] [commit 1 [:invalid 0]] [commit 2 :point-limit]",
         // Changes of atoms.
         "[] [1] [] [at 4611686018427387904 :ok] [swap x + 1 :point-limit] [now x 1] [at 4611686018427387903 :ok] [swap x + 1 [1 2]]",
         "[] [1] [] [at 4611686018427387904 :ok] [reset x 7 :point-limit] [now x 1] [at 4611686018427387903 :ok] [reset x 7 [1 7]]",
         "[] [1] [] [at 4611686018427387904 :ok] [cas x 1 2 :point-limit] [now x 1] [cas x 9 2 false] [at 4611686018427387903 :ok] [cas x 1 2 true] [now x 2]",
         "[] [1] [] [swap-by-fewer y - 1 :no-such-atom] [at 4611686018427387904 :ok] [swap y + 1 :no-such-atom] [cas y 1 1 :no-such-atom] [reset y 1 :no-such-atom]",
-        "[] [[rule :k [some?]]] [] [at 4611686018427387904 :ok] [swap-by-fewer x - 1 [:no-such-fun 2]] [swap-by-fewer x + 1 [:no-such-fun 109]] [swap x + 1 :wrong-kind]",
+        "[] [[rule :k [some?]]] [] [at 4611686018427387904 :ok] [swap-by-fewer x - 1 [:no-such-fun 2]] [swap-by-fewer x + 1 [:no-such-fun 109]] [swap x + 1 [:refused :wrong-kind]]",
         "[] [[rule 1 [<= 5]]] [] [at 4611686018427387904 :ok] [reset-by-fewer x 9 [:no-such-fun 102]] [cas-by-fewer x 1 9 [:no-such-fun 102]]",
-        "[] [[rule 9223372036854775807 [>= 0]]] [] [at 4611686018427387904 :ok] [swap x + 1 :overflow]",
+        "[] [[rule 9223372036854775807 [>= 0]]] [] [at 4611686018427387904 :ok] [swap x + 1 [:refused :overflow]]",
         "[] [[rule 1 [<= 5]]] [] [at 4611686018427387904 :ok] [swap x + 5 :invalid] [reset x 6 :invalid] [cas x 1 6 :invalid] [cas x 9 6 :invalid] [now x 1]",
         // Makings.
         "[0] [] [] [at 4611686018427387904 :ok] [make-ref 0 :point-limit] [refs 1] [make-ref [tally -1] :bad-tally] [make-ref [tally 0] :point-limit] [tally :none] [at 4611686018427387903 :ok] [make-ref 0 b] [refs 2] [changed b 4611686018427387904]",

@@ -29,7 +29,7 @@ fn makings_by_hand(rt: HostRuntime) -> Result<(), Fail> {
         "[0] [] [] [make-ref [tally 5] b] [make-ref [tally 6] :bad-tally] [begin 1 1] [1 set b 7 :tally-only] [make-atom [rule 6 [<= 5]] :invalid] [make-atom [rule 5 [<= 5]] x] [rule x [<= 5]] [now x 5] [entries 2]",
         // A transaction doesn't see a ref that is made after it began.
         "[0] [] [] [begin 1 0] [1 set a 1 1] [make-ref 5 b] [1 deref b :no-such-ref] [1 set b 1 :no-such-ref] [commit 1 2] [now a 1] [now b 5] [changed a 2] [changed b 1]",
-        "[0] [] [] [begin 1 0] [1 set a 1 1] [commit 1 1] [begin 2 1] [make-ref 3 b] [point 2] [2 deref b :no-such-ref] [begin 3 2] [3 deref b 3] [begin 4 2] [4 ensure b 3] [commit 4 3] [begin 5 3] [3 set b 4 4] [commit 3 4] [5 ensure b 3] [commit 5 [:conflict b 3 4]] [entries 4]",
+        "[0] [] [] [begin 1 0] [1 set a 1 1] [commit 1 1] [begin 2 1] [make-ref 3 b] [point 2] [2 deref b :no-such-ref] [begin 3 2] [3 deref b 3] [begin 4 2] [4 ensure b 3] [commit 4 3] [begin 5 3] [3 set b 4 4] [commit 3 4] [5 ensure b 3] [commit 5 [:conflict 1 3 4]] [entries 4]",
         // A reference is made with a rule that its value passes.
         "[] [] [] [make-ref [rule 5 [<= 5]] a] [make-ref [rule 6 [<= 5]] :invalid] [make-ref-by-fewer [rule 6 [<= 5]] [:no-such-fun 102]] [refs 1] [rule a [<= 5]]",
         "[] [] [] [make-atom [rule 5 [<= 5]] x] [make-atom [rule 6 [<= 5]] :invalid] [make-atom [rule :k [<= 5]] :invalid] [atoms 1] [rule x [<= 5]] [now x 5] [make-atom 6 y] [rule y :none]",

@@ -8,7 +8,7 @@ use crate::forms::{
     args_from, atom_at, code_at, members, number_at, read, ref_at, value_at, word_at,
 };
 use crate::tables::fill;
-use crate::words::{InWords, values_form, vector};
+use crate::words::{values_form, variant_form, vector};
 use ref_edn::Value;
 use ref_fun::FunTable;
 use ref_log::{
@@ -44,14 +44,12 @@ fn transaction_of(alloc: Global, forms: &[Value]) -> Result<Transaction, AllocEr
 
 fn entry_of(alloc: Global, form: &Value) -> Result<Entry, AllocError> {
     let parts = members(alloc, form)?;
-    if let b"commit" = word_at(&parts, 0) {
-        return Ok(Entry::Trans(transaction_of(alloc, &parts[1..])?));
-    }
-    let Some((answer, op)) = parts.split_last() else {
+    let (Some((_, dones)), Some((answer, op))) = (parts.split_first(), parts.split_last()) else {
         return Err(AllocError);
     };
     let answer = answer.share()?;
-    match word_at(op, 0) {
+    match word_at(&parts, 0) {
+        b"commit" => Ok(Entry::Trans(transaction_of(alloc, dones)?)),
         b"swap" => {
             let swap = Op::Alter(code_at(op, 2), args_from(alloc, op, 3)?);
             Ok(Entry::Atom(atom_at(op, 1), swap, answer))
@@ -86,7 +84,7 @@ fn answer_form(alloc: Global, answer: Result<PlainState, AuditFault>) -> Result<
                 vec![in alloc; refs, values_form(alloc, &state.atoms)?]?,
             )
         }
-        Err(fault) => fault.words(alloc),
+        Err(fault) => variant_form(alloc, &fault),
     }
 }
 

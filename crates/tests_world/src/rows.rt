@@ -6,7 +6,7 @@
 //! each a vector that ends with what it answers.
 //!
 //! Names say kind and number: a b c d e are refs and t is the tally, x y z are atoms, g h i agents. A function is written as its
-//! name and its arguments; `[>= 0]` is a rule. Faults are words, as `:invalid`, with what they tell, as `[:conflict a 0 1]`.
+//! name and its arguments; `[>= 0]` is a rule. A fault is the name of its variant and what it tells, as `:not-met` and `[:conflict 0 0 1]`, where a ref is a number.
 //! Notices stand behind an answer, as in `[swap x inc [1 2 [x :k 1 2]]]`. A call whose name ends in `-by-fewer` is made by the
 //! table with fewer functions.
 //!
@@ -32,14 +32,14 @@
 //! | `[at 7 :ok]` | the present point is set by hand |
 //!
 //! Where a call is refused or only tells something, the subject has to be as it was before. At the end the slow replay of its
-//! log has to give its values.
+//! log has to give its values. A row that isn't written so ends its test with an `AllocError`.
 use crate::apart::Apart;
 use crate::calls::{Stage, answer};
 use crate::forms::{members, read, starts_at};
 use crate::subjects::{By, Extent, Look, Open, Starts, Subject};
 use crate::tables::{Tables, fill};
 use crate::whole::Whole;
-use crate::words::{Form, InWords, form, name, value_form, vector};
+use crate::words::{Form, form, name, value_form, variant_form, vector};
 use ref_edn::Value;
 use ref_fun::{Core, FunTable};
 use ref_log::{MakeFault, Who, replay_plain};
@@ -149,7 +149,7 @@ fn wrong_place<S: Subject>(
 
 // `[refused x :invalid]`: what a row says whose references can't be made.
 fn refused_form(alloc: Global, who: Who, fault: MakeFault) -> Form {
-    let (who, fault) = (name(alloc, who)?, fault.words(alloc)?);
+    let (who, fault) = (name(alloc, who)?, variant_form(alloc, &fault)?);
     vector(alloc, vec![in alloc; form(alloc, "refused")?, who, fault]?)
 }
 

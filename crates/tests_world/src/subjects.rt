@@ -1,6 +1,6 @@
 //! What rows are run on.
 use crate::forms::Start;
-use crate::words::{Form, account_form, error_word, number, rule_form, value_form, word};
+use crate::words::{Form, account_form, number, rule_form, value_form, variant_form, word};
 use ref_agents::{
     Account, AgentError, ErrorMode, FinishFault, Finished, Job, NoSuchAgent, Ran, RestartFault,
     SendFault,
@@ -84,7 +84,10 @@ impl Look {
         account: Option<&Account>,
     ) -> Result<Look, AllocError> {
         Ok(Look {
-            error: word(alloc, error.map_or("none", error_word))?,
+            error: match error {
+                Some(error) => variant_form(alloc, &error)?,
+                None => word(alloc, "none")?,
+            },
             account: account_form(alloc, account)?,
             ..self
         })

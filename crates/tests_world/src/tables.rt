@@ -1,5 +1,7 @@
 //! Tables of functions of Core.
-ghost use Rattle.std.specs.Prelude.{◌≤◌, length};
+ghost use Rattle.std.specs.Prelude.{◌≡◌, ◌≤◌, length};
+ghost use Rattle.ref_fun.specs.Core.{core_accepts, core_means};
+ghost use Rattle.ref_fun.specs.Meaning.{Answers};
 
 use crate::subjects::By;
 use ref_edn::Value;
@@ -11,6 +13,7 @@ fn add_fun(alloc: Global, table: &mut FunTable, code: u32) -> Result<(), AllocEr
         alloc,
         move |a: Global, state: &Value, args: &[Value]| -> Result<Value, FunFault>
             requires { length args.now ≤ 8 }
+            ensures { Answers (core_means code args.now state.now) result }
         { core_fun(a, code, state, args) },
     )?;
     table
@@ -23,6 +26,7 @@ fn add_pred(alloc: Global, table: &mut FunTable, code: u32) -> Result<(), AllocE
         alloc,
         move |state: &Value, args: &[Value]| -> bool
             requires { length args.now ≤ 8 }
+            ensures { result ≡ core_accepts code args.now state.now }
         { core_test(code, state, args) },
     )?;
     table

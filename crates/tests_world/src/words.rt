@@ -1,16 +1,12 @@
-//! Writing answers as forms: values, rules, notices, accounts, transactions, and faults in words.
-use crate::forms::name_of;
+//! Writing answers as forms: words, values, rules, notices, accounts and transactions.
+use crate::forms::{name_of, read};
 use crate::subjects::Open;
-use ref_agents::{
-    Account, AgentError, FinishFault, JobFault, Mark, NoSuchAgent, RestartFault, SendFault,
-};
-use ref_atoms::AtomFault;
+use ref_agents::Account;
 use ref_edn::{Items, Node, Text, Value, read_one};
-use ref_fun::{Cause, Rule};
-use ref_log::{AuditFault, MakeFault, Notice, RuleFault, SharedVec, WatchFault, Who};
-use ref_refs::{Alien, CommitFault};
-use ref_tx::TxFault;
+use ref_fun::Rule;
+use ref_log::{Notice, SharedVec, Who};
 use std::alloc::{AllocError, Global};
+use std::fmt::Debug;
 
 /// A value that is told.
 pub(crate) type Form = Result<Value, AllocError>;
@@ -40,6 +36,42 @@ pub(crate) fn name(alloc: Global, who: Who) -> Form {
 
 pub(crate) fn vector(alloc: Global, values: Vec<Value>) -> Form {
     Value::of(Node::Vector(Items::of(alloc, values)?)).map_err(|_| AllocError)
+}
+
+/// What Rust's `Debug` writes of a variant, in EDN's words: `NotMet` is `:not-met`, and `Refused(0, Overflow)` is
+/// `[:refused 0 :overflow]`. Names of fields are left out, and a word that comes twice in turn stands once.
+pub(crate) fn variant_form<F: Debug>(alloc: Global, variant: &F) -> Form {
+    let text = format!(in alloc; "{variant:?}")?;
+    let mut parts = Vec::new(alloc);
+    for part in read(alloc, words_of(alloc, text.as_str())?.as_str())? {
+        let is_word = matches!(part.node(), Node::Keyword(_));
+        if !is_word || parts.last() != Some(&part) {
+            parts.push(part)?;
+        }
+    }
+    told_form(alloc, parts, &[])
+}
+
+fn words_of(alloc: Global, text: &str) -> Result<String, AllocError> {
+    let mut words = String::new(alloc);
+    let mut is_inside = false;
+    for c in text.chars() {
+        match c {
+            'A'..='Z' => {
+                words.push(if is_inside { '-' } else { ':' })?;
+                words.push(c.to_ascii_lowercase())?;
+                is_inside = true;
+            }
+            'a'..='z' if is_inside => words.push(c)?,
+            'a'..='z' | '_' | ':' => {}
+            '0'..='9' => words.push(c)?,
+            _ => {
+                words.push(' ')?;
+                is_inside = false;
+            }
+        }
+    }
+    Ok(words)
 }
 
 /// A value, or `:none`.
@@ -97,18 +129,10 @@ pub(crate) fn account_form(alloc: Global, account: Option<&Account>) -> Form {
     };
     let mut all = vec![in alloc; account.start().share()?]?;
     for handled in account.handled() {
-        all.push(word(alloc, mark_word(handled.mark))?)?;
+        all.push(variant_form(alloc, &handled.mark)?)?;
     }
     all.push(number(account.waiting() as u64)?)?;
     vector(alloc, all)
-}
-
-fn mark_word(mark: Mark) -> &'static str {
-    match mark {
-        Mark::Done => "done",
-        Mark::Failed => "failed",
-        Mark::Passed => "passed",
-    }
 }
 
 /// `[0 0 5 1 6 1]`: the read point of a transaction, the ref and the answer of each operation, and how much it sends.
@@ -120,193 +144,4 @@ pub(crate) fn open_form(alloc: Global, open: &Open) -> Form {
     }
     all.push(number(open.sends.len() as u64)?)?;
     vector(alloc, all)
-}
-
-// ---- Faults
-
-/// What is told in words.
-pub(crate) trait InWords {
-    fn words(&self, alloc: Global) -> Form;
-}
-
-fn no_such_fun(alloc: Global, code: u32) -> Form {
-    form(alloc, format!(in alloc; "[:no-such-fun {code}]")?.as_str())
-}
-
-pub(crate) fn cause_word(cause: Cause) -> &'static str {
-    match cause {
-        Cause::WrongKind => "wrong-kind",
-        Cause::WrongArity => "wrong-arity",
-        Cause::Overflow => "overflow",
-        Cause::TooDeep => "too-deep",
-    }
-}
-
-pub(crate) fn error_word(error: AgentError) -> &'static str {
-    match error {
-        AgentError::Invalid => "invalid",
-        AgentError::Refused(cause) => cause_word(cause),
-    }
-}
-
-impl InWords for AuditFault {
-    fn words(&self, alloc: Global) -> Form {
-        let (word, point) = match self {
-            AuditFault::Answer(point) => ("answer", *point),
-            AuditFault::Refuses(point) => ("refuses", *point),
-            AuditFault::NoSuch(point) => ("no-such", *point),
-            AuditFault::Memory => return word(alloc, "out-of-memory"),
-            AuditFault::NoSuchFun(code) => return no_such_fun(alloc, *code),
-        };
-        form(alloc, format!(in alloc; "[:{word} {point}]")?.as_str())
-    }
-}
-
-impl InWords for TxFault {
-    fn words(&self, alloc: Global) -> Form {
-        let text = match self {
-            TxFault::NoSuchRef => "no-such-ref",
-            TxFault::SetAfterCommute => "set-after-commute",
-            TxFault::TallyOnly => "tally-only",
-            TxFault::Refused(cause) => cause_word(*cause),
-            TxFault::NoSuchFun(code) => return no_such_fun(alloc, *code),
-            TxFault::NoSuchAgent => "no-such-agent",
-            TxFault::NotMet => "not-met",
-            TxFault::Memory => "out-of-memory",
-        };
-        word(alloc, text)
-    }
-}
-
-fn alien_text(alloc: Global, alien: Alien) -> Result<String, AllocError> {
-    match alien {
-        Alien::Ref(r) => format!(in alloc; "[:foreign :ref {}]", name_of(Who::Ref(r))),
-        Alien::Agent(g) => format!(in alloc; "[:foreign :agent {}]", name_of(Who::Agent(g))),
-        Alien::Tally => format!(in alloc; "[:foreign :tally]"),
-        Alien::Point(point) => format!(in alloc; "[:foreign :point {point}]"),
-        Alien::Value(r) => format!(in alloc; "[:foreign :value {}]", name_of(Who::Ref(r))),
-    }
-}
-
-fn commit_text(alloc: Global, fault: CommitFault) -> Result<String, AllocError> {
-    match fault {
-        CommitFault::Foreign(alien) => alien_text(alloc, alien),
-        CommitFault::Conflict(c) => {
-            let r = name_of(Who::Ref(c.r));
-            format!(in alloc; "[:conflict {r} {} {}]", c.read_point, c.changed_at)
-        }
-        CommitFault::Refused(r, cause) => {
-            let r = name_of(Who::Ref(r));
-            format!(in alloc; "[:refused {r} :{}]", cause_word(cause))
-        }
-        CommitFault::Invalid(r) => format!(in alloc; "[:invalid {}]", name_of(Who::Ref(r))),
-        CommitFault::PointLimit => format!(in alloc; ":point-limit"),
-        CommitFault::Memory => format!(in alloc; ":out-of-memory"),
-        CommitFault::NoSuchFun(code) => format!(in alloc; "[:no-such-fun {code}]"),
-    }
-}
-
-impl InWords for CommitFault {
-    fn words(&self, alloc: Global) -> Form {
-        form(alloc, commit_text(alloc, *self)?.as_str())
-    }
-}
-
-impl InWords for AtomFault {
-    fn words(&self, alloc: Global) -> Form {
-        let text = match self {
-            AtomFault::NoSuchAtom => "no-such-atom",
-            AtomFault::NoSuchFun(code) => return no_such_fun(alloc, *code),
-            AtomFault::Refused(cause) => cause_word(*cause),
-            AtomFault::Invalid => "invalid",
-            AtomFault::PointLimit => "point-limit",
-            AtomFault::Memory => "out-of-memory",
-        };
-        word(alloc, text)
-    }
-}
-
-impl InWords for MakeFault {
-    fn words(&self, alloc: Global) -> Form {
-        let text = match self {
-            MakeFault::Full => "full",
-            MakeFault::BadTally => "bad-tally",
-            MakeFault::Invalid => "invalid",
-            MakeFault::PointLimit => "point-limit",
-            MakeFault::Memory => "out-of-memory",
-            MakeFault::NoSuchFun(code) => return no_such_fun(alloc, *code),
-        };
-        word(alloc, text)
-    }
-}
-
-impl InWords for RuleFault {
-    fn words(&self, alloc: Global) -> Form {
-        let text = match self {
-            RuleFault::NoSuch => "no-such",
-            RuleFault::Invalid => "invalid",
-            RuleFault::Memory => "out-of-memory",
-            RuleFault::NoSuchFun(code) => return no_such_fun(alloc, *code),
-        };
-        word(alloc, text)
-    }
-}
-
-impl InWords for WatchFault {
-    fn words(&self, alloc: Global) -> Form {
-        let text = match self {
-            WatchFault::NoSuch => "no-such",
-            WatchFault::Memory => "out-of-memory",
-        };
-        word(alloc, text)
-    }
-}
-
-impl InWords for SendFault {
-    fn words(&self, alloc: Global) -> Form {
-        let text = match self {
-            SendFault::NoSuchAgent => "no-such-agent",
-            SendFault::Failed => "failed",
-            SendFault::Memory => "out-of-memory",
-        };
-        word(alloc, text)
-    }
-}
-
-impl InWords for JobFault {
-    fn words(&self, alloc: Global) -> Form {
-        match self {
-            JobFault::NoSuchFun(code) => no_such_fun(alloc, *code),
-            JobFault::Memory => word(alloc, "out-of-memory"),
-        }
-    }
-}
-
-impl InWords for FinishFault {
-    fn words(&self, alloc: Global) -> Form {
-        match self {
-            FinishFault::Foreign => word(alloc, "foreign"),
-            FinishFault::Memory => word(alloc, "out-of-memory"),
-            FinishFault::NoSuchFun(code) => no_such_fun(alloc, *code),
-        }
-    }
-}
-
-impl InWords for NoSuchAgent {
-    fn words(&self, alloc: Global) -> Form {
-        word(alloc, "no-such-agent")
-    }
-}
-
-impl InWords for RestartFault {
-    fn words(&self, alloc: Global) -> Form {
-        let text = match self {
-            RestartFault::NoSuchAgent => "no-such-agent",
-            RestartFault::NotFailed => "not-failed",
-            RestartFault::Invalid => "invalid",
-            RestartFault::Memory => "out-of-memory",
-            RestartFault::NoSuchFun(code) => return no_such_fun(alloc, *code),
-        };
-        word(alloc, text)
-    }
 }
