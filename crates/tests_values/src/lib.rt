@@ -10,7 +10,7 @@ mod changes;
 #[cfg(test)]
 mod closures;
 #[cfg(test)]
-mod core;
+mod codes;
 #[cfg(test)]
 mod functions;
 #[cfg(test)]
