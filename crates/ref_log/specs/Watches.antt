@@ -1,5 +1,5 @@
 -- The watches of a reference, and what they are told of a change.
-use Rattle.std.specs.Prelude.{Bool, not, List, map}
+use Rattle.std.specs.Prelude.{◌≡◌, ◌++◌, [], ◌∷◌, Bool, false, not, if◌then◌else◌, List, map}
 use Rattle.std.specs.List.{filter, list_any}
 use Rattle.std.specs.Ordering.{eq_by_cmp}
 use Rattle.ref_edn.specs.Edn.{Edn}
@@ -13,6 +13,15 @@ is_key key k = eq_by_cmp edn_cmp k key
 
 abbrev pub has_key : List Edn → Edn → Bool
 has_key keys key = list_any (is_key key) keys
+
+-- No two of them are equal.
+abbrev pub AreDistinct : List Edn → Type 0
+AreDistinct [] = Unit {0}
+AreDistinct (k ∷ ks) = (has_key ks k ≡ false) × AreDistinct ks
+
+-- with one more at the end; one that is there already stays where it is
+abbrev pub with_key : List Edn → Edn → List Edn
+with_key keys key = if has_key keys key then keys else keys ++ key ∷ []
 
 -- the others, where a watch is taken away
 abbrev pub without_key : List Edn → Edn → List Edn

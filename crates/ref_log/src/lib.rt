@@ -8,7 +8,9 @@
 
 pub mod entries;
 pub mod faults;
+pub mod guards;
 pub mod lists;
+pub mod making;
 pub mod notices;
 pub mod operations;
 pub mod replay;
@@ -18,7 +20,9 @@ pub mod watches;
 
 pub use entries::{Entry, Stamp, Transaction};
 pub use faults::{AuditFault, MakeFault, RuleFault, WatchFault};
+pub use guards::{Guard, Guards};
 pub use lists::SharedVec;
+pub use making::{LAST_POINT, MOST_REFERENCES, check_make};
 pub use notices::{Notice, Who};
 pub use operations::{Done, Op};
 pub use ref_fun::Args;

@@ -1,6 +1,6 @@
 //! The watches of a reference.
-ghost use Rattle.std.specs.Prelude.{◌≡◌, ◌∷◌, ◌++◌, [], IfOk, OnErr, OnOk};
-ghost use Rattle.ref_log.specs.Watches.{has_key, notices_of, without_key};
+ghost use Rattle.std.specs.Prelude.{◌≡◌, ◌++◌, [], false, not, IfOk, OnErr, OnOk, length, take};
+ghost use Rattle.ref_log.specs.Watches.{AreDistinct, has_key, notices_of, with_key, without_key};
 
 use crate::notices::{Notice, Who};
 use ref_edn::Value;
@@ -8,6 +8,8 @@ use std::alloc::{AllocError, Global};
 use std::marker::Model;
 
 /// The watches of a reference: their keys, in the order of adding. Contracts see a list.
+///
+/// It is always so that no two keys are equal.
 #[derive(Drop)]
 pub struct Watches {
     keys: Vec<Value>,
@@ -18,12 +20,15 @@ impl Model for Watches {
     ghost use Rattle.std.specs.Coded.{coded_list};
     ghost use Rattle.ref_edn.specs.Edn.{Edn};
     ghost use Rattle.ref_edn.specs.Code.{edn_code};
+    ghost use Rattle.ref_log.specs.Watches.{AreDistinct};
 
     ghost Value = { List Edn };
 
     ghost coded = { coded_list edn_code };
 
     ghost view = { λ a. a.keys.items };
+
+    ghost invariant = { λ a. AreDistinct a.keys.items };
 }
 
 impl Watches {
@@ -38,28 +43,43 @@ impl Watches {
 
     /// Whether a watch has this key. Linear in the number of watches.
     pub fn has(&self, key: &Value) -> bool
-        ensures { result ≡ has_key self.now key.now }
+        ensures has { result ≡ has_key self.now key.now }
+        // No two keys are equal.
+        ensures distinct { AreDistinct self.now }
     {
         self.keys.contains(key)
     }
 
-    /// Adds a watch behind the others, which none of them has the key of.
-    pub fn add(&mut self, key: Value) -> Result<(), AllocError>
-        ensures ok { OnOk result (self.new ≡ self.old ++ key ∷ []) }
+    /// Adds a watch behind the others, and answers whether its key is new; a key that is there stays where it is. Linear in
+    /// the number of watches. A refused call changes nothing.
+    #[tactic(auto, using(crate::proofs::Guarded::distinct_more))]
+    pub fn add(&mut self, key: Value) -> Result<bool, AllocError>
+        ensures new { IfOk result (λ is_new. is_new ≡ not (has_key self.old key)) }
+        ensures adds { OnOk result (self.new ≡ with_key self.old key) }
+        ensures memory { OnErr result (has_key self.old key ≡ false) }
         ensures err { OnErr result (self.new ≡ self.old) }
     {
+        if self.has(&key) {
+            return Ok(false);
+        }
         self.keys.push(key)?;
-        Ok(())
+        Ok(true)
     }
 
-    /// Takes the watch with this key away. The others stay in order.
-    pub fn remove(&mut self, key: &Value)
-        ensures { self.new ≡ without_key self.old key.now }
+    /// Takes the watch with this key away, and answers whether it was there. The others stay in order. It takes no memory.
+    /// Linear in the number of watches.
+    #[tactic(auto, using(crate::proofs::Guarded::distinct_left))]
+    pub fn remove(&mut self, key: &Value) -> bool
+        ensures was { result ≡ has_key self.old key.now }
+        ensures removes { self.new ≡ without_key self.old key.now }
     {
+        let was = self.has(key);
         self.keys.retain(|k| k != key);
+        was
     }
 
-    /// Adds a notice for each of the watches, in the order of adding: the value of `who` was `before` and is `after`.
+    /// Adds a notice for each of the watches, in the order of adding: the value of `who` was `before` and is `after`. A
+    /// refused call adds none.
     pub fn tell(
         &self,
         who: Who,
@@ -67,7 +87,27 @@ impl Watches {
         after: &Value,
         all: &mut Vec<Notice>,
     ) -> Result<(), AllocError>
-        ensures { OnOk result (all.new.items ≡ all.old.items ++ notices_of who self.now before.now after.now) }
+        ensures ok { OnOk result (all.new.items ≡ all.old.items ++ notices_of who self.now before.now after.now) }
+        ensures err { OnErr result (all.new.items ≡ all.old.items) }
+    {
+        let count = all.len();
+        let told = self.tell_each(who, before, after, all);
+        if told.is_err() {
+            all.truncate(count);
+        }
+        told
+    }
+
+    // A refused call adds those before the refusal.
+    fn tell_each(
+        &self,
+        who: Who,
+        before: &Value,
+        after: &Value,
+        all: &mut Vec<Notice>,
+    ) -> Result<(), AllocError>
+        ensures ok { OnOk result (all.new.items ≡ all.old.items ++ notices_of who self.now before.now after.now) }
+        ensures kept { take (length all.old.items) all.new.items ≡ all.old.items }
     {
         for key in &self.keys {
             all.push(Notice {
