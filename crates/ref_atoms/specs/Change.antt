@@ -10,20 +10,21 @@ use Rattle.ref_edn.specs.Order.{edn_cmp}
 use Rattle.ref_fun.specs.Meaning.{Means}
 use Rattle.ref_fun.specs.Rule.{Accepts, passes, unknown}
 use Rattle.ref_fun.specs.declared.faults.Cause.{Cause}
+use Rattle.ref_fun.specs.declared.rules.Rule.{Rule}
+use Rattle.ref_log.specs.Guards.{keys_at, rule_at}
 use Rattle.ref_log.specs.Replay.{codes_of, missing, place}
 use Rattle.ref_log.specs.Watches.{notices_of}
 use Rattle.ref_log.specs.declared.entries.Entry.TheVariants as entries
 use Rattle.ref_log.specs.declared.notices.Who.TheVariants as who
 use Rattle.ref_log.specs.declared.operations.Op.{Op}
 use Rattle.ref_log.specs.declared.operations.Op.TheVariants.{Set, Alter, Commute, Ensure}
-use Rattle.ref_atoms.specs.Atoms.{keys_at}
-use Rattle.ref_atoms.specs.declared.atoms.Atom.{Atom}
+use Rattle.ref_atoms.specs.Atoms.{AtomsSeen}
 use Rattle.ref_atoms.specs.declared.changes.Change.{Change}
 use Rattle.ref_atoms.specs.declared.faults.AtomFault.{AtomFault}
 use Rattle.ref_atoms.specs.declared.faults.AtomFault.TheVariants.{NoSuchAtom, NoSuchFun, Refused, Invalid, PointLimit}
 
-abbrev pub invalid : Accepts → Atom → Edn → Option AtomFault
-invalid accepts atom v = if passes accepts atom.rule v then None else Some Invalid
+abbrev pub invalid : Accepts → Option Rule → Edn → Option AtomFault
+invalid accepts rule v = if passes accepts rule v then None else Some Invalid
 
 abbrev pub past_points : ℕ → Option AtomFault
 past_points at = if nat_lt (2 ^ 62) at then Some PointLimit else None
@@ -31,69 +32,70 @@ past_points at = if nat_lt (2 ^ 62) at then Some PointLimit else None
 -- ---- swap and reset
 
 -- the codes that the table lacks: that of the function, and then that of the rule
-abbrev pub lacking : (ℕ → Bool) → (ℕ → Bool) → Atom → Op → Option AtomFault
-lacking knows_fun knows_pred atom op = option_or (option_map NoSuchFun (missing knows_fun (codes_of op))) (option_map NoSuchFun (unknown knows_pred atom.rule))
+abbrev pub lacking : (ℕ → Bool) → (ℕ → Bool) → Option Rule → Op → Option AtomFault
+lacking knows_fun knows_pred rule op = option_or (option_map NoSuchFun (missing knows_fun (codes_of op))) (option_map NoSuchFun (unknown knows_pred rule))
 
 -- what the function and the rule say
-abbrev pub late_refusal : Accepts → Atom → ℕ → Result Edn Cause → Option AtomFault
-late_refusal accepts atom at (Ok v) = option_or (invalid accepts atom v) (past_points at)
-late_refusal accepts atom at (Err cause) = Some (Refused cause)
+abbrev pub late_refusal : Accepts → Option Rule → ℕ → Result Edn Cause → Option AtomFault
+late_refusal accepts rule at (Ok v) = option_or (invalid accepts rule v) (past_points at)
+late_refusal accepts rule at (Err cause) = Some (Refused cause)
 
 -- What is known before any memory is taken: of a value that is given, all; of a function, whether the table has it.
-abbrev pub given_refusal : Accepts → Atom → ℕ → Op → Option AtomFault
-given_refusal accepts atom at (Set v) = late_refusal accepts atom at (Ok v)
-given_refusal accepts atom at (Alter code args) = None
-given_refusal accepts atom at (Commute code args) = None
-given_refusal accepts atom at Ensure = None
+abbrev pub given_refusal : Accepts → Option Rule → ℕ → Op → Option AtomFault
+given_refusal accepts rule at (Set v) = late_refusal accepts rule at (Ok v)
+given_refusal accepts rule at (Alter code args) = None
+given_refusal accepts rule at (Commute code args) = None
+given_refusal accepts rule at Ensure = None
 
-abbrev pub early_refusal_if_here : Accepts → (ℕ → Bool) → (ℕ → Bool) → ℕ → Op → Option Atom → Option AtomFault
-early_refusal_if_here accepts knows_fun knows_pred at op None = Some NoSuchAtom
-early_refusal_if_here accepts knows_fun knows_pred at op (Some atom) = option_or (lacking knows_fun knows_pred atom op) (given_refusal accepts atom at op)
+abbrev pub early_refusal_if_here : Accepts → (ℕ → Bool) → (ℕ → Bool) → Option Rule → ℕ → Op → Option Edn → Option AtomFault
+early_refusal_if_here accepts knows_fun knows_pred rule at op None = Some NoSuchAtom
+early_refusal_if_here accepts knows_fun knows_pred rule at op (Some v) = option_or (lacking knows_fun knows_pred rule op) (given_refusal accepts rule at op)
 
-abbrev pub early_refusal : Accepts → (ℕ → Bool) → (ℕ → Bool) → List Atom → ℕ → ℕ → Op → Option AtomFault
-early_refusal accepts knows_fun knows_pred atoms at a op = early_refusal_if_here accepts knows_fun knows_pred at op (slice_get atoms a)
+abbrev pub early_refusal : Accepts → (ℕ → Bool) → (ℕ → Bool) → AtomsSeen → ℕ → ℕ → Op → Option AtomFault
+early_refusal accepts knows_fun knows_pred atoms at a op = early_refusal_if_here accepts knows_fun knows_pred (rule_at atoms.guards a) at op (slice_get atoms.values a)
 
-abbrev pub refusal_if_here : Means → Accepts → (ℕ → Bool) → (ℕ → Bool) → ℕ → Op → Option Atom → Option AtomFault
-refusal_if_here means accepts knows_fun knows_pred at op None = Some NoSuchAtom
-refusal_if_here means accepts knows_fun knows_pred at op (Some atom) = option_or (lacking knows_fun knows_pred atom op) (late_refusal accepts atom at (place means op atom.value))
+abbrev pub refusal_if_here : Means → Accepts → (ℕ → Bool) → (ℕ → Bool) → Option Rule → ℕ → Op → Option Edn → Option AtomFault
+refusal_if_here means accepts knows_fun knows_pred rule at op None = Some NoSuchAtom
+refusal_if_here means accepts knows_fun knows_pred rule at op (Some v) = option_or (lacking knows_fun knows_pred rule op) (late_refusal accepts rule at (place means op v))
 
 -- the first fault of an operation on an atom, where it would be the entry at this point
-abbrev pub change_refusal : Means → Accepts → (ℕ → Bool) → (ℕ → Bool) → List Atom → ℕ → ℕ → Op → Option AtomFault
-change_refusal means accepts knows_fun knows_pred atoms at a op = refusal_if_here means accepts knows_fun knows_pred at op (slice_get atoms a)
+abbrev pub change_refusal : Means → Accepts → (ℕ → Bool) → (ℕ → Bool) → AtomsSeen → ℕ → ℕ → Op → Option AtomFault
+change_refusal means accepts knows_fun knows_pred atoms at a op = refusal_if_here means accepts knows_fun knows_pred (rule_at atoms.guards a) at op (slice_get atoms.values a)
 
 -- ---- compare and set
 
--- whether an atom has a value
-abbrev pub is_same : Atom → Edn → Bool
-is_same atom old = eq_by_cmp edn_cmp atom.value old
+-- whether a value is the old one
+abbrev pub is_same : Edn → Edn → Bool
+is_same old v = eq_by_cmp edn_cmp v old
 
-abbrev pub is_same_if_here : Option Atom → Edn → Bool
+abbrev pub is_same_if_here : Option Edn → Edn → Bool
 is_same_if_here None old = false
-is_same_if_here (Some atom) old = is_same atom old
+is_same_if_here (Some v) old = is_same old v
 
-abbrev pub is_same_at : List Atom → ℕ → Edn → Bool
-is_same_at atoms a old = is_same_if_here (slice_get atoms a) old
+-- whether an atom has the old value
+abbrev pub is_same_at : AtomsSeen → ℕ → Edn → Bool
+is_same_at atoms a old = is_same_if_here (slice_get atoms.values a) old
 
 -- The rule is asked of the new value, also where the atom has another one than the old. The points end only where an entry
 -- would be added.
-abbrev pub compare_refusal_if_here : Accepts → (ℕ → Bool) → ℕ → Edn → Edn → Option Atom → Option AtomFault
-compare_refusal_if_here accepts knows at old new None = Some NoSuchAtom
-compare_refusal_if_here accepts knows at old new (Some atom) =
-    option_or (option_map NoSuchFun (unknown knows atom.rule))
-    (option_or (invalid accepts atom new)
-    (if is_same atom old then past_points at else None))
+abbrev pub compare_refusal_if_here : Accepts → (ℕ → Bool) → Option Rule → ℕ → Edn → Edn → Option Edn → Option AtomFault
+compare_refusal_if_here accepts knows rule at old new None = Some NoSuchAtom
+compare_refusal_if_here accepts knows rule at old new (Some v) =
+    option_or (option_map NoSuchFun (unknown knows rule))
+    (option_or (invalid accepts rule new)
+    (if is_same old v then past_points at else None))
 
-abbrev pub compare_refusal : Accepts → (ℕ → Bool) → List Atom → ℕ → ℕ → Edn → Edn → Option AtomFault
-compare_refusal accepts knows atoms at a old new = compare_refusal_if_here accepts knows at old new (slice_get atoms a)
+abbrev pub compare_refusal : Accepts → (ℕ → Bool) → AtomsSeen → ℕ → ℕ → Edn → Edn → Option AtomFault
+compare_refusal accepts knows atoms at a old new = compare_refusal_if_here accepts knows (rule_at atoms.guards a) at old new (slice_get atoms.values a)
 
 -- ---- what comes of it
 
 -- Of an atom with the value before: its value after the operation, its entry, what is answered and what its watches are
 -- told.
-abbrev pub IsChangeOf : Means → List Atom → ℕ → Op → Change → Type 0
+abbrev pub IsChangeOf : Means → AtomsSeen → ℕ → Op → Change → Type 0
 IsChangeOf means atoms a op change =
-    (option_map (λ atom. atom.value) (slice_get atoms a) ≡ Some change.swapped.old)
+    (slice_get atoms.values a ≡ Some change.swapped.old)
     × (place means op change.swapped.old ≡ Ok change.swapped.new)
     × (change.entry ≡ entries.Atom a op change.swapped.new)
-    × (change.swapped.notices.items ≡ notices_of (who.Atom a) (keys_at atoms a) change.swapped.old change.swapped.new)
+    × (change.swapped.notices.items ≡ notices_of (who.Atom a) (keys_at atoms.guards a) change.swapped.old change.swapped.new)
     × (change.a ≡ a) × (change.value ≡ change.swapped.new)

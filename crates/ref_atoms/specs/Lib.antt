@@ -1,4 +1,3 @@
 pub mod Atoms
 pub mod Change
-pub mod Make
 pub mod AtomFault

@@ -10,10 +10,13 @@
 //! takes memory or may be refused, and [`AtomStore::install`] can't fail.
 #![tactic(auto)]
 
+mod asking;
 pub mod atoms;
 pub mod changes;
+mod changing;
 pub mod faults;
+mod making;
 
-pub use atoms::{Atom, AtomStore};
+pub use atoms::AtomStore;
 pub use changes::{Cas, Change, Swapped};
 pub use faults::AtomFault;

@@ -1,0 +1,73 @@
+//! Making an atom.
+ghost use Rattle.std.specs.Prelude.{◌≡◌, ◌≢◌, ◌<◌, ◌≤◌, ◌^◌, true, false, None, Some, IfOk, IfErr, OnErr, OnOk, length};
+ghost use Rattle.ref_fun.specs.Rule.{passes};
+ghost use Rattle.ref_log.specs.Make.{make_refusal};
+ghost use Rattle.ref_log.specs.declared.faults.MakeFault.TheVariants as makes;
+ghost use Rattle.ref_atoms.specs.Atoms.{with_atom};
+
+use crate::atoms::AtomStore;
+use ref_edn::Value;
+use ref_fun::{Functions, Meaning, Rule};
+use ref_log::{MakeFault, check_make};
+use std::alloc::{AllocError, Global};
+
+impl<M: Meaning> AtomStore<M> {
+    /// Makes an atom with this value and this rule, if any, at this point, and answers its number. A refused call changes
+    /// nothing.
+    pub fn make<F: Functions<M>>(
+        &mut self,
+        alloc: Global,
+        funs: &F,
+        at: u64,
+        start: Value,
+        rule: Option<Rule>,
+    ) -> Result<u32, MakeFault>
+        ensures ok { OnOk result (make_refusal M.accepts (F.knows_pred funs.now) (length self.old.values) false at start rule ≡ None) }
+        ensures number { IfOk result (λ a. a ≡ length self.old.values) }
+        ensures adds { OnOk result (self.new ≡ with_atom self.old start rule) }
+        ensures fault { IfErr result (λ f. f ≢ makes.Memory → make_refusal M.accepts (F.knows_pred funs.now) (length self.old.values) false at start rule ≡ Some f) }
+        ensures memory { IfErr result (λ f. f ≡ makes.Memory → make_refusal M.accepts (F.knows_pred funs.now) (length self.old.values) false at start rule ≡ None) }
+        ensures err { OnErr result (self.new ≡ self.old) }
+    {
+        self.check_make(funs, at, &start, &rule)?;
+        Ok(self.add(alloc, start, rule)?)
+    }
+
+    /// Tells whether an atom can be made with this value and this rule, if any, at this point. It takes no memory.
+    pub fn check_make<F: Functions<M>>(
+        &self,
+        funs: &F,
+        at: u64,
+        start: &Value,
+        rule: &Option<Rule>,
+    ) -> Result<(), MakeFault>
+        ensures ok { OnOk result (make_refusal M.accepts (F.knows_pred funs.now) (length self.now.values) false at start.now rule.now ≡ None) }
+        ensures err { IfErr result (λ f. make_refusal M.accepts (F.knows_pred funs.now) (length self.now.values) false at start.now rule.now ≡ Some f) }
+        ensures room { OnOk result (length self.now.values < 2 ^ 20) }
+        ensures limit { OnOk result (at ≤ 2 ^ 62) }
+        ensures accepted { OnOk result (passes M.accepts rule.now start.now ≡ true) }
+        ensures told { IfErr result (λ f. f ≢ makes.Memory) }
+    {
+        check_make(funs, self.len(), false, at, start, rule)
+    }
+
+    /// Adds an atom that can be made, and answers its number. A refused call changes nothing.
+    pub fn add(
+        &mut self,
+        alloc: Global,
+        start: Value,
+        rule: Option<Rule>,
+    ) -> Result<u32, AllocError>
+        requires room { length self.old.values < 2 ^ 20 }
+        requires accepted { passes M.accepts rule start ≡ true }
+        ensures number { IfOk result (λ a. a ≡ length self.old.values) }
+        ensures adds { OnOk result (self.new ≡ with_atom self.old start rule) }
+        ensures err { OnErr result (self.new ≡ self.old) }
+    {
+        let a = self.len() as u32;
+        self.values.reserve(1)?;
+        self.guards.add(alloc, rule)?;
+        self.values.push_reserved(start);
+        Ok(a)
+    }
+}
