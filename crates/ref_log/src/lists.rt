@@ -1,11 +1,30 @@
-//! A list with several owners.
+//! Lists with several owners, and what can have several owners.
 ghost use Rattle.std.specs.Prelude.{◌≡◌, ◌<◌, ◌↔◌, [], ◌^◌, IsTrue, length, IfOk, slice_get, slice_index_or, option_copied};
 ghost use Rattle.std.specs.Slice.{IsItemAt};
 ghost use Rattle.std.specs.Iterator.{YieldsFirstRef, item_count};
 
+use ref_edn::Value;
 use std::alloc::{AllocError, Global};
 use std::marker::Model;
 use std::sync::Arc;
+
+/// What can have one more owner.
+pub trait Share: Drop {
+    /// One more owner. It takes no memory; only the count of owners can refuse.
+    fn share(&self) -> Result<Self, AllocError>
+        ensures { IfOk result (λ x. x ≡ self.now) };
+}
+
+/// One more owner of each of these.
+pub fn share_all<T: Share>(alloc: Global, items: &[T]) -> Result<Vec<T>, AllocError>
+    ensures { IfOk result (λ all. all.items ≡ items.now) }
+{
+    let mut all = Vec::with_capacity(alloc, items.len())?;
+    for item in items {
+        all.push(item.share()?)?;
+    }
+    Ok(all)
+}
 
 /// The items of a `Vec`, which may have several owners and doesn't change. Contracts see a list.
 #[derive(Drop)]
@@ -60,6 +79,12 @@ impl<T: Drop> SharedVec<T> {
         self.inside.get(i)
     }
 
+    pub fn as_slice(&self) -> &[T]
+        ensures { result.now ≡ self.now }
+    {
+        self.inside.as_slice()
+    }
+
     /// The items from the first on.
     pub fn iter(&self) -> Iter<'_, T>
         ensures value { result ≡ self.now }
@@ -79,6 +104,12 @@ impl<T: Drop> SharedVec<T> {
         Ok(SharedVec {
             inside: Arc::try_clone(&self.inside)?,
         })
+    }
+}
+
+impl Share for Value {
+    fn share(&self) -> Result<Value, AllocError> {
+        Value::share(self)
     }
 }
 

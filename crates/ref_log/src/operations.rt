@@ -1,13 +1,17 @@
 //! What a transaction does to a ref.
 ghost use Rattle.std.specs.Bool.{OnFalse, OnTrue};
-ghost use Rattle.std.specs.Prelude.{◌≡◌, ◌≢◌, None, IfOk, IfErr};
+ghost use Rattle.std.specs.BTreeSet.{contains};
+ghost use Rattle.std.specs.Ordering.{nat_cmp};
+ghost use Rattle.std.specs.Prelude.{◌≡◌, ◌≢◌, ℕ, None, IfOk, IfErr};
 ghost use Rattle.ref_fun.specs.declared.faults.CallFault.TheVariants.{Memory};
-ghost use Rattle.ref_log.specs.Replay.{PlaceAnswers, codes_of, is_commute, is_ensure, is_set, missing, place};
+ghost use Rattle.ref_log.specs.Replay.{PlaceAnswers, codes_of, is_commute, is_ensure, is_protected, is_set, missing, place};
 ghost use Rattle.ref_log.specs.Tally.{fits_tally, is_count};
 
+use crate::lists::Share;
 use ref_edn::{Node, Value};
 use ref_fun::{Args, CallFault, Functions, Meaning};
 use std::alloc::{AllocError, Global};
+use std::collections::BTreeSet;
 
 /// An operation on one ref.
 #[derive(Drop)]
@@ -106,17 +110,27 @@ impl Op {
     }
 }
 
-impl Done {
-    /// One more owner of all that it holds. It takes no memory; only the count of owners can refuse.
-    pub fn share(&self) -> Result<Done, AllocError>
-        ensures { IfOk result (λ d. d ≡ self.now) }
-    {
+impl Share for Done {
+    fn share(&self) -> Result<Done, AllocError> {
         Ok(Done {
             r: self.r,
             op: self.op.share()?,
             answer: self.answer.share()?,
         })
     }
+}
+
+/// The refs that a transaction of these operations protects.
+pub fn protected_refs(alloc: Global, dones: &[Done]) -> Result<BTreeSet<u32>, AllocError>
+    ensures { IfOk result (λ refs. (r : ℕ) → contains nat_cmp refs r ≡ is_protected dones.now r) }
+{
+    let mut refs = BTreeSet::new(alloc);
+    for done in dones {
+        if !done.op.is_commute() {
+            refs.insert(done.r)?;
+        }
+    }
+    Ok(refs)
 }
 
 fn shared(value: &Value) -> Result<Value, CallFault>

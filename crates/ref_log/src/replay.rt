@@ -1,18 +1,15 @@
 //! The slow replay.
-ghost use Rattle.std.specs.BTreeSet.{contains};
-ghost use Rattle.std.specs.Ordering.{nat_cmp};
-ghost use Rattle.std.specs.Prelude.{◌≡◌, ◌<◌, ◌^◌, ◌++◌, ◌∷◌, [], ℕ, None, Ok, Err, IfOk, IfErr, OnOk, slice_get};
-ghost use Rattle.ref_log.specs.Replay.{FaultComes, after_dones, after_one, done_of, is_protected, missing, needed, needed_of_done, needed_of_dones, needed_of_step, point_after, replay, state_of, step};
+ghost use Rattle.std.specs.Prelude.{◌≡◌, ◌<◌, ◌^◌, ◌++◌, ◌∷◌, [], None, Ok, Err, IfOk, IfErr, OnOk, slice_get};
+ghost use Rattle.ref_log.specs.Replay.{FaultComes, after_dones, after_one, done_of, missing, needed, needed_of_done, needed_of_dones, needed_of_step, point_after, replay, state_of, step};
 
 use crate::entries::Entry;
 use crate::faults::AuditFault;
-use crate::lists::SharedVec;
-use crate::operations::{Done, Op};
+use crate::lists::{SharedVec, share_all};
+use crate::operations::{Done, Op, protected_refs};
 use crate::states::{Base, PlainState};
 use ref_edn::Value;
 use ref_fun::{CallFault, Functions, Meaning};
 use std::alloc::{AllocError, Global};
-use std::collections::BTreeSet;
 use std::marker::Model;
 
 /// The values after these entries, applied to the base one by one, or the first fault on the way. The table has to have
@@ -61,8 +58,8 @@ impl Values {
         ensures { IfOk result (λ values. values ≡ state_of base.now) }
     {
         Ok(Values {
-            refs: share_all(alloc, &base.refs)?,
-            atoms: share_all(alloc, &base.atoms)?,
+            refs: share_all(alloc, base.refs.as_slice())?,
+            atoms: share_all(alloc, base.atoms.as_slice())?,
         })
     }
 
@@ -108,17 +105,6 @@ fn push_shared(values: &mut Vec<Value>, value: &Value) -> Result<(), AllocError>
     Ok(())
 }
 
-// One more owner of each value.
-fn share_all(alloc: Global, values: &SharedVec<Value>) -> Result<Vec<Value>, AllocError>
-    ensures { IfOk result (λ all. all.items ≡ values.now) }
-{
-    let mut all = Vec::new(alloc);
-    for value in values {
-        all.push(value.share()?)?;
-    }
-    Ok(all)
-}
-
 // Applies the operations of a transaction.
 fn apply_dones<M: Meaning, F: Functions<M>>(
     alloc: Global,
@@ -131,26 +117,13 @@ fn apply_dones<M: Meaning, F: Functions<M>>(
     ensures served { OnOk result (missing (F.knows_fun funs.now) (needed_of_dones M.means dones.now point dones.now (Ok values.old.items)) ≡ None) }
     ensures err { IfErr result (λ fault. FaultComes (missing (F.knows_fun funs.now) (needed_of_dones M.means dones.now point dones.now (Ok values.old.items))) (after_dones M.means dones.now point dones.now (Ok values.old.items)) fault) }
 {
-    let protected = protected_refs(alloc, dones)?;
+    let protected = protected_refs(alloc, dones.as_slice())?;
     for done in dones {
         let is_free = !protected.contains(&done.r);
         let (op, answer) = (&done.op, &done.answer);
         apply_op(alloc, funs, is_free, point, done.r, op, answer, values)?;
     }
     Ok(())
-}
-
-// The refs that a transaction of these operations protects.
-fn protected_refs(alloc: Global, dones: &SharedVec<Done>) -> Result<BTreeSet<u32>, AllocError>
-    ensures { IfOk result (λ refs. (r : ℕ) → contains nat_cmp refs r ≡ is_protected dones.now r) }
-{
-    let mut refs = BTreeSet::new(alloc);
-    for done in dones {
-        if !done.op.is_commute() {
-            refs.insert(done.r)?;
-        }
-    }
-    Ok(refs)
 }
 
 // Applies an operation to the value of a number. Its answer is compared but where the number is free: where it is that of a
