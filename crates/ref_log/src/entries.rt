@@ -11,7 +11,6 @@ pub struct Stamp {
 }
 
 /// One committed change.
-#[derive(Drop)]
 pub enum Entry {
     Trans(Transaction),
     /// An operation on the atom of this number, and the value that the atom got. The operation is a `Set` or an `Alter`.
@@ -20,6 +19,17 @@ pub enum Entry {
     MadeRef(Value),
     /// An atom was made, with the next number and this value.
     MadeAtom(Value),
+}
+
+// A function of its own, which whoever lets an entry go calls; a derived one would be written out there.
+impl Drop for Entry {
+    fn drop(self) {
+        match self {
+            Entry::Trans(_transaction) => {}
+            Entry::Atom(_, _op, _answer) => {}
+            Entry::MadeRef(_value) | Entry::MadeAtom(_value) => {}
+        }
+    }
 }
 
 /// A committed transaction. All that it read is as of its read point, the point of the last entry before it began.

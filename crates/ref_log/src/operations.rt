@@ -14,7 +14,6 @@ use std::alloc::{AllocError, Global};
 use std::collections::BTreeSet;
 
 /// An operation on one ref.
-#[derive(Drop)]
 pub enum Op {
     /// Clojure's `ref-set`: the ref gets this value.
     Set(Value),
@@ -25,6 +24,17 @@ pub enum Op {
     Commute(u32, Args),
     /// Clojure's `ensure`: the ref keeps its value, and nobody else may change it until the commit.
     Ensure,
+}
+
+// A function of its own, which whoever lets an operation go calls; a derived one would be written out there.
+impl Drop for Op {
+    fn drop(self) {
+        match self {
+            Op::Set(_value) => {}
+            Op::Alter(_, _args) | Op::Commute(_, _args) => {}
+            Op::Ensure => {}
+        }
+    }
 }
 
 /// An operation on the ref of number `r`, and what it answered.
