@@ -1,4 +1,4 @@
--- After a commit whose rules were asked each rule accepts again.
+-- After a commit whose guards were asked each rule accepts again.
 use Rattle.std.proofs.Common.{◌≡◌, ℕ, zero, suc, ◌<◌, ◌==◌, ◌&&◌, ◌||◌, not, cond, Bool, true, false, List, [], ◌∷◌, length, Option, None, Some, Ok, get_or, refl, sym, ap, subst, ◌∙◌, arith}
 use Rattle.std.specs.BTreeSet.{insert_key}
 use Rattle.std.specs.List.{AllByRecursion, find, list_any}
@@ -11,12 +11,13 @@ use Rattle.std.proofs.lemmas.Bool.{eqb-true}
 use Rattle.ref_edn.specs.Edn.{Edn}
 use Rattle.ref_fun.specs.Meaning.{Means}
 use Rattle.ref_fun.specs.Rule.{Accepts, unknown}
-use Rattle.ref_fun.specs.declared.rules.Rule.{Rule}
+use Rattle.ref_log.specs.Guards.{AreAccepted, is_accepted_at, passes_if_here, rule_at}
+use Rattle.ref_log.specs.declared.guards.Guard.{Guard}
 use Rattle.ref_log.specs.Laws.{after_dones-untouched}
 use Rattle.ref_log.specs.Replay.{after_dones, is_ensure, is_touched}
 use Rattle.ref_log.specs.declared.operations.Done.{Done}
 use Rattle.ref_refs.specs.Commit.{first_invalid, lacking_rule, needed_rule, or_fault}
-use Rattle.ref_refs.specs.Rules.{AreAccepted, AreKnown, is_accepted_at, passes_if_here, rule_at}
+use Rattle.ref_refs.specs.Rules.{AreKnown}
 use Rattle.ref_refs.specs.Watches.{touched_from, touched_refs}
 use Rattle.ref_refs.specs.declared.faults.CommitFault.{CommitFault}
 use Rattle.ref_refs.specs.declared.faults.CommitFault.TheVariants.{NoSuchFun}
@@ -43,26 +44,26 @@ none_parts : (a b : Option CommitFault) → or_fault a b ≡ None → (a ≡ Non
 none_parts None b e = (refl, e)
 none_parts (Some fault) b e = absurd cc
 
-module _ (knows : ℕ → Bool) (rules : List (Option Rule)) where
+module _ (knows : ℕ → Bool) (guards : List Guard) where
   abbrev Known : ℕ → Type 0
-  Known r = unknown knows (rule_at rules r) ≡ None
+  Known r = unknown knows (rule_at guards r) ≡ None
 
-  known_from : (rs : List ℕ) (ds : List Done) → AreKnown knows rules rs → lacking_rule knows rules ds ≡ None → AreKnown knows rules (touched_from rs ds)
+  known_from : (rs : List ℕ) (ds : List Done) → AreKnown knows guards rs → lacking_rule knows guards ds ≡ None → AreKnown knows guards (touched_from rs ds)
   known_from rs [] known none = known
   known_from rs (d ∷ ds) known none = by (is_ensure d.op) refl (λ more k. known_from more ds k parts.1)
     where
-      parts : (option_map NoSuchFun (unknown knows (needed_rule rules d)) ≡ None) × (lacking_rule knows rules ds ≡ None)
-      parts = none_parts (option_map NoSuchFun (unknown knows (needed_rule rules d))) (lacking_rule knows rules ds) none
+      parts : (option_map NoSuchFun (unknown knows (needed_rule guards d)) ≡ None) × (lacking_rule knows guards ds ≡ None)
+      parts = none_parts (option_map NoSuchFun (unknown knows (needed_rule guards d))) (lacking_rule knows guards ds) none
 
-      by : (b : Bool) → is_ensure d.op ≡ b → ((more : List ℕ) → AreKnown knows rules more → AreKnown knows rules (touched_from more ds)) → AreKnown knows rules (touched_from (cond b rs (insert_key nat_cmp rs d.r)) ds)
+      by : (b : Bool) → is_ensure d.op ≡ b → ((more : List ℕ) → AreKnown knows guards more → AreKnown knows guards (touched_from more ds)) → AreKnown knows guards (touched_from (cond b rs (insert_key nat_cmp rs d.r)) ds)
       by true e next = next rs known
-      by false e next = next (insert_key nat_cmp rs d.r) (all_insert Known rs d.r (subst (λ b. unknown knows (cond b None (rule_at rules d.r)) ≡ None) e (no_map NoSuchFun (unknown knows (needed_rule rules d)) parts.0)) known)
+      by false e next = next (insert_key nat_cmp rs d.r) (all_insert Known rs d.r (subst (λ b. unknown knows (cond b None (rule_at guards d.r)) ≡ None) e (no_map NoSuchFun (unknown knows (needed_rule guards d)) parts.0)) known)
 
-pub known_touched : (knows : ℕ → Bool) (rules : List (Option Rule)) (ds : List Done) → lacking_rule knows rules ds ≡ None → AreKnown knows rules (touched_refs ds)
-known_touched knows rules ds none = known_from knows rules [] ds tt none
+pub known_touched : (knows : ℕ → Bool) (guards : List Guard) (ds : List Done) → lacking_rule knows guards ds ≡ None → AreKnown knows guards (touched_refs ds)
+known_touched knows guards ds none = known_from knows guards [] ds tt none
 
-pub known_at : (knows : ℕ → Bool) (rules : List (Option Rule)) (rs : List ℕ) (i : ℕ) → AreKnown knows rules rs → i < length rs → unknown knows (rule_at rules (get_or rs i 0)) ≡ None
-known_at knows rules rs i known below = all_at (λ r. unknown knows (rule_at rules r) ≡ None) rs i known below
+pub known_at : (knows : ℕ → Bool) (guards : List Guard) (rs : List ℕ) (i : ℕ) → AreKnown knows guards rs → i < length rs → unknown knows (rule_at guards (get_or rs i 0)) ≡ None
+known_at knows guards rs i known below = all_at (λ r. unknown knows (rule_at guards r) ≡ None) rs i known below
 
 -- ---- a ref that is touched is among the refs that are touched
 
@@ -120,14 +121,14 @@ none_among p (x ∷ xs) r none h = by (p x) refl none (x == r) refl h (λ n k. n
     by false e n true f k next = ap p (sym (eqb-true x r f)) ∙ e
     by false e n false f k next = next n k
 
-pub accepted_after : (means : Means) (accepts : Accepts) (rules : List (Option Rule)) (ds : List Done) (point : ℕ) (before after : List Edn)
-    → after_dones means ds point ds (Ok before) ≡ Ok after → AreAccepted accepts rules before → first_invalid accepts rules after (touched_refs ds) ≡ None → AreAccepted accepts rules after
-accepted_after means accepts rules ds point before after made accepted none r = by (is_touched ds r) refl
+pub accepted_after : (means : Means) (accepts : Accepts) (guards : List Guard) (ds : List Done) (point : ℕ) (before after : List Edn)
+    → after_dones means ds point ds (Ok before) ≡ Ok after → AreAccepted accepts guards before → first_invalid accepts guards after (touched_refs ds) ≡ None → AreAccepted accepts guards after
+accepted_after means accepts guards ds point before after made accepted none r = by (is_touched ds r) refl
   where
     undo : (b : Bool) → not b ≡ false → b ≡ true
     undo true e = refl
     undo false e = absurd cc
 
-    by : (b : Bool) → is_touched ds r ≡ b → is_accepted_at accepts rules after r ≡ true
-    by true e = undo (is_accepted_at accepts rules after r) (none_among (λ x. not (is_accepted_at accepts rules after x)) (touched_refs ds) r none (among_from [] ds r ∙ e))
-    by false e = ap (passes_if_here accepts (rule_at rules r)) (after_dones-untouched means ds point ds before after r made e) ∙ accepted r
+    by : (b : Bool) → is_touched ds r ≡ b → is_accepted_at accepts guards after r ≡ true
+    by true e = undo (is_accepted_at accepts guards after r) (none_among (λ x. not (is_accepted_at accepts guards after x)) (touched_refs ds) r none (among_from [] ds r ∙ e))
+    by false e = ap (passes_if_here accepts (rule_at guards r)) (after_dones-untouched means ds point ds before after r made e) ∙ accepted r

@@ -13,6 +13,8 @@ use Rattle.ref_fun.specs.declared.faults.Cause.{Cause}
 use Rattle.ref_fun.specs.Meaning.{Means}
 use Rattle.ref_fun.specs.Rule.{Accepts, unknown}
 use Rattle.ref_fun.specs.declared.rules.Rule.{Rule}
+use Rattle.ref_log.specs.Guards.{is_accepted_at, rule_at}
+use Rattle.ref_log.specs.declared.guards.Guard.{Guard}
 use Rattle.ref_log.specs.Replay.{after_dones, place, is_ensure, is_protected, is_touched, missing}
 use Rattle.ref_log.specs.declared.faults.AuditFault.{AuditFault}
 use Rattle.ref_log.specs.declared.entries.Entry.{Entry}
@@ -23,7 +25,6 @@ use Rattle.ref_log.specs.declared.operations.Op.TheVariants.{Set, Alter, Commute
 use Rattle.ref_log.specs.declared.operations.Done.{Done}
 use Rattle.ref_tx.specs.Inner.{fit_tally}
 use Rattle.ref_tx.specs.Seen.{TxSeen}
-use Rattle.ref_refs.specs.Rules.{is_accepted_at, rule_at}
 use Rattle.ref_refs.specs.Seen.{RefsSeen, changed_at}
 use Rattle.ref_refs.specs.Watches.{touched_refs}
 use Rattle.ref_refs.specs.declared.faults.Alien.TheVariants as aliens
@@ -70,16 +71,16 @@ lacking knows ds = option_map NoSuchFun (missing knows (commuted_codes ds))
 -- ---- the predicates that a commit asks: the rules of the refs that it changes
 
 -- the rule that an operation calls for, if any
-abbrev pub needed_rule : List (Option Rule) → Done → Option Rule
-needed_rule rules d = if is_ensure d.op then None else rule_at rules d.r
+abbrev pub needed_rule : List Guard → Done → Option Rule
+needed_rule guards d = if is_ensure d.op then None else rule_at guards d.r
 
-abbrev pub unknown_at : (ℕ → Bool) → List (Option Rule) → Done → Option CommitFault
-unknown_at knows rules d = option_map NoSuchFun (unknown knows (needed_rule rules d))
+abbrev pub unknown_at : (ℕ → Bool) → List Guard → Done → Option CommitFault
+unknown_at knows guards d = option_map NoSuchFun (unknown knows (needed_rule guards d))
 
 -- the first of them whose predicate the table doesn't know
-abbrev pub lacking_rule : (ℕ → Bool) → List (Option Rule) → List Done → Option CommitFault
-lacking_rule knows rules [] = None
-lacking_rule knows rules (d ∷ ds) = or_fault (unknown_at knows rules d) (lacking_rule knows rules ds)
+abbrev pub lacking_rule : (ℕ → Bool) → List Guard → List Done → Option CommitFault
+lacking_rule knows guards [] = None
+lacking_rule knows guards (d ∷ ds) = or_fault (unknown_at knows guards d) (lacking_rule knows guards ds)
 
 -- ---- protected refs
 
@@ -125,14 +126,14 @@ refused means (d ∷ ds) values = refused_at d.r (option_map (place means d.op) 
 -- ---- what the rules refuse
 
 -- the smallest of these refs whose rule doesn't accept its value
-abbrev pub first_invalid : Accepts → List (Option Rule) → List Edn → List ℕ → Option ℕ
-first_invalid accepts rules values rs = find (λ r. not (is_accepted_at accepts rules values r)) rs
+abbrev pub first_invalid : Accepts → List Guard → List Edn → List ℕ → Option ℕ
+first_invalid accepts guards values rs = find (λ r. not (is_accepted_at accepts guards values r)) rs
 
 -- The rules of the refs that the operations change are asked of the values that they make. What refuses is told before, and
 -- doesn't count here.
-abbrev pub invalid : Accepts → List (Option Rule) → List Done → Result (List Edn) AuditFault → Option CommitFault
-invalid accepts rules ds (Ok after) = option_map Invalid (first_invalid accepts rules after (touched_refs ds))
-invalid accepts rules ds (Err fault) = None
+abbrev pub invalid : Accepts → List Guard → List Done → Result (List Edn) AuditFault → Option CommitFault
+invalid accepts guards ds (Ok after) = option_map Invalid (first_invalid accepts guards after (touched_refs ds))
+invalid accepts guards ds (Err fault) = None
 
 -- ---- the points end
 
@@ -150,7 +151,7 @@ abbrev pub early_refusal : (ℕ → Bool) → (ℕ → Bool) → RefsSeen → �
 early_refusal knows_fun knows_pred store at tx =
     or_fault (alien store at tx)
     (or_fault (lacking knows_fun tx.dones)
-    (or_fault (lacking_rule knows_pred store.rules tx.dones)
+    (or_fault (lacking_rule knows_pred store.guards tx.dones)
     (or_fault (conflict store tx)
     (alien_value store.values tx))))
 
@@ -159,7 +160,7 @@ abbrev pub commit_refusal : Means → Accepts → (ℕ → Bool) → (ℕ → Bo
 commit_refusal means accepts knows_fun knows_pred store at tx =
     or_fault (early_refusal knows_fun knows_pred store at tx)
     (or_fault (refused means tx.dones store.values)
-    (or_fault (invalid accepts store.rules tx.dones (after_dones means tx.dones at tx.dones (Ok store.values)))
+    (or_fault (invalid accepts store.guards tx.dones (after_dones means tx.dones at tx.dones (Ok store.values)))
     (past_points at)))
 
 -- ---- the commit

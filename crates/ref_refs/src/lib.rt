@@ -10,11 +10,15 @@
 #![tactic(auto)]
 
 mod checking;
+pub mod committing;
 pub mod faults;
+pub mod lasts;
+mod making;
 mod placing;
 mod rules;
 pub mod store;
 mod watches;
 
+pub use committing::{Landed, Prepared};
 pub use faults::{Alien, CommitFault, Conflict};
-pub use store::{Landed, Prepared, RefStore};
+pub use store::RefStore;

@@ -1,6 +1,4 @@
 //! What the operations of a transaction make at its commit.
-ghost use Rattle.std.specs.BTreeSet.{contains};
-ghost use Rattle.std.specs.Ordering.{nat_cmp};
 ghost use Rattle.std.specs.Option.{option_map};
 ghost use Rattle.std.specs.Prelude.{◌≡◌, ◌≢◌, ◌<◌, ◌==◌, ℕ, List, ◌∷◌, true, false, Option, None, Some, Ok, IfOk, IfErr, OnOk, length, slice_get};
 ghost use Rattle.ref_log.specs.Replay.{after_dones, after_one, is_commute, is_protected, missing, place};
@@ -14,10 +12,9 @@ ghost use Rattle.ref_refs.specs.declared.faults.CommitFault.TheVariants.{Memory}
 use crate::faults::CommitFault;
 use ref_edn::Value;
 use ref_fun::{CallFault, Functions, Meaning};
-use ref_log::Done;
+use ref_log::{Done, protected_refs, share_all};
 use ref_tx::Tx;
-use std::alloc::{AllocError, Global};
-use std::collections::BTreeSet;
+use std::alloc::Global;
 
 // The values after the operations of a transaction, each made on the latest value of its ref, where nobody else has changed
 // a ref that the transaction protects.
@@ -38,25 +35,12 @@ pub(crate) fn place_all<M: Meaning, F: Functions<M>>(
 {
     let dones = tx.dones();
     let protected = protected_refs(alloc, dones)?;
-    let mut after = share_values(alloc, values)?;
+    let mut after = share_all(alloc, values)?;
     for done in dones {
         let is_free = !protected.contains(&done.r);
         place_one(alloc, funs, is_free, done, &mut after)?;
     }
     Ok(after)
-}
-
-// The refs that these operations protect.
-fn protected_refs(alloc: Global, dones: &[Done]) -> Result<BTreeSet<u32>, AllocError>
-    ensures { IfOk result (λ refs. (r : ℕ) → contains nat_cmp refs r ≡ is_protected dones.now r) }
-{
-    let mut refs = BTreeSet::new(alloc);
-    for done in dones {
-        if !done.op.is_commute() {
-            refs.insert(done.r)?;
-        }
-    }
-    Ok(refs)
 }
 
 // Makes an operation on the latest value. A protected ref gets the kept answer, which is what the operation makes.
@@ -123,26 +107,4 @@ fn again<M: Meaning, F: Functions<M>>(
         Err(CallFault::NoSuchFun(code)) => Err(CommitFault::NoSuchFun(code)),
         Err(CallFault::Memory) => Err(CommitFault::Memory),
     }
-}
-
-// One more owner of each value.
-pub(crate) fn share_values(alloc: Global, values: &[Value]) -> Result<Vec<Value>, AllocError>
-    ensures { IfOk result (λ all. all.items ≡ values.now) }
-{
-    let mut all = Vec::with_capacity(alloc, values.len())?;
-    for value in values {
-        all.push(value.share()?)?;
-    }
-    Ok(all)
-}
-
-// One more owner of each operation.
-pub(crate) fn share_dones(alloc: Global, dones: &[Done]) -> Result<Vec<Done>, AllocError>
-    ensures { IfOk result (λ all. all.items ≡ dones.now) }
-{
-    let mut all = Vec::with_capacity(alloc, dones.len())?;
-    for done in dones {
-        all.push(done.share()?)?;
-    }
-    Ok(all)
 }

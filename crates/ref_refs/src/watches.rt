@@ -1,10 +1,11 @@
 //! The notices that a commit gives the watches of refs.
 ghost use Rattle.std.specs.Prelude.{◌≡◌, ◌++◌, IfOk, OnOk, option_copied};
 ghost use Rattle.std.specs.BTreeSet.{keys};
+ghost use Rattle.ref_log.specs.Guards.{keys_at};
 ghost use Rattle.ref_refs.specs.Watches.{notices, notices_at, notices_if_here, touched_refs};
 
 use ref_edn::Value;
-use ref_log::{Done, Notice, Watches, Who};
+use ref_log::{Done, Guards, Notice, Who};
 use std::alloc::{AllocError, Global};
 use std::collections::BTreeSet;
 
@@ -34,46 +35,46 @@ fn in_order(alloc: Global, refs: BTreeSet<u32>) -> Result<Vec<u32>, AllocError>
 // The notices of a commit that changes these refs.
 pub(crate) fn notices(
     alloc: Global,
-    watches: &[Watches],
+    guards: &Guards,
     before: &[Value],
     after: &[Value],
     touched: &[u32],
 ) -> Result<Vec<Notice>, AllocError>
-    ensures { IfOk result (λ ns. ns.items ≡ notices watches.now before.now after.now touched.now) }
+    ensures { IfOk result (λ ns. ns.items ≡ notices guards.now before.now after.now touched.now) }
 {
     let mut all = Vec::new(alloc);
     for r in touched {
-        tell(watches, before, after, *r, &mut all)?;
+        tell(guards, before, after, *r, &mut all)?;
     }
     Ok(all)
 }
 
 // Adds the notices of one ref.
 fn tell(
-    watches: &[Watches],
+    guards: &Guards,
     before: &[Value],
     after: &[Value],
     r: u32,
     all: &mut Vec<Notice>,
 ) -> Result<(), AllocError>
-    ensures { OnOk result (all.new.items ≡ all.old.items ++ notices_at watches.now before.now after.now r) }
+    ensures { OnOk result (all.new.items ≡ all.old.items ++ notices_at guards.now before.now after.now r) }
 {
     let i = r as usize;
-    tell_each(watches.get(i), before.get(i), after.get(i), r, all)
+    tell_if_here(guards, before.get(i), after.get(i), r, all)
 }
 
 // Adds the notices of a ref, if it is here.
-fn tell_each(
-    watches: Option<&Watches>,
+fn tell_if_here(
+    guards: &Guards,
     before: Option<&Value>,
     after: Option<&Value>,
     r: u32,
     all: &mut Vec<Notice>,
 ) -> Result<(), AllocError>
-    ensures { OnOk result (all.new.items ≡ all.old.items ++ notices_if_here r (option_copied watches.entry) (option_copied before.entry) (option_copied after.entry)) }
+    ensures { OnOk result (all.new.items ≡ all.old.items ++ notices_if_here r (keys_at guards.now r) (option_copied before.entry) (option_copied after.entry)) }
 {
-    match (watches, before, after) {
-        (Some(watches), Some(before), Some(after)) => watches.tell(Who::Ref(r), before, after, all),
-        (None, _, _) | (Some(_), None, _) | (Some(_), Some(_), None) => Ok(()),
+    match (before, after) {
+        (Some(before), Some(after)) => guards.tell(r, Who::Ref(r), before, after, all),
+        (None, _) | (Some(_), None) => Ok(()),
     }
 }

@@ -5,4 +5,4 @@ use Rattle.ref_refs.proofs.rules.check_rules_known.Given as goal
 abbrev pub invariant-loop-done : goal.invariant-loop-done
 invariant-loop-done g l =
     let knows = g.F.Functions.knows_pred l.funs in
-    lacking_rule knows l.rules (drop l.done-index l.dones) ≡ lacking_rule knows l.rules l.dones
+    lacking_rule knows l.guards (drop l.done-index l.dones) ≡ lacking_rule knows l.guards l.dones

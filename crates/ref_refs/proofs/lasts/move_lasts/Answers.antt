@@ -3,7 +3,7 @@ use Rattle.ref_refs.specs.Commit.{changed_by}
 use Rattle.ref_refs.proofs.Legal.{one_more}
 use Rattle.ref_refs.proofs.Moved.{moved_more}
 use Rattle.ref_refs.proofs.Refs.{within_at}
-use Rattle.ref_refs.proofs.store.move_lasts.Goals as goal
+use Rattle.ref_refs.proofs.lasts.move_lasts.Goals as goal
 
 pub move_last-requires : goal.move_last-requires
 move_last-requires c =

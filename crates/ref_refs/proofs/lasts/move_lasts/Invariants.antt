@@ -1,7 +1,7 @@
 use Rattle.std.proofs.Common.{◌≡◌, ℕ, length, take}
 use Rattle.ref_refs.specs.Commit.{changed_by}
 use Rattle.ref_refs.specs.Seen.{changed_at}
-use Rattle.ref_refs.proofs.store.move_lasts.Given as goal
+use Rattle.ref_refs.proofs.lasts.move_lasts.Given as goal
 
 abbrev pub invariant-loop-done : goal.invariant-loop-done
 invariant-loop-done l = record {

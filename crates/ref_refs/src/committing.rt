@@ -1,0 +1,239 @@
+//! Committing a transaction.
+ghost use Rattle.std.specs.Prelude.{◌≡◌, ◌≢◌, ◌≤◌, ◌-◌, ◌^◌, ℕ, List, true, None, Some, Ok, IfOk, IfErr, OnOk, OnErr, length, slice_get};
+ghost use Rattle.std.specs.Option.{option_map};
+ghost use Rattle.ref_edn.specs.Edn.{Edn};
+ghost use Rattle.ref_log.specs.Guards.{AreAccepted};
+ghost use Rattle.ref_log.specs.Replay.{after_dones, is_protected, step};
+ghost use Rattle.ref_tx.specs.Inner.{inner_value};
+ghost use Rattle.ref_refs.specs.Commit.{alien, alien_ref, alien_value, changed_by, commit_refusal, conflict, early_refusal, entry_of, first_invalid, lacking, lacking_rule};
+ghost use Rattle.ref_refs.specs.Seen.{changed_at, are_unchanged_since};
+ghost use Rattle.ref_refs.specs.Watches.{notices, touched_refs};
+ghost use Rattle.ref_refs.specs.declared.faults.CommitFault.TheVariants as commits;
+
+use crate::checking::{check_refs, check_served, first_changed, first_differing, fits_tally};
+use crate::faults::{Alien, CommitFault, Conflict};
+use crate::lasts::move_lasts;
+use crate::placing::place_all;
+use crate::rules::{check_rules_known, first_invalid};
+use crate::store::RefStore;
+use crate::watches::{notices, touched_refs};
+use ref_edn::Value;
+use ref_fun::{Functions, Meaning};
+use ref_log::{Done, Entry, LAST_POINT, Notice, SharedVec, Stamp, Transaction, share_all};
+use ref_tx::Tx;
+use std::alloc::Global;
+
+/// A commit that was made: its entry for the log, and what its watches are to be told.
+#[derive(Drop)]
+pub struct Landed {
+    pub entry: Entry,
+    pub notices: Vec<Notice>,
+}
+
+/// A commit that was tested: the values of all refs after it, and what is answered.
+#[derive(Drop)]
+pub struct Prepared {
+    pub values: Vec<Value>,
+    pub landed: Landed,
+}
+
+impl<M: Meaning> RefStore<M> {
+    /// Commits a transaction at a new point, which comes after the last change of each ref and right after the present
+    /// point. What was commuted is made on the latest value; where a ref was set, altered or ensured too, it gets its
+    /// in-transaction value. The stamp goes into the entry.
+    ///
+    /// The rules of the refs that it changes are asked of the values that they get. Their watches are told in the order of
+    /// the refs, and those of one ref in the order of adding, also where the value is the same as before.
+    ///
+    /// A refused commit changes nothing and hands the transaction back. The tests are made in this order: what is foreign,
+    /// functions and predicates that the table lacks, the conflict, a foreign value, a refusal over the latest values, a
+    /// rule that doesn't accept, the end of points.
+    /// Linear in the number of refs. Each operation on a protected ref costs a comparison of its value with the one of the
+    /// beginning, which is linear in its size; a `commute` of another ref costs its function, each changed ref the test of
+    /// its rule and a notice for each of its watches.
+    pub fn commit<F: Functions<M>>(
+        &mut self,
+        alloc: Global,
+        funs: &F,
+        at: u64,
+        stamp: Stamp,
+        tx: Tx<M>,
+    ) -> Result<Landed, (Tx<M>, CommitFault)>
+        requires new { 1 ≤ at }
+        requires last { are_unchanged_since self.old.lasts (at - 1) ≡ true }
+        ensures ok { OnOk result (commit_refusal M.means M.accepts (F.knows_fun funs.now) (F.knows_pred funs.now) self.old at tx ≡ None) }
+        ensures entry { IfOk result (λ landed. landed.entry ≡ entry_of stamp tx) }
+        ensures notices { IfOk result (λ landed. landed.notices.items ≡ notices self.old.guards self.old.values self.new.values (touched_refs tx.dones)) }
+        ensures values { OnOk result ((atoms : List Edn) → step M.means at (entry_of stamp tx) (record { refs = self.old.values; atoms = atoms }) ≡ Ok (record { refs = self.new.values; atoms = atoms })) }
+        ensures inner { OnOk result ((r : ℕ) → is_protected tx.dones r ≡ true → slice_get self.new.values r ≡ inner_value M.means tx r) }
+        ensures lasts { OnOk result ((r : ℕ) → changed_at self.new.lasts r ≡ changed_by self.old.lasts at tx.dones r) }
+        ensures since { OnOk result (are_unchanged_since self.new.lasts at ≡ true) }
+        ensures rest { OnOk result ((self.new.tally ≡ self.old.tally) × (self.new.guards ≡ self.old.guards)) }
+        ensures fault { IfErr result (λ e. e.1 ≢ commits.Memory → commit_refusal M.means M.accepts (F.knows_fun funs.now) (F.knows_pred funs.now) self.old at tx ≡ Some e.1) }
+        ensures memory { IfErr result (λ e. e.1 ≡ commits.Memory → early_refusal (F.knows_fun funs.now) (F.knows_pred funs.now) self.old at tx ≡ None) }
+        ensures back { IfErr result (λ e. e.0 ≡ tx) }
+        ensures err { OnErr result (self.new ≡ self.old) }
+    {
+        match self.prepare(alloc, funs, at, stamp, &tx) {
+            Ok(prepared) => {
+                self.install(at, prepared.values, tx.dones());
+                Ok(prepared.landed)
+            }
+            Err(fault) => Err((tx, fault)),
+        }
+    }
+
+    /// All of a commit that takes memory or may be refused. It changes nothing.
+    pub fn prepare<F: Functions<M>>(
+        &self,
+        alloc: Global,
+        funs: &F,
+        at: u64,
+        stamp: Stamp,
+        tx: &Tx<M>,
+    ) -> Result<Prepared, CommitFault>
+        ensures ok { OnOk result (commit_refusal M.means M.accepts (F.knows_fun funs.now) (F.knows_pred funs.now) self.now at tx.now ≡ None) }
+        ensures here { OnOk result (alien_ref self.now.values tx.now.dones ≡ None) }
+        ensures values { IfOk result (λ p. (atoms : List Edn) → step M.means at (entry_of stamp tx.now) (record { refs = self.now.values; atoms = atoms }) ≡ Ok (record { refs = p.values.items; atoms = atoms })) }
+        // What `install` asks.
+        ensures made { IfOk result (λ p. after_dones M.means tx.now.dones at tx.now.dones (Ok self.now.values) ≡ Ok p.values.items) }
+        ensures accepted { IfOk result (λ p. AreAccepted M.accepts self.now.guards p.values.items) }
+        ensures entry { IfOk result (λ p. p.landed.entry ≡ entry_of stamp tx.now) }
+        ensures notices { IfOk result (λ p. p.landed.notices.items ≡ notices self.now.guards self.now.values p.values.items (touched_refs tx.now.dones)) }
+        ensures inner { IfOk result (λ p. (r : ℕ) → is_protected tx.now.dones r ≡ true → slice_get p.values.items r ≡ inner_value M.means tx.now r) }
+        ensures limit { OnOk result (at ≤ 2 ^ 62) }
+        ensures fault { IfErr result (λ f. f ≢ commits.Memory → commit_refusal M.means M.accepts (F.knows_fun funs.now) (F.knows_pred funs.now) self.now at tx.now ≡ Some f) }
+        ensures memory { IfErr result (λ f. f ≡ commits.Memory → early_refusal (F.knows_fun funs.now) (F.knows_pred funs.now) self.now at tx.now ≡ None) }
+    {
+        self.check(funs, at, tx)?;
+        let dones = tx.dones();
+        let values = place_all(alloc, funs, self.values.as_slice(), tx)?;
+        let touched = self.check_rules(alloc, funs, dones, &values)?;
+        if at > LAST_POINT {
+            return Err(CommitFault::PointLimit);
+        }
+        let before = self.values.as_slice();
+        let notices = notices(alloc, &self.guards, before, &values, &touched)?;
+        let dones = SharedVec::of(alloc, share_all(alloc, dones)?)?;
+        let entry = Entry::Trans(Transaction {
+            stamp,
+            read_point: tx.read_point(),
+            dones,
+        });
+        Ok(Prepared {
+            values,
+            landed: Landed { entry, notices },
+        })
+    }
+
+    /// Puts the values after a prepared commit in the place of those before it, and moves the last changes of the refs that
+    /// its operations touched. It can't fail.
+    pub fn install(&mut self, at: u64, values: Vec<Value>, dones: &[Done])
+        requires new { 1 ≤ at }
+        requires last { are_unchanged_since self.old.lasts (at - 1) ≡ true }
+        requires here { alien_ref self.old.values dones.now ≡ None }
+        requires made { after_dones M.means dones.now at dones.now (Ok self.old.values) ≡ Ok values.items }
+        requires accepted { AreAccepted M.accepts self.old.guards values.items }
+        ensures values { self.new.values ≡ values.items }
+        ensures lasts { (r : ℕ) → changed_at self.new.lasts r ≡ changed_by self.old.lasts at dones.now r }
+        ensures since { are_unchanged_since self.new.lasts at ≡ true }
+        ensures rest { (self.new.tally ≡ self.old.tally) × (self.new.guards ≡ self.old.guards) }
+    {
+        move_lasts(&mut self.lasts, at, dones);
+        self.values = values;
+    }
+}
+
+impl<M: Meaning> RefStore<M> {
+    // Asks the rules of the refs that these operations change, of the values after them. Answers the refs.
+    fn check_rules<F: Functions<M>>(
+        &self,
+        alloc: Global,
+        funs: &F,
+        dones: &[Done],
+        values: &[Value],
+    ) -> Result<Vec<u32>, CommitFault>
+        requires known { lacking_rule (F.knows_pred funs.now) self.now.guards dones.now ≡ None }
+        requires made { (at : ℕ) → after_dones M.means dones.now at dones.now (Ok self.now.values) ≡ Ok values.now }
+        ensures touched { IfOk result (λ rs. rs.items ≡ touched_refs dones.now) }
+        ensures ok { OnOk result (first_invalid M.accepts self.now.guards values.now (touched_refs dones.now) ≡ None) }
+        ensures accepted { OnOk result (AreAccepted M.accepts self.now.guards values.now) }
+        ensures err { IfErr result (λ f. f ≢ commits.Memory → option_map commits.Invalid (first_invalid M.accepts self.now.guards values.now (touched_refs dones.now)) ≡ Some f) }
+    {
+        let touched = touched_refs(alloc, dones)?;
+        match first_invalid(funs, &self.guards, values, &touched) {
+            None => Ok(touched),
+            Some(r) => Err(CommitFault::Invalid(r)),
+        }
+    }
+
+    // Asks all that can be asked before memory is taken.
+    fn check<F: Functions<M>>(&self, funs: &F, at: u64, tx: &Tx<M>) -> Result<(), CommitFault>
+        ensures ok { OnOk result (early_refusal (F.knows_fun funs.now) (F.knows_pred funs.now) self.now at tx.now ≡ None) }
+        ensures here { OnOk result (alien_ref self.now.values tx.now.dones ≡ None) }
+        ensures served { OnOk result (lacking (F.knows_fun funs.now) tx.now.dones ≡ None) }
+        ensures known { OnOk result (lacking_rule (F.knows_pred funs.now) self.now.guards tx.now.dones ≡ None) }
+        ensures unchanged { OnOk result (alien_value self.now.values tx.now ≡ None) }
+        ensures err { IfErr result (λ f. early_refusal (F.knows_fun funs.now) (F.knows_pred funs.now) self.now at tx.now ≡ Some f) }
+        ensures told { IfErr result (λ f. f ≢ commits.Memory) }
+    {
+        self.check_foreign(at, tx)?;
+        check_served(funs, tx.dones())?;
+        check_rules_known(funs, &self.guards, tx.dones())?;
+        self.check_conflict(tx)?;
+        self.check_values(tx)
+    }
+
+    // Tells what of a transaction is foreign, but for its values.
+    fn check_foreign(&self, at: u64, tx: &Tx<M>) -> Result<(), CommitFault>
+        ensures ok { OnOk result (alien self.now at tx.now ≡ None) }
+        ensures here { OnOk result (alien_ref self.now.values tx.now.dones ≡ None) }
+        ensures err { IfErr result (λ f. alien self.now at tx.now ≡ Some f) }
+        ensures told { IfErr result (λ f. f ≢ commits.Memory) }
+    {
+        check_refs(self.values.as_slice(), tx.dones())?;
+        if !fits_tally(self.tally, tx.dones()) {
+            return Err(CommitFault::Foreign(Alien::Tally));
+        }
+        let read_point = tx.read_point();
+        if read_point >= at {
+            return Err(CommitFault::Foreign(Alien::Point(read_point)));
+        }
+        Ok(())
+    }
+
+    fn check_conflict(&self, tx: &Tx<M>) -> Result<(), CommitFault>
+        requires { alien_ref self.now.values tx.now.dones ≡ None }
+        ensures ok { OnOk result (conflict self.now tx.now ≡ None) }
+        ensures err { IfErr result (λ f. conflict self.now tx.now ≡ Some f) }
+        ensures told { IfErr result (λ f. f ≢ commits.Memory) }
+    {
+        let read_point = tx.read_point();
+        let first = first_changed(
+            self.values.as_slice(),
+            self.lasts.as_slice(),
+            read_point,
+            tx.dones(),
+        );
+        match first {
+            None => Ok(()),
+            Some(r) => Err(CommitFault::Conflict(Conflict {
+                r,
+                read_point,
+                changed_at: self.changed_at(r),
+            })),
+        }
+    }
+
+    fn check_values(&self, tx: &Tx<M>) -> Result<(), CommitFault>
+        requires { alien_ref self.now.values tx.now.dones ≡ None }
+        ensures ok { OnOk result (alien_value self.now.values tx.now ≡ None) }
+        ensures err { IfErr result (λ f. alien_value self.now.values tx.now ≡ Some f) }
+        ensures told { IfErr result (λ f. f ≢ commits.Memory) }
+    {
+        match first_differing(self.values.as_slice(), tx.began(), tx.dones()) {
+            None => Ok(()),
+            Some(r) => Err(CommitFault::Foreign(Alien::Value(r))),
+        }
+    }
+}
