@@ -3,8 +3,7 @@ use Rattle.std.proofs.Common.{◌≡◌, ℕ, ◌+◌, ◌≤◌, ◌^◌, ◌�
 use Rattle.std.proofs.lemmas.Bool.{and_from, and_parts, le-ltb, ltb-false, not-true}
 use Rattle.ref_edn.specs.Edn.{Edn}
 use Rattle.ref_fun.specs.Meaning.{Means}
-use Rattle.ref_atoms.specs.Atoms.{values_of}
-use Rattle.ref_atoms.specs.declared.atoms.Atom.{Atom}
+use Rattle.ref_atoms.specs.Atoms.{AtomsSeen}
 use Rattle.ref_log.specs.Laws.{last_change-append, replay-more, replay-refs}
 use Rattle.ref_log.specs.Replay.{is_changed_by, point_after, refs_after, step}
 use Rattle.ref_log.specs.declared.entries.Entry.{Entry}
@@ -35,7 +34,7 @@ since_later (x ∷ xs) p is =
     let parts = and_parts (not (nat_lt p x)) (are_unchanged_since xs p) is in
     and_from (not (nat_lt (p + 1) x)) (are_unchanged_since xs (p + 1)) (not_later p x parts.0) (since_later xs p parts.1)
 
-module _ (means : Means) (base : Base) (log : List Entry) (refs : RefsSeen) (atoms : List Atom) (is : IsWorld means base log refs atoms) where
+module _ (means : Means) (base : Base) (log : List Entry) (refs : RefsSeen) (atoms : AtomsSeen) (is : IsWorld means base log refs atoms) where
   count : length refs.values ≡ refs_after (length base.refs) log
   count = replay-refs means base log (values_now refs atoms) is.replayed
 
@@ -48,7 +47,7 @@ module _ (means : Means) (base : Base) (log : List Entry) (refs : RefsSeen) (ato
       ∙ sym (last_change-append base log e r)))
 
   -- The base names the tally that the refs have then.
-  pub entered : (e : Entry) (after : RefsSeen) (atoms_after : List Atom)
+  pub entered : (e : Entry) (after : RefsSeen) (atoms_after : AtomsSeen)
       → step means (point_after base log + 1) e (values_now refs atoms) ≡ Ok (values_now after atoms_after)
       → ((r : ℕ) → changed_at after.lasts r ≡ cond (is_changed_by (length refs.values) e r) (point_after base log + 1) (changed_at refs.lasts r))
       → are_unchanged_since after.lasts (point_after base log + 1) ≡ true
@@ -63,7 +62,7 @@ module _ (means : Means) (base : Base) (log : List Entry) (refs : RefsSeen) (ato
   }
 
   -- where the tally stays, so does the base
-  pub entered_same : (e : Entry) (after : RefsSeen) (atoms_after : List Atom)
+  pub entered_same : (e : Entry) (after : RefsSeen) (atoms_after : AtomsSeen)
       → step means (point_after base log + 1) e (values_now refs atoms) ≡ Ok (values_now after atoms_after)
       → ((r : ℕ) → changed_at after.lasts r ≡ cond (is_changed_by (length refs.values) e r) (point_after base log + 1) (changed_at refs.lasts r))
       → are_unchanged_since after.lasts (point_after base log + 1) ≡ true
@@ -74,9 +73,9 @@ module _ (means : Means) (base : Base) (log : List Entry) (refs : RefsSeen) (ato
       subst (λ t. IsWorld means (with_tally t base) (log ++ e ∷ []) after atoms_after) (tally ∙ sym is.tally) (entered e after atoms_after next moved since limit)
 
   -- an entry about an atom
-  pub atom_entered : (e : Entry) (atoms_after : List Atom) (a : ℕ) (v : Edn)
-      → ((refs : List Edn) → step means (point_after base log + 1) e (record { refs = refs; atoms = values_of atoms }) ≡ Ok (record { refs = refs; atoms = slice_set (values_of atoms) a v }))
-      → values_of atoms_after ≡ slice_set (values_of atoms) a v
+  pub atom_entered : (e : Entry) (atoms_after : AtomsSeen) (a : ℕ) (v : Edn)
+      → ((refs : List Edn) → step means (point_after base log + 1) e (record { refs = refs; atoms = atoms.values }) ≡ Ok (record { refs = refs; atoms = slice_set atoms.values a v }))
+      → atoms_after.values ≡ slice_set atoms.values a v
       → ((n r : ℕ) → is_changed_by n e r ≡ false)
       → point_after base log + 1 ≤ 2 ^ 62
       → IsWorld means base (log ++ e ∷ []) refs atoms_after

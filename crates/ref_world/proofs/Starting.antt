@@ -1,6 +1,6 @@
 -- References that are declared, one by one.
 use Rattle.std.proofs.Common.{◌≡◌, ℕ, ◌<◌, ◌+◌, ◌++◌, ◌∷◌, [], Bool, List, Some, Result, Ok, Err, take, drop, drop-cons, get_or, length, zero, suc, refl, ap, sym, ◌∙◌, add-one, slice_get}
-use Rattle.ref_atoms.specs.declared.atoms.Atom.{Atom}
+use Rattle.ref_atoms.specs.Atoms.{AtomsSeen}
 use Rattle.ref_fun.specs.Rule.{Accepts}
 use Rattle.ref_log.specs.declared.faults.MakeFault.{MakeFault}
 use Rattle.ref_log.specs.declared.notices.Who.{Who}
@@ -27,7 +27,7 @@ pub refs_fail : (accepts : Accepts) (knows : ℕ → Bool) (ss : List RefStart) 
 refs_fail accepts knows ss i s store whole e so_far below is fails =
     sym so_far ∙ (ap (λ l. with_declared_refs accepts knows l (Ok store)) (first_left ss i s below is) ∙ (ap (with_declared_refs accepts knows (drop (i + 1) ss)) fails ∙ refs_refused accepts knows (drop (i + 1) ss) e))
 
-pub atoms_fail : (accepts : Accepts) (knows : ℕ → Bool) (ss : List AtomStart) (i : ℕ) (s : AtomStart) (store : List Atom) (whole : Result (List Atom) (Who × MakeFault)) (e : Who × MakeFault)
+pub atoms_fail : (accepts : Accepts) (knows : ℕ → Bool) (ss : List AtomStart) (i : ℕ) (s : AtomStart) (store : AtomsSeen) (whole : Result AtomsSeen (Who × MakeFault)) (e : Who × MakeFault)
     → with_declared_atoms accepts knows (drop i ss) (Ok store) ≡ whole → i < length ss → s ≡ get_or ss i s → with_atom accepts knows s store ≡ Err e → whole ≡ Err e
 atoms_fail accepts knows ss i s store whole e so_far below is fails =
     sym so_far ∙ (ap (λ l. with_declared_atoms accepts knows l (Ok store)) (first_left ss i s below is) ∙ (ap (with_declared_atoms accepts knows (drop (i + 1) ss)) fails ∙ atoms_refused accepts knows (drop (i + 1) ss) e))

@@ -1,6 +1,6 @@
 -- What a world shows: plain data.
 use Rattle.std.specs.Prelude.{List}
-use Rattle.ref_atoms.specs.declared.atoms.Atom.{Atom}
+use Rattle.ref_atoms.specs.Atoms.{AtomsSeen}
 use Rattle.ref_log.specs.declared.entries.Entry.{Entry}
 use Rattle.ref_log.specs.declared.states.Base.{Base}
 use Rattle.ref_refs.specs.Seen.{RefsSeen}
@@ -10,4 +10,4 @@ pub record WorldSeen : Type 0 where
   pub base : Base
   pub log : List Entry
   pub refs : RefsSeen
-  pub atoms : List Atom
+  pub atoms : AtomsSeen

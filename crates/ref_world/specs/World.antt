@@ -5,14 +5,13 @@ use Rattle.ref_log.specs.Replay.{last_change, point_after, replay}
 use Rattle.ref_log.specs.declared.entries.Entry.{Entry}
 use Rattle.ref_log.specs.declared.states.Base.{Base}
 use Rattle.ref_log.specs.declared.states.PlainState.{PlainState}
-use Rattle.ref_atoms.specs.Atoms.{values_of}
-use Rattle.ref_atoms.specs.declared.atoms.Atom.{Atom}
+use Rattle.ref_atoms.specs.Atoms.{AtomsSeen}
 use Rattle.ref_refs.specs.Seen.{RefsSeen, are_unchanged_since, changed_at}
 use Rattle.ref_world.specs.Seen.{WorldSeen}
 
 -- the values of all refs and atoms now
-abbrev pub values_now : RefsSeen → List Atom → PlainState
-values_now refs atoms = record { refs = refs.values; atoms = values_of atoms }
+abbrev pub values_now : RefsSeen → AtomsSeen → PlainState
+values_now refs atoms = record { refs = refs.values; atoms = atoms.values }
 
 -- the present point: that of the last entry
 abbrev pub point_of : WorldSeen → ℕ
@@ -20,7 +19,7 @@ point_of world = point_after world.base world.log
 
 -- Every ref and atom holds what the stored entries, replayed one by one on the stored base with commutes on the latest value,
 -- give with the kept answers.
-abbrev pub IsReplayed : Means → Base → List Entry → RefsSeen → List Atom → Type 0
+abbrev pub IsReplayed : Means → Base → List Entry → RefsSeen → AtomsSeen → Type 0
 IsReplayed means base log refs atoms = replay means base log ≡ Ok (values_now refs atoms)
 
 -- The point of each ref's last change is that of the last entry which made or touched it.
@@ -28,7 +27,7 @@ abbrev pub HasLastChanges : Base → List Entry → RefsSeen → Type 0
 HasLastChanges base log refs = (r : ℕ) → changed_at refs.lasts r ≡ last_change base log r
 
 -- What is always so: besides, the base names the tally, no ref has changed after the present point, and points end at 2^62.
-pub record IsWorld (means : Means) (base : Base) (log : List Entry) (refs : RefsSeen) (atoms : List Atom) : Type 0 where
+pub record IsWorld (means : Means) (base : Base) (log : List Entry) (refs : RefsSeen) (atoms : AtomsSeen) : Type 0 where
   pub replayed : IsReplayed means base log refs atoms
   pub changed : HasLastChanges base log refs
   pub tally : base.tally ≡ refs.tally
@@ -38,16 +37,16 @@ pub record IsWorld (means : Means) (base : Base) (log : List Entry) (refs : Refs
 -- ---- a world after a call
 
 -- with an entry more, and the refs and atoms after it
-abbrev pub with_entry : WorldSeen → Entry → RefsSeen → List Atom → WorldSeen
-with_entry world e refs atoms = record { base = world.base; log = world.log ++ e ∷ []; refs = refs; atoms = atoms }
+abbrev pub with_entry : WorldSeen → Entry → RefsSeen → AtomsSeen → WorldSeen
+with_entry world e refs atoms = record world { log = world.log ++ e ∷ []; refs = refs; atoms = atoms }
 
 -- with other refs, or other atoms, and no entry
 abbrev pub with_refs : WorldSeen → RefsSeen → WorldSeen
-with_refs world refs = record { base = world.base; log = world.log; refs = refs; atoms = world.atoms }
+with_refs world refs = record world { refs = refs }
 
-abbrev pub with_atoms : WorldSeen → List Atom → WorldSeen
-with_atoms world atoms = record { base = world.base; log = world.log; refs = world.refs; atoms = atoms }
+abbrev pub with_atoms : WorldSeen → AtomsSeen → WorldSeen
+with_atoms world atoms = record world { atoms = atoms }
 
 -- with a base that names another tally
 abbrev pub with_tally : Option ℕ → Base → Base
-with_tally tally base = record { point = base.point; refs = base.refs; last = base.last; atoms = base.atoms; tally = tally; commits = base.commits; added = base.added }
+with_tally tally base = record base { tally = tally }

@@ -1,8 +1,8 @@
 //! The calls that change one atom.
 ghost use Rattle.std.specs.Prelude.{◌≡◌, ◌≢◌, ◌≤◌, ◌<◌, ◌^◌, ◌+◌, ℕ, List, true, false, [], None, Some, Ok, IfOk, IfErr, OnErr, OnOk, length, slice_get, slice_set};
 ghost use Rattle.ref_edn.specs.Edn.{Edn};
-ghost use Rattle.ref_fun.specs.Rule.{passes};
-ghost use Rattle.ref_atoms.specs.Atoms.{keys_at, rule_at, values_of, with_value};
+ghost use Rattle.ref_log.specs.Guards.{AreAccepted, keys_at};
+ghost use Rattle.ref_atoms.specs.Atoms.{with_value};
 ghost use Rattle.ref_atoms.specs.Change.{change_refusal, compare_refusal, early_refusal, is_same_at};
 ghost use Rattle.ref_atoms.specs.declared.faults.AtomFault.TheVariants as faults;
 ghost use Rattle.ref_log.specs.Replay.{is_changed_by, place, step};
@@ -31,11 +31,11 @@ impl<M: Meaning> World<M> {
         args: Args,
     ) -> Result<Swapped, AtomFault>
         ensures ok { OnOk result (change_refusal M.means M.accepts (F.knows_fun funs.now) (F.knows_pred funs.now) self.old.atoms (point_of self.old + 1) a (Alter code args) ≡ None) }
-        ensures old { IfOk result (λ s. slice_get (values_of self.old.atoms) a ≡ Some s.old) }
+        ensures old { IfOk result (λ s. slice_get self.old.atoms.values a ≡ Some s.old) }
         ensures new { IfOk result (λ s. place M.means (Alter code args) s.old ≡ Ok s.new) }
         ensures entry { IfOk result (λ s. self.new ≡ with_entry self.old (entries.Atom a (Alter code args) s.new) self.old.refs (with_value self.old.atoms a s.new)) }
         ensures values { IfOk result (λ s. step M.means (point_of self.old + 1) (entries.Atom a (Alter code args) s.new) (values_now self.old.refs self.old.atoms) ≡ Ok (values_now self.new.refs self.new.atoms)) }
-        ensures notices { IfOk result (λ s. s.notices.items ≡ notices_of (who.Atom a) (keys_at self.old.atoms a) s.old s.new) }
+        ensures notices { IfOk result (λ s. s.notices.items ≡ notices_of (who.Atom a) (keys_at self.old.atoms.guards a) s.old s.new) }
         ensures fault { IfErr result (λ f. f ≢ faults.Memory → change_refusal M.means M.accepts (F.knows_fun funs.now) (F.knows_pred funs.now) self.old.atoms (point_of self.old + 1) a (Alter code args) ≡ Some f) }
         ensures memory { IfErr result (λ f. f ≡ faults.Memory → early_refusal M.accepts (F.knows_fun funs.now) (F.knows_pred funs.now) self.old.atoms (point_of self.old + 1) a (Alter code args) ≡ None) }
         ensures err { OnErr result (self.new ≡ self.old) }
@@ -57,11 +57,11 @@ impl<M: Meaning> World<M> {
         value: Value,
     ) -> Result<Swapped, AtomFault>
         ensures ok { OnOk result (change_refusal M.means M.accepts (F.knows_fun funs.now) (F.knows_pred funs.now) self.old.atoms (point_of self.old + 1) a (Set value) ≡ None) }
-        ensures old { IfOk result (λ s. slice_get (values_of self.old.atoms) a ≡ Some s.old) }
+        ensures old { IfOk result (λ s. slice_get self.old.atoms.values a ≡ Some s.old) }
         ensures new { IfOk result (λ s. s.new ≡ value) }
         ensures entry { OnOk result (self.new ≡ with_entry self.old (entries.Atom a (Set value) value) self.old.refs (with_value self.old.atoms a value)) }
         ensures values { OnOk result (step M.means (point_of self.old + 1) (entries.Atom a (Set value) value) (values_now self.old.refs self.old.atoms) ≡ Ok (values_now self.new.refs self.new.atoms)) }
-        ensures notices { IfOk result (λ s. s.notices.items ≡ notices_of (who.Atom a) (keys_at self.old.atoms a) s.old value) }
+        ensures notices { IfOk result (λ s. s.notices.items ≡ notices_of (who.Atom a) (keys_at self.old.atoms.guards a) s.old value) }
         ensures fault { IfErr result (λ f. f ≢ faults.Memory → change_refusal M.means M.accepts (F.knows_fun funs.now) (F.knows_pred funs.now) self.old.atoms (point_of self.old + 1) a (Set value) ≡ Some f) }
         ensures memory { IfErr result (λ f. f ≡ faults.Memory → change_refusal M.means M.accepts (F.knows_fun funs.now) (F.knows_pred funs.now) self.old.atoms (point_of self.old + 1) a (Set value) ≡ None) }
         ensures err { OnErr result (self.new ≡ self.old) }
@@ -86,7 +86,7 @@ impl<M: Meaning> World<M> {
         ensures done { IfOk result (λ c. c.done ≡ is_same_at self.old.atoms a old.now) }
         ensures entry { IfOk result (λ c. c.done ≡ true → self.new ≡ with_entry self.old (entries.Atom a (Set new) new) self.old.refs (with_value self.old.atoms a new)) }
         ensures values { IfOk result (λ c. c.done ≡ true → step M.means (point_of self.old + 1) (entries.Atom a (Set new) new) (values_now self.old.refs self.old.atoms) ≡ Ok (values_now self.new.refs self.new.atoms)) }
-        ensures notices { IfOk result (λ c. c.done ≡ true → c.notices.items ≡ notices_of (who.Atom a) (keys_at self.old.atoms a) old.now new) }
+        ensures notices { IfOk result (λ c. c.done ≡ true → c.notices.items ≡ notices_of (who.Atom a) (keys_at self.old.atoms.guards a) old.now new) }
         ensures unset { IfOk result (λ c. c.done ≡ false → self.new ≡ self.old) }
         ensures untold { IfOk result (λ c. c.done ≡ false → c.notices.items ≡ []) }
         ensures fault { IfErr result (λ f. f ≢ faults.Memory → compare_refusal M.accepts (F.knows_pred funs.now) self.old.atoms (point_of self.old + 1) a old.now new ≡ Some f) }
@@ -110,10 +110,10 @@ impl<M: Meaning> World<M> {
 
     // Puts a change of an atom in its place, with its entry, and answers what it answers. The growth comes first.
     fn enter(&mut self, a: u32, change: Change) -> Result<Swapped, AllocError>
-        requires here { a < length self.old.atoms }
-        requires accepted { passes M.accepts (rule_at self.old.atoms a) change.value ≡ true }
+        requires here { a < length self.old.atoms.values }
+        requires accepted { AreAccepted M.accepts self.old.atoms.guards (slice_set self.old.atoms.values a change.value) }
         requires limit { point_of self.old + 1 ≤ 2 ^ 62 }
-        requires step { (refs : List Edn) → step M.means (point_of self.old + 1) change.entry (record { refs = refs; atoms = values_of self.old.atoms }) ≡ Ok (record { refs = refs; atoms = slice_set (values_of self.old.atoms) a change.value }) }
+        requires step { (refs : List Edn) → step M.means (point_of self.old + 1) change.entry (record { refs = refs; atoms = self.old.atoms.values }) ≡ Ok (record { refs = refs; atoms = slice_set self.old.atoms.values a change.value }) }
         requires leaves { (refs r : ℕ) → is_changed_by refs change.entry r ≡ false }
         ensures entry { OnOk result (self.new ≡ with_entry self.old change.entry self.old.refs (with_value self.old.atoms a change.value)) }
         ensures values { OnOk result (step M.means (point_of self.old + 1) change.entry (values_now self.old.refs self.old.atoms) ≡ Ok (values_now self.new.refs self.new.atoms)) }

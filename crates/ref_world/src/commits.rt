@@ -51,9 +51,9 @@ impl<M: Meaning> World<M> {
         ensures values { OnOk result (step M.means (point_of self.old + 1) (entry_of stamp tx) (values_now self.old.refs self.old.atoms) ≡ Ok (values_now self.new.refs self.new.atoms)) }
         ensures inner { OnOk result ((r : ℕ) → is_protected tx.dones r ≡ true → slice_get self.new.refs.values r ≡ inner_value M.means tx r) }
         ensures lasts { OnOk result ((r : ℕ) → changed_at self.new.refs.lasts r ≡ changed_by self.old.refs.lasts (point_of self.old + 1) tx.dones r) }
-        ensures rest { OnOk result ((self.new.refs.tally ≡ self.old.refs.tally) × (self.new.refs.rules ≡ self.old.refs.rules) × (self.new.refs.watches ≡ self.old.refs.watches)) }
+        ensures rest { OnOk result ((self.new.refs.tally ≡ self.old.refs.tally) × (self.new.refs.guards ≡ self.old.refs.guards)) }
         ensures receipt { IfOk result (λ receipt. (receipt.point ≡ point_of self.old + 1) × (receipt.stamp ≡ stamp)) }
-        ensures notices { IfOk result (λ receipt. receipt.notices.items ≡ notices self.old.refs.watches self.old.refs.values self.new.refs.values (touched_refs tx.dones)) }
+        ensures notices { IfOk result (λ receipt. receipt.notices.items ≡ notices self.old.refs.guards self.old.refs.values self.new.refs.values (touched_refs tx.dones)) }
         ensures fault { IfErr result (λ e. e.1 ≢ commits.Memory → commit_refusal M.means M.accepts (F.knows_fun funs.now) (F.knows_pred funs.now) self.old.refs (point_of self.old + 1) tx ≡ Some e.1) }
         ensures memory { IfErr result (λ e. e.1 ≡ commits.Memory → early_refusal (F.knows_fun funs.now) (F.knows_pred funs.now) self.old.refs (point_of self.old + 1) tx ≡ None) }
         ensures back { IfErr result (λ e. e.0 ≡ tx) }

@@ -1,9 +1,8 @@
 //! The references that a world begins with, and their base.
 ghost use Rattle.std.specs.Prelude.{◌≡◌, ◌≢◌, ◌≤◌, [], true, Ok, Err, IfOk, IfErr, OnOk, length};
-ghost use Rattle.ref_atoms.specs.Atoms.{values_of};
 ghost use Rattle.ref_log.specs.declared.faults.MakeFault.TheVariants as makes;
 ghost use Rattle.ref_refs.specs.Seen.{are_unchanged_since};
-ghost use Rattle.ref_world.specs.Starts.{base_of, no_refs, refusal_of, with_atom, with_declared_atoms, with_declared_refs, with_ref};
+ghost use Rattle.ref_world.specs.Starts.{base_of, no_atoms, no_refs, refusal_of, with_atom, with_declared_atoms, with_declared_refs, with_ref};
 
 use crate::starts::{AtomStart, RefStart};
 use ref_atoms::AtomStore;
@@ -63,8 +62,8 @@ pub(crate) fn declared_atoms<M: Meaning, F: Functions<M>>(
     funs: &F,
     starts: &[AtomStart],
 ) -> Result<AtomStore<M>, (Who, MakeFault)>
-    ensures ok { IfOk result (λ atoms. with_declared_atoms M.accepts (F.knows_pred funs.now) starts.now (Ok []) ≡ Ok atoms) }
-    ensures fault { IfErr result (λ e. e.1 ≢ makes.Memory → with_declared_atoms M.accepts (F.knows_pred funs.now) starts.now (Ok []) ≡ Err e) }
+    ensures ok { IfOk result (λ atoms. with_declared_atoms M.accepts (F.knows_pred funs.now) starts.now (Ok no_atoms) ≡ Ok atoms) }
+    ensures fault { IfErr result (λ e. e.1 ≢ makes.Memory → with_declared_atoms M.accepts (F.knows_pred funs.now) starts.now (Ok no_atoms) ≡ Err e) }
 {
     let mut atoms = AtomStore::empty(alloc);
     for start in starts {
@@ -157,7 +156,7 @@ fn values_of_atoms<M: Meaning>(
     alloc: Global,
     atoms: &AtomStore<M>,
 ) -> Result<Vec<Value>, AllocError>
-    ensures { IfOk result (λ all. all.items ≡ values_of atoms.now) }
+    ensures { IfOk result (λ all. all.items ≡ atoms.now.values) }
 {
     let mut all = Vec::with_capacity(alloc, atoms.len())?;
     for a in 0..atoms.len() {

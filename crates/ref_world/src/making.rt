@@ -1,6 +1,7 @@
 //! Making references.
-ghost use Rattle.std.specs.Prelude.{◌≡◌, ◌≢◌, ◌+◌, ◌++◌, ◌∷◌, [], None, Some, IfOk, IfErr, OnErr, OnOk, length};
-ghost use Rattle.ref_atoms.specs.Make as atoms;
+ghost use Rattle.std.specs.Prelude.{◌≡◌, ◌≢◌, ◌+◌, ◌++◌, ◌∷◌, [], false, None, Some, IfOk, IfErr, OnErr, OnOk, length};
+ghost use Rattle.ref_atoms.specs.Atoms as atoms;
+ghost use Rattle.ref_log.specs.Make as made;
 ghost use Rattle.ref_log.specs.declared.entries.Entry.TheVariants as entries;
 ghost use Rattle.ref_log.specs.declared.faults.MakeFault.TheVariants as makes;
 ghost use Rattle.ref_refs.specs.Make as refs;
@@ -53,11 +54,11 @@ impl<M: Meaning> World<M> {
         value: Value,
         rule: Option<Rule>,
     ) -> Result<u32, MakeFault>
-        ensures ok { OnOk result (atoms.make_refusal M.accepts (F.knows_pred funs.now) self.old.atoms (point_of self.old + 1) value rule ≡ None) }
-        ensures number { IfOk result (λ a. a ≡ length self.old.atoms) }
+        ensures ok { OnOk result (made.make_refusal M.accepts (F.knows_pred funs.now) (length self.old.atoms.values) false (point_of self.old + 1) value rule ≡ None) }
+        ensures number { IfOk result (λ a. a ≡ length self.old.atoms.values) }
         ensures entry { OnOk result (self.new ≡ with_entry self.old (entries.MadeAtom value) self.old.refs (atoms.with_atom self.old.atoms value rule)) }
-        ensures fault { IfErr result (λ f. f ≢ makes.Memory → atoms.make_refusal M.accepts (F.knows_pred funs.now) self.old.atoms (point_of self.old + 1) value rule ≡ Some f) }
-        ensures memory { IfErr result (λ f. f ≡ makes.Memory → atoms.make_refusal M.accepts (F.knows_pred funs.now) self.old.atoms (point_of self.old + 1) value rule ≡ None) }
+        ensures fault { IfErr result (λ f. f ≢ makes.Memory → made.make_refusal M.accepts (F.knows_pred funs.now) (length self.old.atoms.values) false (point_of self.old + 1) value rule ≡ Some f) }
+        ensures memory { IfErr result (λ f. f ≡ makes.Memory → made.make_refusal M.accepts (F.knows_pred funs.now) (length self.old.atoms.values) false (point_of self.old + 1) value rule ≡ None) }
         ensures err { OnErr result (self.new ≡ self.old) }
     {
         let at = self.point() + 1;

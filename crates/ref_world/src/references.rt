@@ -1,7 +1,6 @@
 //! What can be asked of each kind of reference: its value, its rule and its watches.
 ghost use Rattle.std.specs.Prelude.{◌≡◌, ◌≢◌, ◌↔◌, true, false, not, None, Some, IfOk, IfErr, OnErr, OnOk, is_some, option_copied};
 ghost use Rattle.ref_log.specs.Watches.{has_key};
-ghost use Rattle.ref_log.specs.declared.faults.RuleFault.TheVariants as rules;
 ghost use Rattle.ref_log.specs.declared.faults.WatchFault.TheVariants as watches;
 ghost use Rattle.ref_world.specs.References.{are_known, is_accepted_at, keys_at, rule_at, rule_refusal, value_at, with_rule, with_watch, without_watch};
 ghost use Rattle.ref_world.specs.World.{IsReplayed};
@@ -10,7 +9,6 @@ use crate::worlds::World;
 use ref_edn::Value;
 use ref_fun::{Functions, Meaning, Rule};
 use ref_log::{RuleFault, WatchFault, Who};
-use std::alloc::Global;
 
 impl<M: Meaning> World<M> {
     /// The value of a reference now, if it is there. It takes no memory.
@@ -39,31 +37,29 @@ impl<M: Meaning> World<M> {
         }
     }
 
-    /// Gives a reference this rule, or none, in the place of the one that it had. The rule has to accept the value now. A
-    /// refused call changes nothing.
+    /// Gives a reference this rule, or none, in the place of the one that it had. The rule has to accept the value now. It
+    /// takes no memory. A refused call changes nothing.
     pub fn set_validator<F: Functions<M>>(
         &mut self,
-        alloc: Global,
         funs: &F,
         who: Who,
         rule: Option<Rule>,
     ) -> Result<(), RuleFault>
         ensures ok { OnOk result (rule_refusal M.accepts (F.knows_pred funs.now) self.old who rule ≡ None) }
         ensures sets { OnOk result (self.new ≡ with_rule self.old who rule) }
-        ensures fault { IfErr result (λ f. f ≢ rules.Memory → rule_refusal M.accepts (F.knows_pred funs.now) self.old who rule ≡ Some f) }
-        ensures memory { IfErr result (λ f. f ≡ rules.Memory → rule_refusal M.accepts (F.knows_pred funs.now) self.old who rule ≡ None) }
+        ensures fault { IfErr result (λ f. rule_refusal M.accepts (F.knows_pred funs.now) self.old who rule ≡ Some f) }
         ensures err { OnErr result (self.new ≡ self.old) }
     {
         match who {
-            Who::Ref(r) => self.refs.set_validator(alloc, funs, r, rule),
-            Who::Atom(a) => self.atoms.set_validator(alloc, funs, a, rule),
+            Who::Ref(r) => self.refs.set_validator(funs, r, rule),
+            Who::Atom(a) => self.atoms.set_validator(funs, a, rule),
             Who::Agent(_) => Err(RuleFault::NoSuch),
         }
     }
 
     /// Adds a watch to a reference, behind its others, and answers whether the key is new; a key that is there stays where it
     /// is. Linear in the number of the reference's watches. A refused call changes nothing.
-    pub fn add_watch(&mut self, alloc: Global, who: Who, key: Value) -> Result<bool, WatchFault>
+    pub fn add_watch(&mut self, who: Who, key: Value) -> Result<bool, WatchFault>
         ensures new { IfOk result (λ is_new. is_new ≡ not (has_key (keys_at self.old who) key)) }
         ensures adds { OnOk result (self.new ≡ with_watch self.old who key) }
         ensures here { OnOk result (value_at self.old who ≢ None) }
@@ -72,8 +68,8 @@ impl<M: Meaning> World<M> {
         ensures err { OnErr result (self.new ≡ self.old) }
     {
         match who {
-            Who::Ref(r) => self.refs.add_watch(alloc, r, key),
-            Who::Atom(a) => self.atoms.add_watch(alloc, a, key),
+            Who::Ref(r) => self.refs.add_watch(r, key),
+            Who::Atom(a) => self.atoms.add_watch(a, key),
             Who::Agent(_) => Err(WatchFault::NoSuch),
         }
     }

@@ -1,7 +1,7 @@
 //! The world and what it tells.
 ghost use Rattle.std.specs.Prelude.{◌≡◌, ◌≢◌, ◌≤◌, ◌^◌, [], None, Some, Ok, IfOk, IfErr, OnOk};
 ghost use Rattle.ref_log.specs.declared.faults.MakeFault.TheVariants as makes;
-ghost use Rattle.ref_world.specs.Starts.{base_of, no_refs, start_refusal, with_declared_atoms, with_declared_refs};
+ghost use Rattle.ref_world.specs.Starts.{base_of, no_atoms, no_refs, start_refusal, with_declared_atoms, with_declared_refs};
 ghost use Rattle.ref_world.specs.World.{HasLastChanges, point_of};
 
 use crate::declared::{base_of, declared_atoms, declared_refs};
@@ -50,7 +50,7 @@ impl<M: Meaning> World<M> {
     ) -> Result<World<M>, (Who, MakeFault)>
         ensures ok { OnOk result (start_refusal M.accepts (F.knows_pred funs.now) start.refs.items start.atoms.items ≡ None) }
         ensures refs { IfOk result (λ w. with_declared_refs M.accepts (F.knows_pred funs.now) start.refs.items (Ok no_refs) ≡ Ok w.refs) }
-        ensures atoms { IfOk result (λ w. with_declared_atoms M.accepts (F.knows_pred funs.now) start.atoms.items (Ok []) ≡ Ok w.atoms) }
+        ensures atoms { IfOk result (λ w. with_declared_atoms M.accepts (F.knows_pred funs.now) start.atoms.items (Ok no_atoms) ≡ Ok w.atoms) }
         ensures base { IfOk result (λ w. w.base ≡ base_of w.refs w.atoms) }
         ensures log { IfOk result (λ w. w.log ≡ []) }
         ensures fault { IfErr result (λ e. e.1 ≢ makes.Memory → start_refusal M.accepts (F.knows_pred funs.now) start.refs.items start.atoms.items ≡ Some e) }

@@ -12,10 +12,10 @@ invariant_of-self-2 g c =
     let next = rw (← c.self.view_is) at c.requires.step in
     let limit = rw (← c.self.view_is) at c.requires.limit in
     subst (λ l. IsWorld g.M.Meaning.means w.base l w.refs c.install.new.self) (sym items)
-    (atom_entered g.M.Meaning.means w.base log w.refs w.atoms c.self.invariant change.entry c.install.new.self c.args.a change.value next c.install.ensures.values c.requires.leaves limit)
+    (atom_entered g.M.Meaning.means w.base log w.refs w.atoms c.self.invariant change.entry c.install.new.self c.args.a change.value next (ap (λ s. s.values) c.install.ensures) c.requires.leaves limit)
 
 pub returns-clause-values : goal.returns-clause-values
 returns-clause-values g c =
     let w = c.self.inside in
     let next = rw (← c.self.view_is) at c.requires.step in
-    rw (← c.self.view_is) (next w.refs.values ∙ ap (λ vs. Ok (record { refs = w.refs.values; atoms = vs })) (sym c.install.ensures.values))
+    rw (← c.self.view_is) (next w.refs.values ∙ ap (λ vs. Ok (record { refs = w.refs.values; atoms = vs })) (sym (ap (λ s. s.values) c.install.ensures)))
