@@ -1,12 +1,13 @@
 -- In-transaction values, and what a transaction answers.
 use Rattle.std.specs.Prelude.{ℕ, ◌==◌, Bool, true, false, not, ◌&&◌, ◌||◌, if◌then◌else◌, nat_lt, List, [], ◌∷◌, ◌++◌, length, Option, None, Some, Result, Ok, Err, slice_get, ◌≡◌}
 use Rattle.std.specs.List.{list_any, list_all}
+use Rattle.std.specs.Option.{option_map, option_or}
 use Rattle.ref_edn.specs.Edn.{Edn}
 use Rattle.ref_fun.specs.declared.faults.Cause.{Cause}
 use Rattle.ref_fun.specs.Meaning.{Means}
 use Rattle.ref_fun.specs.Rule.{is_accepted}
 use Rattle.ref_fun.specs.declared.rules.Rule.{Rule}
-use Rattle.ref_log.specs.Replay.{place, is_set, is_commute}
+use Rattle.ref_log.specs.Replay.{codes_of, is_commute, is_set, missing, place}
 use Rattle.ref_log.specs.Tally.{fits_tally}
 use Rattle.ref_log.specs.declared.operations.Done.{Done}
 use Rattle.ref_log.specs.declared.operations.Op.{Op}
@@ -64,13 +65,6 @@ is_tally None r = false
 abbrev pub fit_tally : Option ℕ → List Done → Bool
 fit_tally tally ds = list_all (λ d. not (is_tally tally d.r) || fits_tally d.op) ds
 
--- the code that an operation calls and no function has
-abbrev pub unknown_code : (ℕ → Bool) → Op → Option ℕ
-unknown_code knows (Set w) = None
-unknown_code knows (Alter code args) = if knows code then None else Some code
-unknown_code knows (Commute code args) = if knows code then None else Some code
-unknown_code knows Ensure = None
-
 abbrev pub told : Result Edn Cause → Result Edn TxFault
 told (Ok v) = Ok v
 told (Err c) = Err (Refused c)
@@ -79,22 +73,26 @@ abbrev pub placed : Means → Op → Option Edn → Result Edn TxFault
 placed means op (Some v) = told (place means op v)
 placed means op None = Err NoSuchRef
 
--- what a call by a code answers, where a function has the code or not
-abbrev pub called_as : Bool → ℕ → Result Edn Cause → Result Edn TxFault
-called_as has code meant = if has then told meant else Err (NoSuchFun code)
-
 abbrev pub called : Means → Op → Option Edn → Option ℕ → Result Edn TxFault
 called means op v (Some code) = Err (NoSuchFun code)
 called means op v None = placed means op v
 
+-- The first fault of an operation that sets its ref or not, and that the tally would take or not.
+abbrev pub refusal_by : TxSeen → ℕ → Bool → Bool → Option TxFault
+refusal_by tx r sets fits =
+    if not (has_ref tx r) then Some NoSuchRef else
+    if sets && is_commuted tx.dones r then Some SetAfterCommute else
+    if is_tally tx.tally r && not fits then Some TallyOnly else
+    None
+
 -- The first fault of an operation before its function is asked for. Clojure's page on refs: a ref that was commuted
 -- can't be set in the same transaction.
 abbrev pub refusal : TxSeen → ℕ → Op → Option TxFault
-refusal tx r op =
-    if not (has_ref tx r) then Some NoSuchRef else
-    if is_set op && is_commuted tx.dones r then Some SetAfterCommute else
-    if is_tally tx.tally r && not (fits_tally op) then Some TallyOnly else
-    None
+refusal tx r op = refusal_by tx r (is_set op) (fits_tally op)
+
+-- The first fault that is known before any memory is taken and any function called.
+abbrev pub early_refusal : (ℕ → Bool) → TxSeen → ℕ → Op → Option TxFault
+early_refusal knows tx r op = option_or (refusal tx r op) (option_map NoSuchFun (missing knows (codes_of op)))
 
 abbrev pub or_refusal : Option TxFault → Result Edn TxFault → Result Edn TxFault
 or_refusal (Some fault) answer = Err fault
@@ -102,7 +100,7 @@ or_refusal None answer = answer
 
 -- What an operation answers: its first fault, or what it makes of the in-transaction value.
 abbrev pub answer_of : Means → (ℕ → Bool) → TxSeen → ℕ → Op → Result Edn TxFault
-answer_of means knows tx r op = or_refusal (refusal tx r op) (called means op (inner_value means tx r) (unknown_code knows op))
+answer_of means knows tx r op = or_refusal (refusal tx r op) (called means op (inner_value means tx r) (missing knows (codes_of op)))
 
 -- ---- what is required
 
@@ -118,7 +116,7 @@ unmet accepts knows rule (Some v) =
 
 -- The transaction with one operation more.
 abbrev pub with_done : TxSeen → ℕ → Op → Edn → TxSeen
-with_done tx r op v = record { read_point = tx.read_point; began = tx.began; dones = tx.dones ++ (record { r = r; op = op; answer = v }) ∷ []; tally = tx.tally }
+with_done tx r op v = record tx { dones = tx.dones ++ (record { r = r; op = op; answer = v }) ∷ [] }
 
 -- ---- what the type keeps
 

@@ -2,9 +2,9 @@
 ghost use Rattle.std.specs.BTreeMap.{get};
 ghost use Rattle.std.specs.Ordering.{nat_cmp};
 ghost use Rattle.std.specs.Prelude.{◌==◌, ◌||◌, cond, ◌≡◌, ◌≢◌, ◌≤◌, ℕ, [], true, false, Ok, Err, Some, None, IfOk, IfErr, OnOk, OnErr, option_copied, slice_get};
-ghost use Rattle.ref_log.specs.Replay.{is_commute};
+ghost use Rattle.ref_log.specs.Replay.{codes_of, is_commute, missing, place};
 ghost use Rattle.ref_log.specs.declared.operations.Op.TheVariants.{Set, Alter, Commute, Ensure};
-ghost use Rattle.ref_tx.specs.Inner.{IsTx, inner_value, has_ref, is_commuted, is_tally, refusal, answer_of, and_place, called_as, unmet, with_done};
+ghost use Rattle.ref_tx.specs.Inner.{IsTx, inner_value, has_ref, is_commuted, is_tally, refusal, refusal_by, early_refusal, answer_of, and_place, called, unmet, with_done};
 ghost use Rattle.ref_tx.specs.declared.faults.TxFault.TheVariants.{NoSuchRef, Memory};
 
 use crate::faults::TxFault;
@@ -114,10 +114,11 @@ impl<M: Meaning> Tx<M> {
         ensures adds { IfOk result (λ v. self.new ≡ with_done self.old r (Set value) v) }
         ensures inner { IfOk result (λ v. inner_value M.means self.new r ≡ Some v) }
         ensures fault { IfErr result (λ f. f ≢ Memory → answer_of M.means (λ code. true) self.old r (Set value) ≡ Err f) }
+        ensures memory { IfErr result (λ f. f ≡ Memory → early_refusal (λ code. true) self.old r (Set value) ≡ None) }
         ensures err { OnErr result (self.new ≡ self.old) }
     {
+        self.check(r, true, false)?;
         let op = Op::Set(value.share()?);
-        self.check(r, &op)?;
         self.record(alloc, r, op, value)
     }
 
@@ -135,10 +136,12 @@ impl<M: Meaning> Tx<M> {
         ensures adds { IfOk result (λ v. self.new ≡ with_done self.old r (Alter code args) v) }
         ensures inner { IfOk result (λ v. inner_value M.means self.new r ≡ Some v) }
         ensures fault { IfErr result (λ f. f ≢ Memory → answer_of M.means (F.knows_fun funs.now) self.old r (Alter code args) ≡ Err f) }
+        ensures memory { IfErr result (λ f. f ≡ Memory → early_refusal (F.knows_fun funs.now) self.old r (Alter code args) ≡ None) }
         ensures err { OnErr result (self.new ≡ self.old) }
     {
-        let op = Op::Alter(code, args.share()?);
-        let value = called(alloc, funs, code, &args, self.check(r, &op)?)?;
+        let before = self.check(r, true, false)?;
+        let op = Op::Alter(code, args);
+        let value = call(alloc, funs, &op, before)?;
         self.record(alloc, r, op, value)
     }
 
@@ -156,10 +159,12 @@ impl<M: Meaning> Tx<M> {
         ensures adds { IfOk result (λ v. self.new ≡ with_done self.old r (Commute code args) v) }
         ensures inner { IfOk result (λ v. inner_value M.means self.new r ≡ Some v) }
         ensures fault { IfErr result (λ f. f ≢ Memory → answer_of M.means (F.knows_fun funs.now) self.old r (Commute code args) ≡ Err f) }
+        ensures memory { IfErr result (λ f. f ≡ Memory → early_refusal (F.knows_fun funs.now) self.old r (Commute code args) ≡ None) }
         ensures err { OnErr result (self.new ≡ self.old) }
     {
-        let op = Op::Commute(code, args.share()?);
-        let value = called(alloc, funs, code, &args, self.check(r, &op)?)?;
+        let op = Op::Commute(code, args);
+        let before = self.check(r, false, op.fits_tally())?;
+        let value = call(alloc, funs, &op, before)?;
         self.record(alloc, r, op, value)
     }
 
@@ -169,9 +174,10 @@ impl<M: Meaning> Tx<M> {
         ensures adds { IfOk result (λ v. self.new ≡ with_done self.old r Ensure v) }
         ensures inner { IfOk result (λ v. inner_value M.means self.new r ≡ Some v) }
         ensures fault { IfErr result (λ f. f ≢ Memory → answer_of M.means (λ code. true) self.old r Ensure ≡ Err f) }
+        ensures memory { IfErr result (λ f. f ≡ Memory → early_refusal (λ code. true) self.old r Ensure ≡ None) }
         ensures err { OnErr result (self.new ≡ self.old) }
     {
-        let value = self.check(r, &Op::Ensure)?.share()?;
+        let value = self.check(r, false, true)?.share()?;
         self.record(alloc, r, Op::Ensure, value)
     }
 
@@ -188,17 +194,18 @@ impl<M: Meaning> Tx<M> {
         }
     }
 
-    // The in-transaction value of a ref, where the operation isn't refused before its function is asked for.
-    fn check(&self, r: u32, op: &Op) -> Result<&Value, TxFault>
-        ensures ok { OnOk result (refusal self.now r op.now ≡ None) }
+    // The in-transaction value of a ref, where an operation isn't refused before its function is asked for.
+    fn check(&self, r: u32, sets: bool, fits_tally: bool) -> Result<&Value, TxFault>
+        ensures ok { OnOk result (refusal_by self.now r sets fits_tally ≡ None) }
         ensures value { IfOk result (λ v. inner_value M.means self.now r ≡ Some v.now) }
-        ensures fault { IfErr result (λ f. refusal self.now r op.now ≡ Some f) }
+        ensures fault { IfErr result (λ f. refusal_by self.now r sets fits_tally ≡ Some f) }
+        ensures told { IfErr result (λ f. f ≢ Memory) }
     {
         let value = self.deref(r)?;
-        if op.is_set() && self.is_commuted(r) {
+        if sets && self.is_commuted(r) {
             return Err(TxFault::SetAfterCommute);
         }
-        if self.is_tally(r) && !op.fits_tally() {
+        if self.is_tally(r) && !fits_tally {
             return Err(TxFault::TallyOnly);
         }
         Ok(value)
@@ -260,18 +267,19 @@ fn put(own: &mut BTreeMap<u32, Own>, r: u32, value: Value, commuted: bool) -> Re
     Ok(())
 }
 
-// What a function makes of a value.
-fn called<M: Meaning, F: Functions<M>>(
+// What the function of an operation makes of a value.
+fn call<M: Meaning, F: Functions<M>>(
     alloc: Global,
     funs: &F,
-    code: u32,
-    args: &Args,
+    op: &Op,
     value: &Value,
 ) -> Result<Value, TxFault>
-    ensures ok { IfOk result (λ v. (F.knows_fun funs.now code ≡ true) × (M.means code args.now value.now ≡ Ok v)) }
-    ensures fault { IfErr result (λ f. f ≢ Memory → called_as (F.knows_fun funs.now code) code (M.means code args.now value.now) ≡ Err f) }
+    ensures ok { IfOk result (λ v. called M.means op.now (Some value.now) (missing (F.knows_fun funs.now) (codes_of op.now)) ≡ Ok v) }
+    ensures place { IfOk result (λ v. place M.means op.now value.now ≡ Ok v) }
+    ensures fault { IfErr result (λ f. f ≢ Memory → called M.means op.now (Some value.now) (missing (F.knows_fun funs.now) (codes_of op.now)) ≡ Err f) }
+    ensures memory { IfErr result (λ f. f ≡ Memory → missing (F.knows_fun funs.now) (codes_of op.now) ≡ None) }
 {
-    match funs.call(alloc, code, value, args.as_slice()) {
+    match op.place(alloc, funs, value) {
         Ok(value) => Ok(value),
         Err(CallFault::NoSuchFun(code)) => Err(TxFault::NoSuchFun(code)),
         Err(CallFault::Refused(cause)) => Err(TxFault::Refused(cause)),
