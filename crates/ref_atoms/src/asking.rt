@@ -3,7 +3,7 @@ ghost use Rattle.std.specs.Prelude.{◌≡◌, ◌≢◌, ◌<◌, ◌≤◌, �
 ghost use Rattle.ref_edn.specs.Edn.{Edn};
 ghost use Rattle.ref_fun.specs.Rule.{passes, unknown};
 ghost use Rattle.ref_log.specs.Guards.{AreAccepted, keys_at, rule_at};
-ghost use Rattle.ref_log.specs.Replay.{codes_of, is_set, missing, place, step};
+ghost use Rattle.ref_log.specs.Replay.{codes_of, is_set, missing, place, sets_atom, step};
 ghost use Rattle.ref_log.specs.Watches.{notices_of};
 ghost use Rattle.ref_log.specs.declared.entries.Entry.TheVariants as entries;
 ghost use Rattle.ref_log.specs.declared.notices.Who.TheVariants as who;
@@ -35,6 +35,7 @@ impl<M: Meaning> AtomStore<M> {
         ensures change { IfOk result (λ change. IsChangeOf M.means self.now a op change) }
         ensures old { IfOk result (λ change. slice_get self.now.values a ≡ Some change.swapped.old) }
         ensures step { IfOk result (λ change. (refs : List Edn) → step M.means at change.entry (record { refs = refs; atoms = self.now.values }) ≡ Ok (record { refs = refs; atoms = slice_set self.now.values a change.value })) }
+        ensures sets { IfOk result (λ change. sets_atom change.entry ≡ true) }
         ensures here { OnOk result (a < length self.now.values) }
         ensures limit { OnOk result (at ≤ 2 ^ 62) }
         ensures accepted { IfOk result (λ change. AreAccepted M.accepts self.now.guards (slice_set self.now.values a change.value)) }
@@ -65,6 +66,7 @@ impl<M: Meaning> AtomStore<M> {
         ensures same { IfOk result (λ change. (is_some change ≡ is_same_at self.now a old.now)) }
         ensures change { IfOk result (λ change. IfSome change (IsChangeOf M.means self.now a (Set new))) }
         ensures step { IfOk result (λ change. IfSome change (λ c. (refs : List Edn) → step M.means at c.entry (record { refs = refs; atoms = self.now.values }) ≡ Ok (record { refs = refs; atoms = slice_set self.now.values a c.value }))) }
+        ensures sets { IfOk result (λ change. IfSome change (λ c. sets_atom c.entry ≡ true)) }
         ensures here { OnOk result (a < length self.now.values) }
         ensures limit { IfOk result (λ change. IfSome change (λ c. at ≤ 2 ^ 62)) }
         ensures accepted { IfOk result (λ change. IfSome change (λ c. AreAccepted M.accepts self.now.guards (slice_set self.now.values a c.value))) }

@@ -51,6 +51,13 @@ is_ensure (Alter code args) = false
 is_ensure (Commute code args) = false
 is_ensure Ensure = true
 
+-- An entry of an atom is `reset!` or `swap!`: its operation sets the atom.
+abbrev pub sets_atom : Entry → Bool
+sets_atom (Trans transaction) = true
+sets_atom (Atom a op answer) = is_set op
+sets_atom (MadeRef value) = true
+sets_atom (MadeAtom value) = true
+
 -- A transaction protects the refs that it set, altered or ensured: nobody else has changed them since its read point.
 abbrev pub is_protected : List Done → ℕ → Bool
 is_protected ds r = list_any (λ d. d.r == r && not (is_commute d.op)) ds

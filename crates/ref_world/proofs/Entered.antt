@@ -1,11 +1,13 @@
 -- A world with an entry more.
-use Rattle.std.proofs.Common.{◌≡◌, ℕ, ◌+◌, ◌≤◌, ◌^◌, ◌∷◌, ◌++◌, [], cond, not, nat_lt, true, false, List, length, Ok, slice_set, refl, ap, sym, subst, ◌∙◌, arith}
+use Rattle.std.proofs.Common.{◌≡◌, ℕ, ◌&&◌, ◌+◌, ◌≤◌, ◌^◌, ◌∷◌, ◌++◌, [], cond, not, nat_lt, true, false, List, length, Ok, slice_set, refl, ap, sym, subst, ◌∙◌, arith}
+use Rattle.std.specs.List.{list_all}
+use Rattle.std.proofs.lemmas.List.Folds.{list_all-append}
 use Rattle.std.proofs.lemmas.Bool.{and_from, and_parts, le-ltb, ltb-false, not-true}
 use Rattle.ref_edn.specs.Edn.{Edn}
 use Rattle.ref_fun.specs.Meaning.{Means}
 use Rattle.ref_atoms.specs.Atoms.{AtomsSeen}
 use Rattle.ref_log.specs.Laws.{last_change-append, replay-more, replay-refs}
-use Rattle.ref_log.specs.Replay.{is_changed_by, point_after, refs_after, step}
+use Rattle.ref_log.specs.Replay.{is_changed_by, point_after, refs_after, sets_atom, step}
 use Rattle.ref_log.specs.declared.entries.Entry.{Entry}
 use Rattle.ref_log.specs.declared.states.Base.{Base}
 use Rattle.ref_refs.specs.Seen.{RefsSeen, are_unchanged_since, changed_at}
@@ -52,13 +54,16 @@ module _ (means : Means) (base : Base) (log : List Entry) (refs : RefsSeen) (ato
       → ((r : ℕ) → changed_at after.lasts r ≡ cond (is_changed_by (length refs.values) e r) (point_after base log + 1) (changed_at refs.lasts r))
       → are_unchanged_since after.lasts (point_after base log + 1) ≡ true
       → point_after base log + 1 ≤ 2 ^ 62
+      → sets_atom e ≡ true
       → IsWorld means (with_tally after.tally base) (log ++ e ∷ []) after atoms_after
-  entered e after atoms_after next moved since limit = record {
+  entered e after atoms_after next moved since limit sets = record {
     replayed = replay-more means base log e (values_now refs atoms) (values_now after atoms_after) is.replayed next;
     changed = changed e after moved;
     tally = refl;
     since = subst (λ p. are_unchanged_since after.lasts p ≡ true) (point_more base log e) since;
     limit = subst (λ p. p ≤ 2 ^ 62) (point_more base log e) limit;
+    lasts = is.lasts;
+    sets = list_all-append sets_atom log (e ∷ []) ∙ and_from (list_all sets_atom log) (sets_atom e && true) is.sets (and_from (sets_atom e) true sets refl);
   }
 
   -- where the tally stays, so does the base
@@ -67,10 +72,11 @@ module _ (means : Means) (base : Base) (log : List Entry) (refs : RefsSeen) (ato
       → ((r : ℕ) → changed_at after.lasts r ≡ cond (is_changed_by (length refs.values) e r) (point_after base log + 1) (changed_at refs.lasts r))
       → are_unchanged_since after.lasts (point_after base log + 1) ≡ true
       → point_after base log + 1 ≤ 2 ^ 62
+      → sets_atom e ≡ true
       → after.tally ≡ refs.tally
       → IsWorld means base (log ++ e ∷ []) after atoms_after
-  entered_same e after atoms_after next moved since limit tally =
-      subst (λ t. IsWorld means (with_tally t base) (log ++ e ∷ []) after atoms_after) (tally ∙ sym is.tally) (entered e after atoms_after next moved since limit)
+  entered_same e after atoms_after next moved since limit sets tally =
+      subst (λ t. IsWorld means (with_tally t base) (log ++ e ∷ []) after atoms_after) (tally ∙ sym is.tally) (entered e after atoms_after next moved since limit sets)
 
   -- an entry about an atom
   pub atom_entered : (e : Entry) (atoms_after : AtomsSeen) (a : ℕ) (v : Edn)
@@ -78,10 +84,11 @@ module _ (means : Means) (base : Base) (log : List Entry) (refs : RefsSeen) (ato
       → atoms_after.values ≡ slice_set atoms.values a v
       → ((n r : ℕ) → is_changed_by n e r ≡ false)
       → point_after base log + 1 ≤ 2 ^ 62
+      → sets_atom e ≡ true
       → IsWorld means base (log ++ e ∷ []) refs atoms_after
-  atom_entered e atoms_after a v next set leaves limit =
+  atom_entered e atoms_after a v next set leaves limit sets =
       let point = point_after base log + 1 in
       entered_same e refs atoms_after
       (next refs.values ∙ ap (λ vs. Ok (record { refs = refs.values; atoms = vs })) (sym set))
       (λ r. ap (λ b. cond b point (changed_at refs.lasts r)) (sym (leaves (length refs.values) r)))
-      (since_later refs.lasts (point_after base log) is.since) limit refl
+      (since_later refs.lasts (point_after base log) is.since) limit sets refl

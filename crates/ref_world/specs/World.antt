@@ -1,7 +1,8 @@
 -- What is always so in a world, and what a call adds.
-use Rattle.std.specs.Prelude.{◌≡◌, ◌≤◌, ℕ, ◌^◌, true, List, [], ◌∷◌, ◌++◌, Option, Ok}
+use Rattle.std.specs.Prelude.{◌≡◌, ◌≤◌, ℕ, ◌^◌, true, List, [], ◌∷◌, ◌++◌, length, Option, Ok}
+use Rattle.std.specs.List.{list_all}
 use Rattle.ref_fun.specs.Meaning.{Means}
-use Rattle.ref_log.specs.Replay.{last_change, point_after, replay}
+use Rattle.ref_log.specs.Replay.{last_change, point_after, replay, sets_atom}
 use Rattle.ref_log.specs.declared.entries.Entry.{Entry}
 use Rattle.ref_log.specs.declared.states.Base.{Base}
 use Rattle.ref_log.specs.declared.states.PlainState.{PlainState}
@@ -26,13 +27,16 @@ IsReplayed means base log refs atoms = replay means base log ≡ Ok (values_now 
 abbrev pub HasLastChanges : Base → List Entry → RefsSeen → Type 0
 HasLastChanges base log refs = (r : ℕ) → changed_at refs.lasts r ≡ last_change base log r
 
--- What is always so: besides, the base names the tally, no ref has changed after the present point, and points end at 2^62.
+-- What is always so: besides, the base has the last change of each of its refs and names the tally, no ref has changed after
+-- the present point, an atom's entries set it, and points end at 2^62.
 pub record IsWorld (means : Means) (base : Base) (log : List Entry) (refs : RefsSeen) (atoms : AtomsSeen) : Type 0 where
   pub replayed : IsReplayed means base log refs atoms
   pub changed : HasLastChanges base log refs
   pub tally : base.tally ≡ refs.tally
   pub since : are_unchanged_since refs.lasts (point_after base log) ≡ true
   pub limit : point_after base log ≤ 2 ^ 62
+  pub lasts : length base.last ≡ length base.refs
+  pub sets : list_all sets_atom log ≡ true
 
 -- ---- a world after a call
 

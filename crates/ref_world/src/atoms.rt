@@ -5,7 +5,7 @@ ghost use Rattle.ref_log.specs.Guards.{AreAccepted, keys_at};
 ghost use Rattle.ref_atoms.specs.Atoms.{with_value};
 ghost use Rattle.ref_atoms.specs.Change.{change_refusal, compare_refusal, early_refusal, is_same_at};
 ghost use Rattle.ref_atoms.specs.declared.faults.AtomFault.TheVariants as faults;
-ghost use Rattle.ref_log.specs.Replay.{is_changed_by, place, step};
+ghost use Rattle.ref_log.specs.Replay.{is_changed_by, place, sets_atom, step};
 ghost use Rattle.ref_log.specs.Watches.{notices_of};
 ghost use Rattle.ref_log.specs.declared.entries.Entry.TheVariants as entries;
 ghost use Rattle.ref_log.specs.declared.notices.Who.TheVariants as who;
@@ -114,6 +114,7 @@ impl<M: Meaning> World<M> {
         requires accepted { AreAccepted M.accepts self.old.atoms.guards (slice_set self.old.atoms.values a change.value) }
         requires limit { point_of self.old + 1 ≤ 2 ^ 62 }
         requires step { (refs : List Edn) → step M.means (point_of self.old + 1) change.entry (record { refs = refs; atoms = self.old.atoms.values }) ≡ Ok (record { refs = refs; atoms = slice_set self.old.atoms.values a change.value }) }
+        requires sets { sets_atom change.entry ≡ true }
         requires leaves { (refs r : ℕ) → is_changed_by refs change.entry r ≡ false }
         ensures entry { OnOk result (self.new ≡ with_entry self.old change.entry self.old.refs (with_value self.old.atoms a change.value)) }
         ensures values { OnOk result (step M.means (point_of self.old + 1) change.entry (values_now self.old.refs self.old.atoms) ≡ Ok (values_now self.new.refs self.new.atoms)) }

@@ -114,7 +114,8 @@ pub(crate) fn base_of<M: Meaning>(
     refs: &RefStore<M>,
     atoms: &AtomStore<M>,
 ) -> Result<Base, AllocError>
-    ensures { IfOk result (λ base. base ≡ base_of refs.now atoms.now) }
+    ensures base { IfOk result (λ base. base ≡ base_of refs.now atoms.now) }
+    ensures lasts { OnOk result (length refs.now.lasts ≡ length refs.now.values) }
 {
     Ok(Base {
         point: 0,
@@ -142,7 +143,8 @@ fn values_of_refs<M: Meaning>(alloc: Global, refs: &RefStore<M>) -> Result<Vec<V
 }
 
 fn lasts_of_refs<M: Meaning>(alloc: Global, refs: &RefStore<M>) -> Result<Vec<u64>, AllocError>
-    ensures { IfOk result (λ all. all.items ≡ refs.now.lasts) }
+    ensures lasts { IfOk result (λ all. all.items ≡ refs.now.lasts) }
+    ensures all { OnOk result (length refs.now.lasts ≡ length refs.now.values) }
 {
     let mut all = Vec::with_capacity(alloc, refs.len())?;
     for r in 0..refs.len() {

@@ -1,6 +1,9 @@
 //! The world and what it tells.
-ghost use Rattle.std.specs.Prelude.{◌≡◌, ◌≢◌, ◌≤◌, ◌^◌, [], None, Some, Ok, IfOk, IfErr, OnOk};
+ghost use Rattle.std.specs.Prelude.{◌≡◌, ◌≢◌, ◌≤◌, ◌^◌, [], true, length, None, Some, Ok, IfOk, IfErr, OnOk};
+ghost use Rattle.std.specs.List.{list_all};
+ghost use Rattle.ref_log.specs.Replay.{sets_atom};
 ghost use Rattle.ref_log.specs.declared.faults.MakeFault.TheVariants as makes;
+ghost use Rattle.ref_refs.specs.Seen.{are_unchanged_since};
 ghost use Rattle.ref_world.specs.Starts.{base_of, no_atoms, no_refs, start_refusal, with_declared_atoms, with_declared_refs};
 ghost use Rattle.ref_world.specs.World.{HasLastChanges, point_of};
 
@@ -75,20 +78,26 @@ impl<M: Meaning> World<M> {
         // The point of each ref's last change is that of the last entry which made or touched it.
         ensures lasts { HasLastChanges self.now.base self.now.log self.now.refs }
         ensures tally { self.now.base.tally ≡ self.now.refs.tally }
+        // No ref has changed after it.
+        ensures since { are_unchanged_since self.now.refs.lasts (point_of self.now) ≡ true }
     {
         self.base.point + self.log.len() as u64
     }
 
     /// What the log begins with.
     pub fn base(&self) -> &Base
-        ensures { result.now ≡ self.now.base }
+        ensures base { result.now ≡ self.now.base }
+        // It has the last change of each of its refs.
+        ensures lasts { length self.now.base.last ≡ length self.now.base.refs }
     {
         &self.base
     }
 
     /// The entries after the base, the first of them at the point after its.
     pub fn log(&self) -> &[Entry]
-        ensures { result.now ≡ self.now.log }
+        ensures log { result.now ≡ self.now.log }
+        // An atom's entry is `reset!` or `swap!`.
+        ensures sets { list_all sets_atom self.now.log ≡ true }
     {
         self.log.as_slice()
     }

@@ -1,4 +1,4 @@
-use Rattle.std.proofs.Common.{rules, ◌≡◌, ◌∙◌, ℕ, ◌≤◌, ◌^◌, ◌+◌, ◌++◌, ◌∷◌, [], true, Ok, ap, subst, sym}
+use Rattle.std.proofs.Common.{rules, ◌≡◌, ◌∙◌, ℕ, ◌≤◌, ◌^◌, ◌+◌, ◌++◌, ◌∷◌, [], true, Ok, ap, refl, subst, sym}
 use Rattle.ref_log.specs.Replay.{point_after, step}
 use Rattle.ref_refs.specs.Commit.{changed_by, entry_of}
 use Rattle.ref_refs.specs.Seen.{are_unchanged_since, changed_at}
@@ -25,4 +25,4 @@ invariant_of-self-2 g c =
     let moved = subst (λ p. (r : ℕ) → changed_at after.lasts r ≡ changed_by w.refs.lasts (p + 1) tx.dones r) point lasts in
     let since = subst (λ p. are_unchanged_since after.lasts (p + 1) ≡ true) point c.install.ensures.since in
     let limit = subst (λ p. p + 1 ≤ 2 ^ 62) point c.in-Ok.ensures.limit in
-    subst (λ l. IsWorld means w.base l after w.atoms) (sym items) (entered_same means w.base log w.refs w.atoms c.self.invariant e after w.atoms next moved since limit c.install.ensures.rest.0)
+    subst (λ l. IsWorld means w.base l after w.atoms) (sym items) (entered_same means w.base log w.refs w.atoms c.self.invariant e after w.atoms next moved since limit refl c.install.ensures.rest.0)

@@ -12,7 +12,7 @@ invariant_of-self-2 g c =
     let next = rw (← c.self.view_is) at c.requires.step in
     let limit = rw (← c.self.view_is) at c.requires.limit in
     subst (λ l. IsWorld g.M.Meaning.means w.base l w.refs c.install.new.self) (sym items)
-    (atom_entered g.M.Meaning.means w.base log w.refs w.atoms c.self.invariant change.entry c.install.new.self c.args.a change.value next (ap (λ s. s.values) c.install.ensures) c.requires.leaves limit)
+    (atom_entered g.M.Meaning.means w.base log w.refs w.atoms c.self.invariant change.entry c.install.new.self c.args.a change.value next (ap (λ s. s.values) c.install.ensures) c.requires.leaves limit c.requires.sets)
 
 pub returns-clause-values : goal.returns-clause-values
 returns-clause-values g c =

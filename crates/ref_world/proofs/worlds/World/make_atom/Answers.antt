@@ -15,4 +15,4 @@ invariant_of-self-2 g c =
     let point : c.point-at.result ≡ point_after w.base log = c.point-at.ensures.value ∙ ap point_of (sym c.self.view_is) in
     let limit = subst (λ p. p + 1 ≤ 2 ^ 62) point c.in_ok-check_make.ensures.limit in
     subst (λ l. IsWorld g.M.Meaning.means w.base l w.refs c.add.new.self) (sym items)
-    (entered_same g.M.Meaning.means w.base log w.refs w.atoms is (MadeAtom v) w.refs c.add.new.self (ap (λ vs. Ok (record { refs = w.refs.values; atoms = vs })) (sym (ap (λ s. s.values) c.in_ok-a.ensures.adds))) (λ r. refl) (since_later w.refs.lasts (point_after w.base log) is.since) limit refl)
+    (entered_same g.M.Meaning.means w.base log w.refs w.atoms is (MadeAtom v) w.refs c.add.new.self (ap (λ vs. Ok (record { refs = w.refs.values; atoms = vs })) (sym (ap (λ s. s.values) c.in_ok-a.ensures.adds))) (λ r. refl) (since_later w.refs.lasts (point_after w.base log) is.since) limit refl refl)

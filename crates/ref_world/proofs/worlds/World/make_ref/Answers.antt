@@ -1,4 +1,4 @@
-use Rattle.std.proofs.Common.{rules, ◌≡◌, ◌∙◌, ℕ, true, ◌≤◌, ◌^◌, ◌+◌, ◌++◌, ◌∷◌, [], Ok, ap, subst, sym}
+use Rattle.std.proofs.Common.{rules, ◌≡◌, ◌∙◌, ℕ, true, ◌≤◌, ◌^◌, ◌+◌, ◌++◌, ◌∷◌, [], Ok, ap, refl, subst, sym}
 use Rattle.ref_log.specs.Replay.{point_after}
 use Rattle.ref_log.specs.declared.entries.Entry.TheVariants.{MadeRef}
 use Rattle.ref_refs.specs.Make.{made_at}
@@ -27,4 +27,4 @@ invariant_of-self-2 g c =
     let since = subst (λ p. are_unchanged_since after.lasts (p + 1) ≡ true) point c.add.ensures.since in
     subst (λ t. IsWorld g.M.Meaning.means (with_tally t w.base) c.push_reserved.new.self.items after w.atoms) (sym c.tally-self-inside.ensures)
     (subst (λ l. IsWorld g.M.Meaning.means (with_tally after.tally w.base) l after w.atoms) (sym items)
-    (entered g.M.Meaning.means w.base log w.refs w.atoms c.self.invariant (MadeRef v) after w.atoms (ap (λ (s : RefsSeen). Ok (record { refs = s.values; atoms = w.atoms.values })) (sym adds)) moved since limit))
+    (entered g.M.Meaning.means w.base log w.refs w.atoms c.self.invariant (MadeRef v) after w.atoms (ap (λ (s : RefsSeen). Ok (record { refs = s.values; atoms = w.atoms.values })) (sym adds)) moved since limit refl))
