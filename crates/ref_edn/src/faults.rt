@@ -169,7 +169,7 @@ impl ReadFault {
         }
     }
 
-    /// The place in bytes from the start of the text; want of memory has none.
+    /// The place in bytes from the start of the text; `Memory` has none.
     pub fn place(&self) -> Option<usize>
         ensures { result ≡ place_of self.now }
     {

@@ -48,7 +48,7 @@ Answers-prop meant (Err (answers.Refused c)) = Coded-set meant_code meant (Err c
 Answers-prop meant (Err answers.Memory) = Unit-prop
 
 -- A call by a code, in a table that has it or not: it gives the value that is meant or refuses for the cause that is
--- meant, exactly where the table has the code. Want of memory may stand in place of either.
+-- meant, exactly where the table has the code. Where memory is refused it may say so in place of either.
 abbrev pub CallAnswers : Bool → ℕ → Result Edn Cause → Result Edn CallFault → Type 0
 CallAnswers has code meant (Ok v) = (has ≡ true) × (meant ≡ Ok v)
 CallAnswers has code meant (Err (calls.NoSuchFun c)) = (has ≡ false) × (c ≡ code)

@@ -9,7 +9,7 @@ use Rattle.ref_fun.specs.declared.faults.FunFault.TheVariants.{Refused, Memory}
 abbrev pub Means : Type 0
 Means = ℕ → List Edn → Edn → Result Edn Cause
 
--- A call gives the value that its meaning gives and refuses for its cause; want of memory may stand in place of either.
+-- A call gives the value that its meaning gives and refuses for its cause; where memory is refused it may say so in place of either.
 abbrev pub Answers : Result Edn Cause → Result Edn FunFault → Type 0
 Answers meant (Ok v) = meant ≡ Ok v
 Answers meant (Err (Refused c)) = meant ≡ Err c

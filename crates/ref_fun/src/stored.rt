@@ -1,4 +1,5 @@
-//! Functions and predicates that a program supplies, each with what is known of it.
+//! The closures by which a program runs functions and predicates, each with what is known of it: that it answers what Core
+//! means by its code. A program chooses how a code is run, and not what it means.
 ghost use Rattle.std.specs.Prelude.{◌≡◌, ◌≤◌, length};
 ghost use Rattle.std.specs.Coded.{Π_prop, →_prop};
 ghost use Rattle.ref_fun.specs.Calls.{Answers-prop};

@@ -217,7 +217,7 @@ missing knows codes = find (λ code. not (knows code)) codes
 -- ---- what a program answers
 
 -- An operation's call by a table that lacks this code, or none that is needed: it gives the operation's place or refuses
--- for its cause; want of memory may stand in place of either.
+-- for its cause; where memory is refused it may say so in place of either.
 abbrev pub PlaceAnswers : Option ℕ → Result Edn Cause → Result Edn CallFault → Type 0
 PlaceAnswers lacks meant (Ok v) = (lacks ≡ None) × (meant ≡ Ok v)
 PlaceAnswers lacks meant (Err (calls.NoSuchFun code)) = lacks ≡ Some code
@@ -225,7 +225,7 @@ PlaceAnswers lacks meant (Err (calls.Refused c)) = (lacks ≡ None) × (meant �
 PlaceAnswers lacks meant (Err calls.Memory) = lacks ≡ None
 
 -- A program's fault is that of the replay, or the first code that is needed and missing. In one operation a missing code
--- comes after a missing reference, and before what the function says. Want of memory is the program's own.
+-- comes after a missing reference, and before what the function says. That memory is refused is the program's own.
 abbrev pub FaultComes : {State : Type 0} → Option ℕ → Result State AuditFault → AuditFault → Type 0
 FaultComes lacks meant (Answer point) = (lacks ≡ None) × (meant ≡ Err (Answer point))
 FaultComes lacks meant (Refuses point) = (lacks ≡ None) × (meant ≡ Err (Refuses point))

@@ -5,7 +5,8 @@
 //! calls them: the value of the snapshot, after the transaction's own operations on that ref. A commit, which is another
 //! crate's, applies the operations to the latest values.
 //!
-//! A `Tx` borrows nothing and shares nothing, so a body that works with it waits for nobody.
+//! A `Tx` borrows nothing, and what it shares with others never changes: the values of its snapshot. So a body that works
+//! with it waits for nobody.
 #![tactic(auto)]
 
 pub mod faults;
