@@ -1,6 +1,7 @@
 //! The value order, and equality.
-ghost use Rattle.std.specs.Prelude.{◌≡◌};
-ghost use Rattle.ref_edn.specs.Edn.{items_of, entries_of};
+ghost use Rattle.std.specs.Ordering.{eq_by_cmp};
+ghost use Rattle.std.specs.Prelude.{◌≡◌, ◌↔◌, true};
+ghost use Rattle.ref_edn.specs.Edn.{Edn, items_of, entries_of};
 ghost use Rattle.ref_edn.specs.Order.{rank as rank_of, edn_cmp, items_cmp, entries_cmp};
 ghost use Rattle.ref_edn.specs.View.{edn};
 
@@ -145,3 +146,8 @@ impl Eq for Value {
 
     ghost laws = { eq_by_cmp_equiv edn_cmp_total };
 }
+
+/// Values are equal by `==` exactly where they are the same.
+pub fn equal_values_are_the_same()
+    ensures { (v w : Edn) → (eq_by_cmp edn_cmp v w ≡ true) ↔ (v ≡ w) }
+{}

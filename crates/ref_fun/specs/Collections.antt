@@ -1,13 +1,21 @@
 -- The functions of vectors, maps and sets.
-use Rattle.std.specs.Prelude.{◌==◌, nat_lt, Bool, ◌||◌, if◌then◌else◌, List, [], ◌∷◌, ◌++◌, length, fold, Result, Ok, Err}
+use Rattle.std.specs.Prelude.{◌==◌, nat_lt, Bool, true, false, ◌||◌, if◌then◌else◌, List, [], ◌∷◌, ◌++◌, length, fold, Result, Ok, Err}
 use Rattle.ref_edn.specs.Edn.{Edn, nil, vector, map, set, items_of, list_of, entries_of, pairs_of, nesting}
 use Rattle.ref_edn.specs.Collections.{elements_with, elements_without, entries_with, entries_without}
 use Rattle.ref_fun.specs.declared.faults.Cause.{Cause}
-use Rattle.ref_fun.specs.declared.faults.Cause.TheVariants.{WrongKind, WrongArity, TooDeep}
+use Rattle.ref_fun.specs.declared.faults.Cause.TheVariants.{WrongKind, WrongArity, Overflow, TooDeep}
 
 -- a value, where at most 48 collections are open at its deepest place
 abbrev pub shallow : Edn → Result Edn Cause
 shallow v = if nat_lt 48 (nesting v) then Err TooDeep else Ok v
+
+-- Whether a call is refused for the number or the kinds of what it is called on, which is known before it takes memory.
+abbrev pub is_early : Result Edn Cause → Bool
+is_early (Ok v) = false
+is_early (Err WrongKind) = true
+is_early (Err WrongArity) = true
+is_early (Err Overflow) = false
+is_early (Err TooDeep) = false
 
 -- ---- conj
 

@@ -23,12 +23,12 @@
 --
 -- An integer of more than 64 bits, also on the way, is an Overflow. A result of `conj` or `assoc` that is nested deeper
 -- than 48 is TooDeep.
-use Rattle.std.specs.Prelude.{◌≡◌, ℕ, ℤ, ◌==◌, Bool, false, if◌then◌else◌, List, [], ◌∷◌, Result, Err, refl}
+use Rattle.std.specs.Prelude.{◌≡◌, ℕ, ℤ, ◌==◌, ◌&&◌, nat_lt, Bool, false, not, if◌then◌else◌, List, [], ◌∷◌, Result, Err, refl}
 use Rattle.ref_edn.specs.Edn.{Edn, int}
 use Rattle.ref_fun.specs.declared.faults.Cause.{Cause}
 use Rattle.ref_fun.specs.declared.faults.Cause.TheVariants.{WrongArity}
 use Rattle.ref_fun.specs.Integers.{plus, minus, inc, dec, greatest, least}
-use Rattle.ref_fun.specs.Collections.{conj, assoc, dissoc, disj}
+use Rattle.ref_fun.specs.Collections.{conj, assoc, dissoc, disj, is_early}
 use Rattle.ref_fun.specs.Kinds.{is_int, is_string, is_vector, is_map, is_set, is_not_nil}
 use Rattle.ref_fun.specs.Predicates.{at_least, at_most, equals, is_of_kind}
 
@@ -46,6 +46,11 @@ core_means code args state =
     if code == 9 then dissoc args state else
     if code == 10 then disj args state else
     Err WrongArity
+
+-- Whether a call may take memory: one of a function of collections that isn't refused for the number or the kinds of what it is
+-- called on.
+abbrev pub takes_memory : ℕ → Result Edn Cause → Bool
+takes_memory code meant = nat_lt 6 code && not (is_early meant)
 
 pub core_adds : (a b : ℤ) → core_means 1 (int b ∷ []) (int a) ≡ plus (int b ∷ []) (int a)
 unfolding core_means

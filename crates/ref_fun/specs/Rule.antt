@@ -1,6 +1,6 @@
 -- Whether a rule accepts a value. A rule is a predicate by its code, with its arguments; `accepts` says what predicates
 -- accept, and `knows` which of them a table has.
-use Rattle.std.specs.Prelude.{ℕ, Bool, true, if◌then◌else◌, List, Option, None, Some, IsTrue}
+use Rattle.std.specs.Prelude.{ℕ, Bool, true, if◌then◌else◌, List, Option, None, Some}
 use Rattle.ref_edn.specs.Edn.{Edn}
 use Rattle.ref_fun.specs.declared.rules.Rule.{Rule}
 
@@ -10,9 +10,6 @@ Accepts = ℕ → List Edn → Edn → Bool
 
 abbrev pub is_accepted : Accepts → Rule → Edn → Bool
 is_accepted accepts rule value = accepts rule.code rule.args value
-
-abbrev pub IsAccepted : Accepts → Rule → Edn → Type 0
-IsAccepted accepts rule value = IsTrue (is_accepted accepts rule value)
 
 -- whether a reference with this rule, or with none, may have a value
 abbrev pub passes : Accepts → Option Rule → Edn → Bool

@@ -2,14 +2,15 @@
 //!
 //! Each shares the state's collection and changes the share, so that the elements are copied once however many
 //! arguments there are, and not at all where nothing changes.
-ghost use Rattle.std.specs.Prelude.{◌≡◌, ◌<◌, ◌++◌, IfOk, IsTrue, fold};
+ghost use Rattle.std.specs.Prelude.{◌≡◌, ◌<◌, ◌++◌, false, IfOk, IfErr, IsTrue, fold};
 ghost use Rattle.ref_edn.specs.Collections.{elements_without, entries_without};
 ghost use Rattle.ref_edn.specs.Edn.{vector, map, set, items_of, items_depth, entries_of, entries_depth};
 ghost use Rattle.ref_edn.specs.Lawful.{IsLawful};
 ghost use Rattle.ref_edn.specs.Order.{elements_ascend, keys_ascend};
 ghost use Rattle.ref_edn.specs.View.{edn};
-ghost use Rattle.ref_fun.specs.Collections.{shallow, conj, with_elements, assoc, are_pairs, with_pairs, dissoc, disj};
+ghost use Rattle.ref_fun.specs.Collections.{is_early, shallow, conj, with_elements, assoc, are_pairs, with_pairs, dissoc, disj};
 ghost use Rattle.ref_fun.specs.Meaning.{Answers};
+ghost use Rattle.ref_fun.specs.declared.faults.FunFault.TheVariants.{Memory};
 
 use crate::faults::{Cause, FunFault};
 use ref_edn::{Elements, Entries, Items, Node, Value};
@@ -21,7 +22,8 @@ const MOST_NESTED: u8 = 48;
 /// The arguments appended to a vector, or put into a set.
 #[tactic(auto, using(crate::proofs::Kept::conj_vector, crate::proofs::Kept::conj_set))]
 pub(crate) fn conj(alloc: Global, state: &Value, args: &[Value]) -> Result<Value, FunFault>
-    ensures { Answers (conj args.now state.now) result }
+    ensures answers { Answers (conj args.now state.now) result }
+    ensures memory { IfErr result (λ f. f ≡ Memory → is_early (conj args.now state.now) ≡ false) }
 {
     match state.node() {
         Node::Vector(items) => conj_items(alloc, items, args),
@@ -33,7 +35,8 @@ pub(crate) fn conj(alloc: Global, state: &Value, args: &[Value]) -> Result<Value
 /// Pairs of key and value put into a map, or into nil as the empty map.
 #[tactic(auto, using(crate::proofs::Kept::assoc_map))]
 pub(crate) fn assoc(alloc: Global, state: &Value, args: &[Value]) -> Result<Value, FunFault>
-    ensures { Answers (assoc args.now state.now) result }
+    ensures answers { Answers (assoc args.now state.now) result }
+    ensures memory { IfErr result (λ f. f ≡ Memory → is_early (assoc args.now state.now) ≡ false) }
 {
     if !are_pairs(args) {
         return Err(FunFault::Refused(Cause::WrongArity));
@@ -51,7 +54,8 @@ pub(crate) fn assoc(alloc: Global, state: &Value, args: &[Value]) -> Result<Valu
 /// A map without these keys.
 #[tactic(auto, using(crate::proofs::Kept::dissoc_map, crate::proofs::Shallower::entries_depth_fold))]
 pub(crate) fn dissoc(alloc: Global, state: &Value, args: &[Value]) -> Result<Value, FunFault>
-    ensures { Answers (dissoc args.now state.now) result }
+    ensures answers { Answers (dissoc args.now state.now) result }
+    ensures memory { IfErr result (λ f. f ≡ Memory → is_early (dissoc args.now state.now) ≡ false) }
 {
     match state.node() {
         Node::Map(entries) => Ok(map_of(without_keys(alloc, entries, args)?)),
@@ -62,7 +66,8 @@ pub(crate) fn dissoc(alloc: Global, state: &Value, args: &[Value]) -> Result<Val
 /// A set without these elements.
 #[tactic(auto, using(crate::proofs::Kept::disj_set, crate::proofs::Shallower::items_depth_fold))]
 pub(crate) fn disj(alloc: Global, state: &Value, args: &[Value]) -> Result<Value, FunFault>
-    ensures { Answers (disj args.now state.now) result }
+    ensures answers { Answers (disj args.now state.now) result }
+    ensures memory { IfErr result (λ f. f ≡ Memory → is_early (disj args.now state.now) ≡ false) }
 {
     match state.node() {
         Node::Set(elements) => Ok(set_of(without_all(alloc, elements, args)?)),

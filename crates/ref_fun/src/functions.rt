@@ -1,7 +1,8 @@
 //! The functions of Core.
-ghost use Rattle.std.specs.Prelude.{◌≤◌, length};
-ghost use Rattle.ref_fun.specs.Core.{core_means};
+ghost use Rattle.std.specs.Prelude.{◌≡◌, ◌≤◌, true, IfErr, length};
+ghost use Rattle.ref_fun.specs.Core.{core_means, takes_memory};
 ghost use Rattle.ref_fun.specs.Meaning.{Answers};
+ghost use Rattle.ref_fun.specs.declared.faults.FunFault.TheVariants.{Memory};
 
 use crate::collections::{assoc, conj, disj, dissoc};
 use crate::faults::{Cause, FunFault};
@@ -15,7 +16,9 @@ use std::alloc::Global;
 #[tactic(auto, unfolding(crate::specs::Core::core_means))]
 pub fn core_fun(alloc: Global, code: u32, state: &Value, args: &[Value]) -> Result<Value, FunFault>
     requires { length args.now ≤ 8 }
-    ensures { Answers (core_means code args.now state.now) result }
+    ensures answers { Answers (core_means code args.now state.now) result }
+    // A function of integers takes no memory, and no function does that is called on a wrong number or kind of things.
+    ensures memory { IfErr result (λ f. f ≡ Memory → takes_memory code (core_means code args.now state.now) ≡ true) }
 {
     match code {
         1 => Ok(plus(state, args)?),
