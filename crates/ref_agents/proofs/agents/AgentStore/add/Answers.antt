@@ -1,7 +1,8 @@
-use Rattle.std.proofs.Common.{◌∙◌, ◌∷◌, ◌++◌, [], ◌<◌, ◌^◌, None, false, length, ap, sym, subst, refl}
+use Rattle.std.proofs.Common.{◌∙◌, ◌∷◌, ◌++◌, [], ◌<◌, ◌^◌, length, ap, sym, subst, refl}
 use Rattle.std.specs.BTreeSet.{keys}
 use Rattle.ref_log.specs.Guards.{AreAccepted, with_guard}
 use Rattle.ref_agents.specs.Agents.{IsAgent, IsStore, values_of}
+use Rattle.ref_agents.specs.Make.{new_agent}
 use Rattle.ref_agents.specs.declared.agents.Agent.{Agent}
 use Rattle.ref_agents.proofs.Changed.{as_many, store_more}
 use Rattle.ref_agents.proofs.agents.AgentStore.add.Goals as goal
@@ -14,7 +15,7 @@ invariant_of-self-2 g c =
     let guards = c.self.inside.guards in
     let waiting = keys c.self.inside.waiting in
     let start = c.args.start in
-    let new : Agent = record { value = c.in_ok-value.value; mode = c.args.mode; error = None; account = c.new.result; is_out = false } in
+    let new : Agent = record (new_agent c.in_ok-value.value c.args.mode) { account = c.new.result } in
     let ok : IsAgent means new = record { folded = rw (c.new.ensures, c.in_ok-value.ensures) refl; marked = rw c.new.ensures refl; single = refl } in
     let room : length items < 2 ^ 20 = subst (λ n. n < 2 ^ 20) (ap (λ s. length s.agents) (sym c.self.view_is)) c.requires.room in
     let guarded = c.in_ok-add.ensures.adds in
