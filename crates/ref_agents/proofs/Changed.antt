@@ -1,14 +1,16 @@
 -- Agents that are changed, and what stays so of them.
-use Rattle.std.proofs.Common.{◌≡◌, ◌∙◌, ℕ, ◌<◌, zero, suc, Bool, true, false, not, ◌&&◌, List, [], ◌∷◌, ◌++◌, length, Option, None, Some, Result, Ok, Err, IfErr, cond, slice_get, slice_set, get_or, refl, sym, ap, subst, take, ◌-◌}
-use Rattle.std.proofs.lemmas.List.{set-get_or}
+use Rattle.std.proofs.Common.{◌≡◌, ◌∙◌, ℕ, ◌<◌, zero, suc, Bool, true, false, not, ◌&&◌, List, [], ◌∷◌, ◌++◌, length, Option, None, Some, Result, cond, is_some, slice_get, slice_set, get_or, refl, sym, ap, subst, take, ◌-◌, ◌^◌, arith}
+use Rattle.std.proofs.lemmas.List.{length-append, length-set, set-get_or}
 use Rattle.std.proofs.lemmas.Option.{get_or_from_slice_get, slice_get_read}
 use Rattle.ref_edn.specs.Edn.{Edn}
 use Rattle.ref_fun.specs.Meaning.{Means}
 use Rattle.ref_fun.specs.Rule.{Accepts}
 use Rattle.ref_fun.specs.declared.faults.Cause.{Cause}
-use Rattle.ref_log.specs.Watches.{has_key}
-use Rattle.ref_agents.specs.Account.{after_handled, and_handled, fit_marks, has_head, has_point, is_failed_mark}
-use Rattle.ref_agents.specs.Agents.{AreAgents, AreWaiting, IsAgent, IsAgentIfHere, has_queue_if_here, keys_at, keys_if_here, AgentsSeen, watched, with_watch}
+use Rattle.ref_fun.specs.declared.rules.Rule.{Rule}
+use Rattle.ref_log.specs.Guards.{AreAccepted, with_guard}
+use Rattle.ref_log.specs.declared.guards.Guard.{Guard}
+use Rattle.ref_agents.specs.Account.{AccountSeen, after_handled, and_handled, fit_marks, has_head, has_point, is_failed_mark, kept_queue, restarted}
+use Rattle.ref_agents.specs.Agents.{AgentsSeen, AreAgents, AreWaiting, IsAgent, IsAgentIfHere, IsStore, has_queue_if_here, values_of}
 use Rattle.ref_agents.specs.declared.accounts.Handled.{Handled}
 use Rattle.ref_agents.specs.declared.accounts.Queued.{Queued}
 use Rattle.ref_agents.specs.declared.agents.Agent.{Agent}
@@ -32,30 +34,26 @@ pub there : (items agents : List Agent) (g : ℕ) (x : Agent) → items ≡ agen
 there items agents g x same here is =
     ap (λ l. slice_get l g) (sym same) ∙ slice_get_read items (length items) g x refl here is
 
-pub if_err : {T E : Type 0} (r : Result T E) (P : E → Type 0) → ((e : E) → P e) → IfErr r P
-if_err (Ok x) P all = tt
-if_err (Err e) P all = all e
-
 pub not_none : {T : Type 0} (o : Option T) (x : T) → o ≡ Some x → o ≡ None → ⊥
 not_none o x is none = cc
 
 -- ---- what is always so
 
-pub agent_at : (means : Means) (accepts : Accepts) (agents : List Agent) (g : ℕ) (x : Agent) → AreAgents means accepts agents → slice_get agents g ≡ Some x → IsAgent means accepts x
-agent_at means accepts agents g x are is = subst (IsAgentIfHere means accepts) is (are g)
+pub agent_at : (means : Means) (agents : List Agent) (g : ℕ) (x : Agent) → AreAgents means agents → slice_get agents g ≡ Some x → IsAgent means x
+agent_at means agents g x are is = subst (IsAgentIfHere means) is (are g)
 
-pub agents_set : (means : Means) (accepts : Accepts) (agents : List Agent) (g : ℕ) (y : Agent) → IsAgent means accepts y → AreAgents means accepts agents → AreAgents means accepts (slice_set agents g y)
-agents_set means accepts [] g y ok are i = are i
-agents_set means accepts (x ∷ xs) zero y ok are zero = ok
-agents_set means accepts (x ∷ xs) zero y ok are (suc i) = are (suc i)
-agents_set means accepts (x ∷ xs) (suc g) y ok are zero = are zero
-agents_set means accepts (x ∷ xs) (suc g) y ok are (suc i) = agents_set means accepts xs g y ok (λ k. are (suc k)) i
+pub agents_set : (means : Means) (agents : List Agent) (g : ℕ) (y : Agent) → IsAgent means y → AreAgents means agents → AreAgents means (slice_set agents g y)
+agents_set means [] g y ok are i = are i
+agents_set means (x ∷ xs) zero y ok are zero = ok
+agents_set means (x ∷ xs) zero y ok are (suc i) = are (suc i)
+agents_set means (x ∷ xs) (suc g) y ok are zero = are zero
+agents_set means (x ∷ xs) (suc g) y ok are (suc i) = agents_set means xs g y ok (λ k. are (suc k)) i
 
-pub agents_more : (means : Means) (accepts : Accepts) (agents : List Agent) (y : Agent) → IsAgent means accepts y → AreAgents means accepts agents → AreAgents means accepts (agents ++ y ∷ [])
-agents_more means accepts [] y ok are zero = ok
-agents_more means accepts [] y ok are (suc i) = tt
-agents_more means accepts (x ∷ xs) y ok are zero = are zero
-agents_more means accepts (x ∷ xs) y ok are (suc i) = agents_more means accepts xs y ok (λ k. are (suc k)) i
+pub agents_more : (means : Means) (agents : List Agent) (y : Agent) → IsAgent means y → AreAgents means agents → AreAgents means (agents ++ y ∷ [])
+agents_more means [] y ok are zero = ok
+agents_more means [] y ok are (suc i) = tt
+agents_more means (x ∷ xs) y ok are zero = are zero
+agents_more means (x ∷ xs) y ok are (suc i) = agents_more means xs y ok (λ k. are (suc k)) i
 
 -- The agents that are looked at when a job is taken, where `waits` says which numbers are among them.
 pub waits_set : (waits : ℕ → Bool) (agents : List Agent) (g : ℕ) (y : Agent) → (has_head y.account.queue ≡ true → waits g ≡ true)
@@ -79,13 +77,81 @@ waits_more waits [] y none are (suc i) has = are (suc i) has
 waits_more waits (x ∷ xs) y none are zero has = are zero has
 waits_more waits (x ∷ xs) y none are (suc i) has = waits_more (λ k. waits (suc k)) xs y none (λ k. are (suc k)) i has
 
--- ---- watches
-
-pub has_there : (agents : List Agent) (g : ℕ) (x : Agent) (key : Edn) (has : Bool) → slice_get agents g ≡ Some x → has ≡ has_key x.watches key → has_key (keys_at agents g) key ≡ has
-has_there agents g x key has is same = ap (λ o. has_key (keys_if_here o) key) is ∙ sym same
+-- ---- an agent that is changed
 
 pub same_set : (agents : List Agent) (g : ℕ) (x : Agent) → slice_get agents g ≡ Some x → slice_set agents g x ≡ agents
 same_set agents g x is = ap (λ y. slice_set agents g y) (sym (get_or_from_slice_get agents g x x is)) ∙ set-get_or agents g x
+
+pub values_set : (agents : List Agent) (g : ℕ) (y : Agent) → values_of (slice_set agents g y) ≡ slice_set (values_of agents) g y.value
+values_set [] g y = refl
+values_set (x ∷ xs) zero y = refl
+values_set (x ∷ xs) (suc g) y = ap (λ l. x.value ∷ l) (values_set xs g y)
+
+pub values_same : (agents : List Agent) (g : ℕ) (x y : Agent) → slice_get agents g ≡ Some x → y.value ≡ x.value → values_of (slice_set agents g y) ≡ values_of agents
+values_same [] g x y is same = refl
+values_same (a ∷ agents) zero x y is same =
+    let first : a ≡ x = cc in
+    ap (λ v. v ∷ values_of agents) (same ∙ ap (λ k. k.value) (sym first))
+values_same (a ∷ agents) (suc g) x y is same = ap (λ l. a.value ∷ l) (values_same agents g x y is same)
+
+-- where all rules still accept
+pub set_agent : (means : Means) (accepts : Accepts) (agents : List Agent) (guards : List Guard) (waiting : List ℕ) (g : ℕ) (y : Agent) → IsAgent means y
+    → AreAccepted accepts guards (values_of (slice_set agents g y)) → (has_head y.account.queue ≡ true → has_point waiting g ≡ true)
+    → IsStore means accepts agents guards waiting → IsStore means accepts (slice_set agents g y) guards waiting
+set_agent means accepts agents guards waiting g y ok accepted waits store = (
+  omega (arith, length-set agents g y, store.0),
+  store.1 ∙ sym (length-set agents g y),
+  accepted,
+  agents_set means agents g y ok store.3,
+  waiting_set agents waiting g y waits store.4,
+)
+
+-- where its state is as it was
+pub kept : (means : Means) (accepts : Accepts) (agents : List Agent) (guards : List Guard) (waiting : List ℕ) (g : ℕ) (x y : Agent) → slice_get agents g ≡ Some x → IsAgent means y
+    → y.value ≡ x.value → (has_head y.account.queue ≡ true → has_point waiting g ≡ true)
+    → IsStore means accepts agents guards waiting → IsStore means accepts (slice_set agents g y) guards waiting
+kept means accepts agents guards waiting g x y is ok same waits store =
+    set_agent means accepts agents guards waiting g y ok (subst (AreAccepted accepts guards) (sym (values_same agents g x y is same)) store.2) waits store
+
+-- one more agent, which no action waits for
+values_more : (agents : List Agent) (y : Agent) → values_of (agents ++ y ∷ []) ≡ values_of agents ++ y.value ∷ []
+values_more [] y = refl
+values_more (x ∷ xs) y = ap (λ l. x.value ∷ l) (values_more xs y)
+
+pub as_many : (agents : List Agent) → length (values_of agents) ≡ length agents
+as_many [] = refl
+as_many (x ∷ xs) = omega (arith, as_many xs)
+
+pub store_more : (means : Means) (accepts : Accepts) (agents : List Agent) (guards : List Guard) (rule : Option Rule) (waiting : List ℕ) (y : Agent) → IsAgent means y
+    → AreAccepted accepts (with_guard guards rule) (values_of agents ++ y.value ∷ []) → has_head y.account.queue ≡ false → length agents < 2 ^ 20
+    → IsStore means accepts agents guards waiting → IsStore means accepts (agents ++ y ∷ []) (with_guard guards rule) waiting
+store_more means accepts agents guards rule waiting y ok accepted none room store =
+    let guard : Guard = record { rule = rule; watches = [] } in (
+      omega (arith, length-append agents (y ∷ []), room),
+      omega (arith, length-append agents (y ∷ []), length-append guards (guard ∷ []), store.1),
+      subst (AreAccepted accepts (with_guard guards rule)) (sym (values_more agents y)) accepted,
+      agents_more means agents y ok store.3,
+      waits_more (has_point waiting) agents y none store.4,
+    )
+
+pub and_false : (a b : Bool) → b ≡ false → (a && b) ≡ false
+and_false true b is = is
+and_false false b is = refl
+
+-- one that was restarted
+pub restarted_agent : (means : Means) (account : AccountSeen) (y : Agent) (state : Edn) (clear : Bool) → y.account ≡ restarted account state clear → y.value ≡ state → y.error ≡ None → IsAgent means y
+restarted_agent means account y state clear is value error = record {
+  folded = rw (is, value) refl;
+  marked = rw (is, error) refl;
+  single = and_false y.is_out (is_some y.error) (ap is_some error);
+}
+
+pub head_kept : (clear : Bool) (queue : List Queued) → has_head (kept_queue clear queue) ≡ true → has_head queue ≡ true
+head_kept true queue has = absurd (not_both refl has)
+head_kept false queue has = has
+
+abbrev pub seen : List Agent → List Guard → List ℕ → AgentsSeen
+seen agents guards unreleased = record { agents = agents; guards = guards; unreleased = unreleased }
 
 -- ---- accounts
 
@@ -116,16 +182,3 @@ waits_still agents before after is more are i has = more i ∙ or_true (is i) (b
 pub head_before : (queue left : List Queued) → left ≡ take (length queue - 1) queue → has_head left ≡ true → has_head queue ≡ true
 head_before [] left is has = absurd (not_both (ap has_head is) has)
 head_before (q ∷ qs) left is has = refl
-
--- ---- watches that are added
-
-abbrev pub seen : List Agent → List ℕ → AgentsSeen
-seen agents unreleased = record { agents = agents; unreleased = unreleased }
-
-pub known_watch : (agents : List Agent) (unreleased : List ℕ) (g : ℕ) (x : Agent) (key : Edn) → slice_get agents g ≡ Some x → has_key x.watches key ≡ true
-    → seen (slice_set agents g x) unreleased ≡ with_watch (seen agents unreleased) g key
-known_watch agents unreleased g x key is has = rw (is, has, same_set agents g x is) refl
-
-pub new_watch : (agents : List Agent) (unreleased : List ℕ) (g : ℕ) (x : Agent) (key : Edn) (keys : List Edn) → slice_get agents g ≡ Some x → has_key x.watches key ≡ false → keys ≡ x.watches ++ key ∷ []
-    → seen (slice_set agents g (watched keys x)) unreleased ≡ with_watch (seen agents unreleased) g key
-new_watch agents unreleased g x key keys is has all = rw (is, has, all) refl

@@ -7,8 +7,10 @@ use Rattle.ref_fun.specs.Rule.{Accepts, passes}
 use Rattle.ref_fun.specs.declared.faults.Cause.{Cause}
 use Rattle.ref_fun.specs.declared.rules.Rule.{Rule}
 use Rattle.ref_agents.specs.Account.{AccountSeen, after_marked, and_handled, fit_marks, fold_of, has_head, is_failed_mark, with_head_ended}
-use Rattle.ref_agents.specs.Agents.{AgentsSeen, IsAgent, ended, head_job, job_out, out_if_here, put_agent, with_agents}
-use Rattle.ref_agents.specs.Ends.{IsAnswer, IsAnswerIfHere, after_end, after_run, judged, with_finish}
+use Rattle.ref_log.specs.Guards.{AreAccepted, keys_at, rule_at}
+use Rattle.ref_log.specs.declared.guards.Guard.{Guard}
+use Rattle.ref_agents.specs.Agents.{AgentsSeen, IsAgent, ended, head_job, job_out, out_if_here, put_agent, values_of, with_agents}
+use Rattle.ref_agents.specs.Ends.{CanHave, IsAnswer, IsAnswerIfHere, IsAnswerOf, after_end, after_run, judged, with_finish}
 use Rattle.ref_agents.specs.Jobs.{JobSeen, RanSeen}
 use Rattle.ref_agents.specs.declared.accounts.Handled.{Handled}
 use Rattle.ref_agents.specs.declared.accounts.Mark.{Mark}
@@ -20,7 +22,7 @@ use Rattle.ref_agents.specs.declared.agents.ErrorMode.TheVariants.{Fail, Continu
 use Rattle.ref_agents.specs.declared.ends.Finished.{Finished}
 use Rattle.ref_agents.specs.declared.faults.AgentError.{AgentError}
 use Rattle.ref_agents.specs.declared.faults.AgentError.TheVariants.{Invalid}
-use Rattle.ref_agents.proofs.Changed.{after_handled-append, fit_marks-append, seen}
+use Rattle.ref_agents.proofs.Changed.{after_handled-append, fit_marks-append, seen, values_same, values_set}
 use Rattle.ref_agents.proofs.JobsOut.{made, some_of}
 
 -- ---- what a job says of its agent
@@ -54,12 +56,11 @@ marks_ended account g x job mark failed (q ∷ qs) fit is same = fit_marks-appen
 
 -- ---- the agent
 
-ended_agent : (means : Means) (accepts : Accepts) (g : ℕ) (x : Agent) (job : JobSeen) (mark : Mark) (v : Edn) (error : Option AgentError)
-    → IsAgent means accepts x → is_some x.error ≡ false → head_job g x x.account.queue ≡ Some job
-    → passes accepts x.rule v ≡ true → after_marked means mark job.action job.state ≡ Ok v → is_some error ≡ is_failed_mark mark
-    → IsAgent means accepts (ended mark v error x)
-ended_agent means accepts g x job mark v error ok fine is accepted marked failed = record {
-  accepted = accepted;
+ended_agent : (means : Means) (g : ℕ) (x : Agent) (job : JobSeen) (mark : Mark) (v : Edn) (error : Option AgentError)
+    → IsAgent means x → is_some x.error ≡ false → head_job g x x.account.queue ≡ Some job
+    → after_marked means mark job.action job.state ≡ Ok v → is_some error ≡ is_failed_mark mark
+    → IsAgent means (ended mark v error x)
+ended_agent means g x job mark v error ok fine is marked failed = record {
   folded = fold_ended means x.account g x job mark v x.account.queue ok.folded is marked;
   marked = marks_ended x.account g x job mark (is_some error) x.account.queue (sym (ap (λ b. fit_marks b x.account.handled) fine) ∙ ok.marked) is failed;
   single = refl;
@@ -71,34 +72,40 @@ value_or_error v = Ok v
 ok_of : (w v : Edn) → value_or_error w ≡ value_or_error v → w ≡ v
 ok_of w v is = cc
 
-is_pass : (b : Bool) (w v : Edn) (e : AgentError) → (if b then Ok w else Err e) ≡ Ok v → (b ≡ true) × (w ≡ v)
-is_pass true w v e is = (refl, ok_of w v is)
+is_pass : (b : Bool) (w v : Edn) (e : AgentError) → (if b then Ok w else Err e) ≡ Ok v → w ≡ v
+is_pass true w v e is = ok_of w v is
 is_pass false w v e is = cc
 
-judged_ok : (accepts : Accepts) (rule : Option Rule) (outcome : Result Edn Cause) (v : Edn) → judged accepts rule outcome ≡ Ok v
-    → (passes accepts rule v ≡ true) × (outcome ≡ Ok v)
-judged_ok accepts rule (Ok w) v is =
-    let pass = is_pass (passes accepts rule w) w v Invalid is in
-    (subst (λ k. passes accepts rule k ≡ true) pass.1 pass.0, ap Ok pass.1)
+judged_ok : (accepts : Accepts) (rule : Option Rule) (outcome : Result Edn Cause) (v : Edn) → judged accepts rule outcome ≡ Ok v → outcome ≡ Ok v
+judged_ok accepts rule (Ok w) v is = ap Ok (is_pass (passes accepts rule w) w v Invalid is)
 judged_ok accepts rule (Err cause) v is = cc
 
-end_agent : (means : Means) (accepts : Accepts) (g : ℕ) (x : Agent) (job : JobSeen) (mode : ErrorMode) (judgement : Result Edn AgentError)
-    → IsAgent means accepts x → is_some x.error ≡ false → head_job g x x.account.queue ≡ Some job
-    → ((v : Edn) → judgement ≡ Ok v → (passes accepts x.rule v ≡ true) × (means job.action.code job.action.args job.state ≡ Ok v))
-    → IsAgent means accepts (after_end mode judgement x)
-end_agent means accepts g x job mode (Ok v) ok fine is pass = ended_agent means accepts g x job marks.Done v None ok fine is ((pass v refl).0) ((pass v refl).1) refl
-end_agent means accepts g x job Fail (Err e) ok fine is pass = ended_agent means accepts g x job marks.Failed x.value (Some e) ok fine is ok.accepted (ap Ok (state_is g x job x.account.queue is)) refl
-end_agent means accepts g x job Continue (Err e) ok fine is pass = ended_agent means accepts g x job marks.Passed x.value None ok fine is ok.accepted (ap Ok (state_is g x job x.account.queue is)) refl
+end_agent : (means : Means) (g : ℕ) (x : Agent) (job : JobSeen) (mode : ErrorMode) (judgement : Result Edn AgentError)
+    → IsAgent means x → is_some x.error ≡ false → head_job g x x.account.queue ≡ Some job
+    → ((v : Edn) → judgement ≡ Ok v → means job.action.code job.action.args job.state ≡ Ok v)
+    → IsAgent means (after_end mode judgement x)
+end_agent means g x job mode (Ok v) ok fine is gives = ended_agent means g x job marks.Done v None ok fine is (gives v refl) refl
+end_agent means g x job Fail (Err e) ok fine is gives = ended_agent means g x job marks.Failed x.value (Some e) ok fine is (ap Ok (state_is g x job x.account.queue is)) refl
+end_agent means g x job Continue (Err e) ok fine is gives = ended_agent means g x job marks.Passed x.value None ok fine is (ap Ok (state_is g x job x.account.queue is)) refl
 
 -- what was so of an agent is so of it after its job
-pub agent_after : (means : Means) (accepts : Accepts) (g : ℕ) (x : Agent) (job : JobSeen) (outcome : Result Edn Cause) (judgement : Result Edn AgentError)
-    → IsAgent means accepts x → is_some x.error ≡ false → head_job g x x.account.queue ≡ Some job
-    → means job.action.code job.action.args job.state ≡ outcome → judgement ≡ judged accepts x.rule outcome
-    → IsAgent means accepts (after_end x.mode judgement x)
-agent_after means accepts g x job outcome judgement ok fine is meant same =
-    end_agent means accepts g x job x.mode judgement ok fine is (λ v gave.
-    let pass = judged_ok accepts x.rule outcome v (sym same ∙ gave) in
-    (pass.0, meant ∙ pass.1))
+pub agent_after : (means : Means) (accepts : Accepts) (rule : Option Rule) (g : ℕ) (x : Agent) (job : JobSeen) (outcome : Result Edn Cause) (judgement : Result Edn AgentError)
+    → IsAgent means x → is_some x.error ≡ false → head_job g x x.account.queue ≡ Some job
+    → means job.action.code job.action.args job.state ≡ outcome → judgement ≡ judged accepts rule outcome
+    → IsAgent means (after_end x.mode judgement x)
+agent_after means accepts rule g x job outcome judgement ok fine is meant same =
+    end_agent means g x job x.mode judgement ok fine is (λ v gave. meant ∙ judged_ok accepts rule outcome v (sym same ∙ gave))
+
+-- and all rules accept
+pub accepted_after : (accepts : Accepts) (guards : List Guard) (agents : List Agent) (g : ℕ) (x : Agent) (mode : ErrorMode) (judgement : Result Edn AgentError)
+    → slice_get agents g ≡ Some x → CanHave accepts guards g judgement → AreAccepted accepts guards (values_of agents)
+    → AreAccepted accepts guards (values_of (slice_set agents g (after_end mode judgement x)))
+accepted_after accepts guards agents g x mode (Ok v) is can accepted =
+    subst (AreAccepted accepts guards) (sym (values_set agents g (after_end mode (Ok v) x))) (can (values_of agents) accepted)
+accepted_after accepts guards agents g x Fail (Err e) is can accepted =
+    subst (AreAccepted accepts guards) (sym (values_same agents g x (after_end Fail (Err e) x) is refl)) accepted
+accepted_after accepts guards agents g x Continue (Err e) is can accepted =
+    subst (AreAccepted accepts guards) (sym (values_same agents g x (after_end Continue (Err e) x) is refl)) accepted
 
 -- ---- the store
 
@@ -111,18 +118,21 @@ pub indexed : (items agents : List Agent) (i g : ℕ) (x : Agent) (job : JobSeen
 indexed items agents i g x job same at out is =
     here_at agents g x job (slice_get agents g) refl out ∙ ap Some (sym (is ∙ ap (λ l. get_or l i x) same ∙ ap (λ n. get_or agents n x) at))
 
-pub finished_store : (accepts : Accepts) (items : List Agent) (unreleased : List ℕ) (store : AgentsSeen) (ran : RanSeen) (i : ℕ) (x new : Agent)
-    → seen items unreleased ≡ store → i ≡ ran.job.agent → slice_get store.agents ran.job.agent ≡ Some x → new ≡ after_run accepts ran.outcome x
-    → seen (slice_set items i new) unreleased ≡ with_finish accepts store ran
-finished_store accepts items unreleased store ran i x new same at is ends =
-    ap (λ s. seen (slice_set s.agents i new) s.unreleased) same
-    ∙ ap (λ n. seen (slice_set store.agents n new) store.unreleased) at
-    ∙ ap (λ y. seen (slice_set store.agents ran.job.agent y) store.unreleased) ends
-    ∙ ap (λ o. with_agents store (put_agent store.agents ran.job.agent (after_run accepts ran.outcome) o)) (sym is)
+pub finished_store : (accepts : Accepts) (items : List Agent) (guards : List Guard) (unreleased : List ℕ) (store : AgentsSeen) (ran : RanSeen) (i : ℕ) (x new : Agent)
+    → seen items guards unreleased ≡ store → i ≡ ran.job.agent → slice_get store.agents ran.job.agent ≡ Some x
+    → new ≡ after_run accepts (rule_at store.guards ran.job.agent) ran.outcome x
+    → seen (slice_set items i new) guards unreleased ≡ with_finish accepts store ran
+finished_store accepts items guards unreleased store ran i x new same at is ends =
+    let change = after_run accepts (rule_at store.guards ran.job.agent) ran.outcome in
+    ap (λ s. with_agents s (slice_set s.agents i new)) same
+    ∙ ap (λ n. with_agents store (slice_set store.agents n new)) at
+    ∙ ap (λ y. with_agents store (slice_set store.agents ran.job.agent y)) ends
+    ∙ ap (λ o. with_agents store (put_agent store.agents ran.job.agent change o)) (sym is)
 
-pub answered : (accepts : Accepts) (agents : List Agent) (ran : RanSeen) (i : ℕ) (x : Agent) (judgement : Result Edn AgentError) (answer : Finished)
-    → i ≡ ran.job.agent → slice_get agents ran.job.agent ≡ Some x → judgement ≡ judged accepts x.rule ran.outcome → IsAnswer x.mode i x judgement answer
-    → IsAnswerIfHere accepts ran answer (slice_get agents ran.job.agent)
-answered accepts agents ran i x judgement answer at is same told =
-    subst (λ o. IsAnswerIfHere accepts ran answer o) (sym is)
-    (subst (λ j. IsAnswer x.mode ran.job.agent x j answer) same (subst (λ n. IsAnswer x.mode n x judgement answer) at told))
+pub answered : (accepts : Accepts) (store : AgentsSeen) (ran : RanSeen) (i : ℕ) (x : Agent) (judgement : Result Edn AgentError) (answer : Finished)
+    → i ≡ ran.job.agent → slice_get store.agents ran.job.agent ≡ Some x → judgement ≡ judged accepts (rule_at store.guards ran.job.agent) ran.outcome
+    → IsAnswer x.mode i (keys_at store.guards i) x.value judgement answer → IsAnswerOf accepts store ran answer
+answered accepts store ran i x judgement answer at is same told =
+    subst (λ o. IsAnswerIfHere accepts store.guards ran answer o) (sym is)
+    (subst (λ j. IsAnswer x.mode ran.job.agent (keys_at store.guards ran.job.agent) x.value j answer) same
+    (subst (λ n. IsAnswer x.mode n (keys_at store.guards n) x.value judgement answer) at told))

@@ -8,7 +8,6 @@ use Rattle.ref_edn.specs.Order.{edn_cmp}
 use Rattle.ref_edn.specs.OrderLaws.{edn_eq}
 use Rattle.ref_agents.specs.Account.{has_head, has_point, has_released}
 use Rattle.ref_fun.specs.Meaning.{Means}
-use Rattle.ref_fun.specs.Rule.{Accepts}
 use Rattle.ref_agents.specs.Agents.{AgentsSeen, AreAgents, AreWaiting, has_queue_if_here, head_job, is_ready_at, is_ready_if_here, job_out, out_if_here}
 use Rattle.ref_agents.specs.Jobs.{JobSeen}
 use Rattle.ref_agents.specs.declared.accounts.Queued.{Queued}
@@ -76,9 +75,9 @@ pub head_out : (agents : List Agent) (g : ℕ) (job : JobSeen) (x : Agent) → s
 head_out agents g job x is out = then_is x.is_out (head_job g x x.account.queue) job (sym (ap (λ o. out_if_here g o) is) ∙ out)
 
 -- an agent of which a job is on its way isn't failed
-pub out_fine : (means : Means) (accepts : Accepts) (agents : List Agent) (g : ℕ) (job : JobSeen) (x : Agent) → AreAgents means accepts agents → job_out agents g ≡ Some job → slice_get agents g ≡ Some x → is_some x.error ≡ false
-out_fine means accepts agents g job x are out is =
-    no_error x.is_out (is_some x.error) ((agent_at means accepts agents g x are is).single) (flag_out agents g job x is out)
+pub out_fine : (means : Means) (agents : List Agent) (g : ℕ) (job : JobSeen) (x : Agent) → AreAgents means agents → job_out agents g ≡ Some job → slice_get agents g ≡ Some x → is_some x.error ≡ false
+out_fine means agents g job x are out is =
+    no_error x.is_out (is_some x.error) ((agent_at means agents g x are is).single) (flag_out agents g job x is out)
 
 -- ---- agents that are ready
 

@@ -5,7 +5,7 @@ use Rattle.std.proofs.Math.Seq.{drop-cons, take-append_seam, take-suc}
 use Rattle.std.proofs.lemmas.List.{length-append}
 use Rattle.ref_log.specs.declared.sends.Sent.{Sent}
 use Rattle.ref_agents.specs.Account.{AccountSeen, with_queued, without_last}
-use Rattle.ref_agents.specs.Agents.{put_agent, queuing, unqueuing, with_send, with_sends, without_send, without_sends}
+use Rattle.ref_agents.specs.Agents.{put_agent, queued_of, queuing, unqueuing, with_send, with_sends, without_send, without_sends}
 use Rattle.ref_agents.specs.declared.accounts.Queued.{Queued}
 use Rattle.ref_agents.specs.declared.agents.Agent.{Agent}
 use Rattle.ref_agents.proofs.Changed.{same_set}
@@ -17,17 +17,11 @@ take_all_but qs q =
     let n : length (qs ++ q ∷ []) - 1 ≡ length qs = omega (arith, length-append qs (q ∷ [])) in
     ap (λ k. take k (qs ++ q ∷ [])) n ∙ take-append_seam qs (q ∷ [])
 
-abbrev as_account : AccountSeen → List Queued → AccountSeen
-as_account account queue = record { start = account.start; handled = account.handled; queue = queue }
-
-abbrev as_agent : Agent → AccountSeen → Agent
-as_agent x account = record { value = x.value; rule = x.rule; watches = x.watches; mode = x.mode; error = x.error; account = account; is_out = x.is_out }
-
 without-with : (account : AccountSeen) (q : Queued) → without_last (with_queued account q) ≡ account
-without-with account q = ap (λ qs. as_account account qs) (take_all_but account.queue q)
+without-with account q = ap (λ qs. record account { queue = qs }) (take_all_but account.queue q)
 
 un-queuing : (x : Agent) (q : Queued) → unqueuing (queuing q x) ≡ x
-un-queuing x q = ap (λ account. as_agent x account) (without-with x.account q)
+un-queuing x q = ap (λ account. record x { account = account }) (without-with x.account q)
 
 get_set : (agents : List Agent) (g : ℕ) (x y : Agent) → slice_get agents g ≡ Some x → slice_get (slice_set agents g y) g ≡ Some y
 get_set [] g x y is = cc
@@ -51,9 +45,6 @@ send_undone agents g q (Some x) is =
     ∙ same_set agents g x is
 
 -- ---- the sends of a commit
-
-abbrev pub queued_of : ℕ → Sent → Queued
-queued_of point s = record { action = s.action; commit = Some point }
 
 pub sends_undone : (point : ℕ) (ss : List Sent) (agents : List Agent) → without_sends ss (with_sends point ss agents) ≡ agents
 sends_undone point [] agents = refl

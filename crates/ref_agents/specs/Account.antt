@@ -2,7 +2,7 @@
 --
 -- Clojure's page on agents: actions are queued, and at most one of an agent runs at a time; where one fails the agent keeps
 -- its state, and takes no more or goes on, by its error mode.
-use Rattle.std.specs.Prelude.{ℕ, ◌-◌, length, take, Bool, true, false, not, ◌&&◌, List, [], ◌∷◌, ◌++◌, Option, None, Some, Result, Ok, Err}
+use Rattle.std.specs.Prelude.{ℕ, ◌-◌, length, take, Bool, true, false, not, ◌&&◌, List, [], ◌∷◌, ◌++◌, Result, Ok, Err}
 use Rattle.std.specs.BTreeMap.{is_at}
 use Rattle.std.specs.List.{list_any}
 use Rattle.std.specs.Ordering.{nat_cmp}
@@ -14,6 +14,8 @@ use Rattle.ref_agents.specs.declared.accounts.Handled.{Handled}
 use Rattle.ref_agents.specs.declared.accounts.Mark.{Mark}
 use Rattle.ref_agents.specs.declared.accounts.Mark.TheVariants.{Done, Failed, Passed}
 use Rattle.ref_agents.specs.declared.accounts.Queued.{Queued}
+use Rattle.ref_agents.specs.declared.accounts.SentBy.{SentBy}
+use Rattle.ref_agents.specs.declared.accounts.SentBy.TheVariants.{Outside, Commit}
 
 pub record AccountSeen : Type 0 where
   -- the state at the last restart, or at the making
@@ -64,12 +66,12 @@ abbrev pub has_point : List ℕ → ℕ → Bool
 has_point points point = list_any (is_at (nat_cmp point)) points
 
 -- Whether an action may be taken: it was sent outside of a transaction, or the commit that sent it is released.
-abbrev pub is_released_by : List ℕ → Option ℕ → Bool
-is_released_by unreleased None = true
-is_released_by unreleased (Some point) = not (has_point unreleased point)
+abbrev pub is_released_by : List ℕ → SentBy → Bool
+is_released_by unreleased Outside = true
+is_released_by unreleased (Commit point) = not (has_point unreleased point)
 
 abbrev pub is_released : List ℕ → Queued → Bool
-is_released unreleased queued = is_released_by unreleased queued.commit
+is_released unreleased queued = is_released_by unreleased queued.by
 
 -- whether there is a first action in a queue
 abbrev pub has_head : List Queued → Bool
@@ -85,15 +87,16 @@ has_released unreleased (q ∷ qs) = is_released unreleased q
 
 -- with one more action that waits
 abbrev pub with_queued : AccountSeen → Queued → AccountSeen
-with_queued account queued = record { start = account.start; handled = account.handled; queue = account.queue ++ queued ∷ [] }
+with_queued account queued = record account { queue = account.queue ++ queued ∷ [] }
 
 -- without the last action that waits
 abbrev pub without_last : AccountSeen → AccountSeen
-without_last account = record { start = account.start; handled = account.handled; queue = take (length account.queue - 1) account.queue }
+without_last account = record account { queue = take (length account.queue - 1) account.queue }
 
 abbrev pub with_head_ended : AccountSeen → Mark → List Queued → AccountSeen
 with_head_ended account mark [] = account
-with_head_ended account mark (q ∷ qs) = record { start = account.start; handled = account.handled ++ record { action = q.action; mark = mark } ∷ []; queue = qs }
+with_head_ended account mark (q ∷ qs) =
+    record account { handled = account.handled ++ record { action = q.action; mark = mark } ∷ []; queue = qs }
 
 -- after its first action ended with a mark: it moved to the end of the handled ones
 abbrev pub with_ended : AccountSeen → Mark → AccountSeen

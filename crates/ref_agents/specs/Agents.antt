@@ -1,48 +1,48 @@
 -- What a store of agents shows, and what is always so in it.
-use Rattle.std.specs.Prelude.{◌≡◌, ◌&&◌, ◌++◌, ◌∷◌, ℕ, [], Bool, true, false, not, if◌then◌else◌, List, length, map, Option, None, Some, Ok, is_some, slice_get, slice_set}
+use Rattle.std.specs.Prelude.{◌≡◌, ◌≤◌, ◌^◌, ◌&&◌, ◌∷◌, ℕ, [], Bool, true, false, not, if◌then◌else◌, List, length, map, Option, None, Some, Ok, is_some, slice_get, slice_set}
 use Rattle.std.specs.BTreeMap.{is_at}
 use Rattle.std.specs.BTreeSet.{insert_key}
 use Rattle.std.specs.Set.{remove_key}
 use Rattle.std.specs.Ordering.{nat_cmp}
 use Rattle.ref_edn.specs.Edn.{Edn}
 use Rattle.ref_fun.specs.Meaning.{Means}
-use Rattle.ref_fun.specs.Rule.{Accepts, passes, unknown}
-use Rattle.ref_fun.specs.declared.rules.Rule.{Rule}
-use Rattle.ref_log.specs.Watches.{has_key, without_key}
-use Rattle.ref_log.specs.declared.faults.RuleFault.{RuleFault}
-use Rattle.ref_log.specs.declared.faults.RuleFault.TheVariants.{NoSuch, NoSuchFun, Invalid}
+use Rattle.ref_fun.specs.Rule.{Accepts}
+use Rattle.ref_fun.specs.declared.actions.Action.{Action}
+use Rattle.ref_log.specs.Guards.{AreAccepted}
+use Rattle.ref_log.specs.declared.guards.Guard.{Guard}
 use Rattle.ref_log.specs.declared.sends.Sent.{Sent}
 use Rattle.ref_agents.specs.Account.{AccountSeen, fit_marks, fold_of, has_head, has_point, has_released, restarted, with_ended, with_queued, without_last}
+use Rattle.ref_agents.specs.Jobs.{JobSeen}
 use Rattle.ref_agents.specs.declared.accounts.Mark.{Mark}
 use Rattle.ref_agents.specs.declared.accounts.Queued.{Queued}
+use Rattle.ref_agents.specs.declared.accounts.SentBy.TheVariants.{Commit, Outside}
 use Rattle.ref_agents.specs.declared.agents.Agent.{Agent}
 use Rattle.ref_agents.specs.declared.agents.ErrorMode.{ErrorMode}
 use Rattle.ref_agents.specs.declared.faults.AgentError.{AgentError}
 use Rattle.ref_agents.specs.declared.faults.SendFault.{SendFault}
 use Rattle.ref_agents.specs.declared.faults.SendFault.TheVariants as sends
-use Rattle.ref_agents.specs.Jobs.{JobSeen}
 
--- the agents by number, and the points of the commits whose sends may not be taken yet
+-- the agents by number, the rule and the watches of each, and the points of the commits whose sends may not be taken yet
 pub record AgentsSeen : Type 0 where
   pub agents : List Agent
+  pub guards : List Guard
   pub unreleased : List ℕ
 
 -- ---- what is always so
 
--- Of an agent: its rule accepts its state; its state is its start folded over its done actions; it is failed exactly where a
--- handled action is marked failed, and that one is the last; and while it is failed no action of it is on its way.
-pub record IsAgent (means : Means) (accepts : Accepts) (agent : Agent) : Type 0 where
-  pub accepted : passes accepts agent.rule agent.value ≡ true
+-- Of an agent: its state is its start folded over its done actions; it is failed exactly where a handled action is marked
+-- failed, and that one is the last; and while it is failed no action of it is on its way.
+pub record IsAgent (means : Means) (agent : Agent) : Type 0 where
   pub folded : fold_of means agent.account ≡ Ok agent.value
   pub marked : fit_marks (is_some agent.error) agent.account.handled ≡ true
   pub single : (agent.is_out && is_some agent.error) ≡ false
 
-abbrev pub IsAgentIfHere : Means → Accepts → Option Agent → Type 0
-IsAgentIfHere means accepts None = Unit {0}
-IsAgentIfHere means accepts (Some agent) = IsAgent means accepts agent
+abbrev pub IsAgentIfHere : Means → Option Agent → Type 0
+IsAgentIfHere means None = Unit {0}
+IsAgentIfHere means (Some agent) = IsAgent means agent
 
-abbrev pub AreAgents : Means → Accepts → List Agent → Type 0
-AreAgents means accepts agents = (g : ℕ) → IsAgentIfHere means accepts (slice_get agents g)
+abbrev pub AreAgents : Means → List Agent → Type 0
+AreAgents means agents = (g : ℕ) → IsAgentIfHere means (slice_get agents g)
 
 -- Each agent with an action that waits is one of these.
 abbrev pub has_queue_if_here : Option Agent → Bool
@@ -52,24 +52,23 @@ has_queue_if_here (Some agent) = has_head agent.account.queue
 abbrev pub AreWaiting : List Agent → List ℕ → Type 0
 AreWaiting agents waiting = (g : ℕ) → has_queue_if_here (slice_get agents g) ≡ true → has_point waiting g ≡ true
 
--- ---- what there is of an agent, if it is here
-
 abbrev pub values_of : List Agent → List Edn
 values_of agents = map (λ agent. agent.value) agents
 
-abbrev pub rule_if_here : Option Agent → Option Rule
-rule_if_here None = None
-rule_if_here (Some agent) = agent.rule
+-- Of all agents: there are 2^20 at most, each has a rule or none, which accepts its state, and its watches; and those with an
+-- action that waits are among the ones that are looked at when a job is taken.
+abbrev pub IsStore : Means → Accepts → List Agent → List Guard → List ℕ → Type 0
+IsStore means accepts agents guards waiting =
+    (length agents ≤ 2 ^ 20)
+    × (length guards ≡ length agents)
+    × AreAccepted accepts guards (values_of agents)
+    × AreAgents means agents
+    × AreWaiting agents waiting
 
-abbrev pub rule_at : List Agent → ℕ → Option Rule
-rule_at agents g = rule_if_here (slice_get agents g)
+-- ---- what there is of an agent, if it is here
 
-abbrev pub keys_if_here : Option Agent → List Edn
-keys_if_here None = []
-keys_if_here (Some agent) = agent.watches
-
-abbrev pub keys_at : List Agent → ℕ → List Edn
-keys_at agents g = keys_if_here (slice_get agents g)
+abbrev pub value_at : List Agent → ℕ → Option Edn
+value_at agents g = slice_get (values_of agents) g
 
 abbrev pub error_if_here : Option Agent → Option AgentError
 error_if_here None = None
@@ -126,50 +125,42 @@ abbrev pub change_agent : List Agent → ℕ → (Agent → Agent) → List Agen
 change_agent agents g change = put_agent agents g change (slice_get agents g)
 
 abbrev pub with_agents : AgentsSeen → List Agent → AgentsSeen
-with_agents store agents = record { agents = agents; unreleased = store.unreleased }
+with_agents store agents = record store { agents = agents }
 
--- with another rule, or none
-abbrev pub ruled : Option Rule → Agent → Agent
-ruled rule agent = record { value = agent.value; rule = rule; watches = agent.watches; mode = agent.mode; error = agent.error; account = agent.account; is_out = agent.is_out }
-
-abbrev pub with_rule : AgentsSeen → ℕ → Option Rule → AgentsSeen
-with_rule store g rule = with_agents store (change_agent store.agents g (ruled rule))
-
--- with other watches
-abbrev pub watched : List Edn → Agent → Agent
-watched keys agent = record { value = agent.value; rule = agent.rule; watches = keys; mode = agent.mode; error = agent.error; account = agent.account; is_out = agent.is_out }
-
--- with a watch more; a key that is there already stays where it is
-abbrev pub with_watch : AgentsSeen → ℕ → Edn → AgentsSeen
-with_watch store g key =
-    let keys = keys_at store.agents g in
-    if has_key keys key then store else with_agents store (change_agent store.agents g (watched (keys ++ key ∷ [])))
-
-abbrev pub without_watch : AgentsSeen → ℕ → Edn → AgentsSeen
-without_watch store g key = with_agents store (change_agent store.agents g (watched (without_key (keys_at store.agents g) key)))
+-- with other rules or watches
+abbrev pub with_guards : AgentsSeen → List Guard → AgentsSeen
+with_guards store guards = record store { guards = guards }
 
 -- with another error mode, which takes no failure away
 abbrev pub moded : ErrorMode → Agent → Agent
-moded mode agent = record { value = agent.value; rule = agent.rule; watches = agent.watches; mode = mode; error = agent.error; account = agent.account; is_out = agent.is_out }
+moded mode agent = record agent { mode = mode }
 
 abbrev pub with_mode : AgentsSeen → ℕ → ErrorMode → AgentsSeen
 with_mode store g mode = with_agents store (change_agent store.agents g (moded mode))
 
 -- with one more action that waits
 abbrev pub queuing : Queued → Agent → Agent
-queuing queued agent = record { value = agent.value; rule = agent.rule; watches = agent.watches; mode = agent.mode; error = agent.error; account = with_queued agent.account queued; is_out = agent.is_out }
+queuing queued agent = record agent { account = with_queued agent.account queued }
 
 abbrev pub with_send : List Agent → ℕ → Queued → List Agent
 with_send agents g queued = change_agent agents g (queuing queued)
 
+-- what a send outside of a transaction adds
+abbrev pub outside : Action → Queued
+outside action = record { action = action; by = Outside }
+
+-- what a send of the commit at a point adds
+abbrev pub queued_of : ℕ → Sent → Queued
+queued_of point s = record { action = s.action; by = Commit point }
+
 -- with the sends of the commit at a point, in order
 abbrev pub with_sends : ℕ → List Sent → List Agent → List Agent
 with_sends point [] agents = agents
-with_sends point (s ∷ ss) agents = with_sends point ss (with_send agents s.agent (record { action = s.action; commit = Some point }))
+with_sends point (s ∷ ss) agents = with_sends point ss (with_send agents s.agent (queued_of point s))
 
 -- without the last action that waits for an agent
 abbrev pub unqueuing : Agent → Agent
-unqueuing agent = record { value = agent.value; rule = agent.rule; watches = agent.watches; mode = agent.mode; error = agent.error; account = without_last agent.account; is_out = agent.is_out }
+unqueuing agent = record agent { account = without_last agent.account }
 
 abbrev pub without_send : List Agent → ℕ → List Agent
 without_send agents g = change_agent agents g unqueuing
@@ -186,42 +177,30 @@ with_unreleased point (s ∷ ss) points = insert_key nat_cmp points point
 
 -- a store with the sends of the commit at a point
 abbrev pub with_commit : AgentsSeen → ℕ → List Sent → AgentsSeen
-with_commit store point sends = record { agents = with_sends point sends store.agents; unreleased = with_unreleased point sends store.unreleased }
+with_commit store point sends =
+    record store { agents = with_sends point sends store.agents; unreleased = with_unreleased point sends store.unreleased }
 
 -- after the release of a commit
 abbrev pub with_release : AgentsSeen → ℕ → AgentsSeen
-with_release store point = record { agents = store.agents; unreleased = remove_key (is_at (nat_cmp point)) store.unreleased }
+with_release store point = record store { unreleased = remove_key (is_at (nat_cmp point)) store.unreleased }
 
 -- with its first action on its way, or not any more
 abbrev pub outed : Bool → Agent → Agent
-outed is_out agent = record { value = agent.value; rule = agent.rule; watches = agent.watches; mode = agent.mode; error = agent.error; account = agent.account; is_out = is_out }
+outed is_out agent = record agent { is_out = is_out }
 
 abbrev pub with_out : AgentsSeen → ℕ → Bool → AgentsSeen
 with_out store g is_out = with_agents store (change_agent store.agents g (outed is_out))
 
 -- after its first action ended: with its mark, the state and the error after it
 abbrev pub ended : Mark → Edn → Option AgentError → Agent → Agent
-ended mark value error agent = record { value = value; rule = agent.rule; watches = agent.watches; mode = agent.mode; error = error; account = with_ended agent.account mark; is_out = false }
+ended mark value error agent = record agent { value = value; error = error; account = with_ended agent.account mark; is_out = false }
 
 -- after a restart
 abbrev pub revived : Edn → Bool → Agent → Agent
-revived state clear agent = record { value = state; rule = agent.rule; watches = agent.watches; mode = agent.mode; error = None; account = restarted agent.account state clear; is_out = agent.is_out }
+revived state clear agent = record agent { value = state; error = None; account = restarted agent.account state clear }
 
 abbrev pub with_restart : AgentsSeen → ℕ → Edn → Bool → AgentsSeen
 with_restart store g state clear = with_agents store (change_agent store.agents g (revived state clear))
-
--- ---- when an agent can be given another rule
-
-abbrev pub rule_fault : Option ℕ → Bool → Option RuleFault
-rule_fault (Some code) ok = Some (NoSuchFun code)
-rule_fault None ok = if ok then None else Some Invalid
-
-abbrev pub rule_refusal_if_here : Accepts → (ℕ → Bool) → Option Rule → Option Agent → Option RuleFault
-rule_refusal_if_here accepts knows rule None = Some NoSuch
-rule_refusal_if_here accepts knows rule (Some agent) = rule_fault (unknown knows rule) (passes accepts rule agent.value)
-
-abbrev pub rule_refusal : Accepts → (ℕ → Bool) → List Agent → ℕ → Option Rule → Option RuleFault
-rule_refusal accepts knows agents g rule = rule_refusal_if_here accepts knows rule (slice_get agents g)
 
 -- ---- when an action can be sent
 

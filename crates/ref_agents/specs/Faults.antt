@@ -4,6 +4,8 @@ use Rattle.ref_agents.specs.declared.faults.FinishFault.{FinishFault}
 use Rattle.ref_agents.specs.declared.faults.FinishFault.TheVariants as finishes
 use Rattle.ref_agents.specs.declared.faults.JobFault.{JobFault}
 use Rattle.ref_agents.specs.declared.faults.JobFault.TheVariants as jobs
+use Rattle.ref_agents.specs.declared.faults.ModeFault.{ModeFault}
+use Rattle.ref_agents.specs.declared.faults.ModeFault.TheVariants as modes
 use Rattle.ref_agents.specs.declared.faults.RestartFault.{RestartFault}
 use Rattle.ref_agents.specs.declared.faults.RestartFault.TheVariants as restarts
 use Rattle.ref_agents.specs.declared.faults.SendFault.{SendFault}
@@ -29,3 +31,6 @@ restart_fault_number restarts.NotFailed = 2
 restart_fault_number restarts.Invalid = 3
 restart_fault_number restarts.Memory = 4
 restart_fault_number (restarts.NoSuchFun code) = 9
+
+abbrev pub mode_fault_number : ModeFault → ℕ
+mode_fault_number modes.NoSuchAgent = 1

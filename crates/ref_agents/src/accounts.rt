@@ -1,11 +1,14 @@
 //! An agent's account.
 ghost use Rattle.std.specs.Prelude.{◌≡◌, [], length, OnErr, OnOk, slice_get, option_copied};
+ghost use Rattle.std.specs.Iterator.Runs.{YieldsRefsInOrder, YieldsRefsInReverse};
+ghost use Rattle.std.specs.VecDeque.Iter.{deque_iter_rest, deque_iter_steps, deque_iter_steps_back};
 ghost use Rattle.ref_agents.specs.Account.{restarted, with_ended, with_queued, without_last};
 
 use ref_edn::Value;
 use ref_fun::Action;
 use std::alloc::{AllocError, Global};
 use std::collections::VecDeque;
+use std::collections::vec_deque::Iter;
 use std::marker::Model;
 
 /// How an action ended.
@@ -26,12 +29,20 @@ pub struct Handled {
     pub mark: Mark,
 }
 
+/// What an action was sent by.
+#[derive(Clone, Copy, Debug, Drop, PartialEq, Eq)]
+pub enum SentBy {
+    /// It was sent outside of a transaction.
+    Outside,
+    /// The commit at this point sent it.
+    Commit(u64),
+}
+
 /// An action that waits.
 #[derive(Drop)]
 pub struct Queued {
     pub action: Action,
-    /// The point of the commit that sent it, or none where it was sent outside of a transaction.
-    pub commit: Option<u64>,
+    pub by: SentBy,
 }
 
 /// What an agent was given to do: its start, the actions that ended since then, and those that wait. Contracts see lists.
@@ -80,6 +91,15 @@ impl Account {
         self.handled.as_slice()
     }
 
+    /// The actions that wait, in order. The first may be on its way.
+    pub fn queue(&self) -> Iter<'_, Queued>
+        ensures rest { deque_iter_rest result ≡ self.now.queue }
+        ensures runs { YieldsRefsInOrder (deque_iter_steps {X = Queued}) deque_iter_rest }
+        ensures runs_back { YieldsRefsInReverse (deque_iter_steps_back {X = Queued}) deque_iter_rest }
+    {
+        self.queue.iter()
+    }
+
     /// How many actions wait. The first may be on its way.
     pub fn waiting(&self) -> usize
         ensures { result ≡ length self.now.queue }
@@ -95,11 +115,11 @@ impl Account {
     }
 
     // One more action waits.
-    pub(crate) fn push(&mut self, action: Action, commit: Option<u64>) -> Result<(), AllocError>
-        ensures ok { OnOk result (self.new ≡ with_queued self.old (record { action = action; commit = commit })) }
+    pub(crate) fn push(&mut self, queued: Queued) -> Result<(), AllocError>
+        ensures ok { OnOk result (self.new ≡ with_queued self.old queued) }
         ensures err { OnErr result (self.new ≡ self.old) }
     {
-        self.queue.push_back(Queued { action, commit })?;
+        self.queue.push_back(queued)?;
         Ok(())
     }
 

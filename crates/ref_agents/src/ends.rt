@@ -1,18 +1,18 @@
-//! How jobs end, and how failed agents are restarted.
-ghost use Rattle.std.specs.Prelude.{◌≡◌, ◌≢◌, ℕ, None, Some, IfOk, IfErr, OnOk, OnErr, slice_get};
+//! How jobs end.
+ghost use Rattle.std.specs.Prelude.{◌≡◌, ◌≢◌, None, Some, IfOk, IfErr, OnOk, OnErr};
 ghost use Rattle.ref_fun.specs.Rule.{unknown};
-ghost use Rattle.ref_agents.specs.Agents.{ended, job_out, rule_at, with_restart};
-ghost use Rattle.ref_agents.specs.Ends.{IsAnswer, IsAnswerIfHere, after_end, judged, restart_refusal, with_finish};
-ghost use Rattle.ref_agents.specs.declared.faults.FinishFault.TheVariants as finishes;
-ghost use Rattle.ref_agents.specs.declared.faults.RestartFault.TheVariants as restarts;
+ghost use Rattle.ref_log.specs.Guards.{keys_at, rule_at};
+ghost use Rattle.ref_agents.specs.Agents.{ended, job_out};
+ghost use Rattle.ref_agents.specs.Ends.{CanHave, IsAnswer, IsAnswerOf, after_end, judged, lacking, with_finish};
+ghost use Rattle.ref_agents.specs.declared.faults.FinishFault.TheVariants.{Foreign, Memory};
 
 use crate::accounts::Mark;
 use crate::agents::{Agent, AgentStore, ErrorMode};
-use crate::faults::{AgentError, FinishFault, RestartFault};
+use crate::faults::{AgentError, FinishFault};
 use crate::jobs::Ran;
 use ref_edn::Value;
-use ref_fun::{Cause, Functions, Meaning, check_known, passes};
-use ref_log::{Notice, Who};
+use ref_fun::{Cause, Functions, Meaning};
+use ref_log::{Guards, Notice, Who};
 use std::alloc::{AllocError, Global};
 
 /// How a job ended.
@@ -38,13 +38,13 @@ impl<M: Meaning> AgentStore<M> {
         ran: Ran<M>,
     ) -> Result<Finished, (Ran<M>, FinishFault)>
         ensures ok { OnOk result (job_out self.old.agents ran.job.agent ≡ Some ran.job) }
-        ensures known { OnOk result (unknown (F.knows_pred funs.now) (rule_at self.old.agents ran.job.agent) ≡ None) }
+        ensures known { OnOk result (lacking (F.knows_pred funs.now) self.old ran.job ≡ None) }
         ensures ends { OnOk result (self.new ≡ with_finish M.accepts self.old ran) }
-        ensures answer { IfOk result (λ answer. IsAnswerIfHere M.accepts ran answer (slice_get self.old.agents ran.job.agent)) }
-        ensures foreign { IfErr result (λ e. e.1 ≡ finishes.Foreign → job_out self.old.agents ran.job.agent ≢ Some ran.job) }
-        ensures here { IfErr result (λ e. e.1 ≢ finishes.Foreign → job_out self.old.agents ran.job.agent ≡ Some ran.job) }
-        ensures lacks { IfErr result (λ e. (code : ℕ) → e.1 ≡ finishes.NoSuchFun code → unknown (F.knows_pred funs.now) (rule_at self.old.agents ran.job.agent) ≡ Some code) }
-        ensures memory { IfErr result (λ e. e.1 ≡ finishes.Memory → unknown (F.knows_pred funs.now) (rule_at self.old.agents ran.job.agent) ≡ None) }
+        ensures answer { IfOk result (IsAnswerOf M.accepts self.old ran) }
+        ensures foreign { IfErr result (λ e. e.1 ≡ Foreign → job_out self.old.agents ran.job.agent ≢ Some ran.job) }
+        ensures here { IfErr result (λ e. e.1 ≢ Foreign → job_out self.old.agents ran.job.agent ≡ Some ran.job) }
+        ensures lacks { IfErr result (λ e. e.1 ≢ Foreign → e.1 ≢ Memory → lacking (F.knows_pred funs.now) self.old ran.job ≡ Some e.1) }
+        ensures memory { IfErr result (λ e. e.1 ≡ Memory → lacking (F.knows_pred funs.now) self.old ran.job ≡ None) }
         ensures back { IfErr result (λ e. e.0 ≡ ran) }
         ensures err { OnErr result (self.new ≡ self.old) }
     {
@@ -61,41 +61,6 @@ impl<M: Meaning> AgentStore<M> {
         }
     }
 
-    /// Restarts a failed agent with this state, which its rule has to accept, as Clojure's `restart-agent`: it takes sends
-    /// again. The actions that wait proceed, or are dropped where `clear` says so. Watches are told nothing. A refused call
-    /// changes nothing.
-    pub fn restart<F: Functions<M>>(
-        &mut self,
-        _alloc: Global,
-        funs: &F,
-        g: u32,
-        state: Value,
-        clear: bool,
-    ) -> Result<(), RestartFault>
-        ensures ok { OnOk result (restart_refusal M.accepts (F.knows_pred funs.now) self.old.agents g state ≡ None) }
-        ensures restarts { OnOk result (self.new ≡ with_restart self.old g state clear) }
-        ensures fault { IfErr result (λ f. f ≢ restarts.Memory → restart_refusal M.accepts (F.knows_pred funs.now) self.old.agents g state ≡ Some f) }
-        ensures memory { IfErr result (λ f. f ≡ restarts.Memory → restart_refusal M.accepts (F.knows_pred funs.now) self.old.agents g state ≡ None) }
-        ensures err { OnErr result (self.new ≡ self.old) }
-    {
-        let Some(agent) = self.agents.get_mut(g as usize) else {
-            return Err(RestartFault::NoSuchAgent);
-        };
-        if let Err(code) = check_known(funs, &agent.rule) {
-            return Err(RestartFault::NoSuchFun(code));
-        }
-        if agent.error.is_none() {
-            return Err(RestartFault::NotFailed);
-        }
-        if !passes(funs, &agent.rule, &state) {
-            return Err(RestartFault::Invalid);
-        }
-        agent.account.restart(state.share()?, clear);
-        agent.value = state;
-        agent.error = None;
-        Ok(())
-    }
-
     // Ends the job of an agent that is on its way.
     fn end<F: Functions<M>>(
         &mut self,
@@ -104,25 +69,25 @@ impl<M: Meaning> AgentStore<M> {
         ran: &Ran<M>,
     ) -> Result<Finished, FinishFault>
         requires out { job_out self.old.agents ran.now.job.agent ≡ Some ran.now.job }
-        ensures known { OnOk result (unknown (F.knows_pred funs.now) (rule_at self.old.agents ran.now.job.agent) ≡ None) }
+        ensures known { OnOk result (lacking (F.knows_pred funs.now) self.old ran.now.job ≡ None) }
         ensures ends { OnOk result (self.new ≡ with_finish M.accepts self.old ran.now) }
-        ensures answer { IfOk result (λ answer. IsAnswerIfHere M.accepts ran.now answer (slice_get self.old.agents ran.now.job.agent)) }
-        ensures told { IfErr result (λ f. f ≢ finishes.Foreign) }
-        ensures lacks { IfErr result (λ f. (code : ℕ) → f ≡ finishes.NoSuchFun code → unknown (F.knows_pred funs.now) (rule_at self.old.agents ran.now.job.agent) ≡ Some code) }
-        ensures memory { IfErr result (λ f. f ≡ finishes.Memory → unknown (F.knows_pred funs.now) (rule_at self.old.agents ran.now.job.agent) ≡ None) }
+        ensures answer { IfOk result (IsAnswerOf M.accepts self.old ran.now) }
+        ensures told { IfErr result (λ f. f ≢ Foreign) }
+        ensures lacks { IfErr result (λ f. f ≢ Memory → lacking (F.knows_pred funs.now) self.old ran.now.job ≡ Some f) }
+        ensures memory { IfErr result (λ f. f ≡ Memory → lacking (F.knows_pred funs.now) self.old ran.now.job ≡ None) }
         ensures err { OnErr result (self.new ≡ self.old) }
     {
         let g = ran.job().agent();
-        let agent = &mut self.agents[g as usize];
-        if let Err(code) = check_known(funs, &agent.rule) {
+        if let Err(code) = self.guards.check_known(funs, g) {
             return Err(FinishFault::NoSuchFun(code));
         }
-        let judgement = judge(funs, agent, ran.outcome())?;
-        Ok(agent.end(alloc, g, judgement)?)
+        let judgement = judge(funs, &self.guards, g, ran.outcome())?;
+        let agent = &mut self.agents[g as usize];
+        Ok(agent.end(alloc, &self.guards, g, judgement)?)
     }
 
     // An agent without an action that waits is looked at no more when a job is taken.
-    fn pass_over(&mut self, g: u32)
+    pub(crate) fn pass_over(&mut self, g: u32)
         ensures { self.new ≡ self.old }
     {
         let Some(agent) = self.agents.get(g as usize) else {
@@ -140,18 +105,18 @@ impl Agent {
     fn end(
         &mut self,
         alloc: Global,
+        guards: &Guards,
         g: u32,
         judgement: Result<Value, AgentError>,
     ) -> Result<Finished, AllocError>
         ensures ends { OnOk result (self.new ≡ after_end self.old.mode judgement self.old) }
-        ensures answer { IfOk result (λ answer. IsAnswer self.old.mode g self.old judgement answer) }
+        ensures answer { IfOk result (IsAnswer self.old.mode g (keys_at guards.now g) self.old.value judgement) }
         ensures err { OnErr result (self.new ≡ self.old) }
     {
         match judgement {
             Ok(value) => {
                 let mut notices = Vec::new(alloc);
-                self.watches
-                    .tell(Who::Agent(g), &self.value, &value, &mut notices)?;
+                guards.tell(g, Who::Agent(g), &self.value, &value, &mut notices)?;
                 self.close(Mark::Done, None)?;
                 self.value = value;
                 Ok(Finished::Changed(notices))
@@ -184,15 +149,18 @@ impl Agent {
 // What comes of a run: the state, or the error.
 fn judge<M: Meaning, F: Functions<M>>(
     funs: &F,
-    agent: &Agent,
+    guards: &Guards,
+    g: u32,
     outcome: &Result<Value, Cause>,
 ) -> Result<Result<Value, AgentError>, AllocError>
-    requires { unknown (F.knows_pred funs.now) agent.now.rule ≡ None }
-    ensures { IfOk result (λ judgement. judgement ≡ judged M.accepts agent.now.rule outcome.now) }
+    requires { unknown (F.knows_pred funs.now) (rule_at guards.now g) ≡ None }
+    ensures is { IfOk result (λ judgement. judgement ≡ judged M.accepts (rule_at guards.now g) outcome.now) }
+    // With the state the agent's rule accepts, if all rules accepted before.
+    ensures accepted { IfOk result (λ judgement. CanHave M.accepts guards.now g judgement) }
 {
     match outcome {
         Ok(value) => {
-            if passes(funs, &agent.rule, value) {
+            if guards.accepts(funs, g, value) {
                 Ok(Ok(value.share()?))
             } else {
                 Ok(Err(AgentError::Invalid))

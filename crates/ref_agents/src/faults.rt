@@ -1,6 +1,6 @@
 //! Why a call on an agent is refused, and why an agent failed.
 ghost use Rattle.std.specs.Prelude.{◌≡◌};
-ghost use Rattle.ref_agents.specs.Faults.{finish_fault_number, job_fault_number, restart_fault_number, send_fault_number};
+ghost use Rattle.ref_agents.specs.Faults.{finish_fault_number, job_fault_number, mode_fault_number, restart_fault_number, send_fault_number};
 
 use ref_fun::Cause;
 use std::alloc::{AllocError, AllocFailed};
@@ -17,10 +17,24 @@ pub enum AgentError {
     Invalid,
 }
 
-/// There is no agent of this number.
+/// Why the error mode of an agent isn't set. The store is as it was.
 #[derive(Clone, Copy, Debug, Drop, PartialEq, Eq, Error)]
-#[error("there is no such agent")]
-pub struct NoSuchAgent;
+pub enum ModeFault {
+    /// There is no agent of this number.
+    #[error("there is no such agent")]
+    NoSuchAgent,
+}
+
+impl ModeFault {
+    /// The number of the fault.
+    pub fn number(&self) -> u8
+        ensures { result ≡ mode_fault_number self.now }
+    {
+        match self {
+            ModeFault::NoSuchAgent => 1,
+        }
+    }
+}
 
 /// Why an action isn't queued. The store is as it was.
 #[derive(Clone, Copy, Debug, Drop, PartialEq, Eq, Error)]

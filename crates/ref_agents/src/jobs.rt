@@ -79,7 +79,8 @@ impl Job {
         ensures outcome { IfOk result (λ ran. M.means self.action.code self.action.args self.state ≡ ran.outcome) }
         ensures known { OnOk result (F.knows_fun funs.now self.action.code ≡ true) }
         ensures back { IfErr result (λ e. e.0 ≡ self) }
-        ensures fault { IfErr result (λ e. e.1 ≢ faults.Memory → (e.1 ≡ faults.NoSuchFun self.action.code) × (F.knows_fun funs.now self.action.code ≡ false)) }
+        ensures fault { IfErr result (λ e. e.1 ≢ faults.Memory → e.1 ≡ faults.NoSuchFun self.action.code) }
+        ensures lacks { IfErr result (λ e. e.1 ≢ faults.Memory → F.knows_fun funs.now self.action.code ≡ false) }
         ensures memory { IfErr result (λ e. e.1 ≡ faults.Memory → F.knows_fun funs.now self.action.code ≡ true) }
     {
         let code = self.action.code;

@@ -15,12 +15,14 @@ pub mod agents;
 mod ends;
 pub mod faults;
 pub mod jobs;
+mod making;
+mod restarting;
 mod rules;
 mod sends;
 mod taking;
 
-pub use accounts::{Account, Handled, Mark, Queued};
+pub use accounts::{Account, Handled, Mark, Queued, SentBy};
 pub use agents::{Agent, AgentStore, ErrorMode};
 pub use ends::Finished;
-pub use faults::{AgentError, FinishFault, JobFault, NoSuchAgent, RestartFault, SendFault};
+pub use faults::{AgentError, FinishFault, JobFault, ModeFault, RestartFault, SendFault};
 pub use jobs::{Job, Ran};

@@ -1,21 +1,22 @@
 //! Sending actions to agents.
-ghost use Rattle.std.specs.Prelude.{◌≡◌, ◌≢◌, None, Some, IfErr, OnOk, OnErr};
+ghost use Rattle.std.specs.Prelude.{◌≡◌, ◌≢◌, [], None, Some, IfErr, OnOk, OnErr};
 ghost use Rattle.ref_agents.specs.Account.{has_point};
-ghost use Rattle.ref_agents.specs.Agents.{send_refusal, with_agents, with_commit, with_release, with_send, with_sends, without_send, without_sends};
+ghost use Rattle.ref_agents.specs.Agents.{outside, queued_of, send_refusal, with_agents, with_commit, with_release, with_send, with_sends, without_send, without_sends};
 ghost use Rattle.ref_agents.specs.declared.faults.SendFault.TheVariants as faults;
 
+use crate::accounts::{Queued, SentBy};
 use crate::agents::AgentStore;
 use crate::faults::SendFault;
 use ref_fun::{Action, Meaning};
 use ref_log::Sent;
-use std::alloc::{AllocError, Global};
+use std::alloc::AllocError;
 
 impl<M: Meaning> AgentStore<M> {
     /// Sends an action to an agent, outside of a transaction: it waits behind the others, and may be taken at once. A failed
     /// agent takes none. A refused call changes nothing.
-    pub fn send(&mut self, _alloc: Global, g: u32, action: Action) -> Result<(), SendFault>
+    pub fn send(&mut self, g: u32, action: Action) -> Result<(), SendFault>
         ensures ok { OnOk result (send_refusal self.old.agents g ≡ None) }
-        ensures sends { OnOk result (self.new ≡ with_agents self.old (with_send self.old.agents g (record { action = action; commit = None }))) }
+        ensures sends { OnOk result (self.new ≡ with_agents self.old (with_send self.old.agents g (outside action))) }
         ensures fault { IfErr result (λ f. f ≢ faults.Memory → send_refusal self.old.agents g ≡ Some f) }
         ensures memory { IfErr result (λ f. f ≡ faults.Memory → send_refusal self.old.agents g ≡ None) }
         ensures err { OnErr result (self.new ≡ self.old) }
@@ -26,13 +27,15 @@ impl<M: Meaning> AgentStore<M> {
         if agent.error.is_some() {
             return Err(SendFault::Failed);
         }
-        Ok(self.queue(g, action, None)?)
+        let by = SentBy::Outside;
+        Ok(self.queue(g, Queued { action, by })?)
     }
 
     /// Adds the sends of the commit at a new point to their agents' queues, in order. They are held until the commit is
     /// released. A failed agent takes them too. One to an agent that isn't here is left out. A refused call changes nothing.
-    pub fn send_held(&mut self, _alloc: Global, at: u64, sends: &[Sent]) -> Result<(), AllocError>
+    pub fn send_held(&mut self, at: u64, sends: &[Sent]) -> Result<(), AllocError>
         ensures ok { OnOk result (self.new ≡ with_commit self.old at sends.now) }
+        ensures memory { OnErr result (sends.now ≢ []) }
         ensures err { OnErr result (self.new ≡ self.old) }
     {
         if sends.is_empty() {
@@ -58,15 +61,15 @@ impl<M: Meaning> AgentStore<M> {
 
 impl<M: Meaning> AgentStore<M> {
     // One more action waits, if its agent is here.
-    fn queue(&mut self, g: u32, action: Action, commit: Option<u64>) -> Result<(), AllocError>
-        ensures ok { OnOk result (self.new ≡ with_agents self.old (with_send self.old.agents g (record { action = action; commit = commit }))) }
+    fn queue(&mut self, g: u32, queued: Queued) -> Result<(), AllocError>
+        ensures ok { OnOk result (self.new ≡ with_agents self.old (with_send self.old.agents g queued)) }
         ensures err { OnErr result (self.new ≡ self.old) }
     {
-        self.waiting.insert(g)?;
         let Some(agent) = self.agents.get_mut(g as usize) else {
             return Ok(());
         };
-        agent.account.push(action, commit)?;
+        self.waiting.insert(g)?;
+        agent.account.push(queued)?;
         Ok(())
     }
 
@@ -95,11 +98,12 @@ impl<M: Meaning> AgentStore<M> {
     }
 
     fn queue_one(&mut self, at: u64, sent: &Sent) -> Result<(), AllocError>
-        ensures ok { OnOk result (self.new ≡ with_agents self.old (with_send self.old.agents sent.now.agent (record { action = sent.now.action; commit = Some at }))) }
+        ensures ok { OnOk result (self.new ≡ with_agents self.old (with_send self.old.agents sent.now.agent (queued_of at sent.now))) }
         ensures err { OnErr result (self.new ≡ self.old) }
     {
         let action = sent.action.share()?;
-        self.queue(sent.agent, action, Some(at))
+        let by = SentBy::Commit(at);
+        self.queue(sent.agent, Queued { action, by })
     }
 
     // Takes away what these sends added to the queues, the last first.

@@ -2,6 +2,7 @@
 ghost use Rattle.std.specs.Prelude.{◌≡◌, ◌≢◌, ◌↔◌, ℕ, true, false, None, Some, IfOk, IfErr, IfSome, IsTrue, OnOk, OnErr, is_some, slice_get};
 ghost use Rattle.ref_agents.specs.Agents.{AreAgents, is_ready_at, job_out, next_job, with_out};
 
+use crate::accounts::SentBy;
 use crate::agents::AgentStore;
 use crate::jobs::Job;
 use ref_fun::Meaning;
@@ -9,14 +10,17 @@ use std::alloc::AllocError;
 
 impl<M: Meaning> AgentStore<M> {
     /// Hands out the first action of some agent that is ready: one that isn't failed, of which no job is on its way, and whose
-    /// first action may be taken. None only where no agent is ready. The action stays in the queue. Agents take turns. The
-    /// time is linear in the number of agents with actions that wait but can't be taken. A refused call changes nothing.
+    /// first action may be taken. None only where no agent is ready. The action stays in the queue. Agents take turns: those
+    /// with actions that wait are looked at from the next one on, and where none of these is ready from the first on, until
+    /// one is ready. The time is linear in the number of agents that are looked at, and logarithmic in that of all with actions
+    /// that wait and of the commits that are held. A refused call changes nothing.
     pub fn take(&mut self) -> Result<Option<Job>, AllocError>
         ensures ready { IfOk result (λ found. IfSome found (λ job. is_ready_at self.old job.agent ≡ true)) }
         ensures job { IfOk result (λ found. IfSome found (λ job. next_job job.agent (slice_get self.old.agents job.agent) ≡ Some job)) }
         ensures takes { IfOk result (λ found. IfSome found (λ job. self.new ≡ with_out self.old job.agent true)) }
         ensures none { IfOk result (λ found. found ≡ None → (g : ℕ) → is_ready_at self.old g ≡ false) }
         ensures same { IfOk result (λ found. found ≡ None → self.new ≡ self.old) }
+        ensures memory { OnErr result ((g : ℕ) × (is_ready_at self.old g ≡ true)) }
         ensures err { OnErr result (self.new ≡ self.old) }
     {
         let Some(g) = self.ready_agent() else {
@@ -49,7 +53,7 @@ impl<M: Meaning> AgentStore<M> {
     pub(crate) fn is_out(&self, job: &Job) -> bool
         ensures is { IsTrue result ↔ (job_out self.now.agents job.now.agent ≡ Some job.now) }
         // No action of a failed agent is on its way.
-        ensures agents { AreAgents M.means M.accepts self.now.agents }
+        ensures agents { AreAgents M.means self.now.agents }
     {
         let Some(agent) = self.agents.get(job.agent() as usize) else {
             return false;
@@ -84,8 +88,8 @@ impl<M: Meaning> AgentStore<M> {
     fn ready_from(&self, first: u32) -> Option<u32>
         ensures { IfSome result (λ g. is_ready_at self.now g ≡ true) }
     {
-        for g in &self.waiting {
-            if *g >= first && self.is_ready(*g) {
+        for g in self.waiting.range(first..) {
+            if self.is_ready(*g) {
                 return Some(*g);
             }
         }
@@ -116,9 +120,9 @@ impl<M: Meaning> AgentStore<M> {
         }
         match agent.account.waiting_at(0) {
             None => false,
-            Some(queued) => match queued.commit {
-                None => true,
-                Some(point) => !self.unreleased.contains(&point),
+            Some(queued) => match queued.by {
+                SentBy::Outside => true,
+                SentBy::Commit(point) => !self.unreleased.contains(&point),
             },
         }
     }

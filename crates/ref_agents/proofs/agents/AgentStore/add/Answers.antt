@@ -1,20 +1,28 @@
-use Rattle.std.proofs.Common.{◌∷◌, [], None, false, length, ap, sym, subst, arith, refl}
-use Rattle.std.proofs.lemmas.List.{length-append}
+use Rattle.std.proofs.Common.{◌∙◌, ◌∷◌, ◌++◌, [], ◌<◌, ◌^◌, length, ap, sym, subst, refl}
 use Rattle.std.specs.BTreeSet.{keys}
-use Rattle.ref_agents.specs.Account.{has_point}
-use Rattle.ref_agents.specs.Agents.{AreAgents, AreWaiting, IsAgent}
+use Rattle.ref_log.specs.Guards.{AreAccepted, with_guard}
+use Rattle.ref_agents.specs.Agents.{IsAgent, IsStore, values_of}
+use Rattle.ref_agents.specs.Make.{new_agent}
 use Rattle.ref_agents.specs.declared.agents.Agent.{Agent}
-use Rattle.ref_agents.proofs.Changed.{agents_more, waits_more}
+use Rattle.ref_agents.proofs.Changed.{as_many, store_more}
 use Rattle.ref_agents.proofs.agents.AgentStore.add.Goals as goal
 
 pub invariant_of-self-2 : goal.invariant_of-self-2
 invariant_of-self-2 g c =
+    let means = g.M.Meaning.means in
+    let accepts = g.M.Meaning.accepts in
     let items = c.self.inside.agents.items in
-    let new : Agent = record { value = c.in_ok-value.value; rule = c.args.rule; watches = c.empty.result; mode = c.args.mode; error = None; account = c.new.result; is_out = false } in
-    let ok : IsAgent g.M.Meaning.means g.M.Meaning.accepts new =
-    record { accepted = rw c.in_ok-value.ensures c.requires.accepted; folded = rw (c.new.ensures, c.in_ok-value.ensures) refl; marked = rw c.new.ensures refl; single = refl } in
-    let more = sym c.in_ok-push.ensures.items in (
-      omega (arith, ap length c.in_ok-push.ensures.items, length-append items (new ∷ []), ap (λ s. length s.agents) c.self.view_is, c.requires.room),
-      subst (λ l. AreAgents g.M.Meaning.means g.M.Meaning.accepts l) more (agents_more g.M.Meaning.means g.M.Meaning.accepts items new ok c.self.invariant.1),
-      subst (λ l. AreWaiting l (keys c.self.inside.waiting)) more (waits_more (has_point (keys c.self.inside.waiting)) items new (rw c.new.ensures refl) c.self.invariant.2),
-    )
+    let guards = c.self.inside.guards in
+    let waiting = keys c.self.inside.waiting in
+    let start = c.args.start in
+    let new : Agent = record (new_agent c.in_ok-value.value c.args.mode) { account = c.new.result } in
+    let ok : IsAgent means new = record { folded = rw (c.new.ensures, c.in_ok-value.ensures) refl; marked = rw c.new.ensures refl; single = refl } in
+    let room : length items < 2 ^ 20 = subst (λ n. n < 2 ^ 20) (ap (λ s. length s.agents) (sym c.self.view_is)) c.requires.room in
+    let guarded = c.in_ok-add.ensures.adds in
+    let accepted : AreAccepted accepts c.add.new.self (values_of items ++ start ∷ []) =
+    c.in_ok-add.ensures.accepted accepts (values_of items) start (as_many items ∙ sym c.self.invariant.1) c.requires.accepted c.self.invariant.2 in
+    let same : AreAccepted accepts (with_guard guards c.args.rule) (values_of items ++ new.value ∷ []) =
+    subst (λ l. AreAccepted accepts l (values_of items ++ new.value ∷ [])) guarded (subst (λ v. AreAccepted accepts c.add.new.self (values_of items ++ v ∷ [])) (sym c.in_ok-value.ensures) accepted) in
+    let more = c.push_reserved.ensures.items ∙ ap (λ l. l ++ new ∷ []) c.reserve.ensures.items in
+    subst (λ l. IsStore means accepts l c.add.new.self waiting) (sym more) (subst (λ l. IsStore means accepts (items ++ new ∷ []) l waiting) (sym guarded)
+    (store_more means accepts items guards c.args.rule waiting new ok same (rw c.new.ensures refl) room c.self.invariant))

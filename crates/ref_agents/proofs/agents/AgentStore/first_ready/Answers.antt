@@ -15,5 +15,5 @@ loop-g-preserved g c = λ q ready has.
 pub returns-clause-none : goal.returns-clause-none
 returns-clause-none g c = λ _.
     none_ready c.args.self.now c.into_iter-g-iterator.result c.loop-g.g-iterator
-    (subst (λ k. AreWaiting c.args.self.now.agents k) (sym c.into_iter-g-iterator.ensures.into_iter_gives.0) (subst (λ s. AreWaiting s.agents (keys c.self.inside.waiting)) c.self.view_is c.self.invariant.2))
+    (subst (λ k. AreWaiting c.args.self.now.agents k) (sym c.into_iter-g-iterator.ensures.into_iter_gives.0) (subst (λ s. AreWaiting s.agents (keys c.self.inside.waiting)) c.self.view_is c.self.invariant.4))
     c.in-None.ensures.steps.0 c.loop-g.invariant

@@ -1,7 +1,7 @@
 use Rattle.std.proofs.Common.{◌∙◌, ◌≤◌, take, length, arith, ap, sym, refl}
 use Rattle.std.proofs.lemmas.List.{take_all}
-use Rattle.ref_agents.specs.Agents.{with_agents, with_send, with_sends, without_sends}
-use Rattle.ref_agents.proofs.SentBack.{on_err, on_ok, queued_of, sends_next, sends_undone}
+use Rattle.ref_agents.specs.Agents.{queued_of, with_agents, with_send, with_sends, without_sends}
+use Rattle.ref_agents.proofs.SentBack.{on_err, on_ok, sends_next, sends_undone}
 use Rattle.ref_agents.proofs.agents.AgentStore.queue_all.Goals as goal
 
 pub loop-i-init : goal.loop-i-init

@@ -10,6 +10,6 @@ returns-then-is_err-clause-err g c =
     let sends = c.args.sends.now in
     let kept = on_err c.insert.result _ c.insert.ensures.err (sym c.is_err.ensures.value ∙ c.if-is_err.true) in
     c.take_back.ensures
-    ∙ ap (λ points. seen (without_sends sends c.self.inside.agents.items) points) kept
+    ∙ ap (λ points. seen (without_sends sends c.self.inside.agents.items) c.self.inside.guards points) kept
     ∙ ap (λ s. with_agents s (without_sends sends s.agents)) (c.self.view_is ∙ c.in_ok-queue_all.ensures.ok)
     ∙ ap (λ l. with_agents old l) (sends_undone c.args.at sends old.agents)

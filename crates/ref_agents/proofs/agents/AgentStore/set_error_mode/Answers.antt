@@ -1,21 +1,17 @@
-use Rattle.std.proofs.Common.{◌≡◌, Some, ap, sym, arith, refl, slice_get}
-use Rattle.std.proofs.lemmas.List.{length-set}
+use Rattle.std.proofs.Common.{◌≡◌, Some, ap, sym, refl, slice_get}
 use Rattle.ref_agents.specs.Agents.{moded}
-use Rattle.ref_agents.specs.declared.agents.Agent.{Agent}
-use Rattle.ref_agents.proofs.Changed.{agent_at, agents_set, not_none, there, waiting_at, waiting_set}
+use Rattle.ref_agents.proofs.Changed.{agent_at, kept, not_none, there, waiting_at}
 use Rattle.ref_agents.proofs.agents.AgentStore.set_error_mode.Goals as goal
 
 pub invariant_of-self-2 : goal.invariant_of-self-2
 invariant_of-self-2 g c =
+    let means = g.M.Meaning.means in
     let items = c.self.inside.agents.items in
     let agent = c.in-Some.agent.now in
     let is : slice_get items c.args.g ≡ Some agent = there items items c.args.g agent refl c.in-Some.ensures.item.3.0 c.in-Some.ensures.value in
-    let new : Agent = moded c.args.mode agent in
-    let ok = agent_at g.M.Meaning.means g.M.Meaning.accepts items c.args.g agent c.self.invariant.1 is in (
-      omega (arith, length-set items c.args.g new, c.self.invariant.0),
-      agents_set g.M.Meaning.means g.M.Meaning.accepts items c.args.g new (record { accepted = ok.accepted; folded = ok.folded; marked = ok.marked; single = ok.single }) c.self.invariant.1,
-      waiting_set items _ c.args.g new (waiting_at items _ c.args.g agent c.self.invariant.2 is) c.self.invariant.2,
-    )
+    let ok = agent_at means items c.args.g agent c.self.invariant.3 is in
+    kept means g.M.Meaning.accepts items c.self.inside.guards _ c.args.g agent (moded c.args.mode agent) is
+    (record { folded = ok.folded; marked = ok.marked; single = ok.single }) refl (waiting_at items _ c.args.g agent c.self.invariant.4 is) c.self.invariant
 
 pub returns-clause-here : goal.returns-clause-here
 returns-clause-here g c =

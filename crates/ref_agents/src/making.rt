@@ -1,0 +1,81 @@
+//! Making an agent.
+ghost use Rattle.std.specs.Prelude.{◌≡◌, ◌≢◌, ◌<◌, ◌^◌, true, None, Some, IfOk, IfErr, OnErr, OnOk, length};
+ghost use Rattle.ref_fun.specs.Rule.{passes};
+ghost use Rattle.ref_log.specs.declared.faults.MakeFault.TheVariants.{BadTally, Memory, PointLimit};
+ghost use Rattle.ref_agents.specs.Make.{agent_refusal, with_agent};
+
+use crate::accounts::Account;
+use crate::agents::{Agent, AgentStore, ErrorMode};
+use ref_edn::Value;
+use ref_fun::{Functions, Meaning, Rule};
+use ref_log::{MakeFault, check_make};
+use std::alloc::{AllocError, Global};
+
+impl<M: Meaning> AgentStore<M> {
+    /// Makes an agent with this state, this rule, if any, and this error mode, and answers its number. A refused call changes
+    /// nothing.
+    pub fn make<F: Functions<M>>(
+        &mut self,
+        alloc: Global,
+        funs: &F,
+        start: Value,
+        rule: Option<Rule>,
+        mode: ErrorMode,
+    ) -> Result<u32, MakeFault>
+        ensures ok { OnOk result (agent_refusal M.accepts (F.knows_pred funs.now) self.old start rule ≡ None) }
+        ensures number { IfOk result (λ g. g ≡ length self.old.agents) }
+        ensures adds { OnOk result (self.new ≡ with_agent self.old start rule mode) }
+        ensures fault { IfErr result (λ f. f ≢ Memory → agent_refusal M.accepts (F.knows_pred funs.now) self.old start rule ≡ Some f) }
+        ensures memory { IfErr result (λ f. f ≡ Memory → agent_refusal M.accepts (F.knows_pred funs.now) self.old start rule ≡ None) }
+        // An agent is no tally, and has no point.
+        ensures kind { IfErr result (λ f. (f ≢ BadTally) × (f ≢ PointLimit)) }
+        ensures err { OnErr result (self.new ≡ self.old) }
+    {
+        self.check_make(funs, &start, &rule)?;
+        Ok(self.add(alloc, start, rule, mode)?)
+    }
+
+    // Tells whether an agent can be made with this state and this rule, if any.
+    fn check_make<F: Functions<M>>(
+        &self,
+        funs: &F,
+        start: &Value,
+        rule: &Option<Rule>,
+    ) -> Result<(), MakeFault>
+        ensures ok { OnOk result (agent_refusal M.accepts (F.knows_pred funs.now) self.now start.now rule.now ≡ None) }
+        ensures err { IfErr result (λ f. agent_refusal M.accepts (F.knows_pred funs.now) self.now start.now rule.now ≡ Some f) }
+        ensures room { OnOk result (length self.now.agents < 2 ^ 20) }
+        ensures accepted { OnOk result (passes M.accepts rule.now start.now ≡ true) }
+        ensures told { IfErr result (λ f. f ≢ Memory) }
+    {
+        check_make(funs, self.len(), false, 0, start, rule)
+    }
+
+    // Adds an agent that can be made, and answers its number. A refused call changes nothing.
+    fn add(
+        &mut self,
+        alloc: Global,
+        start: Value,
+        rule: Option<Rule>,
+        mode: ErrorMode,
+    ) -> Result<u32, AllocError>
+        requires room { length self.old.agents < 2 ^ 20 }
+        requires accepted { passes M.accepts rule start ≡ true }
+        ensures number { IfOk result (λ g. g ≡ length self.old.agents) }
+        ensures adds { OnOk result (self.new ≡ with_agent self.old start rule mode) }
+        ensures err { OnErr result (self.new ≡ self.old) }
+    {
+        let g = self.len() as u32;
+        let value = start.share()?;
+        self.agents.reserve(1)?;
+        self.guards.add(alloc, rule)?;
+        self.agents.push_reserved(Agent {
+            value,
+            mode,
+            error: None,
+            account: Account::new(alloc, start),
+            is_out: false,
+        });
+        Ok(g)
+    }
+}
