@@ -26,3 +26,6 @@ module _ {V : Type 0} where
   pub shown_append : (es fs : List (ℕ × Bor V)) → shown (es ++ fs) ≡ shown es ++ shown fs
   shown_append [] fs = refl
   shown_append (e ∷ es) fs = ap (λ xs. (e.0, e.1.now) ∷ xs) (shown_append es fs)
+
+  pub shown_push : (es fs : List (ℕ × Bor V)) (e : ℕ × Bor V) (xs : List (ℕ × V)) → fs ≡ es ++ e ∷ [] → xs ≡ (e.0, e.1.now) ∷ [] → shown fs ≡ shown es ++ xs
+  shown_push es fs e xs all one = ap shown all ∙ shown_append es (e ∷ []) ∙ ap (λ ys. shown es ++ ys) (sym one)

@@ -20,8 +20,8 @@
 //! **How it is kept.** As a binary radix tree, which is also known as a Patricia tree; Okasaki and Gill's 'Fast Mergeable
 //! Integer Maps' has it as a persistent map. A fork stands for a block of numbers, of a power of two at a multiple of it, and its
 //! sides for the two halves; forks with an empty side are left out, so the tree needs no balancing. A new version shares
-//! all of the tree but the forks on the way to its key, and values are never copied. (Wider nodes, as in Clojure's maps, were
-//! measured: reads get faster and new versions slower, since each node that is copied counts one more owner of each of its children.)
+//! all of the tree but the forks on the way to its key, and values are never copied. (Nodes with 16 and 32 sides, as in Clojure's
+//! maps, were measured: reads get faster and new versions slower, since a node that is copied counts an owner more of each side.)
 //!
 //! Each fork keeps the bounds of its block, and `get` compares its key with these. So what is found rests on comparisons alone, and
 //! on no arithmetic of bits, which only shapes the tree.

@@ -81,12 +81,9 @@ impl<V: Drop> PMap<V> {
     pub fn with(&self, alloc: Global, key: u32, value: V) -> Result<PMap<V>, AllocError>
         ensures { IfOk result (λ m. m ≡ map.insert self.now key value) }
     {
-        let len = if self.get(key).is_some() {
-            self.len
-        } else if self.len == usize::MAX {
-            return Err(AllocError);
-        } else {
-            self.len + 1
+        let len = match self.get(key) {
+            Some(_) => self.len,
+            None => self.len.checked_add(1).ok_or(AllocError)?,
         };
         let tree = match &self.tree {
             None => leaf(alloc, key, value)?,

@@ -1,14 +1,12 @@
-use Rattle.std.proofs.Common.{◌++◌, ap, ◌∙◌, sym, refl, append_assoc}
-use Rattle.ref_pmap.specs.Whole.{shown}
-use Rattle.ref_pmap.proofs.WholeMaps.{shown_append}
+use Rattle.std.proofs.Common.{refl, append_assoc}
+use Rattle.ref_pmap.proofs.WholeMaps.{shown_push}
 use Rattle.ref_pmap.proofs.Opened.{at_fork, leaf_entries, fork_entries}
 use Rattle.ref_pmap.proofs.trees.+add_entries.Goals as goal
 
 pub returns-in_ok-push-in-Leaf : goal.returns-in_ok-push-in-Leaf
 returns-in_ok-push-in-Leaf g t c =
-    let e = leaf_entries c.tree.view_is c.deref.ensures c.in-Leaf.is in
-    let p = rw c.in_ok-push-in-Leaf.was at c.push.ensures.items in
-    ap shown p ∙ shown_append c.args.out.now.items _ ∙ ap (λ xs. shown c.args.out.now.items ++ xs) (sym e)
+    let pushed = rw c.in_ok-push-in-Leaf.was at c.push.ensures.items in
+    shown_push _ _ _ _ pushed (leaf_entries c.tree.view_is c.deref.ensures c.in-Leaf.is)
 
 pub returns-in_ok-add_entries-in-Fork-2 : goal.returns-in_ok-add_entries-in-Fork-2
 returns-in_ok-add_entries-in-Fork-2 g t c =
