@@ -9,6 +9,7 @@ use Rattle.ref_pmap.specs.declared.trees.Node.{Node}
 use Rattle.ref_pmap.specs.declared.trees.Node.TheVariants.{Leaf, Fork}
 use Rattle.ref_pmap.proofs.Rising.{entries_single, entries_joined}
 
+-- what a tree d is whose node is such a fork
 pub record AtFork {V : Type 0} (d : FinMap nat_cmp V × ℕ) (bounds : Bounds) (l r : FinMap nat_cmp V × ℕ) : Type 0 where
   pub is : d ≡ (joined l.0 r.0, max l.1 r.1 + 1)
   pub fork : IsFork bounds l.0 r.0

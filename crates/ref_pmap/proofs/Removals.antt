@@ -1,4 +1,4 @@
--- What is left of a join once a key is gone.
+-- What is left of a join once a key is gone, and what stays true of a fork then.
 use Rattle.std.proofs.Common.{◌≡◌, ℕ, cond, Some, None, refl, sym, ap, ◌∙◌}
 use Rattle.std.specs.Ordering.{nat_cmp, eq_by_cmp}
 use Rattle.std.specs.Cmp.{nat_cmp_total}
@@ -9,10 +9,11 @@ use Rattle.ref_pmap.specs.Trees.{IsFork}
 use Rattle.ref_pmap.proofs.Joins.{single_none, or_else, else_none, get_joined, get_single, by_key, same}
 
 module _ {V : Type 0} where
+  -- a key that isn't there isn't there after a removal
   pub gone_none : (m : FinMap nat_cmp V) (k q : ℕ) → get m q ≡ None → get (remove m k) q ≡ None
   gone_none m k q none = get-remove nat_cmp_total m k q ∙ by_key (λ b. cond b None (get m q) ≡ None) q k (λ e. refl) none
 
-  -- nothing changes where the key is not there
+  -- without a key that isn't there the map is the same
   pub gone_already : (m : FinMap nat_cmp V) (k : ℕ) → get m k ≡ None → m ≡ remove m k
   gone_already m k none = same _ _ (λ q. by_key (λ b. get m q ≡ cond b None (get m q)) q k (λ e. ap (get m) e ∙ none) refl ∙ sym (get-remove nat_cmp_total m k q))
 
@@ -21,6 +22,7 @@ module _ {V : Type 0} where
       get-remove nat_cmp_total (single k v) k q ∙ ap (cond (eq_by_cmp nat_cmp q k) None) (get_single k v q)
       ∙ by_key (λ b. cond b None (cond b (Some v) None) ≡ None) q k (λ e. refl) refl ∙ sym (get-empty nat_cmp q))
 
+  -- a key that is taken from one side, and isn't in the other one, is taken from the join
   pub gone_left : (l r : FinMap nat_cmp V) (k : ℕ) → get r k ≡ None → joined (remove l k) r ≡ remove (joined l r) k
   gone_left l r k none = same _ _ (λ q.
       get_joined (remove l k) r q ∙ ap (λ x. or_else x (get r q)) (get-remove nat_cmp_total l k q)
@@ -39,12 +41,14 @@ module _ {V : Type 0} where
   empty_joined : (l : FinMap nat_cmp V) → joined l empty ≡ l
   empty_joined l = same _ _ (λ q. get_joined l empty q ∙ ap (or_else (get l q)) (get-empty nat_cmp q) ∙ else_none (get l q))
 
+  -- where nothing is left of a side, the other one is all
   pub only_right : (l r : FinMap nat_cmp V) (k : ℕ) → get r k ≡ None → remove l k ≡ empty → r ≡ remove (joined l r) k
   only_right l r k none e = sym (joined_empty r) ∙ ap (λ m. joined m r) (sym e) ∙ gone_left l r k none
 
   pub only_left : (l r : FinMap nat_cmp V) (k : ℕ) → get l k ≡ None → remove r k ≡ empty → l ≡ remove (joined l r) k
   only_left l r k none e = sym (empty_joined l) ∙ ap (joined l) (sym e) ∙ gone_right l r k none
 
+  -- a removal keeps what is known of a fork
   pub fork_gone_left : (bounds : Bounds) (l r : FinMap nat_cmp V) (k : ℕ) → IsFork bounds l r → IsFork bounds (remove l k) r
   fork_gone_left bounds l r k f = record {
     ordered = f.ordered;

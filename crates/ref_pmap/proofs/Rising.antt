@@ -1,4 +1,5 @@
--- The entries of a join are those of its sides, one after another.
+-- The entries of a fork in the order of their keys are those of its left side and then those of its right side: the left keys
+-- come before the middle and the right ones don't, so both lists together rise.
 use Rattle.std.proofs.Common.{◌≡◌, ℕ, ◌<◌, ◌≤◌, Bool, true, false, cond, ◌&&◌, List, [], ◌∷◌, ◌++◌, length, Option, Some, None, refl, sym, ap, ◌∙◌, subst, arith, ⊎_elim}
 use Rattle.std.proofs.lemmas.Bool.{cases_lt}
 use Rattle.std.specs.Ordering.{nat_cmp, eq_by_cmp, is_eq, is_lt}
@@ -28,10 +29,12 @@ lt_test : (x y : ℕ) → x < y → T (is_lt (nat_cmp x y))
 lt_test x y h = subst (λ o. T (is_lt o)) (nat_cmp_is x y Less h) tt
 
 module _ {V : Type 0} where
+  -- each key comes before mid
   abbrev AllBelow : ℕ → List (ℕ × V) → Type 0
   AllBelow mid [] = Unit {0}
   AllBelow mid (e ∷ es) = (e.0 < mid) × AllBelow mid es
 
+  -- no key comes before mid
   abbrev AllFrom : ℕ → List (ℕ × V) → Type 0
   AllFrom mid [] = Unit {0}
   AllFrom mid (e ∷ es) = (mid ≤ e.0) × AllFrom mid es

@@ -1,3 +1,4 @@
+-- A map with its number of entries, and what a walk shows of it.
 use Rattle.std.proofs.Common.{◌≡◌, ℕ, ◌-◌, true, cond, Option, None, Some, List, [], ◌∷◌, ◌++◌, refl, sym, ap, ◌∙◌}
 use Rattle.std.specs.Prelude.{IsTrue, nat_eq}
 use Rattle.std.proofs.lemmas.Bool.{eqb-true, eq-eqb}
@@ -16,6 +17,7 @@ module _ {V : Type 0} where
   pub empty_where : (n : ℕ) (m : FinMap nat_cmp V) → n ≡ len m → (IsTrue (nat_eq n 0) → m ≡ empty) × (m ≡ empty → IsTrue (nat_eq n 0))
   empty_where n m e = (λ zero. empty_of_len m (sym e ∙ eqb-true n 0 zero), λ none. eq-eqb n 0 (e ∙ ap len none ∙ len-empty nat_cmp V))
 
+  -- a tree that is left, or none, holds what the map is to hold
   pub map_is : (o : Option (FinMap nat_cmp V × ℕ)) (m : FinMap nat_cmp V) → MatchOption o (m ≡ empty) (λ t. t.0 ≡ m) → map_of o ≡ m
   map_is None m h = sym h
   map_is (Some t) m h = h

@@ -1,4 +1,4 @@
--- Lists in two parts, and lists of what owners own.
+-- Lists in two parts, as a fork has them, and lists of what owners own, as a chunk has them.
 use Rattle.std.proofs.Common.{◌≡◌, ◌<◌, ◌≤◌, ℕ, ◌+◌, ◌-◌, zero, suc, List, [], ◌∷◌, ◌++◌, length, take, drop, get_or, Some, None, refl, sym, ap, ◌∙◌, arith, length-append, length-drop, append_assoc}
 use Rattle.std.specs.List.{slice_get}
 use Rattle.std.specs.declared.sync.Arc.{Arc}
@@ -9,6 +9,7 @@ use Rattle.std.proofs.Math.ListN.{drop_of_length-le}
 use Rattle.ref_pvec.specs.Chunks.{values, IsRun}
 
 module _ {T : Type 0} where
+  -- an index into both parts is one into the first, or one into the second
   pub get_front : (xs ys : List T) (i : ℕ) → i < length xs → slice_get (xs ++ ys) i ≡ slice_get xs i
   get_front [] ys i h = absurd (omega arith)
   get_front (x ∷ xs) ys zero h = refl
@@ -32,6 +33,7 @@ module _ {T : Type 0} where
   append_none [] = refl
   append_none (x ∷ xs) = ap (λ ys. x ∷ ys) (append_none xs)
 
+  -- lengths, ends and places of what owners own
   pub length_values : (xs : List (Arc T Global)) → length (values xs) ≡ length xs
   length_values [] = refl
   length_values (x ∷ xs) = ap (λ n. suc n) (length_values xs)
@@ -53,6 +55,7 @@ module _ {T : Type 0} where
   no_value (x ∷ xs) zero h = absurd (omega arith)
   no_value (x ∷ xs) (suc i) h = no_value xs i (omega arith)
 
+  -- the step of a loop over a chunk, and its end
   pub values_more : (xs : List (Arc T Global)) (i : ℕ) (x : Arc T Global) → x ≡ get_or xs i x → i < length xs → values (take (i + 1) xs) ≡ values (take i xs) ++ x.value ∷ []
   values_more xs i x e h = ap values (take_more xs i x h) ∙ values_push (take i xs) (get_or xs i x) ∙ ap (λ z. values (take i xs) ++ z.value ∷ []) (sym e)
 
@@ -60,6 +63,7 @@ module _ {T : Type 0} where
   values_whole [] = refl
   values_whole (x ∷ xs) = ap (λ zs. x.value ∷ zs) (values_whole xs)
 
+  -- what a slice from an index on holds
   pub values_rest : (i : ℕ) (xs : List (Arc T Global)) → values (take (length xs - i) (drop i xs)) ≡ drop i (values xs)
   values_rest i xs = ap values (take_rest xs i) ∙ drop_values i xs
 

@@ -24,7 +24,7 @@ impl<'a, T> Model for Iter<'a, T> {
 
     ghost view = { λ a. values a.run.now ++ drop a.next a.vector.now };
 
-    ghost invariant = { λ a. (a.next ≤ a.end) × (a.end ≡ length a.vector.now) × (length a.run.now ≤ a.next) };
+    ghost invariant = { λ a. (a.next ≤ a.end) × (a.end ≡ length a.vector.now) };
 }
 
 impl<'a, T: Drop> Iter<'a, T> {

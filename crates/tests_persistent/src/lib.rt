@@ -6,4 +6,6 @@ mod drawing;
 #[cfg(test)]
 mod lists;
 #[cfg(test)]
+mod nested;
+#[cfg(test)]
 mod numbered;
