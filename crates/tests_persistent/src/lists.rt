@@ -18,8 +18,11 @@ fn empty(alloc: Global) -> Version {
     }
 }
 
+// What is refused is tried again with what comes back, so that a run with one request for memory refused is compared too.
 fn push(alloc: Global, version: &mut Version, item: u64) -> Result<(), AllocError> {
-    version.list.push(alloc, item)?;
+    if let Err(failed) = version.list.push(alloc, item) {
+        version.list.push(alloc, failed.value)?;
+    }
     version.model.push(item)?;
     Ok(())
 }

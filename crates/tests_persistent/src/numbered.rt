@@ -37,18 +37,27 @@ fn model_with(
     Ok(model)
 }
 
+// What is refused is tried again, so that a run with one request for memory refused is compared too.
 fn with(alloc: Global, version: &Version, place: usize, value: u64) -> Result<Version, AllocError> {
     let key = KEYS.get(place).copied().unwrap_or(0);
+    let map = match version.map.with(alloc, key, value) {
+        Ok(map) => map,
+        Err(_) => version.map.with(alloc, key, value)?,
+    };
     Ok(Version {
-        map: version.map.with(alloc, key, value)?,
+        map,
         model: model_with(version, place, Some(value))?,
     })
 }
 
 fn without(alloc: Global, version: &Version, place: usize) -> Result<Version, AllocError> {
     let key = KEYS.get(place).copied().unwrap_or(0);
+    let map = match version.map.without(alloc, key) {
+        Ok(map) => map,
+        Err(_) => version.map.without(alloc, key)?,
+    };
     Ok(Version {
-        map: version.map.without(alloc, key)?,
+        map,
         model: model_with(version, place, None)?,
     })
 }
