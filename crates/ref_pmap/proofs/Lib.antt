@@ -1,0 +1,5 @@
+pub mod Joins
+pub mod Removals
+pub mod Rising
+pub mod Opened
+pub mod WholeMaps

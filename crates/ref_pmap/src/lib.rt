@@ -1,0 +1,38 @@
+//! Maps from numbers that keep their old versions: [`PMap`].
+//!
+//! Take one where somebody keeps a map as it was while somebody else goes on, as a transaction keeps the values of its
+//! beginning while others commit: [`PMap::with`] and [`PMap::without`] answer a new map and leave the old one as it is, and
+//! [`PMap::share`] gives one more owner of a map in constant time. A map that nobody keeps is better off in a `BTreeMap` or
+//! an `IndexMap`, which change in place, several times as fast.
+//!
+//! Keys are `u32`, and close ones are best: numbers that count up from 0 make a tree without gaps.
+//!
+//! | Call | Time, for n entries | Memory |
+//! |---|---|---|
+//! | `empty`, `len`, `is_empty` | constant | none |
+//! | `get` | a step for each level, of which there are at most 32, and about log2(n) where keys are close | none |
+//! | `with` | as `get`, twice | a block for the entry, and one for each fork on its way |
+//! | `without` | as `get`, twice | a block for each fork on its way; none where the key isn't there |
+//! | `walk` | linear | the answer |
+//! | `share` | constant | none |
+//! | letting the last owner go | linear | |
+//!
+//! **How it is kept.** As a binary radix tree, which is also known as a Patricia tree; Okasaki and Gill's 'Fast Mergeable
+//! Integer Maps' has it as a persistent map. A fork stands for a block of numbers, of a power of two at a multiple of it, and its
+//! sides for the two halves; forks with an empty side are left out, so the tree needs no balancing. A new version shares
+//! all of the tree but the forks on the way to its key, and values are never copied. (Nodes with 16 and 32 sides, as in Clojure's
+//! maps, were measured: reads get faster and new versions slower, since a node that is copied counts an owner more of each side.)
+//!
+//! Each fork keeps the bounds of its block, and `get` compares its key with these. So what is found rests on comparisons alone, and
+//! on no arithmetic of bits, which only shapes the tree.
+//!
+//! **Not promised.** Contracts see a finite map, and say what is in it. No contract speaks of time, of memory, of the height
+//! of the tree, or of which versions share what. Where memory is refused, `with` lets the value go that it was handed: where it
+//! couldn't be made again, share it before the call.
+#![tactic(auto)]
+
+mod bounds;
+pub mod maps;
+mod trees;
+
+pub use maps::PMap;

@@ -1,0 +1,127 @@
+//! The map: a tree where there are entries, and their number.
+ghost use Rattle.std.specs.Prelude.{◌≡◌, ◌↔◌, IsTrue, IfOk};
+ghost use Rattle.std.specs.Option.{option_copied};
+ghost use Rattle.std.specs.FinMap as map;
+ghost use Rattle.ref_pmap.specs.Whole.{shown};
+
+use crate::trees::{Tree, add_entries, leaf};
+use std::alloc::{AllocError, Global};
+use std::marker::Model;
+
+/// A map from `u32` whose old versions stay. Contracts see a finite map.
+#[derive(Drop)]
+pub struct PMap<V> {
+    len: usize,
+    tree: Option<Tree<V>>,
+}
+
+impl<V> Model for PMap<V> {
+    ghost use Rattle.std.specs.Prelude.{◌≡◌};
+    ghost use Rattle.std.specs.Ordering.{nat_cmp};
+    ghost use Rattle.std.specs.FinMap as map;
+    ghost use Rattle.std.specs.Coded.{coded_ℕ};
+
+    ghost Value = { map.FinMap nat_cmp V };
+
+    ghost coded = { map.code coded_ℕ V.code };
+
+    ghost use Rattle.ref_pmap.specs.Whole.{map_of};
+
+    ghost view = { λ a. map_of a.tree };
+
+    ghost invariant = { λ a. a.len ≡ map.len (map_of a.tree) };
+}
+
+impl<V: Drop> PMap<V> {
+    #[tactic(auto, using(crate::proofs::WholeMaps::maps))]
+    pub fn empty() -> PMap<V>
+        ensures { result ≡ map.empty }
+    {
+        PMap { len: 0, tree: None }
+    }
+
+    pub fn len(&self) -> usize
+        ensures { result ≡ map.len self.now }
+    {
+        self.len
+    }
+
+    pub fn is_empty(&self) -> bool
+        ensures { IsTrue result ↔ (self.now ≡ map.empty) }
+    {
+        self.len == 0
+    }
+
+    /// One more owner of the map. It takes no memory; only a count of owners can refuse.
+    pub fn share(&self) -> Result<PMap<V>, AllocError>
+        ensures { IfOk result (λ m. m ≡ self.now) }
+    {
+        let tree = match &self.tree {
+            None => None,
+            Some(tree) => Some(tree.share()?),
+        };
+        Ok(PMap {
+            len: self.len,
+            tree,
+        })
+    }
+
+    #[tactic(auto, using(crate::proofs::WholeMaps::maps))]
+    pub fn get(&self, key: u32) -> Option<&V>
+        ensures { option_copied result ≡ map.get self.now key }
+    {
+        match &self.tree {
+            None => None,
+            Some(tree) => tree.get(key),
+        }
+    }
+
+    /// The map with this value at the key, in the place of the one that may be there. Where memory is refused, the value is let go.
+    #[tactic(auto, using(crate::proofs::WholeMaps::maps))]
+    pub fn with(&self, alloc: Global, key: u32, value: V) -> Result<PMap<V>, AllocError>
+        ensures { IfOk result (λ m. m ≡ map.insert self.now key value) }
+    {
+        let len = match self.get(key) {
+            Some(_) => self.len,
+            None => self.len.checked_add(1).ok_or(AllocError)?,
+        };
+        let tree = match &self.tree {
+            None => leaf(alloc, key, value)?,
+            Some(tree) => tree.with(alloc, key, value)?,
+        };
+        Ok(PMap {
+            len,
+            tree: Some(tree),
+        })
+    }
+
+    /// The map without the key: one more owner of this one, where the key isn't there.
+    #[tactic(auto, using(crate::proofs::WholeMaps::maps, crate::proofs::WholeMaps::map_is, crate::proofs::WholeMaps::gone_already, crate::proofs::WholeMaps::one_less))]
+    pub fn without(&self, alloc: Global, key: u32) -> Result<PMap<V>, AllocError>
+        ensures { IfOk result (λ m. m ≡ map.remove self.now key) }
+    {
+        let Some(tree) = &self.tree else {
+            return self.share();
+        };
+        if tree.get(key).is_none() {
+            return self.share();
+        }
+        let tree = tree.without(alloc, key)?;
+        Ok(PMap {
+            len: self.len.saturating_sub(1),
+            tree,
+        })
+    }
+
+    /// The entries in the order of their keys.
+    #[tactic(auto, using(crate::proofs::Rising::entries_empty))]
+    pub fn walk(&self, alloc: Global) -> Result<Vec<(u32, &V)>, AllocError>
+        ensures { IfOk result (λ entries. shown entries.items ≡ map.entries self.now) }
+    {
+        let mut entries = Vec::new(alloc);
+        if let Some(tree) = &self.tree {
+            add_entries(tree, &mut entries)?;
+        }
+        Ok(entries)
+    }
+}

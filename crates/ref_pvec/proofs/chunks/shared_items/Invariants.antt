@@ -1,0 +1,7 @@
+use Rattle.std.proofs.Common.{◌≡◌, take}
+use Rattle.ref_pvec.specs.Chunks.{values}
+use Rattle.ref_pvec.proofs.chunks.shared_items.Given as goal
+
+-- the items so far are those of the chunk so far
+abbrev pub invariant-loop-item : goal.invariant-loop-item
+invariant-loop-item g l = values l.items.items ≡ values (take l.item-index l.item-items)
