@@ -1,5 +1,5 @@
 -- The entries of atoms that are changed.
-use Rattle.std.proofs.Common.{◌≡◌, ℕ, true, List, Some, Ok, slice_get, slice_set, refl, sym, ap, ◌∙◌}
+use Rattle.std.proofs.Common.{◌≡◌, ℕ, true, List, Some, Ok, slice_get, slice_set, refl, sym}
 use Rattle.std.specs.Ordering.{eq_by_cmp}
 use Rattle.ref_edn.specs.Edn.{Edn}
 use Rattle.ref_edn.specs.Order.{edn_cmp}

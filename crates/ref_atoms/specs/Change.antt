@@ -2,7 +2,7 @@
 --
 -- Clojure's page on atoms: `swap!` sets an atom to the function of its value, `reset!` to a value regardless, and
 -- `compare-and-set!` to a value where the atom has the one that is given. Each asks the validator of the new value first.
-use Rattle.std.specs.Prelude.{◌≡◌, ℕ, ◌^◌, nat_lt, Bool, false, if◌then◌else◌, List, Option, None, Some, Result, Ok, Err, slice_get}
+use Rattle.std.specs.Prelude.{◌≡◌, ℕ, ◌^◌, nat_lt, Bool, false, if◌then◌else◌, Option, None, Some, Result, Ok, Err, slice_get}
 use Rattle.std.specs.Option.{option_map, option_or}
 use Rattle.std.specs.Ordering.{eq_by_cmp}
 use Rattle.ref_edn.specs.Edn.{Edn}

@@ -1,5 +1,5 @@
 -- Watches that are added and taken away, and guards that are changed.
-use Rattle.std.proofs.Common.{◌≡◌, ◌∙◌, ℕ, zero, suc, ◌<◌, ◌||◌, Bool, true, false, not, cond, List, [], ◌∷◌, ◌++◌, length, take, Option, None, Some, slice_get, slice_set, refl, sym, ap, subst, arith}
+use Rattle.std.proofs.Common.{◌≡◌, ◌∙◌, ℕ, zero, suc, ◌||◌, Bool, true, false, cond, List, [], ◌∷◌, ◌++◌, length, take, Option, None, Some, slice_get, slice_set, refl, sym, ap, arith}
 use Rattle.std.specs.List.{filter, list_any}
 use Rattle.std.specs.Ordering.{eq_by_cmp, is_eq}
 use Rattle.std.proofs.lemmas.Bool.{or_parts}
@@ -11,7 +11,7 @@ use Rattle.ref_edn.specs.Order.{edn_cmp}
 use Rattle.ref_edn.specs.OrderLaws.{edn_cmp_total, edn_eq}
 use Rattle.ref_fun.specs.Rule.{Accepts, passes}
 use Rattle.ref_fun.specs.declared.rules.Rule.{Rule}
-use Rattle.ref_log.specs.Guards.{AreAccepted, change_guard, change_if_here, is_accepted_at, passes_if_here, rule_at, rule_if_here, with_guard}
+use Rattle.ref_log.specs.Guards.{AreAccepted, passes_if_here, rule_at, rule_if_here, with_guard}
 use Rattle.ref_log.specs.Watches.{AreDistinct, has_key, is_key}
 use Rattle.ref_log.specs.declared.guards.Guard.{Guard}
 

@@ -11,7 +11,6 @@ use Rattle.ref_log.specs.Replay.{codes_of, is_commute, is_set, missing, place}
 use Rattle.ref_log.specs.Tally.{fits_tally}
 use Rattle.ref_log.specs.declared.operations.Done.{Done}
 use Rattle.ref_log.specs.declared.operations.Op.{Op}
-use Rattle.ref_log.specs.declared.operations.Op.TheVariants.{Set, Alter, Commute, Ensure}
 use Rattle.ref_tx.specs.Seen.{TxSeen}
 use Rattle.ref_tx.specs.declared.faults.TxFault.{TxFault}
 use Rattle.ref_tx.specs.declared.faults.TxFault.TheVariants.{NoSuchRef, SetAfterCommute, TallyOnly, Refused, NoSuchFun, NotMet}

@@ -1,4 +1,4 @@
-use Rattle.std.proofs.Common.{◌≡◌, Some, Ok, ap, refl, rules, slice_get, slice_set, sym}
+use Rattle.std.proofs.Common.{◌≡◌, Some, Ok, ap, rules, slice_get, slice_set, sym}
 use Rattle.ref_log.specs.declared.operations.Op.TheVariants.{Set}
 use Rattle.ref_atoms.proofs.Changed.{stepped}
 use Rattle.ref_atoms.proofs.atoms.AtomStore.prepare_compare.Goals as goal
