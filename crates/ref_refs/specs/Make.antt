@@ -1,5 +1,5 @@
 -- Making a ref.
-use Rattle.std.specs.Prelude.{ℕ, Bool, not, ◌&&◌, ◌||◌, ◌==◌, if◌then◌else◌, [], ◌∷◌, ◌++◌, length, Option, None, Some, is_some}
+use Rattle.std.specs.Prelude.{ℕ, Bool, not, ◌&&◌, ◌||◌, ◌==◌, if◌then◌else◌, [], ◌∷◌, ◌++◌, length, Option, Some, is_some}
 use Rattle.ref_edn.specs.Edn.{Edn}
 use Rattle.ref_fun.specs.declared.rules.Rule.{Rule}
 use Rattle.ref_fun.specs.Rule.{Accepts}
