@@ -1,5 +1,5 @@
 -- The references of a world by kind and number. There are no agents.
-use Rattle.std.specs.Prelude.{ℕ, Bool, true, ◌&&◌, List, [], Option, None, Some, slice_get}
+use Rattle.std.specs.Prelude.{ℕ, Bool, ◌&&◌, List, [], Option, slice_get}
 use Rattle.ref_edn.specs.Edn.{Edn}
 use Rattle.ref_fun.specs.Rule.{Accepts}
 use Rattle.ref_fun.specs.declared.rules.Rule.{Rule}
