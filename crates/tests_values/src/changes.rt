@@ -1,8 +1,8 @@
 //! Vectors, sets and maps with one member more or less: what they are then, how deep, and that other owners keep
 //! theirs.
-use crate::tables::{rows, same, text_of, value};
+use crate::tables::{Row, rows, same, text_of, value};
 use ref_edn::{Elements, Entries, Items, Node, Value, read_all, read_one};
-use std::alloc::Global;
+use std::alloc::{AllocError, Global};
 use std::process::Abort;
 use std::test::Fail;
 
@@ -70,43 +70,68 @@ fn change(alloc: Global, node: &mut Node, step: &Items) -> Result<Node, Fail> {
     }
 }
 
-// The value after steps, each of which comes to the same in place and not.
+// Makes a step, which comes to the same in place and not.
+fn make_step(alloc: Global, node: &mut Node, step: &Value) -> Result<(), Fail> {
+    let Node::Vector(step) = step.node() else {
+        return Err(Fail::from("not a step"));
+    };
+    let made = value(change(alloc, node, step)?)?;
+    if made != value(node.share()?)? {
+        return Err(Fail::from("not the same in place"));
+    }
+    Ok(())
+}
+
+// The value after steps.
 fn after(alloc: Global, mut node: Node, steps: &[Value]) -> Result<Value, Fail> {
     for step in steps {
-        let Node::Vector(step) = step.node() else {
-            return Err(Fail::from("not a step"));
-        };
-        let made = value(change(alloc, &mut node, step)?)?;
-        if made != value(node.share()?)? {
-            return Err(Fail::from("not the same in place"));
-        }
+        make_step(alloc, &mut node, step)?;
     }
     value(node)
 }
 
-// A text has a value and steps. It gives the value after them, where that has one owner at first, and where it has two,
-// of which the other one keeps it as it was.
+// The value after steps is as wanted.
+fn check_made(
+    rt: &(impl Abort + AllocGlobal),
+    row: &Row,
+    node: Node,
+    steps: &[Value],
+) -> Result<(), Fail> {
+    let made = after(rt.alloc(), node, steps)?;
+    same(rt, &row.text, &text_of(rt.alloc(), &made)?, &row.want);
+    Ok(())
+}
+
+// The node of a text, which has no other owner.
+fn alone(alloc: Global, text: &str) -> Result<Node, Fail> {
+    Ok(read_one(alloc, text.as_bytes())?.node().share()?)
+}
+
+// The value after steps is as wanted, where the value before has one owner at first, and where it has two, of which the
+// other one keeps it as it was.
+fn check_after(
+    rt: &(impl Abort + AllocGlobal),
+    row: &Row,
+    before: &Value,
+    steps: &[Value],
+) -> Result<(), Fail> {
+    let was = text_of(rt.alloc(), before)?;
+    check_made(rt, row, alone(rt.alloc(), &was)?, steps)?;
+    check_made(rt, row, before.node().share()?, steps)?;
+    same(rt, &row.text, &text_of(rt.alloc(), before)?, &was);
+    Ok(())
+}
+
+fn check_change(rt: &(impl Abort + AllocGlobal), row: &Row) -> Result<(), Fail> {
+    let parts = read_all(rt.alloc(), row.text.as_bytes())?;
+    let (before, steps) = parts.split_first().ok_or("no value")?;
+    check_after(rt, row, before, steps)
+}
+
+// A text has a value and steps, and gives the value after them.
 fn check_changes(rt: &(impl Abort + AllocGlobal), table: &str) -> Result<(), Fail> {
-    let alloc = rt.alloc();
-    for row in &rows(alloc, table)? {
-        let parts = read_all(alloc, row.text.as_bytes())?;
-        let (before, steps) = parts.split_first().ok_or("no value")?;
-        let was = text_of(alloc, before)?;
-        let alone = read_one(alloc, was.as_bytes())?.node().share()?;
-        let shared = before.node().share()?;
-        same(
-            rt,
-            &row.text,
-            &text_of(alloc, &after(alloc, alone, steps)?)?,
-            &row.want,
-        );
-        same(
-            rt,
-            &row.text,
-            &text_of(alloc, &after(alloc, shared, steps)?)?,
-            &row.want,
-        );
-        same(rt, &row.text, &text_of(alloc, before)?, &was);
+    for row in &rows(rt.alloc(), table)? {
+        check_change(rt, row)?;
     }
     Ok(())
 }
@@ -169,6 +194,12 @@ fn maps_stay_in_the_order_of_their_keys(rt: HostRuntime) -> Result<(), Fail> {
     )
 }
 
+fn depth_after(alloc: Global, text: &str) -> Result<u8, Fail> {
+    let parts = read_all(alloc, text.as_bytes())?;
+    let (before, steps) = parts.split_first().ok_or("no value")?;
+    Ok(after(alloc, before.node().share()?, steps)?.depth())
+}
+
 #[test]
 fn the_deepest_comes_and_goes(rt: HostRuntime) -> Result<(), Fail> {
     let alloc = rt.alloc();
@@ -187,38 +218,48 @@ fn the_deepest_comes_and_goes(rt: HostRuntime) -> Result<(), Fail> {
         {{:a [1]} [2], 3 [[[]]]}                                               → 4
     "##;
     for row in &rows(alloc, table)? {
-        let parts = read_all(alloc, row.text.as_bytes())?;
-        let (before, steps) = parts.split_first().ok_or("no value")?;
-        let got = after(alloc, before.node().share()?, steps)?.depth();
-        same(&rt, &row.text, &got.to_string(alloc)?, &row.want);
+        let depth = depth_after(alloc, &row.text)?;
+        same(&rt, &row.text, &depth.to_string(alloc)?, &row.want);
+    }
+    Ok(())
+}
+
+// Keys that are tried, whether a set has each as an element, and what is under it in a map.
+const MEMBERS: &[(&str, bool, &str)] = &[
+    ("-1", false, "none"),
+    ("0", true, "5"),
+    ("2", true, "25"),
+    ("3", false, "none"),
+    ("4", true, "45"),
+];
+
+fn printed(alloc: Global, value: Option<&Value>) -> Result<String, AllocError> {
+    match value {
+        Some(value) => text_of(alloc, value),
+        None => String::from_str(alloc, "none"),
+    }
+}
+
+fn check_members(
+    rt: &(impl Abort + AllocGlobal),
+    elements: &Elements,
+    entries: &Entries,
+) -> Result<(), Fail> {
+    assert!(rt; elements.ascends() && entries.ascends());
+    for (text, is_there, want) in MEMBERS {
+        let key = read_one(rt.alloc(), text.as_bytes())?;
+        assert!(rt; elements.contains(&key) == *is_there, "{text}");
+        same(rt, text, &printed(rt.alloc(), entries.get(&key))?, want);
     }
     Ok(())
 }
 
 #[test]
 fn a_member_is_found_by_its_key(rt: HostRuntime) -> Result<(), Fail> {
-    let alloc = rt.alloc();
-    let set = read_one(alloc, b"#{0 2 4}")?;
-    let map = read_one(alloc, b"{0 5, 2 25, 4 45}")?;
-    let (Node::Set(elements), Node::Map(entries)) = (set.node(), map.node()) else {
-        return Err(Fail::from("not a set and a map"));
-    };
-    assert!(rt; elements.ascends());
-    assert!(rt; entries.ascends());
-    for (key, is_there, want) in [
-        ("-1", false, None),
-        ("0", true, Some("5")),
-        ("2", true, Some("25")),
-        ("3", false, None),
-        ("4", true, Some("45")),
-    ] {
-        let key = read_one(alloc, key.as_bytes())?;
-        assert_eq!(rt; elements.contains(&key), is_there);
-        let under = match want {
-            Some(text) => Some(read_one(alloc, text.as_bytes())?),
-            None => None,
-        };
-        assert!(rt; entries.get(&key) == under.as_ref());
+    let set = read_one(rt.alloc(), b"#{0 2 4}")?;
+    let map = read_one(rt.alloc(), b"{0 5, 2 25, 4 45}")?;
+    match (set.node(), map.node()) {
+        (Node::Set(elements), Node::Map(entries)) => check_members(&rt, elements, entries),
+        _ => Err(Fail::from("not a set and a map")),
     }
-    Ok(())
 }

@@ -1,16 +1,98 @@
 //! The table of closures: what it has, calls, and refuses.
-ghost use Rattle.std.specs.Prelude.{◌≤◌, length};
+ghost use Rattle.std.specs.Prelude.{◌≡◌, ◌≤◌, length};
+ghost use Rattle.ref_fun.specs.Core.{core_accepts, core_means};
+ghost use Rattle.ref_fun.specs.Meaning.{Answers};
 
-use crate::calls::call_of;
-use crate::tables::{rows, same, text_of};
+use crate::calls::{Call, call_of};
+use crate::tables::{Row, rows, same, same_said, text_of};
 use ref_edn::Value;
 use ref_fun::{
     AddFault, CallFault, Cause, Fun, FunFault, FunTable, Functions, Pred, StoredFun, StoredPred,
     core_fun, core_test, has_core,
 };
-use std::alloc::Global;
+use std::alloc::{AllocError, Global};
 use std::process::Abort;
 use std::test::Fail;
+
+const CODES: &[u32] = &[0, 1, 2, 4, 7, 10, 11, 100, 101, 102, 109, 110, u32::MAX];
+
+// A table has the codes of Core without these.
+fn check_codes(rt: &impl Abort, table: &FunTable, without: &[u32]) {
+    assert_eq!(rt; has_core(table), without.is_empty());
+    for code in CODES {
+        let is_in = !without.contains(code);
+        let is_fun = is_in && (1..=10).contains(code);
+        let is_pred = is_in && (101..=109).contains(code);
+        let has = (table.has_fun(*code), table.has_pred(*code));
+        assert!(rt; has == (is_fun, is_pred), "{code} without {without:?}");
+    }
+}
+
+// What a table gives, or why it doesn't.
+fn called(alloc: Global, table: &FunTable, call: &Call) -> Result<String, AllocError> {
+    match table.call(alloc, call.code, &call.state, call.args.as_slice()) {
+        Ok(value) => text_of(alloc, &value),
+        Err(fault) => format!(in alloc; "{fault:?}"),
+    }
+}
+
+fn tested(alloc: Global, table: &FunTable, call: &Call) -> Result<String, AllocError> {
+    let answer = table.test(call.code, &call.state, call.args.as_slice());
+    format!(in alloc; "{answer:?}")
+}
+
+// What a call is to give, unless its function is left out.
+fn wanted(alloc: Global, code: u32, want: &str, without: &[u32]) -> Result<String, AllocError> {
+    if without.contains(&code) {
+        format!(in alloc; "NoSuchFun({code})")
+    } else {
+        String::from_str(alloc, want)
+    }
+}
+
+// A call of a row gives what is wanted.
+fn check_call(
+    rt: &(impl Abort + AllocGlobal),
+    table: &FunTable,
+    without: &[u32],
+    row: &Row,
+) -> Result<(), Fail> {
+    let call = call_of(rt.alloc(), &row.text)?;
+    let got = called(rt.alloc(), table, &call)?;
+    let want = wanted(rt.alloc(), call.code, &row.want, without)?;
+    same(rt, &row.text, &got, &want);
+    Ok(())
+}
+
+fn check_test(
+    rt: &(impl Abort + AllocGlobal),
+    table: &FunTable,
+    without: &[u32],
+    row: &Row,
+) -> Result<(), Fail> {
+    let call = call_of(rt.alloc(), &row.text)?;
+    let got = tested(rt.alloc(), table, &call)?;
+    let is_out = without.contains(&call.code);
+    same(rt, &row.text, &got, if is_out { "None" } else { &row.want });
+    Ok(())
+}
+
+const CALLS: &str = r##"
+    (+ 2 3 4)                        → 9
+    (- 2 3 4)                        → -5
+    (inc 2)                          → 3
+    (dec 2)                          → 1
+    (+ 9223372036854775807 1)        ✗ Refused(Overflow)
+    (inc 2 3)                        ✗ Refused(WrongArity)
+    (dissoc 2 3)                     ✗ Refused(WrongKind)
+    (>= 2 3)                         ✗ NoSuchFun(101)
+"##;
+
+const TESTS: &str = r##"
+    (>= 0 1)  (>= 0)  (some? nil)    → Some(false)
+    (>= 1 1)  (<= 0 0)  (some? 0)    → Some(true)
+    (+ 0 1)  (inc 0)                 → None
+"##;
 
 // A table that has Core without these codes.
 fn check_table(
@@ -18,147 +100,142 @@ fn check_table(
     table: &FunTable,
     without: &[u32],
 ) -> Result<(), Fail> {
-    let alloc = rt.alloc();
-    assert_eq!(rt; has_core(table), without.is_empty());
-    for code in [0, 1, 2, 4, 7, 10, 11, 100, 101, 102, 109, 110, u32::MAX] {
-        let is_in = !without.contains(&code);
-        let is_fun = is_in && 1 <= code && code <= 10;
-        let is_pred = is_in && 101 <= code && code <= 109;
-        assert_eq!(rt; table.has_fun(code), is_fun, "{code} without {without:?}");
-        assert_eq!(rt; table.has_pred(code), is_pred, "{code} without {without:?}");
+    check_codes(rt, table, without);
+    for row in &rows(rt.alloc(), CALLS)? {
+        check_call(rt, table, without, row)?;
     }
-    let calls = r##"
-        (+ 2 3 4)                        → 9
-        (- 2 3 4)                        → -5
-        (inc 2)                          → 3
-        (dec 2)                          → 1
-        (+ 9223372036854775807 1)        ✗ Refused(Overflow)
-        (inc 2 3)                        ✗ Refused(WrongArity)
-        (dissoc 2 3)                     ✗ Refused(WrongKind)
-        (>= 2 3)                         ✗ NoSuchFun(101)
-    "##;
-    for row in &rows(alloc, calls)? {
-        let call = call_of(alloc, &row.text)?;
-        let got = match table.call(alloc, call.code, &call.state, call.args.as_slice()) {
-            Ok(value) => text_of(alloc, &value)?,
-            Err(fault) => format!(in alloc; "{fault:?}")?,
-        };
-        if without.contains(&call.code) {
-            same(
-                rt,
-                &row.text,
-                &got,
-                &format!(in alloc; "NoSuchFun({})", call.code)?,
-            );
-        } else {
-            same(rt, &row.text, &got, &row.want);
-        }
-    }
-    let tests = r##"
-        (>= 0 1)  (>= 0)  (some? nil)    → Some(false)
-        (>= 1 1)  (<= 0 0)  (some? 0)    → Some(true)
-        (+ 0 1)  (inc 0)                 → None
-    "##;
-    for row in &rows(alloc, tests)? {
-        let call = call_of(alloc, &row.text)?;
-        let got = table.test(call.code, &call.state, call.args.as_slice());
-        let want = if without.contains(&call.code) {
-            "None"
-        } else {
-            row.want.as_str()
-        };
-        same(rt, &row.text, &format!(in alloc; "{got:?}")?, want);
+    for row in &rows(rt.alloc(), TESTS)? {
+        check_test(rt, table, without, row)?;
     }
     Ok(())
 }
 
+// Why a function with its code isn't added, and which code that is.
+fn add_fun(
+    alloc: Global,
+    table: &mut FunTable,
+    code: u32,
+) -> Result<Option<(u32, AddFault)>, AllocError> {
+    let run: Fun = Box::new(
+        alloc,
+        move |a: Global, state: &Value, args: &[Value]| -> Result<Value, FunFault>
+            requires { length args.now ≤ 8 }
+            ensures { Answers (core_means code args.now state.now) result }
+        { core_fun(a, code, state, args) },
+    )?;
+    match table.add_fun(StoredFun::new(code, run)) {
+        Ok(()) => Ok(None),
+        Err((fun, fault)) => Ok(Some((fun.code(), fault))),
+    }
+}
+
+fn add_pred(
+    alloc: Global,
+    table: &mut FunTable,
+    code: u32,
+) -> Result<Option<(u32, AddFault)>, AllocError> {
+    let run: Pred = Box::new(
+        alloc,
+        move |state: &Value, args: &[Value]| -> bool
+            requires { length args.now ≤ 8 }
+            ensures { result ≡ core_accepts code args.now state.now }
+        { core_test(code, state, args) },
+    )?;
+    match table.add_pred(StoredPred::new(code, run)) {
+        Ok(()) => Ok(None),
+        Err((pred, fault)) => Ok(Some((pred.code(), fault))),
+    }
+}
+
+// A table that has Core without these codes.
+fn core_without(alloc: Global, without: &[u32]) -> Result<Option<FunTable>, AllocError> {
+    let mut table = FunTable::empty(alloc);
+    for code in (1..11u32).rev() {
+        if !without.contains(&code) && add_fun(alloc, &mut table, code)?.is_some() {
+            return Ok(None);
+        }
+    }
+    for code in (101..110u32).rev() {
+        if !without.contains(&code) && add_pred(alloc, &mut table, code)?.is_some() {
+            return Ok(None);
+        }
+    }
+    Ok(Some(table))
+}
+
+const LEFT_OUT: &[&[u32]] = &[&[], &[1], &[7], &[10], &[101], &[109], &[4, 102]];
+
 #[test]
 fn a_table_answers_as_the_codes_mean(rt: HostRuntime) -> Result<(), Fail> {
-    let alloc = rt.alloc();
-    let codes_left_out: [&[u32]; 7] = [&[], &[1], &[7], &[10], &[101], &[109], &[4, 102]];
-    for without in codes_left_out {
-        let mut table = FunTable::empty(alloc);
-        for code in (1..11u32).rev() {
-            if !without.contains(&code) {
-                let run: Fun = Box::new(
-                    alloc,
-                    move |a: Global, state: &Value, args: &[Value]| -> Result<Value, FunFault>
-                        requires { length args.now ≤ 8 }
-                    { core_fun(a, code, state, args) },
-                )?;
-                assert!(rt; table.add_fun(StoredFun::new(code, run)).is_ok());
-            }
-        }
-        for code in (101..110u32).rev() {
-            if !without.contains(&code) {
-                let run: Pred = Box::new(alloc, move |state: &Value, args: &[Value]| {
-                    core_test(code, state, args)
-                })?;
-                assert!(rt; table.add_pred(StoredPred::new(code, run)).is_ok());
-            }
-        }
+    for without in LEFT_OUT {
+        let table = core_without(rt.alloc(), without)?.ok_or("a code wasn't added")?;
         check_table(&rt, &table, without)?;
     }
     Ok(())
 }
 
-// The first 64 codes are new, and then there is one too many; the last two are there.
+// The fault of the code that is added as this one in turn: the first 64 are new, then there is one too many, and the last
+// two are there.
+fn adding_fault(i: usize) -> Option<AddFault> {
+    match i {
+        0..64 => None,
+        64 => Some(AddFault::Full),
+        _ => Some(AddFault::Taken),
+    }
+}
+
+// Whether a function and a predicate with this code are added, or have this fault.
+fn is_added(
+    alloc: Global,
+    table: &mut FunTable,
+    code: u32,
+    fault: Option<AddFault>,
+) -> Result<bool, AllocError> {
+    let want = fault.map(|fault| (code, fault));
+    let fun = add_fun(alloc, table, code)?;
+    let pred = add_pred(alloc, table, code)?;
+    Ok(fun == want && pred == want)
+}
+
 #[test]
 fn a_table_takes_64_of_each_kind(rt: HostRuntime) -> Result<(), Fail> {
-    let alloc = rt.alloc();
-    let mut table = FunTable::empty(alloc);
+    let mut table = FunTable::empty(rt.alloc());
     for (i, code) in (1000..1065u32).chain([1000, 1063]).enumerate() {
-        let want = match i {
-            0..64 => None,
-            64 => Some((code, AddFault::Full)),
-            _ => Some((code, AddFault::Taken)),
-        };
-        let run: Fun = Box::new(
-            alloc,
-            move |a: Global, state: &Value, args: &[Value]| -> Result<Value, FunFault>
-                requires { length args.now ≤ 8 }
-            { core_fun(a, code, state, args) },
-        )?;
-        let got = match table.add_fun(StoredFun::new(code, run)) {
-            Ok(()) => None,
-            Err((fun, fault)) => Some((fun.code(), fault)),
-        };
-        assert_eq!(rt; got, want, "function {i}");
-        let run: Pred = Box::new(alloc, move |state: &Value, args: &[Value]| {
-            core_test(code, state, args)
-        })?;
-        let got = match table.add_pred(StoredPred::new(code, run)) {
-            Ok(()) => None,
-            Err((pred, fault)) => Some((pred.code(), fault)),
-        };
-        assert_eq!(rt; got, want, "predicate {i}");
+        let is_right = is_added(rt.alloc(), &mut table, code, adding_fault(i))?;
+        assert!(rt; is_right, "code {i}");
     }
-    for (code, want) in [(1063, true), (1064, false)] {
-        assert_eq!(rt; table.has_fun(code), want);
-        assert_eq!(rt; table.has_pred(code), want);
+    assert!(rt; table.has_fun(1063) && table.has_pred(1063));
+    assert!(rt; !table.has_fun(1064) && !table.has_pred(1064));
+    Ok(())
+}
+
+const CALL_FAULTS: &[(CallFault, &str)] = &[
+    (CallFault::NoSuchFun(7), "1 no function has code 7"),
+    (
+        CallFault::Refused(Cause::TooDeep),
+        "2 refused: nested too deep",
+    ),
+    (CallFault::Memory, "3 out of memory"),
+];
+
+const ADD_FAULTS: &[(AddFault, &str)] = &[
+    (AddFault::Taken, "1 the code is taken"),
+    (AddFault::Full, "2 the table is full"),
+    (AddFault::Memory, "3 out of memory"),
+];
+
+#[test]
+fn faults_of_calls_say_what_they_are(rt: HostRuntime) -> Result<(), Fail> {
+    for (fault, want) in CALL_FAULTS {
+        same_said(&rt, fault.number(), fault, want)?;
     }
     Ok(())
 }
 
 #[test]
-fn faults_of_a_table_say_what_they_are(rt: HostRuntime) -> Result<(), Fail> {
-    let alloc = rt.alloc();
-    let refused = CallFault::Refused(Cause::TooDeep);
-    for (fault, number, text) in [
-        (CallFault::NoSuchFun(7), 1, "no function has code 7"),
-        (refused, 2, "refused: nested too deep"),
-        (CallFault::Memory, 3, "out of memory"),
-    ] {
-        assert_eq!(rt; fault.number(), number);
-        assert_eq!(rt; fault.to_string(alloc)?.as_str(), text);
-    }
-    for (fault, number, text) in [
-        (AddFault::Taken, 1, "the code is taken"),
-        (AddFault::Full, 2, "the table is full"),
-        (AddFault::Memory, 3, "out of memory"),
-    ] {
-        assert_eq!(rt; fault.number(), number);
-        assert_eq!(rt; fault.to_string(alloc)?.as_str(), text);
+fn faults_of_adding_say_what_they_are(rt: HostRuntime) -> Result<(), Fail> {
+    for (fault, want) in ADD_FAULTS {
+        same_said(&rt, fault.number(), fault, want)?;
     }
     Ok(())
 }

@@ -36,21 +36,35 @@ pub(crate) fn all(alloc: Global, text: &[u8]) -> Result<String, AllocError> {
     Ok(out)
 }
 
+// What is printed of the elements of a text, or its fault, is this.
+fn check_all(rt: &(impl Abort + AllocGlobal), text: &str, want: &str) -> Result<(), Fail> {
+    same(rt, text, &all(rt.alloc(), text.as_bytes())?, want);
+    Ok(())
+}
+
+// What is read of a text, if it can be read, is what is read of this.
+fn check_again(rt: &(impl Abort + AllocGlobal), text: &str, want: &str) -> Result<(), Fail> {
+    if let Ok(value) = read_one(rt.alloc(), text.as_bytes()) {
+        assert!(rt;
+            read_one(rt.alloc(), want.as_bytes())? == value,
+            "at {want:?}"
+        );
+    }
+    Ok(())
+}
+
 /// A text is one element of which this is printed, and which is equal to what is read of that, or it has this fault. It
 /// is the same as a text of any number of elements, unless it has none or too many for one.
 pub(crate) fn check(rt: &(impl Abort + AllocGlobal), text: &str, want: &str) -> Result<(), Fail> {
-    let alloc = rt.alloc();
-    let bytes = text.as_bytes();
-    same(rt, text, &one(alloc, bytes)?, want);
-    if let Ok(value) = read_one(alloc, bytes) {
-        assert!(rt; read_one(alloc, want.as_bytes())? == value, "at {want:?}");
-    }
+    same(rt, text, &one(rt.alloc(), text.as_bytes())?, want);
+    check_again(rt, text, want)?;
     if want.starts_with("Nothing at ") {
-        same(rt, text, &all(alloc, bytes)?, "");
-    } else if !want.starts_with("Trailing at ") {
-        same(rt, text, &all(alloc, bytes)?, want);
+        check_all(rt, text, "")
+    } else if want.starts_with("Trailing at ") {
+        Ok(())
+    } else {
+        check_all(rt, text, want)
     }
-    Ok(())
 }
 
 impl Row {
@@ -74,15 +88,14 @@ pub(crate) fn check_texts(rt: &(impl Abort + AllocGlobal), table: &str) -> Resul
 /// Each text of a table is a series of elements, of which this is printed with a space between, or has its fault.
 pub(crate) fn check_series(rt: &(impl Abort + AllocGlobal), table: &str) -> Result<(), Fail> {
     for row in &rows(rt.alloc(), table)? {
-        let got = all(rt.alloc(), row.text.as_bytes())?;
-        same(rt, &row.text, &got, &row.told(rt.alloc(), 0, "@")?);
+        check_all(rt, &row.text, &row.told(rt.alloc(), 0, "@")?)?;
     }
     Ok(())
 }
 
 // Texts with an element in the place of `@`, and what is printed of them: the element alone, in each collection, before
 // each byte that ends a token, and discarded.
-const AROUND: [(&str, &str); 17] = [
+const AROUND: &[(&str, &str)] = &[
     ("@", "@"),
     ("[1 @ 2]", "[1 @ 2]"),
     ("[@\t]", "[@]"),
@@ -102,19 +115,31 @@ const AROUND: [(&str, &str); 17] = [
     ("#_ @ 1", "1"),
 ];
 
+fn check_around(
+    rt: &(impl Abort + AllocGlobal),
+    row: &Row,
+    around: &str,
+    printed: &str,
+) -> Result<(), Fail> {
+    let text = around.replace(rt.alloc(), "@", &row.text)?;
+    let behind = around.find("@").unwrap_or(0);
+    check(rt, &text, &row.told(rt.alloc(), behind, printed)?)
+}
+
+fn check_cut(rt: &(impl Abort + AllocGlobal), row: &Row) -> Result<(), Fail> {
+    let cut = format!(in rt.alloc(); "[{}", row.text)?;
+    let early = format!(in rt.alloc(); "EndsEarly at {}", cut.len())?;
+    check(rt, &cut, &row.told(rt.alloc(), 1, &early)?)
+}
+
 /// Each text of a table is an element, or has its fault, wherever an element may stand, also where the text is cut off
 /// behind it.
 pub(crate) fn check_elements(rt: &(impl Abort + AllocGlobal), table: &str) -> Result<(), Fail> {
-    let alloc = rt.alloc();
-    for row in &rows(alloc, table)? {
+    for row in &rows(rt.alloc(), table)? {
         for (around, printed) in AROUND {
-            let text = around.replace(alloc, "@", &row.text)?;
-            let behind = around.find("@").unwrap_or(0);
-            check(rt, &text, &row.told(alloc, behind, printed)?)?;
+            check_around(rt, row, around, printed)?;
         }
-        let cut = format!(in alloc; "[{}", row.text)?;
-        let early = format!(in alloc; "EndsEarly at {}", cut.len())?;
-        check(rt, &cut, &row.told(alloc, 1, &early)?)?;
+        check_cut(rt, row)?;
     }
     Ok(())
 }

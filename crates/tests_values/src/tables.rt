@@ -5,6 +5,7 @@
 //! else at the first byte. A line that begins with `// ` is a remark.
 use ref_edn::{Node, Value, print};
 use std::alloc::{AllocError, Global};
+use std::fmt::Display;
 use std::process::Abort;
 use std::test::Fail;
 
@@ -16,33 +17,48 @@ pub(crate) struct Row {
     pub place: Option<usize>,
 }
 
+// The texts of a line, what they give, and whether that is a fault.
+fn line_of(line: &str) -> Option<(&str, &str, bool)> {
+    if let Some((texts, want)) = line.split_once("→") {
+        return Some((texts, want.trim(), false));
+    }
+    let (texts, fault) = line.split_once("✗")?;
+    Some((texts, fault.trim(), true))
+}
+
+// The row of a text, in which the place of a fault may be marked.
+fn row_of(alloc: Global, marked: &str, want: &str, is_fault: bool) -> Result<Row, AllocError> {
+    let text = marked.replace(alloc, "¦", "")?;
+    Ok(Row {
+        want: String::from_str(alloc, if want == "@" { &text } else { want })?,
+        text,
+        place: if is_fault {
+            Some(marked.find("¦").unwrap_or(0))
+        } else {
+            None
+        },
+    })
+}
+
+// Adds the rows of a line.
+fn add_rows(alloc: Global, rows: &mut Vec<Row>, line: &str) -> Result<(), Fail> {
+    let (texts, want, is_fault) = line_of(line).ok_or("a line that wants nothing")?;
+    for marked in texts.split("  ") {
+        let marked = marked.trim();
+        if !marked.is_empty() {
+            rows.push(row_of(alloc, marked, want, is_fault)?)?;
+        }
+    }
+    Ok(())
+}
+
 /// The rows of a table, one for each text.
 pub(crate) fn rows(alloc: Global, table: &str) -> Result<Vec<Row>, Fail> {
     let mut rows = Vec::new(alloc);
     for line in table.lines() {
         let line = line.trim();
-        if line.is_empty() || line.starts_with("// ") {
-            continue;
-        }
-        let (texts, want, is_fault) = match (line.split_once("→"), line.split_once("✗")) {
-            (Some((texts, want)), _) => (texts, want.trim(), false),
-            (None, Some((texts, fault))) => (texts, fault.trim(), true),
-            (None, None) => return Err(Fail::from("a line that wants nothing")),
-        };
-        for marked in texts.split("  ") {
-            let marked = marked.trim();
-            if marked.is_empty() {
-                continue;
-            }
-            let text = marked.replace(alloc, "¦", "")?;
-            let want = if want == "@" { text.as_str() } else { want };
-            let want = String::from_str(alloc, want)?;
-            let place = if is_fault {
-                Some(marked.find("¦").unwrap_or(0))
-            } else {
-                None
-            };
-            rows.push(Row { text, want, place })?;
+        if !line.is_empty() && !line.starts_with("// ") {
+            add_rows(alloc, &mut rows, line)?;
         }
     }
     Ok(rows)
@@ -66,4 +82,28 @@ pub(crate) fn text_of(alloc: Global, value: &Value) -> Result<String, AllocError
 /// What a text gave is what is wanted.
 pub(crate) fn same(rt: &impl Abort, text: &str, got: &str, want: &str) {
     assert_eq!(rt; got, want, "at {text:?}");
+}
+
+/// A fault has this number, and says this.
+pub(crate) fn same_said(
+    rt: &(impl Abort + AllocGlobal),
+    number: u8,
+    fault: &impl Display,
+    want: &str,
+) -> Result<(), Fail> {
+    same(rt, want, &format!(in rt.alloc(); "{number} {fault}")?, want);
+    Ok(())
+}
+
+/// A middle between so many fronts and as many backs.
+pub(crate) fn nested(
+    alloc: Global,
+    levels: usize,
+    front: &str,
+    middle: &str,
+    back: &str,
+) -> Result<String, AllocError> {
+    let fronts = front.repeat(alloc, levels)?;
+    let backs = back.repeat(alloc, levels)?;
+    format!(in alloc; "{fronts}{middle}{backs}")
 }

@@ -84,17 +84,19 @@ fn strings(rt: HostRuntime) -> Result<(), Fail> {
     )
 }
 
+const SHOWN_BY_NONE: &[(&str, &str)] = &[
+    // Characters that have an escape are printed by it, and others as they are.
+    ("\"\t\r\n\u{8}\u{c}\"", r#""\t\r\n\b\f""#),
+    ("\"\u{0}\u{b}\u{7f}\"", "\"\u{0}\u{b}\u{7f}\""),
+    (r#""\u0000""#, "\"\u{0}\""),
+    (r#""\uD7FF\uE000\uFFFF""#, "\"\u{d7ff}\u{e000}\u{ffff}\""),
+    ("[\"a b;\n[\" c]", r#"["a b;\n[" c]"#),
+    ("\"\\\n\"", "BadEscape at 1"),
+];
+
 #[test]
 fn characters_of_strings_that_no_table_shows(rt: HostRuntime) -> Result<(), Fail> {
-    for (text, want) in [
-        // Characters that have an escape are printed by it, and others as they are.
-        ("\"\t\r\n\u{8}\u{c}\"", r#""\t\r\n\b\f""#),
-        ("\"\u{0}\u{b}\u{7f}\"", "\"\u{0}\u{b}\u{7f}\""),
-        (r#""\u0000""#, "\"\u{0}\""),
-        (r#""\uD7FF\uE000\uFFFF""#, "\"\u{d7ff}\u{e000}\u{ffff}\""),
-        ("[\"a b;\n[\" c]", r#"["a b;\n[" c]"#),
-        ("\"\\\n\"", "BadEscape at 1"),
-    ] {
+    for (text, want) in SHOWN_BY_NONE {
         check(&rt, text, want)?;
     }
     Ok(())
