@@ -1,10 +1,9 @@
 //! Vectors, sets and maps with one member more or less: what they are then, how deep, and that other owners keep
 //! theirs.
-use crate::tables::{Row, rows, same, text_of, value};
 use ref_edn::{Elements, Entries, Items, Node, Value, read_all, read_one};
 use std::alloc::{AllocError, Global};
-use std::process::Abort;
 use std::test::Fail;
+use tests_tables::{Row, right, rows, same, text_of, value};
 
 // Changes the elements in place, and gives the changed ones that are made of them before.
 fn change_set(
@@ -91,14 +90,9 @@ fn after(alloc: Global, mut node: Node, steps: &[Value]) -> Result<Value, Fail> 
 }
 
 // The value after steps is as wanted.
-fn check_made(
-    rt: &(impl Abort + AllocGlobal),
-    row: &Row,
-    node: Node,
-    steps: &[Value],
-) -> Result<(), Fail> {
-    let made = after(rt.alloc(), node, steps)?;
-    same(rt, &row.text, &text_of(rt.alloc(), &made)?, &row.want);
+fn check_made(alloc: Global, row: &Row, node: Node, steps: &[Value]) -> Result<(), Fail> {
+    let made = after(alloc, node, steps)?;
+    same(&row.text, &text_of(alloc, &made)?, &row.want)?;
     Ok(())
 }
 
@@ -109,29 +103,24 @@ fn alone(alloc: Global, text: &str) -> Result<Node, Fail> {
 
 // The value after steps is as wanted, where the value before has one owner at first, and where it has two, of which the
 // other one keeps it as it was.
-fn check_after(
-    rt: &(impl Abort + AllocGlobal),
-    row: &Row,
-    before: &Value,
-    steps: &[Value],
-) -> Result<(), Fail> {
-    let was = text_of(rt.alloc(), before)?;
-    check_made(rt, row, alone(rt.alloc(), &was)?, steps)?;
-    check_made(rt, row, before.node().share()?, steps)?;
-    same(rt, &row.text, &text_of(rt.alloc(), before)?, &was);
+fn check_after(alloc: Global, row: &Row, before: &Value, steps: &[Value]) -> Result<(), Fail> {
+    let was = text_of(alloc, before)?;
+    check_made(alloc, row, alone(alloc, &was)?, steps)?;
+    check_made(alloc, row, before.node().share()?, steps)?;
+    same(&row.text, &text_of(alloc, before)?, &was)?;
     Ok(())
 }
 
-fn check_change(rt: &(impl Abort + AllocGlobal), row: &Row) -> Result<(), Fail> {
-    let parts = read_all(rt.alloc(), row.text.as_bytes())?;
+fn check_change(alloc: Global, row: &Row) -> Result<(), Fail> {
+    let parts = read_all(alloc, row.text.as_bytes())?;
     let (before, steps) = parts.split_first().ok_or("no value")?;
-    check_after(rt, row, before, steps)
+    check_after(alloc, row, before, steps)
 }
 
 // A text has a value and steps, and gives the value after them.
-fn check_changes(rt: &(impl Abort + AllocGlobal), table: &str) -> Result<(), Fail> {
-    for row in &rows(rt.alloc(), table)? {
-        check_change(rt, row)?;
+fn check_changes(alloc: Global, table: &str) -> Result<(), Fail> {
+    for row in &rows(alloc, table)? {
+        check_change(alloc, row)?;
     }
     Ok(())
 }
@@ -139,7 +128,7 @@ fn check_changes(rt: &(impl Abort + AllocGlobal), table: &str) -> Result<(), Fai
 #[test]
 fn vectors_grow_at_their_end(rt: HostRuntime) -> Result<(), Fail> {
     check_changes(
-        &rt,
+        rt.alloc(),
         r##"
             []  [1 2]                                  → @
             [] (push 1)                                → [1]
@@ -152,7 +141,7 @@ fn vectors_grow_at_their_end(rt: HostRuntime) -> Result<(), Fail> {
 #[test]
 fn sets_stay_in_value_order(rt: HostRuntime) -> Result<(), Fail> {
     check_changes(
-        &rt,
+        rt.alloc(),
         r##"
             #{}                                                          → @
             #{} (insert 5) (insert 1) (insert 3)                         → #{1 3 5}
@@ -174,7 +163,7 @@ fn sets_stay_in_value_order(rt: HostRuntime) -> Result<(), Fail> {
 #[test]
 fn maps_stay_in_the_order_of_their_keys(rt: HostRuntime) -> Result<(), Fail> {
     check_changes(
-        &rt,
+        rt.alloc(),
         r##"
             {}                                                           → @
             {} (insert 2 20) (insert 1 10)                               → {1 10, 2 20}
@@ -219,7 +208,7 @@ fn the_deepest_comes_and_goes(rt: HostRuntime) -> Result<(), Fail> {
     "##;
     for row in &rows(alloc, table)? {
         let depth = depth_after(alloc, &row.text)?;
-        same(&rt, &row.text, &depth.to_string(alloc)?, &row.want);
+        same(&row.text, &depth.to_string(alloc)?, &row.want)?;
     }
     Ok(())
 }
@@ -240,26 +229,25 @@ fn printed(alloc: Global, value: Option<&Value>) -> Result<String, AllocError> {
     }
 }
 
-fn check_members(
-    rt: &(impl Abort + AllocGlobal),
-    elements: &Elements,
-    entries: &Entries,
-) -> Result<(), Fail> {
-    assert!(rt; elements.ascends() && entries.ascends());
+fn check_members(alloc: Global, elements: &Elements, entries: &Entries) -> Result<(), Fail> {
+    if !elements.ascends() || !entries.ascends() {
+        return Err(Fail::from("not in order"));
+    }
     for (text, is_there, want) in MEMBERS {
-        let key = read_one(rt.alloc(), text.as_bytes())?;
-        assert!(rt; elements.contains(&key) == *is_there, "{text}");
-        same(rt, text, &printed(rt.alloc(), entries.get(&key))?, want);
+        let key = read_one(alloc, text.as_bytes())?;
+        right(elements.contains(&key) == *is_there, text)?;
+        same(text, &printed(alloc, entries.get(&key))?, want)?;
     }
     Ok(())
 }
 
 #[test]
 fn a_member_is_found_by_its_key(rt: HostRuntime) -> Result<(), Fail> {
-    let set = read_one(rt.alloc(), b"#{0 2 4}")?;
-    let map = read_one(rt.alloc(), b"{0 5, 2 25, 4 45}")?;
+    let alloc = rt.alloc();
+    let set = read_one(alloc, b"#{0 2 4}")?;
+    let map = read_one(alloc, b"{0 5, 2 25, 4 45}")?;
     match (set.node(), map.node()) {
-        (Node::Set(elements), Node::Map(entries)) => check_members(&rt, elements, entries),
+        (Node::Set(elements), Node::Map(entries)) => check_members(alloc, elements, entries),
         _ => Err(Fail::from("not a set and a map")),
     }
 }

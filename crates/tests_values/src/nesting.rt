@@ -1,9 +1,9 @@
 //! How deep texts may be nested: 64 collections and waiting discards may be open; the opening of the 65th is TooDeep.
 use crate::reading::check;
-use crate::tables::nested;
 use ref_edn::read_one;
-use std::process::Abort;
+use std::alloc::Global;
 use std::test::Fail;
+use tests_tables::{nested, right};
 
 // What opens a level, what closes it, how many of these levels there may be, and where the opening is then that is too
 // deep: what stands beside an opening is one level deeper.
@@ -20,65 +20,59 @@ const LEVELS: &[(&str, &str, usize, usize)] = &[
 
 // So many levels of a kind are one element, and one level more is too deep at this place, whether it's closed or not.
 fn check_most(
-    rt: &(impl Abort + AllocGlobal),
+    alloc: Global,
     front: &str,
     back: &str,
     most: usize,
     place: usize,
 ) -> Result<(), Fail> {
-    let whole = nested(rt.alloc(), most, front, " 1", back)?;
-    assert!(rt;
-        read_one(rt.alloc(), whole.as_bytes()).is_ok(),
-        "at {front}"
-    );
-    let fault = format!(in rt.alloc(); "TooDeep at {place}")?;
+    let whole = nested(alloc, most, front, " 1", back)?;
+    right(read_one(alloc, whole.as_bytes()).is_ok(), front)?;
+    let fault = format!(in alloc; "TooDeep at {place}")?;
     check(
-        rt,
-        &nested(rt.alloc(), most.saturating_add(1), front, " 1", back)?,
+        alloc,
+        &nested(alloc, most.saturating_add(1), front, " 1", back)?,
         &fault,
     )?;
-    check(rt, &nested(rt.alloc(), 65, front, " 1", "")?, &fault)
+    check(alloc, &nested(alloc, 65, front, " 1", "")?, &fault)
 }
 
 #[test]
 fn levels_of_one_kind(rt: HostRuntime) -> Result<(), Fail> {
+    let alloc = rt.alloc();
     for (front, back, most, place) in LEVELS {
-        check_most(&rt, front, back, *most, *place)?;
+        check_most(alloc, front, back, *most, *place)?;
     }
-    let brackets = nested(rt.alloc(), 1_000_000, "[", " 1", "")?;
-    check(&rt, &brackets, "TooDeep at 64")
+    let brackets = nested(alloc, 1_000_000, "[", " 1", "")?;
+    check(alloc, &brackets, "TooDeep at 64")
 }
 
 const OPENINGS: &[&str] = &["[", "(", "{", "#{", "#_", "[]", "#_ 1", "#{1 1"];
 
-fn check_ends_early(rt: &(impl Abort + AllocGlobal), open: &str) -> Result<(), Fail> {
-    let early = format!(in rt.alloc(); "EndsEarly at {}", open.len())?;
-    check(rt, open, &early)
+fn check_ends_early(alloc: Global, open: &str) -> Result<(), Fail> {
+    let early = format!(in alloc; "EndsEarly at {}", open.len())?;
+    check(alloc, open, &early)
 }
 
-fn check_behind(
-    rt: &(impl Abort + AllocGlobal),
-    open: &str,
-    next: &str,
-    fault: &str,
-) -> Result<(), Fail> {
-    check(rt, &format!(in rt.alloc(); "{open}{next}")?, fault)
+fn check_behind(alloc: Global, open: &str, next: &str, fault: &str) -> Result<(), Fail> {
+    check(alloc, &format!(in alloc; "{open}{next}")?, fault)
 }
 
 // Behind 64 openings the text may end, and no other may stand.
-fn check_openings(rt: &(impl Abort + AllocGlobal), open: &str) -> Result<(), Fail> {
-    check_ends_early(rt, open)?;
-    let fault = format!(in rt.alloc(); "TooDeep at {}", open.len())?;
+fn check_openings(alloc: Global, open: &str) -> Result<(), Fail> {
+    check_ends_early(alloc, open)?;
+    let fault = format!(in alloc; "TooDeep at {}", open.len())?;
     for next in OPENINGS {
-        check_behind(rt, open, next, &fault)?;
+        check_behind(alloc, open, next, &fault)?;
     }
     Ok(())
 }
 
 #[test]
 fn each_opening_at_the_65th_level(rt: HostRuntime) -> Result<(), Fail> {
+    let alloc = rt.alloc();
     for (front, _, _, _) in LEVELS {
-        check_openings(&rt, &nested(rt.alloc(), 62, front, "[[", "")?)?;
+        check_openings(alloc, &nested(alloc, 62, front, "[[", "")?)?;
     }
     Ok(())
 }

@@ -1,9 +1,8 @@
 //! What is printed of values that are made by hand, by the rules of docs/EDN.md.
-use crate::tables::{nested, same, value};
 use ref_edn::{Elements, Entries, Items, Node, Text, Value, print, read_one};
 use std::alloc::{AllocError, Global};
-use std::process::Abort;
 use std::test::Fail;
+use tests_tables::{nested, right, same, value};
 
 // What there is with the text of a value appended.
 fn appended(alloc: Global, front: &[u8], value: &Value) -> Result<String, Fail> {
@@ -12,18 +11,17 @@ fn appended(alloc: Global, front: &[u8], value: &Value) -> Result<String, Fail> 
     Ok(String::from_utf8(out).ok().ok_or("not UTF-8")?)
 }
 
-fn check_read(rt: &(impl Abort + AllocGlobal), text: &str, value: &Value) -> Result<(), Fail> {
-    let again = read_one(rt.alloc(), text.as_bytes())?;
-    assert!(rt; again == *value, "read again of {text}");
-    Ok(())
+fn check_read(alloc: Global, text: &str, value: &Value) -> Result<(), Fail> {
+    let again = read_one(alloc, text.as_bytes())?;
+    right(again == *value, text)
 }
 
 // The text of a value is appended to what there is, and is read back as an equal value.
-fn check(rt: &(impl Abort + AllocGlobal), node: Node, want: &str) -> Result<(), Fail> {
+fn check(alloc: Global, node: Node, want: &str) -> Result<(), Fail> {
     let value = value(node)?;
-    let got = appended(rt.alloc(), b"ref a ", &value)?;
-    same(rt, want, &got, &format!(in rt.alloc(); "ref a {want}")?);
-    check_read(rt, want, &value)
+    let got = appended(alloc, b"ref a ", &value)?;
+    same(want, &got, &format!(in alloc; "ref a {want}")?)?;
+    check_read(alloc, want, &value)
 }
 
 const INTEGERS: &[(i64, &str)] = &[
@@ -37,11 +35,12 @@ const INTEGERS: &[(i64, &str)] = &[
 
 #[test]
 fn words_and_integers(rt: HostRuntime) -> Result<(), Fail> {
-    check(&rt, Node::Nil, "nil")?;
-    check(&rt, Node::Bool(true), "true")?;
-    check(&rt, Node::Bool(false), "false")?;
+    let alloc = rt.alloc();
+    check(alloc, Node::Nil, "nil")?;
+    check(alloc, Node::Bool(true), "true")?;
+    check(alloc, Node::Bool(false), "false")?;
     for (n, want) in INTEGERS {
-        check(&rt, Node::Int(*n), want)?;
+        check(alloc, Node::Int(*n), want)?;
     }
     Ok(())
 }
@@ -59,8 +58,9 @@ const STRINGS: &[(&str, &str)] = &[
 
 #[test]
 fn strings(rt: HostRuntime) -> Result<(), Fail> {
+    let alloc = rt.alloc();
     for (content, want) in STRINGS {
-        check(&rt, Node::Str(Text::copy_of(rt.alloc(), content)?), want)?;
+        check(alloc, Node::Str(Text::copy_of(alloc, content)?), want)?;
     }
     Ok(())
 }
@@ -71,11 +71,12 @@ const SYMBOLS: &[&str] = &["x", "clojure.core/+", "/", "->>"];
 
 #[test]
 fn names(rt: HostRuntime) -> Result<(), Fail> {
+    let alloc = rt.alloc();
     for (name, want) in KEYWORDS {
-        check(&rt, Node::Keyword(Text::copy_of(rt.alloc(), name)?), want)?;
+        check(alloc, Node::Keyword(Text::copy_of(alloc, name)?), want)?;
     }
     for name in SYMBOLS {
-        check(&rt, Node::Symbol(Text::copy_of(rt.alloc(), name)?), name)?;
+        check(alloc, Node::Symbol(Text::copy_of(alloc, name)?), name)?;
     }
     Ok(())
 }
@@ -95,9 +96,9 @@ fn set(alloc: Global, values: Vec<Value>) -> Result<Node, AllocError> {
 #[test]
 fn empty_collections(rt: HostRuntime) -> Result<(), Fail> {
     let alloc = rt.alloc();
-    check(&rt, vector(alloc, Vec::new(alloc))?, "[]")?;
-    check(&rt, map(alloc, Vec::new(alloc))?, "{}")?;
-    check(&rt, set(alloc, Vec::new(alloc))?, "#{}")
+    check(alloc, vector(alloc, Vec::new(alloc))?, "[]")?;
+    check(alloc, map(alloc, Vec::new(alloc))?, "{}")?;
+    check(alloc, set(alloc, Vec::new(alloc))?, "#{}")
 }
 
 fn numbers(alloc: Global) -> Result<Node, Fail> {
@@ -146,10 +147,11 @@ fn elements(alloc: Global) -> Result<Node, Fail> {
 
 #[test]
 fn collections(rt: HostRuntime) -> Result<(), Fail> {
-    check(&rt, numbers(rt.alloc())?, "[-1 20 300]")?;
-    check(&rt, mixed(rt.alloc())?, "[[-1 20 300] nil]")?;
-    check(&rt, pairs(rt.alloc())?, r#"{2 ", ", :a {}}"#)?;
-    check(&rt, elements(rt.alloc())?, "#{one two zero #{}}")
+    let alloc = rt.alloc();
+    check(alloc, numbers(alloc)?, "[-1 20 300]")?;
+    check(alloc, mixed(alloc)?, "[[-1 20 300] nil]")?;
+    check(alloc, pairs(alloc)?, r#"{2 ", ", :a {}}"#)?;
+    check(alloc, elements(alloc)?, "#{one two zero #{}}")
 }
 
 // An integer in so many vectors.
@@ -163,6 +165,7 @@ fn deep(alloc: Global, levels: usize) -> Result<Node, Fail> {
 
 #[test]
 fn the_deepest_value(rt: HostRuntime) -> Result<(), Fail> {
-    let want = nested(rt.alloc(), 64, "[", "5", "]")?;
-    check(&rt, deep(rt.alloc(), 64)?, &want)
+    let alloc = rt.alloc();
+    let want = nested(alloc, 64, "[", "5", "]")?;
+    check(alloc, deep(alloc, 64)?, &want)
 }

@@ -1,9 +1,8 @@
 //! What is read of a text: what is printed of its elements, or its fault and place.
-use crate::tables::{Row, rows, same, text_of};
 use ref_edn::{ReadFault, read_all, read_one};
 use std::alloc::{AllocError, Global};
-use std::process::Abort;
 use std::test::Fail;
+use tests_tables::{Row, right, rows, same, text_of};
 
 fn placed(alloc: Global, fault: ReadFault) -> Result<String, AllocError> {
     match fault.place() {
@@ -37,58 +36,45 @@ pub(crate) fn all(alloc: Global, text: &[u8]) -> Result<String, AllocError> {
 }
 
 // What is printed of the elements of a text, or its fault, is this.
-fn check_all(rt: &(impl Abort + AllocGlobal), text: &str, want: &str) -> Result<(), Fail> {
-    same(rt, text, &all(rt.alloc(), text.as_bytes())?, want);
+fn check_all(alloc: Global, text: &str, want: &str) -> Result<(), Fail> {
+    same(text, &all(alloc, text.as_bytes())?, want)?;
     Ok(())
 }
 
 // What is read of a text, if it can be read, is what is read of this.
-fn check_again(rt: &(impl Abort + AllocGlobal), text: &str, want: &str) -> Result<(), Fail> {
-    if let Ok(value) = read_one(rt.alloc(), text.as_bytes()) {
-        assert!(rt;
-            read_one(rt.alloc(), want.as_bytes())? == value,
-            "at {want:?}"
-        );
+fn check_again(alloc: Global, text: &str, want: &str) -> Result<(), Fail> {
+    if let Ok(value) = read_one(alloc, text.as_bytes()) {
+        right(read_one(alloc, want.as_bytes())? == value, want)?;
     }
     Ok(())
 }
 
 /// A text is one element of which this is printed, and which is equal to what is read of that, or it has this fault. It
 /// is the same as a text of any number of elements, unless it has none or too many for one.
-pub(crate) fn check(rt: &(impl Abort + AllocGlobal), text: &str, want: &str) -> Result<(), Fail> {
-    same(rt, text, &one(rt.alloc(), text.as_bytes())?, want);
-    check_again(rt, text, want)?;
+pub(crate) fn check(alloc: Global, text: &str, want: &str) -> Result<(), Fail> {
+    same(text, &one(alloc, text.as_bytes())?, want)?;
+    check_again(alloc, text, want)?;
     if want.starts_with("Nothing at ") {
-        check_all(rt, text, "")
+        check_all(alloc, text, "")
     } else if want.starts_with("Trailing at ") {
         Ok(())
     } else {
-        check_all(rt, text, want)
-    }
-}
-
-impl Row {
-    // What is told of the text behind so many bytes, where this is printed with it in the place of `@`.
-    fn told(&self, alloc: Global, behind: usize, printed: &str) -> Result<String, AllocError> {
-        match self.place {
-            Some(place) => format!(in alloc; "{} at {}", self.want, place.saturating_add(behind)),
-            None => printed.replace(alloc, "@", &self.want),
-        }
+        check_all(alloc, text, want)
     }
 }
 
 /// Each text of a table is one element, or has its fault, as [`check`] says.
-pub(crate) fn check_texts(rt: &(impl Abort + AllocGlobal), table: &str) -> Result<(), Fail> {
-    for row in &rows(rt.alloc(), table)? {
-        check(rt, &row.text, &row.told(rt.alloc(), 0, "@")?)?;
+pub(crate) fn check_texts(alloc: Global, table: &str) -> Result<(), Fail> {
+    for row in &rows(alloc, table)? {
+        check(alloc, &row.text, &row.told(alloc, 0, "@")?)?;
     }
     Ok(())
 }
 
 /// Each text of a table is a series of elements, of which this is printed with a space between, or has its fault.
-pub(crate) fn check_series(rt: &(impl Abort + AllocGlobal), table: &str) -> Result<(), Fail> {
-    for row in &rows(rt.alloc(), table)? {
-        check_all(rt, &row.text, &row.told(rt.alloc(), 0, "@")?)?;
+pub(crate) fn check_series(alloc: Global, table: &str) -> Result<(), Fail> {
+    for row in &rows(alloc, table)? {
+        check_all(alloc, &row.text, &row.told(alloc, 0, "@")?)?;
     }
     Ok(())
 }
@@ -115,31 +101,26 @@ const AROUND: &[(&str, &str)] = &[
     ("#_ @ 1", "1"),
 ];
 
-fn check_around(
-    rt: &(impl Abort + AllocGlobal),
-    row: &Row,
-    around: &str,
-    printed: &str,
-) -> Result<(), Fail> {
-    let text = around.replace(rt.alloc(), "@", &row.text)?;
+fn check_around(alloc: Global, row: &Row, around: &str, printed: &str) -> Result<(), Fail> {
+    let text = around.replace(alloc, "@", &row.text)?;
     let behind = around.find("@").unwrap_or(0);
-    check(rt, &text, &row.told(rt.alloc(), behind, printed)?)
+    check(alloc, &text, &row.told(alloc, behind, printed)?)
 }
 
-fn check_cut(rt: &(impl Abort + AllocGlobal), row: &Row) -> Result<(), Fail> {
-    let cut = format!(in rt.alloc(); "[{}", row.text)?;
-    let early = format!(in rt.alloc(); "EndsEarly at {}", cut.len())?;
-    check(rt, &cut, &row.told(rt.alloc(), 1, &early)?)
+fn check_cut(alloc: Global, row: &Row) -> Result<(), Fail> {
+    let cut = format!(in alloc; "[{}", row.text)?;
+    let early = format!(in alloc; "EndsEarly at {}", cut.len())?;
+    check(alloc, &cut, &row.told(alloc, 1, &early)?)
 }
 
 /// Each text of a table is an element, or has its fault, wherever an element may stand, also where the text is cut off
 /// behind it.
-pub(crate) fn check_elements(rt: &(impl Abort + AllocGlobal), table: &str) -> Result<(), Fail> {
-    for row in &rows(rt.alloc(), table)? {
+pub(crate) fn check_elements(alloc: Global, table: &str) -> Result<(), Fail> {
+    for row in &rows(alloc, table)? {
         for (around, printed) in AROUND {
-            check_around(rt, row, around, printed)?;
+            check_around(alloc, row, around, printed)?;
         }
-        check_cut(rt, row)?;
+        check_cut(alloc, row)?;
     }
     Ok(())
 }

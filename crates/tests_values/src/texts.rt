@@ -1,8 +1,8 @@
 //! Blanks, comments, discards, brackets, and whole texts, by hand from docs/EDN.md.
 use crate::reading::{all, check, check_series, check_texts, one};
-use crate::tables::same;
 use std::alloc::{AllocError, Global};
 use std::test::Fail;
+use tests_tables::same;
 
 const BLANKS: &[(&str, &str)] = &[
     ("\t1", "1"),
@@ -42,11 +42,12 @@ const BLANKS: &[(&str, &str)] = &[
 
 #[test]
 fn blanks_and_comments(rt: HostRuntime) -> Result<(), Fail> {
+    let alloc = rt.alloc();
     for (text, want) in BLANKS {
-        check(&rt, text, want)?;
+        check(alloc, text, want)?;
     }
     check_texts(
-        &rt,
+        alloc,
         r##"
             1;c  1 #_ 2  1 #_ 2 #_ 3        → 1
             [1,2,,3]  [1 ,2, 3]             → [1 2 3]
@@ -58,9 +59,10 @@ fn blanks_and_comments(rt: HostRuntime) -> Result<(), Fail> {
 
 #[test]
 fn discards(rt: HostRuntime) -> Result<(), Fail> {
-    check(&rt, "#_ , ; c\n 1 2", "2")?;
+    let alloc = rt.alloc();
+    check(alloc, "#_ , ; c\n 1 2", "2")?;
     check_texts(
-        &rt,
+        alloc,
         r##"
             #_1 2  #_ 1 2                                        → 2
             #_#_ 1 2 3  #_[1 #_ 2 {:a #{}}] 3  #_"]" 3           → 3
@@ -98,7 +100,7 @@ fn discards(rt: HostRuntime) -> Result<(), Fail> {
 #[test]
 fn brackets(rt: HostRuntime) -> Result<(), Fail> {
     check_texts(
-        &rt,
+        rt.alloc(),
         r##"
             ()  [ ]                                                    → []
             {}  #{}                                                    → @
@@ -122,7 +124,7 @@ fn brackets(rt: HostRuntime) -> Result<(), Fail> {
 #[test]
 fn the_end_of_a_string(rt: HostRuntime) -> Result<(), Fail> {
     check_texts(
-        &rt,
+        rt.alloc(),
         r##"
             "¦  "a¦  "abc¦  "\¦  "a\¦  "abc\¦  "\"¦  ["a]¦  #_ "a¦    ✗ EndsEarly
             // An escape that is cut off, whatever its digits.
@@ -135,7 +137,7 @@ fn the_end_of_a_string(rt: HostRuntime) -> Result<(), Fail> {
 #[test]
 fn the_first_fault_counts(rt: HostRuntime) -> Result<(), Fail> {
     check_texts(
-        &rt,
+        rt.alloc(),
         r##"
             1 ¦2  1¦]  1¦"a"  - ¦1  "a"¦b  a¦"b"  :a,¦:b  a#¦{1}      ✗ Trailing
             nil ¦\  a ¦\  a ¦#  []¦]  [] ¦]  {} ¦#{}  #{1 2} ¦#{1 1}  ✗ Trailing
@@ -152,11 +154,12 @@ const NO_ELEMENTS: &[&str] = &["", " , ; c", " ; none\n", "#_ 1"];
 
 #[test]
 fn several_elements(rt: HostRuntime) -> Result<(), Fail> {
+    let alloc = rt.alloc();
     for text in NO_ELEMENTS {
-        same(&rt, text, &all(rt.alloc(), text.as_bytes())?, "");
+        same(text, &all(alloc, text.as_bytes())?, "")?;
     }
     check_series(
-        &rt,
+        alloc,
         r##"
             1  1 2  #{1} #{1}        → @
             1 #_ 2 3;                → 1 3
@@ -197,9 +200,10 @@ const NO_UTF_8: &[(&[u8], &str)] = &[
 
 #[test]
 fn bytes_that_are_no_utf_8(rt: HostRuntime) -> Result<(), Fail> {
+    let alloc = rt.alloc();
     for (text, want) in NO_UTF_8 {
-        same(&rt, want, &one(rt.alloc(), text)?, want);
-        same(&rt, want, &all(rt.alloc(), text)?, want);
+        same(want, &one(alloc, text)?, want)?;
+        same(want, &all(alloc, text)?, want)?;
     }
     Ok(())
 }
@@ -236,10 +240,11 @@ fn wanted_of_front(alloc: Global, n: usize) -> Result<String, AllocError> {
 
 #[test]
 fn each_front_of_a_text(rt: HostRuntime) -> Result<(), Fail> {
+    let alloc = rt.alloc();
     for n in 0..=TEXT.len() {
-        let got = one(rt.alloc(), TEXT.as_bytes().get(..n).unwrap_or(&[]))?;
-        let want = wanted_of_front(rt.alloc(), n)?;
-        assert!(rt; got == want, "a front of {n} bytes: {got:?}");
+        let got = one(alloc, TEXT.as_bytes().get(..n).unwrap_or(&[]))?;
+        let want = wanted_of_front(alloc, n)?;
+        same(&format!(in alloc; "a front of {n} bytes")?, &got, &want)?;
     }
     Ok(())
 }

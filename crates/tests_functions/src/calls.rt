@@ -1,10 +1,9 @@
 //! Calls by name, written as in Clojure: the state comes first, and then the arguments.
-use crate::tables::{Row, nested, rows, same, text_of};
 use ref_edn::{Items, Node, Value, read_one};
 use ref_fun::{Args, FunFault, MOST_ARGUMENTS, code_of, core_fun, core_test};
 use std::alloc::{AllocError, Global};
-use std::process::Abort;
 use std::test::Fail;
+use tests_tables::{Row, nested, rows, same, text_of};
 
 /// A function or a predicate by its code, and what it is called with.
 #[derive(Drop)]
@@ -74,17 +73,17 @@ fn given(alloc: Global, call: &Call) -> Result<String, AllocError> {
     }
 }
 
-fn check_call(rt: &(impl Abort + AllocGlobal), row: &Row) -> Result<(), Fail> {
-    let call = call_of(rt.alloc(), &written_out(rt.alloc(), &row.text)?)?;
-    let got = given(rt.alloc(), &call)?;
-    same(rt, &row.text, &got, &written_out(rt.alloc(), &row.want)?);
+fn check_call(alloc: Global, row: &Row) -> Result<(), Fail> {
+    let call = call_of(alloc, &written_out(alloc, &row.text)?)?;
+    let got = given(alloc, &call)?;
+    same(&row.text, &got, &written_out(alloc, &row.want)?)?;
     Ok(())
 }
 
 /// Each call of a table gives this value, or is refused for this cause. There `@48` is a vector nested 48 deep.
-pub(crate) fn check_calls(rt: &(impl Abort + AllocGlobal), table: &str) -> Result<(), Fail> {
-    for row in &rows(rt.alloc(), table)? {
-        check_call(rt, row)?;
+pub(crate) fn check_calls(alloc: Global, table: &str) -> Result<(), Fail> {
+    for row in &rows(alloc, table)? {
+        check_call(alloc, row)?;
     }
     Ok(())
 }

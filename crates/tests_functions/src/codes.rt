@@ -1,10 +1,9 @@
 //! The names and codes of Core, the codes that have no meaning, the words of its faults, and the owners of arguments.
-use crate::tables::{same, same_said, value};
 use ref_edn::{Node, Value};
 use ref_fun::{Args, Cause, FunFault, MOST_ARGUMENTS, Rule, code_of, core_fun, core_test, name_of};
 use std::alloc::Global;
-use std::process::Abort;
 use std::test::Fail;
+use tests_tables::{right, same, same_said, value};
 
 const NAMES: &[(&str, u32)] = &[
     ("+", 1),
@@ -54,24 +53,25 @@ const NO_FUNS: &[u32] = &[0, 11, 12, 100, 101, 109, u32::MAX];
 
 const NO_PREDS: &[u32] = &[0, 1, 10, 100, 110, 111, u32::MAX];
 
-fn check_nothing(rt: &(impl Abort + AllocGlobal), state: &Value) -> Result<(), Fail> {
+fn check_nothing(alloc: Global, state: &Value) -> Result<(), Fail> {
     let one = [value(Node::Int(1))?];
     let refused = Some(FunFault::Refused(Cause::WrongArity));
     for code in NO_FUNS {
-        let got = core_fun(rt.alloc(), *code, state, &one);
-        assert!(rt; got.err() == refused, "at code {code}");
+        let got = core_fun(alloc, *code, state, &one);
+        right(got.err() == refused, "a code of no function")?;
     }
     for code in NO_PREDS {
-        assert!(rt; !core_test(*code, state, &one), "at code {code}");
-        assert!(rt; !core_test(*code, state, &[]), "at code {code}");
+        let accepts = core_test(*code, state, &one) || core_test(*code, state, &[]);
+        right(!accepts, "a code of no predicate")?;
     }
     Ok(())
 }
 
 #[test]
 fn codes_of_nothing_refuse_or_accept_nothing(rt: HostRuntime) -> Result<(), Fail> {
-    check_nothing(&rt, &value(Node::Int(1))?)?;
-    check_nothing(&rt, &value(Node::Nil)?)
+    let alloc = rt.alloc();
+    check_nothing(alloc, &value(Node::Int(1))?)?;
+    check_nothing(alloc, &value(Node::Nil)?)
 }
 
 const CAUSES: &[(Cause, &str)] = &[
@@ -84,17 +84,18 @@ const CAUSES: &[(Cause, &str)] = &[
 #[test]
 fn causes_say_what_they_are(rt: HostRuntime) -> Result<(), Fail> {
     for (cause, want) in CAUSES {
-        same_said(&rt, cause.number(), cause, want)?;
+        same_said(rt.alloc(), cause.number(), cause, want)?;
     }
     Ok(())
 }
 
 #[test]
 fn faults_say_what_they_are(rt: HostRuntime) -> Result<(), Fail> {
-    let refused = FunFault::Refused(Cause::Overflow).to_string(rt.alloc())?;
-    same(&rt, "refused", &refused, "refused: integer overflow");
-    let memory = FunFault::Memory.to_string(rt.alloc())?;
-    same(&rt, "memory", &memory, "out of memory");
+    let alloc = rt.alloc();
+    let refused = FunFault::Refused(Cause::Overflow).to_string(alloc)?;
+    same("refused", &refused, "refused: integer overflow")?;
+    let memory = FunFault::Memory.to_string(alloc)?;
+    same("memory", &memory, "out of memory")?;
     Ok(())
 }
 

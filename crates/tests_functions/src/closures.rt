@@ -4,28 +4,32 @@ ghost use Rattle.ref_fun.specs.Core.{core_accepts, core_means};
 ghost use Rattle.ref_fun.specs.Meaning.{Answers};
 
 use crate::calls::{Call, call_of};
-use crate::tables::{Row, rows, same, same_said, text_of};
 use ref_edn::Value;
 use ref_fun::{
     AddFault, CallFault, Cause, Fun, FunFault, FunTable, Functions, Pred, StoredFun, StoredPred,
     core_fun, core_test, has_core,
 };
 use std::alloc::{AllocError, Global};
-use std::process::Abort;
 use std::test::Fail;
+use tests_tables::{Row, right, rows, same, same_said, text_of};
 
 const CODES: &[u32] = &[0, 1, 2, 4, 7, 10, 11, 100, 101, 102, 109, 110, u32::MAX];
 
-// A table has the codes of Core without these.
-fn check_codes(rt: &impl Abort, table: &FunTable, without: &[u32]) {
-    assert_eq!(rt; has_core(table), without.is_empty());
+// Whether a table has the codes of Core without these.
+fn has_codes(table: &FunTable, without: &[u32]) -> bool {
+    if has_core(table) != without.is_empty() {
+        return false;
+    }
     for code in CODES {
         let is_in = !without.contains(code);
         let is_fun = is_in && (1..=10).contains(code);
         let is_pred = is_in && (101..=109).contains(code);
         let has = (table.has_fun(*code), table.has_pred(*code));
-        assert!(rt; has == (is_fun, is_pred), "{code} without {without:?}");
+        if has != (is_fun, is_pred) {
+            return false;
+        }
     }
+    true
 }
 
 // What a table gives, or why it doesn't.
@@ -51,29 +55,19 @@ fn wanted(alloc: Global, code: u32, want: &str, without: &[u32]) -> Result<Strin
 }
 
 // A call of a row gives what is wanted.
-fn check_call(
-    rt: &(impl Abort + AllocGlobal),
-    table: &FunTable,
-    without: &[u32],
-    row: &Row,
-) -> Result<(), Fail> {
-    let call = call_of(rt.alloc(), &row.text)?;
-    let got = called(rt.alloc(), table, &call)?;
-    let want = wanted(rt.alloc(), call.code, &row.want, without)?;
-    same(rt, &row.text, &got, &want);
+fn check_call(alloc: Global, table: &FunTable, without: &[u32], row: &Row) -> Result<(), Fail> {
+    let call = call_of(alloc, &row.text)?;
+    let got = called(alloc, table, &call)?;
+    let want = wanted(alloc, call.code, &row.want, without)?;
+    same(&row.text, &got, &want)?;
     Ok(())
 }
 
-fn check_test(
-    rt: &(impl Abort + AllocGlobal),
-    table: &FunTable,
-    without: &[u32],
-    row: &Row,
-) -> Result<(), Fail> {
-    let call = call_of(rt.alloc(), &row.text)?;
-    let got = tested(rt.alloc(), table, &call)?;
+fn check_test(alloc: Global, table: &FunTable, without: &[u32], row: &Row) -> Result<(), Fail> {
+    let call = call_of(alloc, &row.text)?;
+    let got = tested(alloc, table, &call)?;
     let is_out = without.contains(&call.code);
-    same(rt, &row.text, &got, if is_out { "None" } else { &row.want });
+    same(&row.text, &got, if is_out { "None" } else { &row.want })?;
     Ok(())
 }
 
@@ -95,17 +89,13 @@ const TESTS: &str = r##"
 "##;
 
 // A table that has Core without these codes.
-fn check_table(
-    rt: &(impl Abort + AllocGlobal),
-    table: &FunTable,
-    without: &[u32],
-) -> Result<(), Fail> {
-    check_codes(rt, table, without);
-    for row in &rows(rt.alloc(), CALLS)? {
-        check_call(rt, table, without, row)?;
+fn check_table(alloc: Global, table: &FunTable, without: &[u32]) -> Result<(), Fail> {
+    right(has_codes(table, without), "the codes of a table")?;
+    for row in &rows(alloc, CALLS)? {
+        check_call(alloc, table, without, row)?;
     }
-    for row in &rows(rt.alloc(), TESTS)? {
-        check_test(rt, table, without, row)?;
+    for row in &rows(alloc, TESTS)? {
+        check_test(alloc, table, without, row)?;
     }
     Ok(())
 }
@@ -167,9 +157,10 @@ const LEFT_OUT: &[&[u32]] = &[&[], &[1], &[7], &[10], &[101], &[109], &[4, 102]]
 
 #[test]
 fn a_table_answers_as_the_codes_mean(rt: HostRuntime) -> Result<(), Fail> {
+    let alloc = rt.alloc();
     for without in LEFT_OUT {
-        let table = core_without(rt.alloc(), without)?.ok_or("a code wasn't added")?;
-        check_table(&rt, &table, without)?;
+        let table = core_without(alloc, without)?.ok_or("a code wasn't added")?;
+        check_table(alloc, &table, without)?;
     }
     Ok(())
 }
@@ -199,9 +190,10 @@ fn is_added(
 
 #[test]
 fn a_table_takes_64_of_each_kind(rt: HostRuntime) -> Result<(), Fail> {
-    let mut table = FunTable::empty(rt.alloc());
+    let alloc = rt.alloc();
+    let mut table = FunTable::empty(alloc);
     for (i, code) in (1000..1065u32).chain([1000, 1063]).enumerate() {
-        let is_right = is_added(rt.alloc(), &mut table, code, adding_fault(i))?;
+        let is_right = is_added(alloc, &mut table, code, adding_fault(i))?;
         assert!(rt; is_right, "code {i}");
     }
     assert!(rt; table.has_fun(1063) && table.has_pred(1063));
@@ -227,7 +219,7 @@ const ADD_FAULTS: &[(AddFault, &str)] = &[
 #[test]
 fn faults_of_calls_say_what_they_are(rt: HostRuntime) -> Result<(), Fail> {
     for (fault, want) in CALL_FAULTS {
-        same_said(&rt, fault.number(), fault, want)?;
+        same_said(rt.alloc(), fault.number(), fault, want)?;
     }
     Ok(())
 }
@@ -235,7 +227,7 @@ fn faults_of_calls_say_what_they_are(rt: HostRuntime) -> Result<(), Fail> {
 #[test]
 fn faults_of_adding_say_what_they_are(rt: HostRuntime) -> Result<(), Fail> {
     for (fault, want) in ADD_FAULTS {
-        same_said(&rt, fault.number(), fault, want)?;
+        same_said(rt.alloc(), fault.number(), fault, want)?;
     }
     Ok(())
 }

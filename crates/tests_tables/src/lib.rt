@@ -1,20 +1,31 @@
-//! The one form of tables in these tests.
+//! The one form of the tables in `tests_values` and `tests_functions`, and how what was got is compared with what is wanted.
 //!
 //! A line has texts, two or more spaces apart. Behind `→` stands what each of them gives, where a lone `@` is the text
 //! itself. Behind `✗` stands the name of their fault; it lies where `¦` stands in the text, which is no part of it, and
 //! else at the first byte. A line that begins with `// ` is a remark.
+#![tactic(auto)]
+
 use ref_edn::{Node, Value, print};
 use std::alloc::{AllocError, Global};
 use std::fmt::Display;
-use std::process::Abort;
 use std::test::Fail;
 
 /// A text, what it gives or the name of its fault, and the place of the fault.
 #[derive(Drop)]
-pub(crate) struct Row {
+pub struct Row {
     pub text: String,
     pub want: String,
     pub place: Option<usize>,
+}
+
+impl Row {
+    /// What is told of the text behind so many bytes, where this is printed with it in the place of `@`.
+    pub fn told(&self, alloc: Global, behind: usize, printed: &str) -> Result<String, AllocError> {
+        match self.place {
+            Some(place) => format!(in alloc; "{} at {}", self.want, place.saturating_add(behind)),
+            None => printed.replace(alloc, "@", &self.want),
+        }
+    }
 }
 
 // The texts of a line, what they give, and whether that is a fault.
@@ -53,7 +64,7 @@ fn add_rows(alloc: Global, rows: &mut Vec<Row>, line: &str) -> Result<(), Fail> 
 }
 
 /// The rows of a table, one for each text.
-pub(crate) fn rows(alloc: Global, table: &str) -> Result<Vec<Row>, Fail> {
+pub fn rows(alloc: Global, table: &str) -> Result<Vec<Row>, Fail> {
     let mut rows = Vec::new(alloc);
     for line in table.lines() {
         let line = line.trim();
@@ -65,7 +76,7 @@ pub(crate) fn rows(alloc: Global, table: &str) -> Result<Vec<Row>, Fail> {
 }
 
 /// The value of a node.
-pub(crate) fn value(node: Node) -> Result<Value, Fail> {
+pub fn value(node: Node) -> Result<Value, Fail> {
     match Value::of(node) {
         Ok(value) => Ok(value),
         Err(_) => Err(Fail::from("not lawful")),
@@ -73,30 +84,37 @@ pub(crate) fn value(node: Node) -> Result<Value, Fail> {
 }
 
 /// What is printed of a value.
-pub(crate) fn text_of(alloc: Global, value: &Value) -> Result<String, AllocError> {
+pub fn text_of(alloc: Global, value: &Value) -> Result<String, AllocError> {
     let mut out = Vec::new(alloc);
     print(alloc, value, &mut out)?;
     String::from_utf8_lossy(alloc, out.as_slice())
 }
 
-/// What a text gave is what is wanted.
-pub(crate) fn same(rt: &impl Abort, text: &str, got: &str, want: &str) {
-    assert_eq!(rt; got, want, "at {text:?}");
+/// A failure that names what isn't right.
+pub fn right(is_right: bool, what: &str) -> Result<(), Fail> {
+    if is_right {
+        Ok(())
+    } else {
+        Err(Fail::new(format_args!("not right: {what}")))
+    }
 }
 
-/// A fault has this number, and says this.
-pub(crate) fn same_said(
-    rt: &(impl Abort + AllocGlobal),
-    number: u8,
-    fault: &impl Display,
-    want: &str,
-) -> Result<(), Fail> {
-    same(rt, want, &format!(in rt.alloc(); "{number} {fault}")?, want);
-    Ok(())
+/// A failure where a text didn't give what is wanted.
+pub fn same(text: &str, got: &str, want: &str) -> Result<(), Fail> {
+    if got == want {
+        Ok(())
+    } else {
+        Err(Fail::new(format_args!("at {text:?}: {got:?}, not {want:?}")))
+    }
+}
+
+/// A failure where a fault hasn't this number, or doesn't say this.
+pub fn same_said(alloc: Global, number: u8, fault: &impl Display, want: &str) -> Result<(), Fail> {
+    same(want, &format!(in alloc; "{number} {fault}")?, want)
 }
 
 /// A middle between so many fronts and as many backs.
-pub(crate) fn nested(
+pub fn nested(
     alloc: Global,
     levels: usize,
     front: &str,
