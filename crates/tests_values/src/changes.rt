@@ -1,10 +1,9 @@
 //! Vectors, sets and maps with one member more or less: what they are then, how deep, and that other owners keep
 //! theirs.
-use crate::tables::{rows, same, text_of, value};
 use ref_edn::{Elements, Entries, Items, Node, Value, read_all, read_one};
-use std::alloc::Global;
-use std::process::Abort;
+use std::alloc::{AllocError, Global};
 use std::test::Fail;
+use tests_tables::{Row, right, rows, same, text_of, value};
 
 // Changes the elements in place, and gives the changed ones that are made of them before.
 fn change_set(
@@ -70,43 +69,58 @@ fn change(alloc: Global, node: &mut Node, step: &Items) -> Result<Node, Fail> {
     }
 }
 
-// The value after steps, each of which comes to the same in place and not.
+// Makes a step, which comes to the same in place and not.
+fn make_step(alloc: Global, node: &mut Node, step: &Value) -> Result<(), Fail> {
+    let Node::Vector(step) = step.node() else {
+        return Err(Fail::from("not a step"));
+    };
+    let made = value(change(alloc, node, step)?)?;
+    if made != value(node.share()?)? {
+        return Err(Fail::from("not the same in place"));
+    }
+    Ok(())
+}
+
+// The value after steps.
 fn after(alloc: Global, mut node: Node, steps: &[Value]) -> Result<Value, Fail> {
     for step in steps {
-        let Node::Vector(step) = step.node() else {
-            return Err(Fail::from("not a step"));
-        };
-        let made = value(change(alloc, &mut node, step)?)?;
-        if made != value(node.share()?)? {
-            return Err(Fail::from("not the same in place"));
-        }
+        make_step(alloc, &mut node, step)?;
     }
     value(node)
 }
 
-// A text has a value and steps. It gives the value after them, where that has one owner at first, and where it has two,
-// of which the other one keeps it as it was.
-fn check_changes(rt: &(impl Abort + AllocGlobal), table: &str) -> Result<(), Fail> {
-    let alloc = rt.alloc();
+// The value after steps is as wanted.
+fn check_made(alloc: Global, row: &Row, node: Node, steps: &[Value]) -> Result<(), Fail> {
+    let made = after(alloc, node, steps)?;
+    same(&row.text, &text_of(alloc, &made)?, &row.want)?;
+    Ok(())
+}
+
+// The node of a text, which has no other owner.
+fn alone(alloc: Global, text: &str) -> Result<Node, Fail> {
+    Ok(read_one(alloc, text.as_bytes())?.node().share()?)
+}
+
+// The value after steps is as wanted, where the value before has one owner at first, and where it has two, of which the
+// other one keeps it as it was.
+fn check_after(alloc: Global, row: &Row, before: &Value, steps: &[Value]) -> Result<(), Fail> {
+    let was = text_of(alloc, before)?;
+    check_made(alloc, row, alone(alloc, &was)?, steps)?;
+    check_made(alloc, row, before.node().share()?, steps)?;
+    same(&row.text, &text_of(alloc, before)?, &was)?;
+    Ok(())
+}
+
+fn check_change(alloc: Global, row: &Row) -> Result<(), Fail> {
+    let parts = read_all(alloc, row.text.as_bytes())?;
+    let (before, steps) = parts.split_first().ok_or("no value")?;
+    check_after(alloc, row, before, steps)
+}
+
+// A text has a value and steps, and gives the value after them.
+fn check_changes(alloc: Global, table: &str) -> Result<(), Fail> {
     for row in &rows(alloc, table)? {
-        let parts = read_all(alloc, row.text.as_bytes())?;
-        let (before, steps) = parts.split_first().ok_or("no value")?;
-        let was = text_of(alloc, before)?;
-        let alone = read_one(alloc, was.as_bytes())?.node().share()?;
-        let shared = before.node().share()?;
-        same(
-            rt,
-            &row.text,
-            &text_of(alloc, &after(alloc, alone, steps)?)?,
-            &row.want,
-        );
-        same(
-            rt,
-            &row.text,
-            &text_of(alloc, &after(alloc, shared, steps)?)?,
-            &row.want,
-        );
-        same(rt, &row.text, &text_of(alloc, before)?, &was);
+        check_change(alloc, row)?;
     }
     Ok(())
 }
@@ -114,7 +128,7 @@ fn check_changes(rt: &(impl Abort + AllocGlobal), table: &str) -> Result<(), Fai
 #[test]
 fn vectors_grow_at_their_end(rt: HostRuntime) -> Result<(), Fail> {
     check_changes(
-        &rt,
+        rt.alloc(),
         r##"
             []  [1 2]                                  → @
             [] (push 1)                                → [1]
@@ -127,7 +141,7 @@ fn vectors_grow_at_their_end(rt: HostRuntime) -> Result<(), Fail> {
 #[test]
 fn sets_stay_in_value_order(rt: HostRuntime) -> Result<(), Fail> {
     check_changes(
-        &rt,
+        rt.alloc(),
         r##"
             #{}                                                          → @
             #{} (insert 5) (insert 1) (insert 3)                         → #{1 3 5}
@@ -149,7 +163,7 @@ fn sets_stay_in_value_order(rt: HostRuntime) -> Result<(), Fail> {
 #[test]
 fn maps_stay_in_the_order_of_their_keys(rt: HostRuntime) -> Result<(), Fail> {
     check_changes(
-        &rt,
+        rt.alloc(),
         r##"
             {}                                                           → @
             {} (insert 2 20) (insert 1 10)                               → {1 10, 2 20}
@@ -167,6 +181,12 @@ fn maps_stay_in_the_order_of_their_keys(rt: HostRuntime) -> Result<(), Fail> {
             {0 5, 2 25} (insert 1 [])                                    → {0 5, 1 [], 2 25}
         "##,
     )
+}
+
+fn depth_after(alloc: Global, text: &str) -> Result<u8, Fail> {
+    let parts = read_all(alloc, text.as_bytes())?;
+    let (before, steps) = parts.split_first().ok_or("no value")?;
+    Ok(after(alloc, before.node().share()?, steps)?.depth())
 }
 
 #[test]
@@ -187,10 +207,36 @@ fn the_deepest_comes_and_goes(rt: HostRuntime) -> Result<(), Fail> {
         {{:a [1]} [2], 3 [[[]]]}                                               → 4
     "##;
     for row in &rows(alloc, table)? {
-        let parts = read_all(alloc, row.text.as_bytes())?;
-        let (before, steps) = parts.split_first().ok_or("no value")?;
-        let got = after(alloc, before.node().share()?, steps)?.depth();
-        same(&rt, &row.text, &got.to_string(alloc)?, &row.want);
+        let depth = depth_after(alloc, &row.text)?;
+        same(&row.text, &depth.to_string(alloc)?, &row.want)?;
+    }
+    Ok(())
+}
+
+// Keys that are tried, whether a set has each as an element, and what is under it in a map.
+const MEMBERS: &[(&str, bool, &str)] = &[
+    ("-1", false, "none"),
+    ("0", true, "5"),
+    ("2", true, "25"),
+    ("3", false, "none"),
+    ("4", true, "45"),
+];
+
+fn printed(alloc: Global, value: Option<&Value>) -> Result<String, AllocError> {
+    match value {
+        Some(value) => text_of(alloc, value),
+        None => String::from_str(alloc, "none"),
+    }
+}
+
+fn check_members(alloc: Global, elements: &Elements, entries: &Entries) -> Result<(), Fail> {
+    if !elements.ascends() || !entries.ascends() {
+        return Err(Fail::from("not in order"));
+    }
+    for (text, is_there, want) in MEMBERS {
+        let key = read_one(alloc, text.as_bytes())?;
+        right(elements.contains(&key) == *is_there, text)?;
+        same(text, &printed(alloc, entries.get(&key))?, want)?;
     }
     Ok(())
 }
@@ -200,25 +246,8 @@ fn a_member_is_found_by_its_key(rt: HostRuntime) -> Result<(), Fail> {
     let alloc = rt.alloc();
     let set = read_one(alloc, b"#{0 2 4}")?;
     let map = read_one(alloc, b"{0 5, 2 25, 4 45}")?;
-    let (Node::Set(elements), Node::Map(entries)) = (set.node(), map.node()) else {
-        return Err(Fail::from("not a set and a map"));
-    };
-    assert!(rt; elements.ascends());
-    assert!(rt; entries.ascends());
-    for (key, is_there, want) in [
-        ("-1", false, None),
-        ("0", true, Some("5")),
-        ("2", true, Some("25")),
-        ("3", false, None),
-        ("4", true, Some("45")),
-    ] {
-        let key = read_one(alloc, key.as_bytes())?;
-        assert_eq!(rt; elements.contains(&key), is_there);
-        let under = match want {
-            Some(text) => Some(read_one(alloc, text.as_bytes())?),
-            None => None,
-        };
-        assert!(rt; entries.get(&key) == under.as_ref());
+    match (set.node(), map.node()) {
+        (Node::Set(elements), Node::Map(entries)) => check_members(alloc, elements, entries),
+        _ => Err(Fail::from("not a set and a map")),
     }
-    Ok(())
 }

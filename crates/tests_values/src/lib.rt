@@ -1,18 +1,9 @@
-//! Tests of texts, values, their order, readers and writers, of Core's functions and of the table of closures, all by
-//! calls that are public. They stand here and not in `ref_edn` and `ref_fun`, since a crate that has tests is proved
-//! twice, without them and with them.
+//! Tests of texts, values, their order, readers and writers, all by calls that are public. They stand here and not in
+//! `ref_edn`, since a crate that has tests is proved twice, without them and with them.
 #![tactic(auto)]
 
 #[cfg(test)]
-mod calls;
-#[cfg(test)]
 mod changes;
-#[cfg(test)]
-mod closures;
-#[cfg(test)]
-mod codes;
-#[cfg(test)]
-mod functions;
 #[cfg(test)]
 mod members;
 #[cfg(test)]
@@ -23,8 +14,6 @@ mod printing;
 mod reading;
 #[cfg(test)]
 mod streams;
-#[cfg(test)]
-mod tables;
 #[cfg(test)]
 mod texts;
 #[cfg(test)]

@@ -5,7 +5,7 @@ use std::test::Fail;
 #[test]
 fn no_two_are_equal(rt: HostRuntime) -> Result<(), Fail> {
     check_texts(
-        &rt,
+        rt.alloc(),
         r##"
             #{nil ¦nil}  #{true ¦true}  #{1 ¦1}  #{1 ¦+1}  #{0 ¦-0}  #{a ¦a}  #{"a" ¦"\u0061"}  ✗ Duplicate
             #{[] ¦()}  #{{} ¦{}}  #{#{} ¦#{}}  #{[1 2] ¦(1 2)}  #{#{1 2} ¦#{2 1}}               ✗ Duplicate
@@ -26,7 +26,7 @@ fn no_two_are_equal(rt: HostRuntime) -> Result<(), Fail> {
 #[test]
 fn each_key_has_a_value(rt: HostRuntime) -> Result<(), Fail> {
     check_texts(
-        &rt,
+        rt.alloc(),
         r##"
             {1¦}  {:a¦}  {{}¦}  {1 2 3¦}  {:a 1 :b ¦}  {1 #_ 2¦}  {:a #_ 1¦}  ✗ OddMap
             {:a {:b¦}}  [{1 2 3¦}]                                            ✗ OddMap
@@ -37,7 +37,7 @@ fn each_key_has_a_value(rt: HostRuntime) -> Result<(), Fail> {
 #[test]
 fn they_stand_in_value_order(rt: HostRuntime) -> Result<(), Fail> {
     check_texts(
-        &rt,
+        rt.alloc(),
         r##"
             #{true nil false}                            → #{nil false true}
             #{2 -1 10 0}                                 → #{-1 0 2 10}

@@ -1,48 +1,53 @@
 //! Blanks, comments, discards, brackets, and whole texts, by hand from docs/EDN.md.
 use crate::reading::{all, check, check_series, check_texts, one};
+use std::alloc::{AllocError, Global};
 use std::test::Fail;
+use tests_tables::same;
+
+const BLANKS: &[(&str, &str)] = &[
+    ("\t1", "1"),
+    ("1\r", "1"),
+    (" nil ", "nil"),
+    ("\u{c}1\u{c}", "1"),
+    (",1,", "1"),
+    ("\n\n1", "1"),
+    ("{:a\n1}", "{:a 1}"),
+    ("\u{c}{}\r", "{}"),
+    ("; c\n1", "1"),
+    ("; a\n1 ; b", "1"),
+    ("[1;]\n]", "[1]"),
+    ("[1;x]\n2]", "[1 2]"),
+    ("1 ; c\n2", "Trailing at 6"),
+    ("a;b\nc", "Trailing at 4"),
+    ("", "Nothing at 0"),
+    (";\n", "Nothing at 2"),
+    ("  ,\t\r\n", "Nothing at 6"),
+    ("\u{c}; only a comment", "Nothing at 17"),
+    ("#_#_ 1 2 ", "Nothing at 9"),
+    // A return doesn't end a comment.
+    ("; c\r1", "Nothing at 5"),
+    // No blanks: vertical tab, a null, other controls, delete, no-break space, line separator, byte order mark.
+    ("\u{b}1", "BadByte at 0"),
+    ("\u{0}", "BadByte at 0"),
+    ("\u{1}", "BadByte at 0"),
+    ("\u{7f}", "BadByte at 0"),
+    ("\u{a0}1", "BadByte at 0"),
+    ("\u{2028}1", "BadByte at 0"),
+    ("\u{feff}1", "BadByte at 0"),
+    // So they belong to a token that was begun.
+    ("1\u{b}", "BadNumber at 0"),
+    ("[1\u{2028}2]", "BadNumber at 1"),
+    ("a\u{b}", "BadName at 0"),
+];
 
 #[test]
 fn blanks_and_comments(rt: HostRuntime) -> Result<(), Fail> {
-    for (text, want) in [
-        ("\t1", "1"),
-        ("1\r", "1"),
-        (" nil ", "nil"),
-        ("\u{c}1\u{c}", "1"),
-        (",1,", "1"),
-        ("\n\n1", "1"),
-        ("{:a\n1}", "{:a 1}"),
-        ("\u{c}{}\r", "{}"),
-        ("; c\n1", "1"),
-        ("; a\n1 ; b", "1"),
-        ("[1;]\n]", "[1]"),
-        ("[1;x]\n2]", "[1 2]"),
-        ("1 ; c\n2", "Trailing at 6"),
-        ("a;b\nc", "Trailing at 4"),
-        ("", "Nothing at 0"),
-        (";\n", "Nothing at 2"),
-        ("  ,\t\r\n", "Nothing at 6"),
-        ("\u{c}; only a comment", "Nothing at 17"),
-        ("#_#_ 1 2 ", "Nothing at 9"),
-        // A return doesn't end a comment.
-        ("; c\r1", "Nothing at 5"),
-        // No blanks: vertical tab, a null, other controls, delete, no-break space, line separator, byte order mark.
-        ("\u{b}1", "BadByte at 0"),
-        ("\u{0}", "BadByte at 0"),
-        ("\u{1}", "BadByte at 0"),
-        ("\u{7f}", "BadByte at 0"),
-        ("\u{a0}1", "BadByte at 0"),
-        ("\u{2028}1", "BadByte at 0"),
-        ("\u{feff}1", "BadByte at 0"),
-        // So they belong to a token that was begun.
-        ("1\u{b}", "BadNumber at 0"),
-        ("[1\u{2028}2]", "BadNumber at 1"),
-        ("a\u{b}", "BadName at 0"),
-    ] {
-        check(&rt, text, want)?;
+    let alloc = rt.alloc();
+    for (text, want) in BLANKS {
+        check(alloc, text, want)?;
     }
     check_texts(
-        &rt,
+        alloc,
         r##"
             1;c  1 #_ 2  1 #_ 2 #_ 3        → 1
             [1,2,,3]  [1 ,2, 3]             → [1 2 3]
@@ -54,9 +59,10 @@ fn blanks_and_comments(rt: HostRuntime) -> Result<(), Fail> {
 
 #[test]
 fn discards(rt: HostRuntime) -> Result<(), Fail> {
-    check(&rt, "#_ , ; c\n 1 2", "2")?;
+    let alloc = rt.alloc();
+    check(alloc, "#_ , ; c\n 1 2", "2")?;
     check_texts(
-        &rt,
+        alloc,
         r##"
             #_1 2  #_ 1 2                                        → 2
             #_#_ 1 2 3  #_[1 #_ 2 {:a #{}}] 3  #_"]" 3           → 3
@@ -94,7 +100,7 @@ fn discards(rt: HostRuntime) -> Result<(), Fail> {
 #[test]
 fn brackets(rt: HostRuntime) -> Result<(), Fail> {
     check_texts(
-        &rt,
+        rt.alloc(),
         r##"
             ()  [ ]                                                    → []
             {}  #{}                                                    → @
@@ -118,7 +124,7 @@ fn brackets(rt: HostRuntime) -> Result<(), Fail> {
 #[test]
 fn the_end_of_a_string(rt: HostRuntime) -> Result<(), Fail> {
     check_texts(
-        &rt,
+        rt.alloc(),
         r##"
             "¦  "a¦  "abc¦  "\¦  "a\¦  "abc\¦  "\"¦  ["a]¦  #_ "a¦    ✗ EndsEarly
             // An escape that is cut off, whatever its digits.
@@ -131,7 +137,7 @@ fn the_end_of_a_string(rt: HostRuntime) -> Result<(), Fail> {
 #[test]
 fn the_first_fault_counts(rt: HostRuntime) -> Result<(), Fail> {
     check_texts(
-        &rt,
+        rt.alloc(),
         r##"
             1 ¦2  1¦]  1¦"a"  - ¦1  "a"¦b  a¦"b"  :a,¦:b  a#¦{1}      ✗ Trailing
             nil ¦\  a ¦\  a ¦#  []¦]  [] ¦]  {} ¦#{}  #{1 2} ¦#{1 1}  ✗ Trailing
@@ -144,13 +150,16 @@ fn the_first_fault_counts(rt: HostRuntime) -> Result<(), Fail> {
     )
 }
 
+const NO_ELEMENTS: &[&str] = &["", " , ; c", " ; none\n", "#_ 1"];
+
 #[test]
 fn several_elements(rt: HostRuntime) -> Result<(), Fail> {
-    for text in ["", " , ; c", " ; none\n", "#_ 1"] {
-        assert!(rt; all(rt.alloc(), text.as_bytes())?.is_empty(), "at {text:?}");
+    let alloc = rt.alloc();
+    for text in NO_ELEMENTS {
+        same(text, &all(alloc, text.as_bytes())?, "")?;
     }
     check_series(
-        &rt,
+        alloc,
         r##"
             1  1 2  #{1} #{1}        → @
             1 #_ 2 3;                → 1 3
@@ -172,61 +181,70 @@ fn several_elements(rt: HostRuntime) -> Result<(), Fail> {
     )
 }
 
+const NO_UTF_8: &[(&[u8], &str)] = &[
+    (b"\xff", "NotUtf8 at 0"),
+    (b"\xc0\x80", "NotUtf8 at 0"),
+    (b"\xed\xa0\x80", "NotUtf8 at 0"),
+    (b"\xf4\x90\x80\x80", "NotUtf8 at 0"),
+    (b"a\x80", "NotUtf8 at 1"),
+    (b"1 \xf0\x9f\x98", "NotUtf8 at 2"),
+    (b"\"\xe9\"", "NotUtf8 at 1"),
+    (b"\"a\xe2\x82\"", "NotUtf8 at 2"),
+    (b"; \xed\xa0\x80", "NotUtf8 at 2"),
+    // It comes before any other fault.
+    (b"01 \xff", "NotUtf8 at 3"),
+    (b"] \xff", "NotUtf8 at 2"),
+    (b"[1 \xc3", "NotUtf8 at 3"),
+    (b"#_ ] \xc3(", "NotUtf8 at 5"),
+];
+
 #[test]
 fn bytes_that_are_no_utf_8(rt: HostRuntime) -> Result<(), Fail> {
-    let rows: [(&[u8], &str); 13] = [
-        (b"\xff", "NotUtf8 at 0"),
-        (b"\xc0\x80", "NotUtf8 at 0"),
-        (b"\xed\xa0\x80", "NotUtf8 at 0"),
-        (b"\xf4\x90\x80\x80", "NotUtf8 at 0"),
-        (b"a\x80", "NotUtf8 at 1"),
-        (b"1 \xf0\x9f\x98", "NotUtf8 at 2"),
-        (b"\"\xe9\"", "NotUtf8 at 1"),
-        (b"\"a\xe2\x82\"", "NotUtf8 at 2"),
-        (b"; \xed\xa0\x80", "NotUtf8 at 2"),
-        // It comes before any other fault.
-        (b"01 \xff", "NotUtf8 at 3"),
-        (b"] \xff", "NotUtf8 at 2"),
-        (b"[1 \xc3", "NotUtf8 at 3"),
-        (b"#_ ] \xc3(", "NotUtf8 at 5"),
-    ];
-    for (text, want) in rows {
-        assert_eq!(rt; one(rt.alloc(), text)?.as_str(), want);
-        assert_eq!(rt; all(rt.alloc(), text)?.as_str(), want);
+    let alloc = rt.alloc();
+    for (text, want) in NO_UTF_8 {
+        same(want, &one(alloc, text)?, want)?;
+        same(want, &all(alloc, text)?, want)?;
     }
     Ok(())
 }
 
-// Each front of a text that has every kind of element. A cut inside a collection is EndsEarly, but for these lengths.
+// A text that has every kind of element.
+const TEXT: &str = "{:k [nil true -12 \"a\\n\\u00e9\u{e9}\"] #{s/t} (false) #_ 2 ; c\n}";
+
+// What its fronts give that aren't cut inside a collection, by their lengths.
+const FRONTS: &[(usize, &str)] = &[
+    (0, "Nothing at 0"),
+    // A colon alone is no keyword.
+    (2, "BadName at 1"),
+    // Half of a character.
+    (29, "NotUtf8 at 28"),
+    // A sharp at the end.
+    (34, "LeftOut at 33"),
+    // A slash with no name behind it.
+    (37, "BadName at 35"),
+    (49, "LeftOut at 48"),
+    (
+        58,
+        "{:k [nil true -12 \"a\\n\u{e9}\u{e9}\"], #{s/t} [false]}",
+    ),
+];
+
+fn wanted_of_front(alloc: Global, n: usize) -> Result<String, AllocError> {
+    for (len, want) in FRONTS {
+        if *len == n {
+            return String::from_str(alloc, want);
+        }
+    }
+    format!(in alloc; "EndsEarly at {n}")
+}
+
 #[test]
 fn each_front_of_a_text(rt: HostRuntime) -> Result<(), Fail> {
-    let text = "{:k [nil true -12 \"a\\n\\u00e9\u{e9}\"] #{s/t} (false) #_ 2 ; c\n}";
-    let rows = [
-        (0, "Nothing at 0"),
-        // A colon alone is no keyword.
-        (2, "BadName at 1"),
-        // Half of a character.
-        (29, "NotUtf8 at 28"),
-        // A sharp at the end.
-        (34, "LeftOut at 33"),
-        // A slash with no name behind it.
-        (37, "BadName at 35"),
-        (49, "LeftOut at 48"),
-        (
-            58,
-            "{:k [nil true -12 \"a\\n\u{e9}\u{e9}\"], #{s/t} [false]}",
-        ),
-    ];
-    for n in 0..=text.len() {
-        let said = one(rt.alloc(), text.as_bytes().get(..n).unwrap_or(&[]))?;
-        let early = format!(in rt.alloc(); "EndsEarly at {n}")?;
-        let mut want = early.as_str();
-        for (len, row) in rows {
-            if len == n {
-                want = row;
-            }
-        }
-        assert_eq!(rt; said.as_str(), want, "a front of {n} bytes");
+    let alloc = rt.alloc();
+    for n in 0..=TEXT.len() {
+        let got = one(alloc, TEXT.as_bytes().get(..n).unwrap_or(&[]))?;
+        let want = wanted_of_front(alloc, n)?;
+        same(&format!(in alloc; "a front of {n} bytes")?, &got, &want)?;
     }
     Ok(())
 }

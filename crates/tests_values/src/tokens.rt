@@ -5,7 +5,7 @@ use std::test::Fail;
 #[test]
 fn numbers(rt: HostRuntime) -> Result<(), Fail> {
     check_elements(
-        &rt,
+        rt.alloc(),
         r##"
             7  10  -1  -7                                                     → @
             +7                                                                → 7
@@ -25,7 +25,7 @@ fn numbers(rt: HostRuntime) -> Result<(), Fail> {
 #[test]
 fn numbers_that_are_left_out(rt: HostRuntime) -> Result<(), Fail> {
     check_elements(
-        &rt,
+        rt.alloc(),
         r##"
             1.5  1.  0.5  -0.5  -1.5  12.34.56  1e3  1E3  -1e5       ✗ LeftOut
             7N  0N  9223372036854775808N  99999999999999999999N  7M  ✗ LeftOut
@@ -37,7 +37,7 @@ fn numbers_that_are_left_out(rt: HostRuntime) -> Result<(), Fail> {
 #[test]
 fn symbols_and_words(rt: HostRuntime) -> Result<(), Fail> {
     check_elements(
-        &rt,
+        rt.alloc(),
         r##"
             nil  true  false  nils  nilx  nil.  Nil  TRUE  true:            → @
             .  *  +  !  -  _  ?  $  %  &  =  <  >  /                        → @
@@ -56,7 +56,7 @@ fn symbols_and_words(rt: HostRuntime) -> Result<(), Fail> {
 #[test]
 fn keywords(rt: HostRuntime) -> Result<(), Fail> {
     check_elements(
-        &rt,
+        rt.alloc(),
         r##"
             :a  :c  :a/b  :+  :-  :.  :_  :a:b  :a:  :a#  :a.b       → @
             :nil  :true  :false  :nil/a                              → @
@@ -69,7 +69,7 @@ fn keywords(rt: HostRuntime) -> Result<(), Fail> {
 #[test]
 fn strings(rt: HostRuntime) -> Result<(), Fail> {
     check_elements(
-        &rt,
+        rt.alloc(),
         r##"
             ""  "a"  "a b; ["  "[ ; #_ 1"  ";"  "é€😀"  "ab\"cd"                     → @
             "\t\r\n\\\"\b\f"                                                        → @
@@ -84,18 +84,20 @@ fn strings(rt: HostRuntime) -> Result<(), Fail> {
     )
 }
 
+const SHOWN_BY_NONE: &[(&str, &str)] = &[
+    // Characters that have an escape are printed by it, and others as they are.
+    ("\"\t\r\n\u{8}\u{c}\"", r#""\t\r\n\b\f""#),
+    ("\"\u{0}\u{b}\u{7f}\"", "\"\u{0}\u{b}\u{7f}\""),
+    (r#""\u0000""#, "\"\u{0}\""),
+    (r#""\uD7FF\uE000\uFFFF""#, "\"\u{d7ff}\u{e000}\u{ffff}\""),
+    ("[\"a b;\n[\" c]", r#"["a b;\n[" c]"#),
+    ("\"\\\n\"", "BadEscape at 1"),
+];
+
 #[test]
 fn characters_of_strings_that_no_table_shows(rt: HostRuntime) -> Result<(), Fail> {
-    for (text, want) in [
-        // Characters that have an escape are printed by it, and others as they are.
-        ("\"\t\r\n\u{8}\u{c}\"", r#""\t\r\n\b\f""#),
-        ("\"\u{0}\u{b}\u{7f}\"", "\"\u{0}\u{b}\u{7f}\""),
-        (r#""\u0000""#, "\"\u{0}\""),
-        (r#""\uD7FF\uE000\uFFFF""#, "\"\u{d7ff}\u{e000}\u{ffff}\""),
-        ("[\"a b;\n[\" c]", r#"["a b;\n[" c]"#),
-        ("\"\\\n\"", "BadEscape at 1"),
-    ] {
-        check(&rt, text, want)?;
+    for (text, want) in SHOWN_BY_NONE {
+        check(rt.alloc(), text, want)?;
     }
     Ok(())
 }
@@ -103,7 +105,7 @@ fn characters_of_strings_that_no_table_shows(rt: HostRuntime) -> Result<(), Fail
 #[test]
 fn what_begins_no_element(rt: HostRuntime) -> Result<(), Fail> {
     check_elements(
-        &rt,
+        rt.alloc(),
         r##"
             '  'a  |a|  `a  ~  ~a  ^  ^a  @  @a  é  λ  €                   ✗ BadByte
             \  \a  \newline  #a  #a 1  #inst  ##Inf  #'a  #^a b  #!a  #\a  ✗ LeftOut

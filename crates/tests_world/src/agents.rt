@@ -1,56 +1,57 @@
 //! Agents: their queues and jobs, error modes and restarts. No world has them yet, so these rows are run on the stores apart.
-use crate::apart::Apart;
-use crate::rows::first_wrong;
+use crate::rows::check_apart;
 use std::test::Fail;
 
 #[test]
 fn agents_by_hand(rt: HostRuntime) -> Result<(), Fail> {
-    let rows = [
-        // An action that the rule refuses fails the agent, which keeps its state and its queue; a restart goes on with it.
-        "[] [] [[rule 0 [>= 0]]] [send g + 1 :ok] [send g - 5 :ok] [send g + 2 :ok] [act :changed] [act [:failed :invalid]] [now g 1] [error g :invalid] [account g [0 :done :failed 1]] [act :none] [send g + 1 :failed] [restart g 10 :ok] [error g :none] [account g [10 1]] [act :changed] [now g 12] [account g [10 :done 0]]",
-        // A restart that clears drops it.
-        "[] [] [[rule 0 [>= 0]]] [send g + 1 :ok] [send g - 5 :ok] [send g + 2 :ok] [act :changed] [act [:failed :invalid]] [restart g 10 clear :ok] [now g 10] [account g [10 0]] [act :none]",
-        // In the other mode the agent goes on as if neither action nor error had been.
-        "[] [] [[continue 0 [>= 0]]] [send g + 1 :ok] [send g - 5 :ok] [send g + :k :ok] [send g + 2 :ok] [act :changed] [act [:continued :invalid]] [act [:continued [:refused :wrong-kind]]] [error g :none] [act :changed] [now g 3] [account g [0 :done :passed :passed :done 0]] [restart g 1 :not-failed]",
-        // What a commit sent can be taken once it is released.
-        "[] [] [0] [begin 1 0] [1 send g + 1 :ok] [commit 1 1] [act :none] [account g [0 1]] [release 2 false] [release 1 true] [release 1 false] [act :changed] [now g 1]",
-        // It waits in its place: what was sent later waits behind it.
-        "[] [] [0 0] [begin 1 0] [1 send g + 1 :ok] [1 send h + 5 :ok] [commit 1 1] [send g + 2 :ok] [send h + 6 :ok] [act :none] [release 1 true] [act :changed] [act :changed] [act :changed] [act :changed] [act :none] [now g 3] [now h 11]",
-        // A commit that sends nothing has nothing to be released.
-        "[] [] [0] [begin 1 0] [commit 1 1] [release 1 false] [begin 2 1] [2 send g + 1 :ok] [commit 2 2] [account g [0 1]] [release 2 true]",
-        // A failed agent takes what a commit sends, and holds it. Setting the mode doesn't make it go on.
-        "[] [] [[rule 0 [>= 0]]] [send g - 1 :ok] [act [:failed :invalid]] [begin 1 0] [1 send g + 2 :ok] [commit 1 1] [release 1 true] [act :none] [mode g continue :ok] [error g :invalid] [act :none] [restart g 5 :ok] [act :changed] [now g 7] [restart g 5 :not-failed] [mode g fail :ok] [send g - 9 :ok] [act [:failed :invalid]] [restart g -1 :invalid] [now g 7] [error g :invalid]",
-        // A cleared send leaves its commit to be released.
-        "[] [] [[rule 0 [>= 0]]] [send g - 1 :ok] [act [:failed :invalid]] [begin 1 0] [1 send g + 2 :ok] [commit 1 1] [restart g 5 clear :ok] [account g [5 0]] [release 1 true]",
-        // A transaction that isn't committed sends nothing.
-        "[0] [] [0] [begin 1 0] [1 set a 1 1] [1 send g + 1 :ok] [begin 2 0] [2 set a 2 2] [commit 2 1] [commit 1 [:conflict 0 0 1]] [account g [0 0]] [release 1 false] [act :none]",
-        // At most one job of an agent is on its way; its number counts the handled ones.
-        "[] [] [0 0] [send g + 1 :ok] [send g + 1 :ok] [send h + 1 :ok] [next [g 0]] [next [h 0]] [act :changed] [now g 1] [next [h 0]] [act :changed] [now g 2] [account g [0 :done :done 0]] [lose h] [act :none] [account h [0 1]] [send h + 1 :ok] [act :none] [restart h 5 :not-failed] [send g + 1 :ok] [next [g 2]]",
-        // A job that isn't on its way here is foreign.
-        "[] [] [0] [stranger g + 1 :foreign] [send g + 2 :ok] [stranger g + 2 :foreign] [lose g] [stranger g + 1 :foreign] [now g 0] [stranger g + 2 :changed] [now g 2]",
-        // Watches are told, but not of a restart.
-        "[] [] [0] [watch g :k true] [watch g :k false] [watch g :l true] [watch h :k :no-such] [send g + 1 :ok] [act [:changed [g :k 0 1] [g :l 0 1]]] [unwatch g :k true] [unwatch g :k false] [unwatch h :l false] [send g + :k :ok] [act [:failed [:refused :wrong-kind]]] [restart g 1 :ok] [send g + 0 :ok] [act [:changed [g :l 1 1]]]",
-        // What a table lacks is told: the function, and the predicate of the rule.
-        "[] [] [[rule 0 [>= 0]]] [served true] [served-by-fewer false] [send g inc :ok] [act-by-fewer [:no-such-fun 3]] [act :none] [stranger g inc :changed] [send g - 5 :ok] [act [:failed :invalid]] [restart-by-fewer g 1 [:no-such-fun 101]] [restart-by-fewer h 1 :no-such-agent]",
-        "[] [] [[rule 0 [>= 0]]] [send g + 1 :ok] [act-by-fewer [:no-such-fun 101]] [act :none] [now g 0] [account g [0 1]]",
-        "[] [] [5] [send g conj 1 :ok] [next [g 0]] [act [:no-such-fun 7]]",
-        // Makings and rules.
-        "[] [] [] [agents 0] [act :none] [make-agent [rule 0 [>= 1]] :invalid] [make-agent [rule 0 [nil?]] [:no-such-fun 0]] [make-agent [rule 1 [>= 1]] g] [make-agent 7 h] [agents 2] [rule g [>= 1]] [rule h :none] [now h 7] [now i :none] [account i :none] [error i :none]",
-        "[] [] [3] [validate g [<= 2] :invalid] [validate g [<= 3] :ok] [rule g [<= 3]] [send g + 1 :ok] [act [:failed :invalid]] [validate g nil :ok] [restart g 9 :ok] [now g 9] [validate h nil :no-such] [validate g [nil?] [:no-such-fun 0]] [mode h fail :no-such-agent] [send h + 1 :no-such-agent] [restart h 1 :no-such-agent]",
-        "[1] [2] [3 [rule 0 [>= 1]]] [refused h :invalid]",
-    ];
-    let wrong = first_wrong::<Apart>(rt.alloc(), "", &rows)?;
-    assert!(rt; wrong.is_none(), "{wrong:?}");
-    Ok(())
+    check_apart(
+        &rt,
+        "",
+        r##"
+            // An action that the rule refuses fails the agent, which keeps its state and its queue; a restart goes on with it.
+            [] [] [[rule 0 [>= 0]]] [send g + 1 :ok] [send g - 5 :ok] [send g + 2 :ok] [act :changed] [act [:failed :invalid]] [now g 1] [error g :invalid] [account g [0 :done :failed 1]] [act :none] [send g + 1 :failed] [restart g 10 :ok] [error g :none] [account g [10 1]] [act :changed] [now g 12] [account g [10 :done 0]]
+            // A restart that clears drops it.
+            [] [] [[rule 0 [>= 0]]] [send g + 1 :ok] [send g - 5 :ok] [send g + 2 :ok] [act :changed] [act [:failed :invalid]] [restart g 10 clear :ok] [now g 10] [account g [10 0]] [act :none]
+            // In the other mode the agent goes on as if neither action nor error had been.
+            [] [] [[continue 0 [>= 0]]] [send g + 1 :ok] [send g - 5 :ok] [send g + :k :ok] [send g + 2 :ok] [act :changed] [act [:continued :invalid]] [act [:continued [:refused :wrong-kind]]] [error g :none] [act :changed] [now g 3] [account g [0 :done :passed :passed :done 0]] [restart g 1 :not-failed]
+            // What a commit sent can be taken once it is released.
+            [] [] [0] [begin 1 0] [1 send g + 1 :ok] [commit 1 1] [act :none] [account g [0 1]] [release 2 false] [release 1 true] [release 1 false] [act :changed] [now g 1]
+            // It waits in its place: what was sent later waits behind it.
+            [] [] [0 0] [begin 1 0] [1 send g + 1 :ok] [1 send h + 5 :ok] [commit 1 1] [send g + 2 :ok] [send h + 6 :ok] [act :none] [release 1 true] [act :changed] [act :changed] [act :changed] [act :changed] [act :none] [now g 3] [now h 11]
+            // A commit that sends nothing has nothing to be released.
+            [] [] [0] [begin 1 0] [commit 1 1] [release 1 false] [begin 2 1] [2 send g + 1 :ok] [commit 2 2] [account g [0 1]] [release 2 true]
+            // A failed agent takes what a commit sends, and holds it. Setting the mode doesn't make it go on.
+            [] [] [[rule 0 [>= 0]]] [send g - 1 :ok] [act [:failed :invalid]] [begin 1 0] [1 send g + 2 :ok] [commit 1 1] [release 1 true] [act :none] [mode g continue :ok] [error g :invalid] [act :none] [restart g 5 :ok] [act :changed] [now g 7] [restart g 5 :not-failed] [mode g fail :ok] [send g - 9 :ok] [act [:failed :invalid]] [restart g -1 :invalid] [now g 7] [error g :invalid]
+            // A cleared send leaves its commit to be released.
+            [] [] [[rule 0 [>= 0]]] [send g - 1 :ok] [act [:failed :invalid]] [begin 1 0] [1 send g + 2 :ok] [commit 1 1] [restart g 5 clear :ok] [account g [5 0]] [release 1 true]
+            // A transaction that isn't committed sends nothing.
+            [0] [] [0] [begin 1 0] [1 set a 1 1] [1 send g + 1 :ok] [begin 2 0] [2 set a 2 2] [commit 2 1] [commit 1 [:conflict 0 0 1]] [account g [0 0]] [release 1 false] [act :none]
+            // At most one job of an agent is on its way; its number counts the handled ones.
+            [] [] [0 0] [send g + 1 :ok] [send g + 1 :ok] [send h + 1 :ok] [next [g 0]] [next [h 0]] [act :changed] [now g 1] [next [h 0]] [act :changed] [now g 2] [account g [0 :done :done 0]] [lose h] [act :none] [account h [0 1]] [send h + 1 :ok] [act :none] [restart h 5 :not-failed] [send g + 1 :ok] [next [g 2]]
+            // A job that isn't on its way here is foreign.
+            [] [] [0] [stranger g + 1 :foreign] [send g + 2 :ok] [stranger g + 2 :foreign] [lose g] [stranger g + 1 :foreign] [now g 0] [stranger g + 2 :changed] [now g 2]
+            // Watches are told, but not of a restart.
+            [] [] [0] [watch g :k true] [watch g :k false] [watch g :l true] [watch h :k :no-such] [send g + 1 :ok] [act [:changed [g :k 0 1] [g :l 0 1]]] [unwatch g :k true] [unwatch g :k false] [unwatch h :l false] [send g + :k :ok] [act [:failed [:refused :wrong-kind]]] [restart g 1 :ok] [send g + 0 :ok] [act [:changed [g :l 1 1]]]
+            // What a table lacks is told: the function, and the predicate of the rule.
+            [] [] [[rule 0 [>= 0]]] [served true] [served-by-fewer false] [send g inc :ok] [act-by-fewer [:no-such-fun 3]] [act :none] [stranger g inc :changed] [send g - 5 :ok] [act [:failed :invalid]] [restart-by-fewer g 1 [:no-such-fun 101]] [restart-by-fewer h 1 :no-such-agent]
+            [] [] [[rule 0 [>= 0]]] [send g + 1 :ok] [act-by-fewer [:no-such-fun 101]] [act :none] [now g 0] [account g [0 1]]
+            [] [] [5] [send g conj 1 :ok] [next [g 0]] [act [:no-such-fun 7]]
+            // Makings and rules.
+            [] [] [] [agents 0] [act :none] [make-agent [rule 0 [>= 1]] :invalid] [make-agent [rule 0 [nil?]] [:no-such-fun 0]] [make-agent [rule 1 [>= 1]] g] [make-agent 7 h] [agents 2] [rule g [>= 1]] [rule h :none] [now h 7] [now i :none] [account i :none] [error i :none]
+            [] [] [3] [validate g [<= 2] :invalid] [validate g [<= 3] :ok] [rule g [<= 3]] [send g + 1 :ok] [act [:failed :invalid]] [validate g nil :ok] [restart g 9 :ok] [now g 9] [validate h nil :no-such] [validate g [nil?] [:no-such-fun 0]] [mode h fail :no-such-agent] [send h + 1 :no-such-agent] [restart h 1 :no-such-agent]
+            [1] [2] [3 [rule 0 [>= 1]]] [refused h :invalid]
+        "##,
+    )
 }
 
 // The store of agents holds what a commit sends, and leaves out what goes to an agent that isn't there.
 #[test]
 fn sends_to_nobody_are_left_out(rt: HostRuntime) -> Result<(), Fail> {
-    let rows = [
-        "[] [] [0] [begin 1 0] [1 send g + 1 :ok] [1 send i + 1 :ok] [commit 1 1] [account g [0 1]] [release 1 true]",
-    ];
-    let wrong = first_wrong::<Apart>(rt.alloc(), "", &rows)?;
-    assert!(rt; wrong.is_none(), "{wrong:?}");
-    Ok(())
+    check_apart(
+        &rt,
+        "",
+        r##"
+            [] [] [0] [begin 1 0] [1 send g + 1 :ok] [1 send i + 1 :ok] [commit 1 1] [account g [0 1]] [release 1 true]
+        "##,
+    )
 }

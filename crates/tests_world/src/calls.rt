@@ -3,7 +3,7 @@ use crate::forms::{
     action_from, agent_at, args_from, atom_at, code_at, number_at, ref_at, rule_at, start_of,
     value_at, who_of, word_at,
 };
-use crate::jobs::agents_answer;
+use crate::jobs::{agents_answer, is_of_agents};
 use crate::rows::starts_of;
 use crate::subjects::{By, Kind, Open, STAMP, Subject};
 use crate::tables::Tables;
@@ -12,10 +12,10 @@ use crate::words::{
 };
 use ref_atoms::{AtomFault, Swapped};
 use ref_edn::{Node, Value};
-use ref_fun::Rule;
+use ref_fun::{Core, Rule};
 use ref_log::{Base, Done, Entry, Notice, Who};
 use ref_refs::CommitFault;
-use ref_tx::TxFault;
+use ref_tx::{Tx, TxFault};
 use ref_world::Receipt;
 use std::alloc::{AllocError, Global};
 use std::fmt::Debug;
@@ -89,34 +89,46 @@ fn begin<S: Subject>(alloc: Global, stage: &mut Stage<S>, call: &[Value]) -> Ans
     left(number(read_point)?)
 }
 
-// What an operation answers. The functions and the arguments stand behind the ref.
-fn operation(
+// What is answered where a function or a predicate is asked, which stands behind the ref with its arguments.
+fn applied(
     by: By,
-    open: &mut Open,
-    called: &[u8],
+    tx: &mut Tx<Core>,
+    called: &str,
     r: u32,
     call: &[Value],
 ) -> Result<Value, TxFault> {
     let By { alloc, funs } = by;
-    let (code, tx) = (code_at(call, 2), &mut open.tx);
+    let (code, args) = (code_at(call, 2), args_from(alloc, call, 3)?);
     match called {
-        b"deref" => Ok(tx.deref(r)?.share()?),
-        b"set" => tx.ref_set(alloc, r, value_at(call, 2)?),
-        b"alter" => tx.alter(alloc, funs, r, code, args_from(alloc, call, 3)?),
-        b"commute" => tx.commute(alloc, funs, r, code, args_from(alloc, call, 3)?),
-        b"ensure" => tx.ensure(alloc, r),
-        b"require" => {
-            let args = args_from(alloc, call, 3)?;
+        "alter" => tx.alter(alloc, funs, r, code, args),
+        "commute" => tx.commute(alloc, funs, r, code, args),
+        _ => {
             tx.require(funs, r, &Rule { code, args })?;
             Ok(word(alloc, "ok")?)
         }
-        b"began" => Ok(values_form(alloc, tx.began())?),
-        _ => Ok(word(alloc, "no-such-call")?),
     }
 }
 
-fn is_kept(called: &[u8]) -> bool {
-    matches!(called, b"set" | b"alter" | b"commute" | b"ensure")
+// What an operation answers.
+fn operation(
+    by: By,
+    tx: &mut Tx<Core>,
+    called: &str,
+    r: u32,
+    call: &[Value],
+) -> Result<Value, TxFault> {
+    match called {
+        "deref" => Ok(tx.deref(r)?.share()?),
+        "set" => tx.ref_set(by.alloc, r, value_at(call, 2)?),
+        "ensure" => tx.ensure(by.alloc, r),
+        "alter" | "commute" | "require" => applied(by, tx, called, r, call),
+        "began" => Ok(values_form(by.alloc, tx.began())?),
+        _ => Ok(word(by.alloc, "no-such-call")?),
+    }
+}
+
+fn is_kept(called: &str) -> bool {
+    matches!(called, "set" | "alter" | "commute" | "ensure")
 }
 
 fn is_last(dones: &[Done], before: usize, r: u32, answer: &Value) -> bool {
@@ -127,10 +139,10 @@ fn is_last(dones: &[Done], before: usize, r: u32, answer: &Value) -> bool {
 }
 
 // Makes an operation. The transaction keeps it with its answer, or is as before where it only reads or is refused.
-fn operated(by: By, open: &mut Open, called: &[u8], r: u32, call: &[Value]) -> Form {
+fn operated(by: By, open: &mut Open, called: &str, r: u32, call: &[Value]) -> Form {
     let alloc = by.alloc;
     let (before, count) = (open_form(alloc, open)?, open.tx.dones().len());
-    let answer = operation(by, open, called, r, call);
+    let answer = operation(by, &mut open.tx, called, r, call);
     let is_right = match &answer {
         Ok(value) if is_kept(called) => is_last(open.tx.dones(), count, r, value),
         _ => open_form(alloc, open)? == before,
@@ -156,7 +168,7 @@ fn operate<S: Subject>(
     by: By,
     stage: &mut Stage<S>,
     i: usize,
-    called: &[u8],
+    called: &str,
     call: &[Value],
 ) -> Answer {
     let Some(mut open) = taken(&mut stage.open, i) else {
@@ -164,7 +176,7 @@ fn operate<S: Subject>(
     };
     let r = ref_at(call, 1, stage.subject.extent().tally);
     let answer = match called {
-        b"send" => sent(by.alloc, &stage.subject, &mut open, call),
+        "send" => sent(by.alloc, &stage.subject, &mut open, call),
         _ => operated(by, &mut open, called, r, call),
     };
     put_back(&mut stage.open, i, open);
@@ -278,11 +290,11 @@ fn unwatch<S: Subject>(alloc: Global, subject: &mut S, who: Who, call: &[Value])
 
 // `[0 [1 2] [3]]`: the base's point, and the values of its refs and of its atoms.
 fn base_form(alloc: Global, base: &Base) -> Form {
-    let (refs, atoms) = (
-        values_form(alloc, &base.refs)?,
-        values_form(alloc, &base.atoms)?,
-    );
-    vector(alloc, vec![in alloc; number(base.point)?, refs, atoms]?)
+    let mut parts = Vec::new(alloc);
+    parts.push(number(base.point)?)?;
+    parts.push(values_form(alloc, &base.refs)?)?;
+    parts.push(values_form(alloc, &base.atoms)?)?;
+    vector(alloc, parts)
 }
 
 // The answer of an operation of an entry, both counted from 1, where the entry is a commit with the stamp of each.
@@ -297,30 +309,38 @@ fn kept_answer(alloc: Global, log: &[Entry], call: &[Value]) -> Form {
     }
 }
 
-fn tell<S: Subject>(by: By, subject: &S, called: &[u8], call: &[Value]) -> Form {
+fn tally_form(alloc: Global, tally: Option<u32>) -> Form {
+    match tally {
+        Some(r) => name(alloc, Who::Ref(r)),
+        None => word(alloc, "none"),
+    }
+}
+
+// What is told of a whole subject.
+fn tell<S: Subject>(by: By, subject: &S, called: &str, call: &[Value]) -> Form {
     let (alloc, extent) = (by.alloc, subject.extent());
-    let who = who_of(word_at(call, 1), extent.tally);
-    match called {
-        b"now" => Ok(subject.look(alloc, who)?.value),
-        b"rule" => Ok(subject.look(alloc, who)?.rule),
-        b"changed" => Ok(subject.look(alloc, who)?.changed),
-        b"error" => Ok(subject.look(alloc, who)?.error),
-        b"account" => Ok(subject.look(alloc, who)?.account),
-        b"refs" => number(extent.refs as u64),
-        b"atoms" => number(extent.atoms as u64),
-        b"agents" => number(extent.agents as u64),
-        b"tally" => match extent.tally {
-            Some(r) => name(alloc, Who::Ref(r)),
-            None => word(alloc, "none"),
-        },
-        b"entries" => number(extent.entries as u64),
-        b"point" => number(extent.point),
-        b"served" => truth(subject.served_by(by)),
-        _ => match (subject.log(), called) {
-            (Some((base, _)), b"base") => base_form(alloc, base),
-            (Some((_, log)), b"kept") => kept_answer(alloc, log, call),
-            _ => word(alloc, "no-such-call"),
-        },
+    if let Some(n) = extent.number(called) {
+        return number(n);
+    }
+    match (called, subject.log()) {
+        ("tally", _) => tally_form(alloc, extent.tally),
+        ("served", _) => truth(subject.served_by(by)),
+        ("base", Some((base, _))) => base_form(alloc, base),
+        ("kept", Some((_, log))) => kept_answer(alloc, log, call),
+        _ => word(alloc, "no-such-call"),
+    }
+}
+
+// What is told of a reference, if the call is about one.
+fn look<S: Subject>(
+    alloc: Global,
+    subject: &S,
+    who: Who,
+    called: &str,
+) -> Result<Option<Value>, AllocError> {
+    match subject.look(alloc, who)?.part(called) {
+        Some(part) => Ok(Some(part.share()?)),
+        None => Ok(None),
     }
 }
 
@@ -344,24 +364,42 @@ fn set_point<S: Subject>(alloc: Global, subject: &mut S, point: u64) -> Answer {
     }
 }
 
-fn subject_answer<S: Subject>(by: By, subject: &mut S, called: &[u8], call: &[Value]) -> Answer {
-    let alloc = by.alloc;
+// What a call shows, which leaves the subject.
+fn shown<S: Subject>(by: By, subject: &S, who: Who, called: &str, call: &[Value]) -> Answer {
+    match look(by.alloc, subject, who, called)? {
+        Some(part) => left(part),
+        None => left(tell(by, subject, called, call)?),
+    }
+}
+
+// What a call on a reference of any kind answers.
+fn reference_answer<S: Subject>(
+    by: By,
+    subject: &mut S,
+    who: Who,
+    called: &str,
+    call: &[Value],
+) -> Answer {
+    match called {
+        "validate" => validate(by, subject, who, call),
+        "watch" => watch(by.alloc, subject, who, call),
+        "unwatch" => unwatch(by.alloc, subject, who, call),
+        _ => shown(by, subject, who, called, call),
+    }
+}
+
+fn subject_answer<S: Subject>(by: By, subject: &mut S, called: &str, call: &[Value]) -> Answer {
     let who = who_of(word_at(call, 1), subject.extent().tally);
     match called {
-        b"swap" => swap(by, subject, call),
-        b"reset" => reset(by, subject, call),
-        b"cas" => cas(by, subject, call),
-        b"make-ref" => make(by, subject, Kind::Ref, call),
-        b"make-atom" => make(by, subject, Kind::Atom, call),
-        b"make-agent" => make(by, subject, Kind::Agent, call),
-        b"validate" => validate(by, subject, who, call),
-        b"watch" => watch(alloc, subject, who, call),
-        b"unwatch" => unwatch(alloc, subject, who, call),
-        b"at" => set_point(alloc, subject, number_at(call, 1)),
-        _ => match agents_answer(by, subject, called, call)? {
-            Some(told) => Ok(told),
-            None => left(tell(by, subject, called, call)?),
-        },
+        "swap" => swap(by, subject, call),
+        "reset" => reset(by, subject, call),
+        "cas" => cas(by, subject, call),
+        "make-ref" => make(by, subject, Kind::Ref, call),
+        "make-atom" => make(by, subject, Kind::Atom, call),
+        "make-agent" => make(by, subject, Kind::Agent, call),
+        "at" => set_point(by.alloc, subject, number_at(call, 1)),
+        _ if is_of_agents(called) => agents_answer(by, subject, called, call),
+        _ => reference_answer(by, subject, who, called, call),
     }
 }
 
@@ -376,9 +414,9 @@ pub(crate) fn answer<S: Subject>(tables: &Tables, stage: &mut Stage<S>, call: &[
     }
     let (called, by) = tables.chosen(word_at(call, 0));
     match called {
-        b"begin" => begin(by.alloc, stage, call),
-        b"commit" => commit(by, stage, call),
-        b"other" => other(by, stage, rest),
+        "begin" => begin(by.alloc, stage, call),
+        "commit" => commit(by, stage, call),
+        "other" => other(by, stage, rest),
         _ => subject_answer(by, &mut stage.subject, called, call),
     }
 }

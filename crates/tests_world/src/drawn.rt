@@ -4,7 +4,7 @@ use crate::calls::{Stage, put_back, taken};
 use crate::forms::{args_from, read};
 use crate::rows::{is_replayed, no_open, starts_of};
 use crate::subjects::{By, Open, STAMP, Subject};
-use crate::tables::fill;
+use crate::tables::table_of;
 use crate::whole::Whole;
 use ref_edn::{Node, Value};
 use ref_fun::{Cause, Core, FunTable};
@@ -106,26 +106,58 @@ fn agrees(by: By, base: &Base, tx: &Tx<Core>) -> Result<bool, AllocError> {
     Ok(state.refs.len() == 4)
 }
 
-#[test]
-fn in_transaction_values_are_replayed(rt: HostRuntime) -> Result<(), Fail> {
-    let alloc = rt.alloc();
-    let mut funs = FunTable::empty(alloc);
-    fill(alloc, &mut funs, &[1, 2], &[])?;
+// How many operations of drawn transactions were kept and refused.
+#[derive(Clone, Copy, Debug, Drop)]
+struct Counts {
+    recorded: usize,
+    refused: usize,
+}
+
+// Draws a transaction and counts its operations. Says whether the slow replay gives its values.
+fn is_one_replayed(
+    by: By,
+    base: &Base,
+    seed: &mut u64,
+    counts: &mut Counts,
+) -> Result<bool, AllocError> {
+    let mut tx: Tx<Core> = Tx::start(by.alloc, 0, base.refs.share()?, base.tally);
+    let refused = operate_often(by, &mut tx, seed)?;
+    counts.refused = counts.refused.saturating_add(refused);
+    counts.recorded = counts.recorded.saturating_add(tx.dones().len());
+    agrees(by, base, &tx)
+}
+
+// Counts the operations of 1,000 drawn transactions; none where the slow replay of one disagrees.
+fn drawn_counts(by: By, base: &Base) -> Result<Option<Counts>, AllocError> {
+    let mut seed: u64 = 20;
+    let mut counts = Counts {
+        recorded: 0,
+        refused: 0,
+    };
+    for _ in 0..1000 {
+        if !is_one_replayed(by, base, &mut seed, &mut counts)? {
+            return Ok(None);
+        }
+    }
+    Ok(Some(counts))
+}
+
+fn counts_in_a_world(alloc: Global) -> Result<Option<Counts>, AllocError> {
+    let funs = table_of(alloc, &[1, 2], &[])?;
     let by = By { alloc, funs: &funs };
     let world: Whole = subject_of(by, STARTS)?;
-    let (base, _) = world.log().ok_or("no log")?;
-    let mut seed: u64 = 20;
-    let mut recorded: usize = 0;
-    let mut refused: usize = 0;
-    for i in 0..1000 {
-        let mut tx: Tx<Core> = Tx::start(alloc, 0, base.refs.share()?, base.tally);
-        refused = refused.saturating_add(operate_often(by, &mut tx, &mut seed)?);
-        recorded = recorded.saturating_add(tx.dones().len());
-        assert!(rt; agrees(by, base, &tx)?, "transaction {i}");
+    match world.log() {
+        Some((base, _)) => drawn_counts(by, base),
+        None => Ok(None),
     }
+}
+
+#[test]
+fn in_transaction_values_are_replayed(rt: HostRuntime) -> Result<(), Fail> {
+    let counts = counts_in_a_world(rt.alloc())?.ok_or("a transaction isn't replayed")?;
     // Enough of both was drawn.
-    assert!(rt; recorded > 2000, "{recorded} operations");
-    assert!(rt; refused > 500, "{refused} refusals");
+    assert!(rt; counts.recorded > 2000, "{counts:?}");
+    assert!(rt; counts.refused > 500, "{counts:?}");
     Ok(())
 }
 
@@ -204,8 +236,7 @@ fn interleave<S: Subject>(
 
 // What comes of 2,000 interleavings; none where the slow replay of one disagrees.
 fn counted<S: Subject>(alloc: Global) -> Result<Option<Outcomes>, AllocError> {
-    let mut funs = FunTable::empty(alloc);
-    fill(alloc, &mut funs, &[1, 2], &[])?;
+    let funs = table_of(alloc, &[1, 2], &[])?;
     let by = By { alloc, funs: &funs };
     let mut seed: u64 = 30;
     let mut outcomes = NOTHING;

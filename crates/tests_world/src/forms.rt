@@ -10,40 +10,50 @@ use std::alloc::{AllocError, Global};
 /// The number of a reference that isn't there.
 const NOWHERE: u32 = 99;
 
-/// The reference that a name names.
-pub(crate) fn who_of(name: &[u8], tally: Option<u32>) -> Who {
-    match name {
-        b"a" => Who::Ref(0),
-        b"b" => Who::Ref(1),
-        b"c" => Who::Ref(2),
-        b"d" => Who::Ref(3),
-        b"e" => Who::Ref(4),
-        b"t" => Who::Ref(tally.unwrap_or(NOWHERE)),
-        b"x" => Who::Atom(0),
-        b"y" => Who::Atom(1),
-        b"z" => Who::Atom(2),
-        b"g" => Who::Agent(0),
-        b"h" => Who::Agent(1),
-        b"i" => Who::Agent(2),
-        _ => Who::Ref(NOWHERE),
+const NAMES: &[(&str, Who)] = &[
+    ("a", Who::Ref(0)),
+    ("b", Who::Ref(1)),
+    ("c", Who::Ref(2)),
+    ("d", Who::Ref(3)),
+    ("e", Who::Ref(4)),
+    ("x", Who::Atom(0)),
+    ("y", Who::Atom(1)),
+    ("z", Who::Atom(2)),
+    ("g", Who::Agent(0)),
+    ("h", Who::Agent(1)),
+    ("i", Who::Agent(2)),
+];
+
+/// The reference that a name names. That of the tally is `t`.
+pub(crate) fn who_of(name: &str, tally: Option<u32>) -> Who {
+    if name == "t" {
+        return Who::Ref(tally.unwrap_or(NOWHERE));
     }
+    for (known, who) in NAMES {
+        if *known == name {
+            return *who;
+        }
+    }
+    Who::Ref(NOWHERE)
 }
 
 /// The name of a reference in an answer, where a tally has that of its number.
 pub(crate) fn name_of(who: Who) -> &'static str {
-    match who {
-        Who::Ref(0) => "a",
-        Who::Ref(1) => "b",
-        Who::Ref(2) => "c",
-        Who::Ref(3) => "d",
-        Who::Ref(4) => "e",
-        Who::Atom(0) => "x",
-        Who::Atom(1) => "y",
-        Who::Atom(2) => "z",
-        Who::Agent(0) => "g",
-        Who::Agent(1) => "h",
-        Who::Agent(2) => "i",
-        _ => "nameless",
+    for (name, known) in NAMES {
+        if *known == who {
+            return name;
+        }
+    }
+    "nameless"
+}
+
+/// The row that a line of a table has. A line that begins with `//` is a remark.
+pub(crate) fn row_of(line: &str) -> Option<&str> {
+    let row = line.trim();
+    if row.is_empty() || row.starts_with("//") {
+        None
+    } else {
+        Some(row)
     }
 }
 
@@ -63,13 +73,13 @@ pub(crate) fn members(alloc: Global, form: &Value) -> Result<Vec<Value>, AllocEr
     Ok(all)
 }
 
-pub(crate) fn word_at(call: &[Value], i: usize) -> &[u8] {
+pub(crate) fn word_at(call: &[Value], i: usize) -> &str {
     match call.get(i) {
         Some(value) => match value.node() {
-            Node::Symbol(name) => name.as_bytes(),
-            _ => b"",
+            Node::Symbol(name) => name.as_str(),
+            _ => "",
         },
-        None => b"",
+        None => "",
     }
 }
 
@@ -116,7 +126,7 @@ pub(crate) fn agent_at(call: &[Value], i: usize) -> u32 {
 pub(crate) fn code_at(call: &[Value], i: usize) -> u32 {
     match u32::try_from(number_at(call, i)) {
         Ok(code) => code,
-        Err(_) => code_of(word_at(call, i)).unwrap_or(0),
+        Err(_) => code_of(word_at(call, i).as_bytes()).unwrap_or(0),
     }
 }
 
@@ -165,33 +175,35 @@ pub(crate) struct Start {
     pub(crate) mode: ErrorMode,
 }
 
+// The value and the rule that stand behind a word.
+fn ruled_start(alloc: Global, parts: &[Value], mode: ErrorMode) -> Result<Start, AllocError> {
+    Ok(Start {
+        value: value_at(parts, 1)?,
+        rule: rule_at(alloc, parts, 2)?,
+        tally: false,
+        mode,
+    })
+}
+
 /// A value, `[tally VALUE]`, `[rule VALUE [>= 0]]`, or of an agent `[continue VALUE [>= 0]]`.
 pub(crate) fn start_of(alloc: Global, form: &Value) -> Result<Start, AllocError> {
     let parts = members(alloc, form)?;
-    let (tally, mode) = match word_at(&parts, 0) {
-        b"tally" => (true, ErrorMode::Fail),
-        b"rule" => (false, ErrorMode::Fail),
-        b"continue" => (false, ErrorMode::Continue),
-        _ => {
-            return Ok(Start {
-                value: form.share()?,
-                rule: None,
-                tally: false,
-                mode: ErrorMode::Fail,
-            });
-        }
-    };
-    let rule = if tally {
-        None
-    } else {
-        rule_at(alloc, &parts, 2)?
-    };
-    Ok(Start {
-        value: value_at(&parts, 1)?,
-        rule,
-        tally,
-        mode,
-    })
+    match word_at(&parts, 0) {
+        "tally" => Ok(Start {
+            value: value_at(&parts, 1)?,
+            rule: None,
+            tally: true,
+            mode: ErrorMode::Fail,
+        }),
+        "rule" => ruled_start(alloc, &parts, ErrorMode::Fail),
+        "continue" => ruled_start(alloc, &parts, ErrorMode::Continue),
+        _ => Ok(Start {
+            value: form.share()?,
+            rule: None,
+            tally: false,
+            mode: ErrorMode::Fail,
+        }),
+    }
 }
 
 /// What the references of one kind start with, and of those that are left out none.

@@ -1,5 +1,5 @@
 //! The calls of a row on agents.
-use crate::calls::{Answer, Told, left, made, refused, settled, wrong};
+use crate::calls::{Answer, left, made, refused, settled, wrong};
 use crate::forms::{action_from, agent_at, number_at, read, value_at, word_at};
 use crate::rows::starts_of;
 use crate::subjects::{By, Subject};
@@ -8,7 +8,7 @@ use ref_agents::{ErrorMode, FinishFault, Finished, Job, Ran};
 use ref_edn::Value;
 use ref_fun::Core;
 use ref_log::Who;
-use std::alloc::{AllocError, Global};
+use std::alloc::Global;
 
 fn finished_form(alloc: Global, finished: &Finished) -> Form {
     let (how, error) = match finished {
@@ -97,37 +97,50 @@ fn stranger<S: Subject>(by: By, subject: &mut S, call: &[Value]) -> Answer {
 
 fn restart<S: Subject>(by: By, subject: &mut S, call: &[Value]) -> Answer {
     let (g, state) = (agent_at(call, 1), value_at(call, 2)?);
-    let clear = matches!(word_at(call, 3), b"clear");
+    let clear = matches!(word_at(call, 3), "clear");
     settled(by.alloc, subject.restart(by, g, state, clear))
 }
 
 fn set_mode<S: Subject>(alloc: Global, subject: &mut S, call: &[Value]) -> Answer {
     let mode = match word_at(call, 2) {
-        b"continue" => ErrorMode::Continue,
+        "continue" => ErrorMode::Continue,
         _ => ErrorMode::Fail,
     };
     settled(alloc, subject.set_error_mode(agent_at(call, 1), mode))
 }
 
-/// What a call on agents answers, if it is one.
+fn send<S: Subject>(alloc: Global, subject: &mut S, call: &[Value]) -> Answer {
+    let action = action_from(alloc, call, 2)?;
+    settled(alloc, subject.send(alloc, agent_at(call, 1), action))
+}
+
+fn release<S: Subject>(subject: &mut S, call: &[Value]) -> Answer {
+    made(truth(subject.release(number_at(call, 1)))?)
+}
+
+/// Whether a call is one on agents.
+pub(crate) fn is_of_agents(called: &str) -> bool {
+    matches!(
+        called,
+        "send" | "release" | "act" | "next" | "lose" | "stranger" | "restart" | "mode"
+    )
+}
+
+/// What a call on agents answers.
 pub(crate) fn agents_answer<S: Subject>(
     by: By,
     subject: &mut S,
-    called: &[u8],
+    called: &str,
     call: &[Value],
-) -> Result<Option<Told>, AllocError> {
-    let alloc = by.alloc;
-    let g = agent_at(call, 1);
-    let told = match called {
-        b"send" => settled(alloc, subject.send(alloc, g, action_from(alloc, call, 2)?)),
-        b"release" => made(truth(subject.release(number_at(call, 1)))?),
-        b"act" => act(by, subject),
-        b"next" => next(alloc, subject),
-        b"lose" => lose(alloc, subject),
-        b"stranger" => stranger(by, subject, call),
-        b"restart" => restart(by, subject, call),
-        b"mode" => set_mode(alloc, subject, call),
-        _ => return Ok(None),
-    };
-    Ok(Some(told?))
+) -> Answer {
+    match called {
+        "send" => send(by.alloc, subject, call),
+        "release" => release(subject, call),
+        "act" => act(by, subject),
+        "next" => next(by.alloc, subject),
+        "lose" => lose(by.alloc, subject),
+        "stranger" => stranger(by, subject, call),
+        "restart" => restart(by, subject, call),
+        _ => set_mode(by.alloc, subject, call),
+    }
 }

@@ -2,11 +2,10 @@
 ghost use Rattle.std.specs.Prelude.{◌≡◌, true};
 ghost use Rattle.ref_refs.specs.Seen.{are_unchanged_since};
 
-use crate::apart::Apart;
-use crate::forms::{read, rule_at};
-use crate::rows::first_wrong;
-use crate::tables::fill;
-use crate::words::form;
+use crate::forms::{number_at, read, rule_at};
+use crate::rows::check_apart;
+use crate::tables::table_of;
+use crate::words::{form, number, variant_form};
 use ref_agents::{AgentStore, ErrorMode};
 use ref_atoms::AtomStore;
 use ref_edn::{Node, Value};
@@ -69,41 +68,66 @@ fn atoms_of(
     Ok(Some(store))
 }
 
+// A point, a rule and the fault. A missing predicate is told before it is full, and the rule and the last point after.
+const FULL: &[&str] = &[
+    "0 nil :full",
+    "0 [<= 0] [:no-such-fun 102]",
+    "0 [>= 0] :full",
+    "4611686018427387905 nil :full",
+];
+
+// Whether a store refuses an atom as a row of `FULL` says.
+fn is_refused(
+    alloc: Global,
+    funs: &FunTable,
+    store: &mut AtomStore<Core>,
+    row: &str,
+) -> Result<bool, AllocError> {
+    let row = read(alloc, row)?;
+    let rule = rule_at(alloc, &row, 1)?;
+    match store.make(alloc, funs, number_at(&row, 0), form(alloc, "nil")?, rule) {
+        Ok(_) => Ok(false),
+        Err(fault) => Ok(row.last() == Some(&variant_form(alloc, &fault)?)),
+    }
+}
+
 #[test]
 fn a_full_store_takes_no_atom(rt: HostRuntime) -> Result<(), Fail> {
     let alloc = rt.alloc();
-    let mut funs = FunTable::empty(alloc);
-    fill(alloc, &mut funs, &[], &[101])?;
+    let funs = table_of(alloc, &[], &[101])?;
     let mut store = atoms_of(alloc, &funs, 1 << 20)?.ok_or("an atom wasn't made")?;
-    // A missing predicate is told before it, and the rule and the last point after.
-    let rows = [
-        (0, "nil", MakeFault::Full),
-        (0, "[<= 0]", MakeFault::NoSuchFun(102)),
-        (0, "[>= 0]", MakeFault::Full),
-        (4611686018427387905, "nil", MakeFault::Full),
-    ];
-    for (at, rule, fault) in rows {
-        let rule = rule_at(alloc, &read(alloc, rule)?, 0)?;
-        let told = store.make(alloc, &funs, at, form(alloc, "nil")?, rule);
-        assert_eq!(rt; told, Err(fault));
+    for row in FULL {
+        assert!(rt; is_refused(alloc, &funs, &mut store, row)?, "{row}");
         assert_eq!(rt; store.len(), 1048576);
     }
     Ok(())
 }
 
 #[test]
-fn stores_begin_empty(rt: HostRuntime) -> Result<(), Fail> {
+fn a_store_of_refs_begins_empty(rt: HostRuntime) -> Result<(), Fail> {
     let alloc = rt.alloc();
-    let funs = FunTable::empty(alloc);
     assert!(rt; RefStore::<Core>::empty(alloc).is_empty());
-    let refs = refs_of(alloc, &funs, 1)?.ok_or("a ref wasn't made")?;
+    let refs = refs_of(alloc, &FunTable::empty(alloc), 1)?.ok_or("a ref wasn't made")?;
     assert!(rt; !refs.store.is_empty());
+    Ok(())
+}
+
+#[test]
+fn a_store_of_atoms_begins_empty(rt: HostRuntime) -> Result<(), Fail> {
+    let alloc = rt.alloc();
     assert!(rt; AtomStore::<Core>::empty(alloc).is_empty());
-    let atoms = atoms_of(alloc, &funs, 1)?.ok_or("an atom wasn't made")?;
+    let atoms = atoms_of(alloc, &FunTable::empty(alloc), 1)?.ok_or("an atom wasn't made")?;
     assert!(rt; !atoms.is_empty());
+    Ok(())
+}
+
+#[test]
+fn a_store_of_agents_begins_empty(rt: HostRuntime) -> Result<(), Fail> {
+    let alloc = rt.alloc();
     let mut agents: AgentStore<Core> = AgentStore::empty(alloc);
     assert!(rt; agents.is_empty());
-    let made = agents.make(alloc, &funs, form(alloc, "7")?, None, ErrorMode::Fail);
+    let funs = FunTable::empty(alloc);
+    let made = agents.make(alloc, &funs, number(7)?, None, ErrorMode::Fail);
     assert_eq!(rt; made, Ok(0));
     assert!(rt; !agents.is_empty());
     Ok(())
@@ -113,26 +137,27 @@ fn stores_begin_empty(rt: HostRuntime) -> Result<(), Fail> {
 // 4611686018427387904 there is none, and a call is refused for that where nothing else refuses it before.
 #[test]
 fn points_end(rt: HostRuntime) -> Result<(), Fail> {
-    let rows = [
-        // Commits.
-        "[0] [] [] [begin 1 0] [1 alter a + 1 1] [at 4611686018427387904 :ok] [commit 1 :point-limit] [1 deref a 1] [now a 0] [at 4611686018427387903 :ok] [commit 1 4611686018427387904] [now a 1] [changed a 4611686018427387904]",
-        "[0] [] [] [begin 1 0] [1 commute a + 1 1] [other [9223372036854775807] :ok] [at 4611686018427387904 :ok] [commit 1 [:refused 0 :overflow]]",
-        "[[rule 0 [>= 0]]] [] [] [begin 1 0] [1 set a -1 -1] [begin 2 0] [2 set a 1 1] [at 4611686018427387904 :ok] [commit 1 [:invalid 0]] [commit 2 :point-limit]",
-        // Changes of atoms.
-        "[] [1] [] [at 4611686018427387904 :ok] [swap x + 1 :point-limit] [now x 1] [at 4611686018427387903 :ok] [swap x + 1 [1 2]]",
-        "[] [1] [] [at 4611686018427387904 :ok] [reset x 7 :point-limit] [now x 1] [at 4611686018427387903 :ok] [reset x 7 [1 7]]",
-        "[] [1] [] [at 4611686018427387904 :ok] [cas x 1 2 :point-limit] [now x 1] [cas x 9 2 false] [at 4611686018427387903 :ok] [cas x 1 2 true] [now x 2]",
-        "[] [1] [] [swap-by-fewer y - 1 :no-such-atom] [at 4611686018427387904 :ok] [swap y + 1 :no-such-atom] [cas y 1 1 :no-such-atom] [reset y 1 :no-such-atom]",
-        "[] [[rule :k [some?]]] [] [at 4611686018427387904 :ok] [swap-by-fewer x - 1 [:no-such-fun 2]] [swap-by-fewer x + 1 [:no-such-fun 109]] [swap x + 1 [:refused :wrong-kind]]",
-        "[] [[rule 1 [<= 5]]] [] [at 4611686018427387904 :ok] [reset-by-fewer x 9 [:no-such-fun 102]] [cas-by-fewer x 1 9 [:no-such-fun 102]]",
-        "[] [[rule 9223372036854775807 [>= 0]]] [] [at 4611686018427387904 :ok] [swap x + 1 [:refused :overflow]]",
-        "[] [[rule 1 [<= 5]]] [] [at 4611686018427387904 :ok] [swap x + 5 :invalid] [reset x 6 :invalid] [cas x 1 6 :invalid] [cas x 9 6 :invalid] [now x 1]",
-        // Makings.
-        "[0] [] [] [at 4611686018427387904 :ok] [make-ref 0 :point-limit] [refs 1] [make-ref [tally -1] :bad-tally] [make-ref [tally 0] :point-limit] [tally :none] [at 4611686018427387903 :ok] [make-ref 0 b] [refs 2] [changed b 4611686018427387904]",
-        "[[rule 5 [<= 5]]] [] [] [at 4611686018427387904 :ok] [make-ref [rule 6 [<= 5]] :invalid] [make-ref [rule 5 [<= 5]] :point-limit] [refs 1]",
-        "[] [] [] [at 4611686018427387904 :ok] [make-atom 0 :point-limit] [make-atom [rule 6 [<= 5]] :invalid] [make-atom [rule 5 [<= 5]] :point-limit] [make-atom-by-fewer [rule 5 [<= 5]] [:no-such-fun 102]] [atoms 0] [at 4611686018427387903 :ok] [make-atom 0 x] [atoms 1]",
-    ];
-    let wrong = first_wrong::<Apart>(rt.alloc(), "", &rows)?;
-    assert!(rt; wrong.is_none(), "{wrong:?}");
-    Ok(())
+    check_apart(
+        &rt,
+        "",
+        r##"
+            // Commits.
+            [0] [] [] [begin 1 0] [1 alter a + 1 1] [at 4611686018427387904 :ok] [commit 1 :point-limit] [1 deref a 1] [now a 0] [at 4611686018427387903 :ok] [commit 1 4611686018427387904] [now a 1] [changed a 4611686018427387904]
+            [0] [] [] [begin 1 0] [1 commute a + 1 1] [other [9223372036854775807] :ok] [at 4611686018427387904 :ok] [commit 1 [:refused 0 :overflow]]
+            [[rule 0 [>= 0]]] [] [] [begin 1 0] [1 set a -1 -1] [begin 2 0] [2 set a 1 1] [at 4611686018427387904 :ok] [commit 1 [:invalid 0]] [commit 2 :point-limit]
+            // Changes of atoms.
+            [] [1] [] [at 4611686018427387904 :ok] [swap x + 1 :point-limit] [now x 1] [at 4611686018427387903 :ok] [swap x + 1 [1 2]]
+            [] [1] [] [at 4611686018427387904 :ok] [reset x 7 :point-limit] [now x 1] [at 4611686018427387903 :ok] [reset x 7 [1 7]]
+            [] [1] [] [at 4611686018427387904 :ok] [cas x 1 2 :point-limit] [now x 1] [cas x 9 2 false] [at 4611686018427387903 :ok] [cas x 1 2 true] [now x 2]
+            [] [1] [] [swap-by-fewer y - 1 :no-such-atom] [at 4611686018427387904 :ok] [swap y + 1 :no-such-atom] [cas y 1 1 :no-such-atom] [reset y 1 :no-such-atom]
+            [] [[rule :k [some?]]] [] [at 4611686018427387904 :ok] [swap-by-fewer x - 1 [:no-such-fun 2]] [swap-by-fewer x + 1 [:no-such-fun 109]] [swap x + 1 [:refused :wrong-kind]]
+            [] [[rule 1 [<= 5]]] [] [at 4611686018427387904 :ok] [reset-by-fewer x 9 [:no-such-fun 102]] [cas-by-fewer x 1 9 [:no-such-fun 102]]
+            [] [[rule 9223372036854775807 [>= 0]]] [] [at 4611686018427387904 :ok] [swap x + 1 [:refused :overflow]]
+            [] [[rule 1 [<= 5]]] [] [at 4611686018427387904 :ok] [swap x + 5 :invalid] [reset x 6 :invalid] [cas x 1 6 :invalid] [cas x 9 6 :invalid] [now x 1]
+            // Makings.
+            [0] [] [] [at 4611686018427387904 :ok] [make-ref 0 :point-limit] [refs 1] [make-ref [tally -1] :bad-tally] [make-ref [tally 0] :point-limit] [tally :none] [at 4611686018427387903 :ok] [make-ref 0 b] [refs 2] [changed b 4611686018427387904]
+            [[rule 5 [<= 5]]] [] [] [at 4611686018427387904 :ok] [make-ref [rule 6 [<= 5]] :invalid] [make-ref [rule 5 [<= 5]] :point-limit] [refs 1]
+            [] [] [] [at 4611686018427387904 :ok] [make-atom 0 :point-limit] [make-atom [rule 6 [<= 5]] :invalid] [make-atom [rule 5 [<= 5]] :point-limit] [make-atom-by-fewer [rule 5 [<= 5]] [:no-such-fun 102]] [atoms 0] [at 4611686018427387903 :ok] [make-atom 0 x] [atoms 1]
+        "##,
+    )
 }

@@ -1,5 +1,6 @@
 //! What the stores are made with: shared lists, watches, and changes that are prepared before they are installed.
-use crate::words::{form, number};
+use crate::forms::{members, read, value_at};
+use crate::words::number;
 use ref_atoms::AtomStore;
 use ref_edn::Value;
 use ref_fun::{Core, FunTable};
@@ -27,83 +28,131 @@ fn a_list_is_shared(rt: HostRuntime) -> Result<(), Fail> {
     Ok(())
 }
 
-// The keys of notices, where each says that atom 4 was 5 and is 6.
-fn told(alloc: Global, watches: &Watches) -> Result<Vec<Value>, AllocError> {
-    let (before, after) = (number(5)?, number(6)?);
-    let mut all: Vec<Notice> = Vec::new(alloc);
-    watches.tell(Who::Atom(4), &before, &after, &mut all)?;
+// The keys of notices, where each says that atom 4 was and is these.
+fn keys_of(
+    alloc: Global,
+    notices: &[Notice],
+    before: &Value,
+    after: &Value,
+) -> Result<Vec<Value>, AllocError> {
     let mut keys = Vec::new(alloc);
-    for notice in all {
-        if notice.who == Who::Atom(4) && notice.before == before && notice.after == after {
-            keys.push(notice.key)?;
+    for notice in notices {
+        if notice.who == Who::Atom(4) && notice.before == *before && notice.after == *after {
+            keys.push(notice.key.share()?)?;
         }
     }
     Ok(keys)
 }
 
-fn numbers(alloc: Global, all: &[u64]) -> Result<Vec<Value>, AllocError> {
-    let mut values = Vec::new(alloc);
-    for n in all {
-        values.push(number(*n)?)?;
+// Whether these keys, and no others, are told of atom 4.
+fn are_told(alloc: Global, watches: &Watches, keys: &[Value]) -> Result<bool, AllocError> {
+    let (before, after) = (number(5)?, number(6)?);
+    let mut notices: Vec<Notice> = Vec::new(alloc);
+    watches.tell(Who::Atom(4), &before, &after, &mut notices)?;
+    let told = keys_of(alloc, &notices, &before, &after)?;
+    Ok(notices.len() == keys.len() && *told.as_slice() == *keys)
+}
+
+// Whether each of these keys is there, or none.
+fn have_all(watches: &Watches, keys: &[Value], wanted: bool) -> bool {
+    for key in keys {
+        if watches.has(key) != wanted {
+            return false;
+        }
     }
-    Ok(values)
+    true
+}
+
+// Whether watches are told in the order of a row's keys, have these, and don't have the others that it names.
+fn are_as(alloc: Global, watches: &Watches, row: &[Value]) -> Result<bool, AllocError> {
+    let keys = members(alloc, &value_at(row, 1)?)?;
+    let others = members(alloc, &value_at(row, 2)?)?;
+    Ok(
+        are_told(alloc, watches, &keys)?
+            && have_all(watches, &keys, true)
+            && have_all(watches, &others, false),
+    )
+}
+
+fn three_watches(alloc: Global) -> Result<Option<Watches>, AllocError> {
+    let mut watches = Watches::empty(alloc);
+    for key in read(alloc, "3 1 2")? {
+        if watches.has(&key) {
+            return Ok(None);
+        }
+        watches.add(key)?;
+    }
+    Ok(Some(watches))
+}
+
+// What is taken away, the keys then, and those that aren't there.
+const ROWS: &[&str] = &[
+    "[] [3 1 2] [0 4]",
+    "[4] [3 1 2] [0 4]",
+    "[1] [3 2] [1]",
+    "[2] [3] [1 2]",
+    "[3] [] [1 2 3]",
+];
+
+// Takes away what a row says. Says whether the watches are as it says then.
+fn is_right(alloc: Global, watches: &mut Watches, row: &str) -> Result<bool, AllocError> {
+    let row = read(alloc, row)?;
+    for key in members(alloc, &value_at(&row, 0)?)? {
+        watches.remove(&key);
+    }
+    are_as(alloc, watches, &row)
 }
 
 #[test]
 fn watches_are_told_in_the_order_of_adding(rt: HostRuntime) -> Result<(), Fail> {
     let alloc = rt.alloc();
-    let mut watches = Watches::empty(alloc);
-    for key in numbers(alloc, &[3, 1, 2])? {
-        assert!(rt; !watches.has(&key));
-        watches.add(key)?;
-    }
-    // What is taken away, the keys then, and those that aren't there.
-    let rows: [(Option<u64>, &[u64], &[u64]); 5] = [
-        (None, &[3, 1, 2], &[0, 4]),
-        (Some(4), &[3, 1, 2], &[0, 4]),
-        (Some(1), &[3, 2], &[1]),
-        (Some(2), &[3], &[1, 2]),
-        (Some(3), &[], &[1, 2, 3]),
-    ];
-    for (away, left, others) in rows {
-        if let Some(key) = away {
-            watches.remove(&number(key)?);
-        }
-        let (left, others) = (numbers(alloc, left)?, numbers(alloc, others)?);
-        assert!(rt;
-            told(alloc, &watches)?.as_slice() == left.as_slice(),
-            "{away:?}"
-        );
-        for key in left {
-            assert!(rt; watches.has(&key), "{away:?}");
-        }
-        for key in others {
-            assert!(rt; !watches.has(&key), "{away:?}");
-        }
+    let mut watches = three_watches(alloc)?.ok_or("a key was there")?;
+    for row in ROWS {
+        assert!(rt; is_right(alloc, &mut watches, row)?, "{row}");
     }
     Ok(())
 }
 
-// A change that is prepared leaves the atom as it is, until it is installed.
+// A store with one atom, which is 1.
+fn one_atom(alloc: Global, funs: &FunTable) -> Result<AtomStore<Core>, AllocError> {
+    let mut store: AtomStore<Core> = AtomStore::empty(alloc);
+    match store.make(alloc, funs, 0, number(1)?, None) {
+        Ok(_) => Ok(store),
+        Err(_) => Err(AllocError),
+    }
+}
+
+fn is_set(entry: &Entry, wanted: &Value) -> bool {
+    match entry {
+        Entry::Atom(0, Op::Set(_), answer) => answer == wanted,
+        _ => false,
+    }
+}
+
+// Whether a change that is prepared leaves the atom as it is, until it is installed.
+fn is_installed(
+    alloc: Global,
+    funs: &FunTable,
+    store: &mut AtomStore<Core>,
+    before: &Value,
+    after: &Value,
+) -> Result<bool, AllocError> {
+    let Ok(change) = store.prepare(alloc, funs, 1, 0, Op::Set(after.share()?)) else {
+        return Ok(false);
+    };
+    let is_prepared = store.value_of(0) == Some(before) && is_set(&change.entry, after);
+    store.install(0, change.value);
+    Ok(is_prepared && store.value_of(0) == Some(after))
+}
+
 #[test]
 fn a_prepared_change_is_installed(rt: HostRuntime) -> Result<(), Fail> {
     let alloc = rt.alloc();
     let funs = FunTable::empty(alloc);
-    let mut store: AtomStore<Core> = AtomStore::empty(alloc);
-    assert!(rt; store.make(alloc, &funs, 0, form(alloc, "1")?, None).is_ok());
-    let (one, two) = (form(alloc, "1")?, form(alloc, "2")?);
-    match store.prepare(alloc, &funs, 1, 0, Op::Set(two.share()?)) {
-        Ok(change) => {
-            assert!(rt; store.value_of(0) == Some(&one));
-            assert!(rt;
-                matches!(&change.entry, Entry::Atom(0, Op::Set(_), answer) if *answer == two)
-            );
-            store.install(0, change.value);
-            assert!(rt; store.value_of(0) == Some(&two));
-        }
-        Err(fault) => assert!(rt; false, "{fault}"),
-    }
-    match store.prepare_compare(alloc, &funs, 2, 0, &one, two.share()?) {
+    let mut store = one_atom(alloc, &funs)?;
+    let (one, two) = (number(1)?, number(2)?);
+    assert!(rt; is_installed(alloc, &funs, &mut store, &one, &two)?);
+    match store.prepare_compare(alloc, &funs, 2, 0, &one, two) {
         Ok(change) => assert!(rt; change.is_none()),
         Err(fault) => assert!(rt; false, "{fault}"),
     }

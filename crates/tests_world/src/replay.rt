@@ -1,20 +1,21 @@
 //! The slow replay, on logs by hand.
 //!
-//! A row has entries, and last what their replay gives: the values of the refs and of the atoms, or the fault. The base has the
-//! refs a, 0, and b, 10, and the atom x, 1. An operation ends with the answer that is kept.
+//! A row has the point of the base, entries, and last what their replay gives: the values of the refs and of the atoms, or the
+//! fault. The base has the refs a, 0, and b, 10, and the atom x, 1. An operation ends with the answer that is kept.
 ghost use Rattle.std.specs.Prelude.{◌≡◌, IfOk};
 
 use crate::forms::{
-    args_from, atom_at, code_at, members, number_at, read, ref_at, value_at, word_at,
+    args_from, atom_at, code_at, members, number_at, read, ref_at, row_of, value_at, word_at,
 };
-use crate::tables::fill;
-use crate::words::{values_form, variant_form, vector};
+use crate::tables::table_of;
+use crate::words::{Form, values_form, variant_form, vector};
 use ref_edn::Value;
 use ref_fun::FunTable;
 use ref_log::{
     AuditFault, Base, Done, Entry, Op, PlainState, SharedVec, Stamp, Transaction, replay_plain,
 };
 use std::alloc::{AllocError, Global};
+use std::process::Abort;
 use std::test::Fail;
 
 // `[a + 5 5]`: an `alter`. Its ref may be a number.
@@ -49,14 +50,14 @@ fn entry_of(alloc: Global, form: &Value) -> Result<Entry, AllocError> {
     };
     let answer = answer.share()?;
     match word_at(&parts, 0) {
-        b"commit" => Ok(Entry::Trans(transaction_of(alloc, dones)?)),
-        b"swap" => {
+        "commit" => Ok(Entry::Trans(transaction_of(alloc, dones)?)),
+        "swap" => {
             let swap = Op::Alter(code_at(op, 2), args_from(alloc, op, 3)?);
             Ok(Entry::Atom(atom_at(op, 1), swap, answer))
         }
-        b"reset" => Ok(Entry::Atom(atom_at(op, 1), Op::Set(value_at(op, 2)?), answer)),
-        b"ref" => Ok(Entry::MadeRef(answer)),
-        b"atom" => Ok(Entry::MadeAtom(answer)),
+        "reset" => Ok(Entry::Atom(atom_at(op, 1), Op::Set(value_at(op, 2)?), answer)),
+        "ref" => Ok(Entry::MadeRef(answer)),
+        "atom" => Ok(Entry::MadeAtom(answer)),
         _ => Err(AllocError),
     }
 }
@@ -88,93 +89,103 @@ fn answer_form(alloc: Global, answer: Result<PlainState, AuditFault>) -> Result<
     }
 }
 
-// Whether the replay on a base at this point gives what is wanted. The table has `+` and `inc` alone.
-fn is_right(alloc: Global, point: u32, row: &str) -> Result<bool, AllocError> {
-    let mut funs = FunTable::empty(alloc);
-    fill(alloc, &mut funs, &[1, 3], &[])?;
-    let forms = read(alloc, row)?;
-    let Some((wanted, forms)) = forms.split_last() else {
-        return Ok(false);
-    };
+fn entries_of(alloc: Global, forms: &[Value]) -> Result<Vec<Entry>, AllocError> {
     let mut entries = Vec::new(alloc);
     for form in forms {
         entries.push(entry_of(alloc, form)?)?;
     }
-    let base = base_of(alloc, point)?;
-    Ok(answer_form(alloc, replay_plain(alloc, &funs, &base, &entries))? == *wanted)
+    Ok(entries)
 }
 
-#[test]
-fn a_log_ends_with_its_values(rt: HostRuntime) -> Result<(), Fail> {
-    let rows = [
-        "[[0 10] [1]]",
-        "[commit] [commit] [[0 10] [1]]",
-        "[commit [a + 5 5]] [commit [a + 1 6]] [[6 10] [1]]",
-        "[commit [a + 5 5] [a + 1 6]] [[6 10] [1]]",
-        "[commit [b + -4 6] [a + 2 2]] [commit [b + 1 7]] [[2 7] [1]]",
-        "[swap x + 1 2] [[0 10] [2]]",
-        "[swap x + 1 2] [swap x + 3 5] [[0 10] [5]]",
-        "[reset x 7 7] [[0 10] [7]]",
-        // What is made gets the next number of its kind.
-        "[ref 4] [atom 5] [[0 10 4] [1 5]]",
-        "[ref 4] [commit [c + 1 5]] [[0 10 5] [1]]",
-        "[atom 4] [reset y 6 6] [[0 10] [1 6]]",
-        "[commit [a + 5 5]] [atom 3] [swap y + 1 4] [ref 9] [commit [c + 5 14]] [[5 10 14] [1 4]]",
-    ];
-    for row in rows {
-        for point in [0, 7] {
-            assert!(rt; is_right(rt.alloc(), point, row)?, "{point}: {row}");
+// What the replay of these entries gives on a base at this point. The table has `+` and `inc` alone.
+fn replayed(alloc: Global, point: u32, entries: &[Entry]) -> Form {
+    let funs = table_of(alloc, &[1, 3], &[])?;
+    let base = base_of(alloc, point)?;
+    answer_form(alloc, replay_plain(alloc, &funs, &base, entries))
+}
+
+// Whether the replay gives what a row wants, on a base at the point that it begins with.
+fn is_right(alloc: Global, row: &str) -> Result<bool, AllocError> {
+    let row = read(alloc, row)?;
+    let (Some((wanted, forms)), Ok(point)) = (row.split_last(), u32::try_from(number_at(&row, 0)))
+    else {
+        return Ok(false);
+    };
+    let entries = entries_of(alloc, forms.get(1..).unwrap_or(&[]))?;
+    Ok(replayed(alloc, point, &entries)? == *wanted)
+}
+
+// Each row of a table is right, where this stands before it.
+fn check(rt: &(impl Abort + AllocGlobal), front: &str, table: &str) -> Result<(), Fail> {
+    for line in table.lines() {
+        if let Some(row) = row_of(line) {
+            let row = format!(in rt.alloc(); "{front} {row}")?;
+            assert!(rt; is_right(rt.alloc(), &row)?, "{row}");
         }
     }
     Ok(())
 }
 
+const VALUES: &str = "
+    [[0 10] [1]]
+    [commit] [commit] [[0 10] [1]]
+    [commit [a + 5 5]] [commit [a + 1 6]] [[6 10] [1]]
+    [commit [a + 5 5] [a + 1 6]] [[6 10] [1]]
+    [commit [b + -4 6] [a + 2 2]] [commit [b + 1 7]] [[2 7] [1]]
+    [swap x + 1 2] [[0 10] [2]]
+    [swap x + 1 2] [swap x + 3 5] [[0 10] [5]]
+    [reset x 7 7] [[0 10] [7]]
+    // What is made gets the next number of its kind.
+    [ref 4] [atom 5] [[0 10 4] [1 5]]
+    [ref 4] [commit [c + 1 5]] [[0 10 5] [1]]
+    [atom 4] [reset y 6 6] [[0 10] [1 6]]
+    [commit [a + 5 5]] [atom 3] [swap y + 1 4] [ref 9] [commit [c + 5 14]] [[5 10 14] [1 4]]
+";
+
+#[test]
+fn a_log_ends_with_its_values(rt: HostRuntime) -> Result<(), Fail> {
+    check(&rt, "0", VALUES)?;
+    check(&rt, "7", VALUES)
+}
+
+const FAULTS: &str = "
+    // A kept answer that isn't the sum.
+    0 [commit [a + 5 6]] [:answer 1]
+    0 [commit [a + 5 5]] [commit [a + 1 1]] [:answer 2]
+    // A sum that no i64 holds, and `inc` with an argument.
+    0 [commit [a + 5 5] [a + 9223372036854775807 0]] [:refuses 1]
+    0 [commit] [commit [a inc 5 5]] [:refuses 2]
+    // A ref that isn't there, where the function would refuse, or isn't there as well.
+    0 [commit [c inc 5 5]] [:no-such 1]
+    0 [commit] [commit [4294967295 - 5 5]] [:no-such 2]
+    // A function that isn't there, where it would give the answer, or none means anything by its code.
+    0 [commit] [commit [a - 5 -5]] [:no-such-fun 2]
+    0 [commit [a 11 5 5]] [:no-such-fun 11]
+    // Of two faults the first in order.
+    0 [commit [a + 1 2] [c + 1 1]] [:answer 1]
+    0 [commit [a inc 1 1]] [commit [c + 1 1]] [:refuses 1]
+    0 [commit [a + 1 2] [a - 1 1]] [:answer 1]
+    0 [commit [a - 1 1] [c + 1 1]] [:no-such-fun 2]
+    0 [commit [a - 1 1]] [commit [a dec 1 1]] [:no-such-fun 2]
+    // Each answer about an atom is compared.
+    0 [swap x + 1 3] [:answer 1]
+    0 [reset x 7 8] [:answer 1]
+    0 [swap x + 1 2] [swap x + 1 2] [:answer 2]
+    0 [swap x inc 1 2] [:refuses 1]
+    0 [swap x - 1 0] [:no-such-fun 2]
+    // What isn't there, also where one of the other kind was made.
+    0 [swap y + 1 2] [:no-such 1]
+    0 [reset y 7 7] [:no-such 1]
+    0 [atom 4] [commit [c + 1 5]] [:no-such 2]
+    0 [ref 4] [swap y + 1 5] [:no-such 2]
+    // The entries have the points after the base's.
+    7 [commit [c + 1 5]] [:no-such 8]
+    7 [ref 4] [swap x + 1 3] [:answer 9]
+    4294967295 [commit [b inc 1 6]] [:refuses 4294967296]
+    4294967295 [atom 1] [reset z 1 1] [:no-such 4294967297]
+";
+
 #[test]
 fn the_first_fault_ends_the_replay(rt: HostRuntime) -> Result<(), Fail> {
-    let rows = [
-        // A kept answer that isn't the sum.
-        (0, "[commit [a + 5 6]] [:answer 1]"),
-        (0, "[commit [a + 5 5]] [commit [a + 1 1]] [:answer 2]"),
-        // A sum that no i64 holds, and `inc` with an argument.
-        (
-            0,
-            "[commit [a + 5 5] [a + 9223372036854775807 0]] [:refuses 1]",
-        ),
-        (0, "[commit] [commit [a inc 5 5]] [:refuses 2]"),
-        // A ref that isn't there, where the function would refuse, or isn't there as well.
-        (0, "[commit [c inc 5 5]] [:no-such 1]"),
-        (0, "[commit] [commit [4294967295 - 5 5]] [:no-such 2]"),
-        // A function that isn't there, where it would give the answer, or none means anything by its code.
-        (0, "[commit] [commit [a - 5 -5]] [:no-such-fun 2]"),
-        (0, "[commit [a 11 5 5]] [:no-such-fun 11]"),
-        // Of two faults the first in order.
-        (0, "[commit [a + 1 2] [c + 1 1]] [:answer 1]"),
-        (0, "[commit [a inc 1 1]] [commit [c + 1 1]] [:refuses 1]"),
-        (0, "[commit [a + 1 2] [a - 1 1]] [:answer 1]"),
-        (0, "[commit [a - 1 1] [c + 1 1]] [:no-such-fun 2]"),
-        (
-            0,
-            "[commit [a - 1 1]] [commit [a dec 1 1]] [:no-such-fun 2]",
-        ),
-        // Each answer about an atom is compared.
-        (0, "[swap x + 1 3] [:answer 1]"),
-        (0, "[reset x 7 8] [:answer 1]"),
-        (0, "[swap x + 1 2] [swap x + 1 2] [:answer 2]"),
-        (0, "[swap x inc 1 2] [:refuses 1]"),
-        (0, "[swap x - 1 0] [:no-such-fun 2]"),
-        // What isn't there, also where one of the other kind was made.
-        (0, "[swap y + 1 2] [:no-such 1]"),
-        (0, "[reset y 7 7] [:no-such 1]"),
-        (0, "[atom 4] [commit [c + 1 5]] [:no-such 2]"),
-        (0, "[ref 4] [swap y + 1 5] [:no-such 2]"),
-        // The entries have the points after the base's.
-        (7, "[commit [c + 1 5]] [:no-such 8]"),
-        (7, "[ref 4] [swap x + 1 3] [:answer 9]"),
-        (u32::MAX, "[commit [b inc 1 6]] [:refuses 4294967296]"),
-        (u32::MAX, "[atom 1] [reset z 1 1] [:no-such 4294967297]"),
-    ];
-    for (point, row) in rows {
-        assert!(rt; is_right(rt.alloc(), point, row)?, "{point}: {row}");
-    }
-    Ok(())
+    check(&rt, "", FAULTS)
 }

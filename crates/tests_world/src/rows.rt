@@ -35,15 +35,17 @@
 //! log has to give its values. A row that isn't written so ends its test with an `AllocError`.
 use crate::apart::Apart;
 use crate::calls::{Stage, answer};
-use crate::forms::{members, read, starts_at};
+use crate::forms::{members, read, row_of, starts_at};
 use crate::subjects::{By, Extent, Look, Open, Starts, Subject};
-use crate::tables::{Tables, fill};
+use crate::tables::{Tables, table_of};
 use crate::whole::Whole;
 use crate::words::{Form, form, name, value_form, variant_form, vector};
 use ref_edn::Value;
 use ref_fun::{Core, FunTable};
 use ref_log::{MakeFault, Who, replay_plain};
 use std::alloc::{AllocError, Global};
+use std::process::Abort;
+use std::test::Fail;
 
 const LAST_POINT: u64 = 1 << 62;
 
@@ -165,38 +167,57 @@ fn wrong_place_of<S: Subject>(tables: &Tables, row: &str) -> Result<Option<usize
     }
 }
 
-/// The first row that is wrong on a subject, with the place in it. Each begins with the same start.
-pub(crate) fn first_wrong<S: Subject>(
-    alloc: Global,
+// The first row of a table that is wrong on a subject, with the place in it. Each begins with the same start.
+fn first_wrong_by<S: Subject>(
+    tables: &Tables,
     start: &str,
-    rows: &[&str],
+    table: &str,
 ) -> Result<Option<String>, AllocError> {
-    let mut funs = FunTable::empty(alloc);
-    fill(alloc, &mut funs, &[1, 2, 3], &ALL_PREDS)?;
-    let mut fewer = FunTable::empty(alloc);
-    fill(alloc, &mut fewer, &[1], &[])?;
-    let tables = Tables {
-        alloc,
-        funs: &funs,
-        fewer: &fewer,
-    };
-    for row in rows {
-        let row = format!(in alloc; "{start} {row}")?;
-        if let Some(i) = wrong_place_of::<S>(&tables, row.as_str())? {
-            return Ok(Some(format!(in alloc; "at {i}: {row}")?));
+    for line in table.lines() {
+        let Some(row) = row_of(line) else {
+            continue;
+        };
+        let row = format!(in tables.alloc; "{start} {row}")?;
+        if let Some(i) = wrong_place_of::<S>(tables, row.as_str())? {
+            return Ok(Some(format!(in tables.alloc; "at {i}: {row}")?));
         }
     }
     Ok(None)
 }
 
-/// The first row that is wrong in a world or on the stores apart.
-pub(crate) fn first_wrong_anywhere(
+fn first_wrong<S: Subject>(
     alloc: Global,
     start: &str,
-    rows: &[&str],
+    table: &str,
 ) -> Result<Option<String>, AllocError> {
-    match first_wrong::<Whole>(alloc, start, rows)? {
-        Some(wrong) => Ok(Some(format!(in alloc; "in a world, {wrong}")?)),
-        None => first_wrong::<Apart>(alloc, start, rows),
-    }
+    let funs = table_of(alloc, &[1, 2, 3], &ALL_PREDS)?;
+    let fewer = table_of(alloc, &[1], &[])?;
+    let tables = Tables {
+        alloc,
+        funs: &funs,
+        fewer: &fewer,
+    };
+    first_wrong_by::<S>(&tables, start, table)
+}
+
+/// Each row of a table is right on the stores apart. A line is a row, or a remark if it begins with `//`.
+pub(crate) fn check_apart(
+    rt: &(impl Abort + AllocGlobal),
+    start: &str,
+    table: &str,
+) -> Result<(), Fail> {
+    let wrong = first_wrong::<Apart>(rt.alloc(), start, table)?;
+    assert!(rt; wrong.is_none(), "{wrong:?}");
+    Ok(())
+}
+
+/// Each row of a table is right in a world, and on the stores apart.
+pub(crate) fn check_anywhere(
+    rt: &(impl Abort + AllocGlobal),
+    start: &str,
+    table: &str,
+) -> Result<(), Fail> {
+    let wrong = first_wrong::<Whole>(rt.alloc(), start, table)?;
+    assert!(rt; wrong.is_none(), "in a world, {wrong:?}");
+    check_apart(rt, start, table)
 }

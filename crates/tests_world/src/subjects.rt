@@ -76,6 +76,18 @@ impl Look {
         })
     }
 
+    /// What a word asks of a reference, if it asks for one of these.
+    pub(crate) fn part(&self, word: &str) -> Option<&Value> {
+        match word {
+            "now" => Some(&self.value),
+            "rule" => Some(&self.rule),
+            "changed" => Some(&self.changed),
+            "error" => Some(&self.error),
+            "account" => Some(&self.account),
+            _ => None,
+        }
+    }
+
     /// With what an agent shows.
     pub(crate) fn with(
         self,
@@ -103,6 +115,20 @@ pub(crate) struct Extent {
     pub(crate) entries: usize,
     pub(crate) tally: Option<u32>,
     pub(crate) point: u64,
+}
+
+impl Extent {
+    /// How many there are of what a word says, if it is one of these, or the present point.
+    pub(crate) fn number(&self, word: &str) -> Option<u64> {
+        match word {
+            "refs" => Some(self.refs as u64),
+            "atoms" => Some(self.atoms as u64),
+            "agents" => Some(self.agents as u64),
+            "entries" => Some(self.entries as u64),
+            "point" => Some(self.point),
+            _ => None,
+        }
+    }
 }
 
 /// References with a log, and the calls on them.

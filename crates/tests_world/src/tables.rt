@@ -34,20 +34,16 @@ fn add_pred(alloc: Global, table: &mut FunTable, code: u32) -> Result<(), AllocE
         .map_err(|_| AllocError)
 }
 
-/// Adds the functions and the predicates with these codes to a table.
-pub(crate) fn fill(
-    alloc: Global,
-    table: &mut FunTable,
-    funs: &[u32],
-    preds: &[u32],
-) -> Result<(), AllocError> {
+/// A table of the functions and the predicates with these codes.
+pub(crate) fn table_of(alloc: Global, funs: &[u32], preds: &[u32]) -> Result<FunTable, AllocError> {
+    let mut table = FunTable::empty(alloc);
     for code in funs {
-        add_fun(alloc, table, *code)?;
+        add_fun(alloc, &mut table, *code)?;
     }
     for code in preds {
-        add_pred(alloc, table, *code)?;
+        add_pred(alloc, &mut table, *code)?;
     }
-    Ok(())
+    Ok(table)
 }
 
 /// The table of a row, which has `+`, `-`, `inc` and all predicates, and the one with fewer functions, which has `+` alone.
@@ -68,8 +64,8 @@ impl<'a> Tables<'a> {
     }
 
     /// The call that a word names, and by what it is made: `swap-by-fewer` is `swap` by the table with fewer functions.
-    pub(crate) fn chosen<'w>(&self, word: &'w [u8]) -> (&'w [u8], By<'a>) {
-        match word.strip_suffix(b"-by-fewer") {
+    pub(crate) fn chosen<'w>(&self, word: &'w str) -> (&'w str, By<'a>) {
+        match word.strip_suffix("-by-fewer") {
             None => (word, self.all()),
             Some(word) => (
                 word,

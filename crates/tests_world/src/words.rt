@@ -103,21 +103,23 @@ pub(crate) fn rule_form(alloc: Global, rule: Option<&Rule>) -> Form {
     vector(alloc, all)
 }
 
+// `[x :k 1 2]`: who changed, the key of the watch, and the values before and after.
+fn notice_form(alloc: Global, notice: &Notice) -> Form {
+    let mut told = Vec::new(alloc);
+    told.push(name(alloc, notice.who)?)?;
+    for value in [&notice.key, &notice.before, &notice.after] {
+        told.push(value.share()?)?;
+    }
+    vector(alloc, told)
+}
+
 /// An answer, or several, with the notices behind it: `2`, `[2 [x :k 1 2]]`, `[1 2]`, `[1 2 [x :k 1 2]]`.
 pub(crate) fn told_form(alloc: Global, mut answers: Vec<Value>, notices: &[Notice]) -> Form {
     if let (Some(only), 1, true) = (answers.first(), answers.len(), notices.is_empty()) {
         return only.share();
     }
     for notice in notices {
-        let Notice {
-            who,
-            key,
-            before,
-            after,
-        } = notice;
-        let who = name(alloc, *who)?;
-        let told = vec![in alloc; who, key.share()?, before.share()?, after.share()?]?;
-        answers.push(vector(alloc, told)?)?;
+        answers.push(notice_form(alloc, notice)?)?;
     }
     vector(alloc, answers)
 }

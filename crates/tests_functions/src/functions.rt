@@ -5,7 +5,7 @@ use std::test::Fail;
 #[test]
 fn sums(rt: HostRuntime) -> Result<(), Fail> {
     check_calls(
-        &rt,
+        rt.alloc(),
         r##"
             (+ 5)                                                                     → 5
             (+ 1 2)                                                                   → 3
@@ -65,7 +65,7 @@ fn sums(rt: HostRuntime) -> Result<(), Fail> {
 #[test]
 fn inc_and_dec_take_no_argument(rt: HostRuntime) -> Result<(), Fail> {
     check_calls(
-        &rt,
+        rt.alloc(),
         r##"
             (inc 0)                                                           → 1
             (inc -1)                                                          → 0
@@ -89,7 +89,7 @@ fn inc_and_dec_take_no_argument(rt: HostRuntime) -> Result<(), Fail> {
 #[test]
 fn max_and_min_look_at_state_and_arguments(rt: HostRuntime) -> Result<(), Fail> {
     check_calls(
-        &rt,
+        rt.alloc(),
         r##"
             (max 3)                                                               → 3
             (max 3 5)  (max 5 3)                                                  → 5
@@ -114,7 +114,7 @@ fn max_and_min_look_at_state_and_arguments(rt: HostRuntime) -> Result<(), Fail> 
 #[test]
 fn conj_adds_to_vectors_and_sets(rt: HostRuntime) -> Result<(), Fail> {
     check_calls(
-        &rt,
+        rt.alloc(),
         r##"
             (conj [])                                                     → []
             (conj [1])  (conj [] 1)                                       → [1]
@@ -161,7 +161,7 @@ fn conj_adds_to_vectors_and_sets(rt: HostRuntime) -> Result<(), Fail> {
 #[test]
 fn assoc_puts_pairs_in(rt: HostRuntime) -> Result<(), Fail> {
     check_calls(
-        &rt,
+        rt.alloc(),
         r##"
             (assoc nil 1 2)  (assoc {} 1 2)                                         → {1 2}
             (assoc {1 2} 1 3)                                                       → {1 3}
@@ -197,7 +197,7 @@ fn assoc_puts_pairs_in(rt: HostRuntime) -> Result<(), Fail> {
 #[test]
 fn dissoc_and_disj_leave_members_out(rt: HostRuntime) -> Result<(), Fail> {
     check_calls(
-        &rt,
+        rt.alloc(),
         r##"
             (dissoc {})                                                                → {}
             (dissoc {1 2})                                                             → {1 2}
@@ -241,7 +241,7 @@ fn dissoc_and_disj_leave_members_out(rt: HostRuntime) -> Result<(), Fail> {
 #[test]
 fn bounds_accept_integers(rt: HostRuntime) -> Result<(), Fail> {
     check_calls(
-        &rt,
+        rt.alloc(),
         r##"
             (>= 0 0)  (>= 1 0)  (>= -1 -1)  (>= 9223372036854775807 9223372036854775807)  → true
             (>= -9223372036854775808 -9223372036854775808)                                → true
@@ -261,7 +261,7 @@ fn bounds_accept_integers(rt: HostRuntime) -> Result<(), Fail> {
 #[test]
 fn equality_is_of_kind_and_content(rt: HostRuntime) -> Result<(), Fail> {
     check_calls(
-        &rt,
+        rt.alloc(),
         r##"
             (= 1 1)  (= nil nil)  (= true true)  (= "" "")  (= :a :a)  (= a a)                → true
             (= [1 2] (1 2))  (= #{1 2} #{2 1})  (= {1 2 3 4} {3 4 1 2})                       → true
@@ -277,7 +277,7 @@ fn equality_is_of_kind_and_content(rt: HostRuntime) -> Result<(), Fail> {
 #[test]
 fn each_kind_is_one_kind(rt: HostRuntime) -> Result<(), Fail> {
     check_calls(
-        &rt,
+        rt.alloc(),
         r##"
             (int? 1)  (string? "1")  (vector? [])  (map? {})  (set? #{})                                  → true
             (some? true)  (some? false)  (some? 1)  (some? "1")  (some? :a)  (some? a)  (some? [])        → true

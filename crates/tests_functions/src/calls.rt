@@ -1,10 +1,9 @@
 //! Calls by name, written as in Clojure: the state comes first, and then the arguments.
-use crate::tables::{rows, same, text_of};
-use ref_edn::{Node, Value, read_one};
+use ref_edn::{Items, Node, Value, read_one};
 use ref_fun::{Args, FunFault, MOST_ARGUMENTS, code_of, core_fun, core_test};
 use std::alloc::{AllocError, Global};
-use std::process::Abort;
 use std::test::Fail;
+use tests_tables::{Row, nested, rows, same, text_of};
 
 /// A function or a predicate by its code, and what it is called with.
 #[derive(Drop)]
@@ -12,6 +11,25 @@ pub(crate) struct Call {
     pub code: u32,
     pub state: Value,
     pub args: Args,
+}
+
+fn code_named(name: &Value) -> Option<u32> {
+    match name.node() {
+        Node::Symbol(name) => code_of(name.as_bytes()),
+        _ => None,
+    }
+}
+
+// The arguments that stand behind the name and the state.
+fn args_of(alloc: Global, parts: &Items) -> Result<Args, Fail> {
+    let mut args = Vec::new(alloc);
+    for i in 2..parts.len() {
+        args.push(parts.at(i).share()?)?;
+    }
+    if args.len() > MOST_ARGUMENTS {
+        return Err(Fail::from("more than 8 arguments"));
+    }
+    Ok(Args::of(alloc, args)?)
 }
 
 /// The call that a text writes.
@@ -23,31 +41,21 @@ pub(crate) fn call_of(alloc: Global, text: &str) -> Result<Call, Fail> {
     let (Some(name), Some(state)) = (parts.get(0), parts.get(1)) else {
         return Err(Fail::from("not a call"));
     };
-    let Node::Symbol(name) = name.node() else {
-        return Err(Fail::from("not a call"));
-    };
-    let mut args = Vec::new(alloc);
-    for i in 2..parts.len() {
-        args.push(parts.at(i).share()?)?;
-    }
-    if args.len() > MOST_ARGUMENTS {
-        return Err(Fail::from("more than 8 arguments"));
-    }
     Ok(Call {
-        code: code_of(name.as_bytes()).ok_or("not a name")?,
+        code: code_named(name).ok_or("not a name")?,
         state: state.share()?,
-        args: Args::of(alloc, args)?,
+        args: args_of(alloc, parts)?,
     })
 }
+
+const DEPTHS: &[usize] = &[46, 47, 48, 49, 62, 63];
 
 // The text with a vector nested 48 deep, and nothing in it, in the place of `@48`.
 fn written_out(alloc: Global, text: &str) -> Result<String, AllocError> {
     let mut text = String::from_str(alloc, text)?;
-    for depth in [46, 47, 48, 49, 62, 63] {
+    for depth in DEPTHS {
         let mark = format!(in alloc; "@{depth}")?;
-        let open = "[".repeat(alloc, depth)?;
-        let close = "]".repeat(alloc, depth)?;
-        text = text.replace(alloc, &mark, &format!(in alloc; "{open}{close}")?)?;
+        text = text.replace(alloc, &mark, &nested(alloc, *depth, "[", "", "]")?)?;
     }
     Ok(text)
 }
@@ -65,13 +73,17 @@ fn given(alloc: Global, call: &Call) -> Result<String, AllocError> {
     }
 }
 
+fn check_call(alloc: Global, row: &Row) -> Result<(), Fail> {
+    let call = call_of(alloc, &written_out(alloc, &row.text)?)?;
+    let got = given(alloc, &call)?;
+    same(&row.text, &got, &written_out(alloc, &row.want)?)?;
+    Ok(())
+}
+
 /// Each call of a table gives this value, or is refused for this cause. There `@48` is a vector nested 48 deep.
-pub(crate) fn check_calls(rt: &(impl Abort + AllocGlobal), table: &str) -> Result<(), Fail> {
-    let alloc = rt.alloc();
+pub(crate) fn check_calls(alloc: Global, table: &str) -> Result<(), Fail> {
     for row in &rows(alloc, table)? {
-        let call = call_of(alloc, &written_out(alloc, &row.text)?)?;
-        let want = written_out(alloc, &row.want)?;
-        same(rt, &row.text, &given(alloc, &call)?, &want);
+        check_call(alloc, row)?;
     }
     Ok(())
 }
