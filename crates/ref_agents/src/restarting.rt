@@ -9,7 +9,7 @@ use crate::agents::AgentStore;
 use crate::faults::RestartFault;
 use ref_edn::Value;
 use ref_fun::{Functions, Meaning};
-use std::alloc::AllocError;
+use std::alloc::{AllocError, Global};
 
 impl<M: Meaning> AgentStore<M> {
     /// Restarts a failed agent with this state, which its rule has to accept, as Clojure's `restart-agent`: it takes sends
@@ -17,6 +17,7 @@ impl<M: Meaning> AgentStore<M> {
     /// changes nothing.
     pub fn restart<F: Functions<M>>(
         &mut self,
+        _alloc: Global,
         funs: &F,
         g: u32,
         state: Value,

@@ -9,12 +9,12 @@ use crate::agents::AgentStore;
 use crate::faults::SendFault;
 use ref_fun::{Action, Meaning};
 use ref_log::Sent;
-use std::alloc::AllocError;
+use std::alloc::{AllocError, Global};
 
 impl<M: Meaning> AgentStore<M> {
     /// Sends an action to an agent, outside of a transaction: it waits behind the others, and may be taken at once. A failed
     /// agent takes none. A refused call changes nothing.
-    pub fn send(&mut self, g: u32, action: Action) -> Result<(), SendFault>
+    pub fn send(&mut self, _alloc: Global, g: u32, action: Action) -> Result<(), SendFault>
         ensures ok { OnOk result (send_refusal self.old.agents g ≡ None) }
         ensures sends { OnOk result (self.new ≡ with_agents self.old (with_send self.old.agents g (outside action))) }
         ensures fault { IfErr result (λ f. f ≢ faults.Memory → send_refusal self.old.agents g ≡ Some f) }
@@ -33,7 +33,7 @@ impl<M: Meaning> AgentStore<M> {
 
     /// Adds the sends of the commit at a new point to their agents' queues, in order. They are held until the commit is
     /// released. A failed agent takes them too. One to an agent that isn't here is left out. A refused call changes nothing.
-    pub fn send_held(&mut self, at: u64, sends: &[Sent]) -> Result<(), AllocError>
+    pub fn send_held(&mut self, _alloc: Global, at: u64, sends: &[Sent]) -> Result<(), AllocError>
         ensures ok { OnOk result (self.new ≡ with_commit self.old at sends.now) }
         ensures memory { OnErr result (sends.now ≢ []) }
         ensures err { OnErr result (self.new ≡ self.old) }

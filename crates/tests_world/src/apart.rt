@@ -3,7 +3,7 @@
 use crate::forms::Start;
 use crate::subjects::{By, Committed, Extent, Kind, Look, Open, STAMP, Starts, Subject};
 use ref_agents::{
-    AgentStore, ErrorMode, FinishFault, Finished, Job, NoSuchAgent, Ran, RestartFault, SendFault,
+    AgentStore, ErrorMode, FinishFault, Finished, Job, ModeFault, Ran, RestartFault, SendFault,
 };
 use ref_atoms::{AtomFault, AtomStore, Cas, Swapped};
 use ref_edn::Value;
@@ -206,11 +206,11 @@ impl Subject for Apart {
     }
 
     fn set_validator(&mut self, by: By, who: Who, rule: Option<Rule>) -> Result<(), RuleFault> {
-        let By { alloc, funs } = by;
+        let funs = by.funs;
         match who {
-            Who::Ref(r) => self.refs.set_validator(alloc, funs, r, rule),
-            Who::Atom(a) => self.atoms.set_validator(alloc, funs, a, rule),
-            Who::Agent(g) => self.agents.set_validator(alloc, funs, g, rule),
+            Who::Ref(r) => self.refs.set_validator(funs, r, rule),
+            Who::Atom(a) => self.atoms.set_validator(funs, a, rule),
+            Who::Agent(g) => self.agents.set_validator(funs, g, rule),
         }
     }
 
@@ -306,7 +306,7 @@ impl Subject for Apart {
         self.agents.restart(by.alloc, by.funs, g, state, clear)
     }
 
-    fn set_error_mode(&mut self, g: u32, mode: ErrorMode) -> Result<(), NoSuchAgent> {
+    fn set_error_mode(&mut self, g: u32, mode: ErrorMode) -> Result<(), ModeFault> {
         self.agents.set_error_mode(g, mode)
     }
 }

@@ -8,7 +8,7 @@ use crate::tables::table_of;
 use crate::whole::Whole;
 use ref_edn::{Node, Value};
 use ref_fun::{Cause, Core, FunTable};
-use ref_log::{Base, Entry, SharedVec, Transaction, replay_plain};
+use ref_log::{Base, Entry, Share, SharedVec, Transaction, replay_plain};
 use ref_refs::CommitFault;
 use ref_tx::{Tx, TxFault};
 use std::alloc::{AllocError, Global};

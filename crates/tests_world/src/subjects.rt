@@ -2,7 +2,7 @@
 use crate::forms::Start;
 use crate::words::{Form, account_form, number, rule_form, value_form, variant_form, word};
 use ref_agents::{
-    Account, AgentError, ErrorMode, FinishFault, Finished, Job, NoSuchAgent, Ran, RestartFault,
+    Account, AgentError, ErrorMode, FinishFault, Finished, Job, ModeFault, Ran, RestartFault,
     SendFault,
 };
 use ref_atoms::{AtomFault, Cas, Swapped};
@@ -181,5 +181,5 @@ pub(crate) trait Subject: Drop + Sized {
 
     fn restart(&mut self, by: By, g: u32, state: Value, clear: bool) -> Result<(), RestartFault>;
 
-    fn set_error_mode(&mut self, g: u32, mode: ErrorMode) -> Result<(), NoSuchAgent>;
+    fn set_error_mode(&mut self, g: u32, mode: ErrorMode) -> Result<(), ModeFault>;
 }

@@ -1,9 +1,7 @@
 //! A world as the subject of rows. It has no agents: none can be made, and each call on one says that it isn't there.
 use crate::forms::Start;
 use crate::subjects::{By, Committed, Extent, Kind, Look, Open, STAMP, Starts, Subject};
-use ref_agents::{
-    ErrorMode, FinishFault, Finished, Job, NoSuchAgent, Ran, RestartFault, SendFault,
-};
+use ref_agents::{ErrorMode, FinishFault, Finished, Job, ModeFault, Ran, RestartFault, SendFault};
 use ref_atoms::{AtomFault, Cas, Swapped};
 use ref_edn::Value;
 use ref_fun::{Action, Args, Core, Rule};
@@ -122,7 +120,7 @@ impl Subject for Whole {
     }
 
     fn set_validator(&mut self, by: By, who: Who, rule: Option<Rule>) -> Result<(), RuleFault> {
-        self.world.set_validator(by.alloc, by.funs, who, rule)
+        self.world.set_validator(by.funs, who, rule)
     }
 
     fn add_watch(&mut self, alloc: Global, who: Who, key: Value) -> Result<bool, WatchFault> {
@@ -203,7 +201,7 @@ impl Subject for Whole {
         Err(RestartFault::NoSuchAgent)
     }
 
-    fn set_error_mode(&mut self, _g: u32, _mode: ErrorMode) -> Result<(), NoSuchAgent> {
-        Err(NoSuchAgent)
+    fn set_error_mode(&mut self, _g: u32, _mode: ErrorMode) -> Result<(), ModeFault> {
+        Err(ModeFault::NoSuchAgent)
     }
 }
