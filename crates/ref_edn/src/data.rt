@@ -18,8 +18,8 @@ pub const MOST_NESTED: u8 = 64;
 /// An EDN datum. Contracts see it as EDN data, without where it lies in memory.
 ///
 /// It is always lawful: names are names, the keys of a map and the elements of a set stand in value order without
-/// equals, and at most 64 collections are open at its deepest place. It takes 16 bytes; texts and collections may have
-/// several owners.
+/// equals, and at most 64 collections are open at its deepest place. Texts and collections may have several
+/// owners.
 #[cycle(value)]
 pub struct Value {
     node: Node,

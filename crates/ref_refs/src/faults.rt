@@ -7,9 +7,9 @@ use ref_fun::Cause;
 use std::alloc::{AllocError, AllocFailed};
 use thiserror::Error;
 
-/// What of a transaction is foreign to the store that should commit it. A transaction that was begun on this store, at the
-/// point that was then the present one, has nothing foreign. One of another store may have nothing foreign either: where it
-/// only commuted, say, it is committed here as if it had been begun here.
+/// What of a transaction is foreign to the store that should commit it. One that was begun on this store has nothing foreign, if
+/// its read point was the present one then; no contract says so, since whoever calls the store hands it its points. One of another
+/// store may have nothing foreign either: where it only commuted, say, it is committed here as if it had been begun here.
 #[derive(Clone, Copy, Debug, Drop, PartialEq, Eq, Error)]
 pub enum Alien {
     /// There is no ref of this number here.

@@ -1,4 +1,4 @@
-//! `refrun` runs EDN workloads on Clojure's reference types, reports what came of them, and prints EDN.
+//! `refrun` runs the transactions on refs that an EDN workload describes, reports what came of them, and prints EDN.
 #![tactic(auto)]
 
 pub mod faults;
@@ -59,7 +59,9 @@ fn command<'a>(alloc: Global) -> Result<Command<'a>, AllocError> {
         "Reads EDN from standard input, and prints each element on a line",
     );
     Command::new(alloc, "refrun")
-        .about("Runs EDN workloads on Clojure's reference types, and reports what came of them")
+        .about(
+            "Runs the transactions on refs that an EDN workload describes, and reports what came of them",
+        )
         .subcommand_required(true)
         .subcommand(run)?
         .subcommand(print)
