@@ -3,6 +3,20 @@
 //! A [`Value`] is any EDN datum of the profile that docs/EDN.md describes. [`read_one`] makes one of a text, [`print()`]
 //! appends its text, and reading what was printed gives an equal value. Values share what they hold, so that one more
 //! owner of a large collection costs no copy.
+//!
+//! | Name | Is |
+//! |---|---|
+//! | [`Value`] | a datum, always lawful: names are names, members in order and none twice, at most 64 levels |
+//! | [`Node`] | what a value is made of, which it lends; `Value::of` takes a node exactly where it is lawful |
+//! | [`Items`], [`Entries`], [`Elements`] | the members of a vector, of a map and of a set |
+//! | [`Text`] | the text of a string, a keyword or a symbol |
+//! | [`read_one`], [`read_all`], [`ReadFault`] | reading one element or all, and the first fault with its place |
+//! | [`Source`], [`Sink`], [`Counted`], [`read_to_end`], [`write_all`] | readers and writers that tell their bytes and failures |
+//!
+//! Reading costs time linear in the text, and n log n for the n members of a map or a set that isn't in order; printing is linear;
+//! a comparison is linear in the parts that are equal. One more owner and `depth` take constant time. A member more or less is
+//! put in place where the collection has one owner, and else copies the list of members, not the members. Nothing here promises
+//! which values share a block of memory, or reads what the profile leaves out: floats, tags, characters.
 #![tactic(auto)]
 
 mod blanks;

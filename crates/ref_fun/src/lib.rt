@@ -4,6 +4,14 @@
 //! [`Core`] is the meaning of those that come with this project: [`core_fun`] calls a function, [`core_test`] a
 //! predicate, and [`code_of`] and [`name_of`] tell their names. They take a state and at most 8 arguments, all of them
 //! EDN values. A [`Rule`] is a predicate with its arguments, and an [`Action`] a function with its arguments.
+//!
+//! A program runs functions by closures of its own: a [`StoredFun`] or [`StoredPred`] is a closure under a code, which is made only
+//! with a proof that it answers what Core means by the code, and a [`FunTable`] holds at most 64 of each kind. Generic code asks a
+//! table through the trait [`Functions`], for any meaning.
+//!
+//! A look-up is logarithmic in the table. A function of integers takes constant time for each argument and no memory; one of
+//! collections copies the list of members once where something changes, and shares the members. A closure may take what time it
+//! likes; no contract speaks of that.
 #![tactic(auto)]
 
 pub mod actions;
