@@ -6,7 +6,7 @@
 //! | Modules | |
 //! |---|---|
 //! | `transactions`, `conflicts`, `rules`, `atoms`, `agents`, `makings` | the rows |
-//! | `limits`, `pieces`, `replay`, `faults`, `drawn` | full stores and the last point, small types, logs by hand, what faults say, drawn transactions |
+//! | `limits`, `pieces`, `replay`, `drawn` | full stores and the last point, small types, logs by hand, drawn transactions |
 //! | `rows`, `calls`, `jobs` | what runs rows: the calls of transactions, refs and atoms, and those of agents |
 //! | `forms`, `words`, `tables` | reading what a row is written with, writing what is answered, tables of functions |
 //! | `subjects`, `whole`, `apart` | what rows are run on: a world, or the stores side by side |
@@ -24,8 +24,6 @@ mod calls;
 mod conflicts;
 #[cfg(test)]
 mod drawn;
-#[cfg(test)]
-mod faults;
 #[cfg(test)]
 mod forms;
 #[cfg(test)]

@@ -1,4 +1,4 @@
-//! Faults: their numbers, and what they say on a line.
+//! The faults of replays, operations, makings, rules, watches, commits, atoms and agents.
 use ref_agents::{FinishFault, JobFault, RestartFault, SendFault};
 use ref_atoms::AtomFault;
 use ref_fun::Cause;
