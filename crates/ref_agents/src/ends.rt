@@ -1,4 +1,5 @@
 //! How jobs end.
+ghost use Rattle.ref_log.specs.Told.{TellsThenMemory};
 ghost use Rattle.std.specs.Prelude.{◌≡◌, ◌≢◌, None, Some, IfOk, IfErr, OnOk, OnErr};
 ghost use Rattle.ref_fun.specs.Rule.{unknown};
 ghost use Rattle.ref_log.specs.Guards.{keys_at, rule_at};
@@ -38,13 +39,14 @@ impl<M: Meaning> AgentStore<M> {
         ran: Ran<M>,
     ) -> Result<Finished, (Ran<M>, FinishFault)>
         ensures ok { OnOk result (job_out self.old.agents ran.job.agent ≡ Some ran.job) }
-        ensures known { OnOk result (lacking (F.knows_pred funs.now) self.old ran.job ≡ None) }
+        ensures known { OnOk result (lacking (F.knows funs.now).preds self.old ran.job ≡ None) }
         ensures ends { OnOk result (self.new ≡ with_finish M.accepts self.old ran) }
         ensures answer { IfOk result (IsAnswerOf M.accepts self.old ran) }
         ensures foreign { IfErr result (λ e. e.1 ≡ Foreign → job_out self.old.agents ran.job.agent ≢ Some ran.job) }
         ensures here { IfErr result (λ e. e.1 ≢ Foreign → job_out self.old.agents ran.job.agent ≡ Some ran.job) }
-        ensures lacks { IfErr result (λ e. e.1 ≢ Foreign → e.1 ≢ Memory → lacking (F.knows_pred funs.now) self.old ran.job ≡ Some e.1) }
-        ensures memory { IfErr result (λ e. e.1 ≡ Memory → lacking (F.knows_pred funs.now) self.old ran.job ≡ None) }
+        ensures lacks { IfErr result (λ e. e.1 ≢ Foreign → e.1 ≢ Memory
+            → lacking (F.knows funs.now).preds self.old ran.job ≡ Some e.1) }
+        ensures memory { IfErr result (λ e. e.1 ≡ Memory → lacking (F.knows funs.now).preds self.old ran.job ≡ None) }
         ensures back { IfErr result (λ e. e.0 ≡ ran) }
         ensures err { OnErr result (self.new ≡ self.old) }
     {
@@ -69,12 +71,10 @@ impl<M: Meaning> AgentStore<M> {
         ran: &Ran<M>,
     ) -> Result<Finished, FinishFault>
         requires out { job_out self.old.agents ran.now.job.agent ≡ Some ran.now.job }
-        ensures known { OnOk result (lacking (F.knows_pred funs.now) self.old ran.now.job ≡ None) }
+        ensures refused { TellsThenMemory Memory (lacking (F.knows funs.now).preds self.old ran.now.job) result }
         ensures ends { OnOk result (self.new ≡ with_finish M.accepts self.old ran.now) }
         ensures answer { IfOk result (IsAnswerOf M.accepts self.old ran.now) }
         ensures told { IfErr result (λ f. f ≢ Foreign) }
-        ensures lacks { IfErr result (λ f. f ≢ Memory → lacking (F.knows_pred funs.now) self.old ran.now.job ≡ Some f) }
-        ensures memory { IfErr result (λ f. f ≡ Memory → lacking (F.knows_pred funs.now) self.old ran.now.job ≡ None) }
         ensures err { OnErr result (self.new ≡ self.old) }
     {
         let g = ran.job().agent();
@@ -153,7 +153,7 @@ fn judge<M: Meaning, F: Functions<M>>(
     g: u32,
     outcome: &Result<Value, Cause>,
 ) -> Result<Result<Value, AgentError>, AllocError>
-    requires { unknown (F.knows_pred funs.now) (rule_at guards.now g) ≡ None }
+    requires { unknown (F.knows funs.now).preds (rule_at guards.now g) ≡ None }
     ensures is { IfOk result (λ judgement. judgement ≡ judged M.accepts (rule_at guards.now g) outcome.now) }
     // With the state the agent's rule accepts, if all rules accepted before.
     ensures accepted { IfOk result (λ judgement. CanHave M.accepts guards.now g judgement) }

@@ -77,11 +77,11 @@ impl Job {
     ) -> Result<Ran<M>, (Job, JobFault)>
         ensures ok { IfOk result (λ ran. ran.job ≡ self) }
         ensures outcome { IfOk result (λ ran. M.means self.action.code self.action.args self.state ≡ ran.outcome) }
-        ensures known { OnOk result (F.knows_fun funs.now self.action.code ≡ true) }
+        ensures known { OnOk result ((F.knows funs.now).funs self.action.code ≡ true) }
         ensures back { IfErr result (λ e. e.0 ≡ self) }
         ensures fault { IfErr result (λ e. e.1 ≢ faults.Memory → e.1 ≡ faults.NoSuchFun self.action.code) }
-        ensures lacks { IfErr result (λ e. e.1 ≢ faults.Memory → F.knows_fun funs.now self.action.code ≡ false) }
-        ensures memory { IfErr result (λ e. e.1 ≡ faults.Memory → F.knows_fun funs.now self.action.code ≡ true) }
+        ensures lacks { IfErr result (λ e. e.1 ≢ faults.Memory → (F.knows funs.now).funs self.action.code ≡ false) }
+        ensures memory { IfErr result (λ e. e.1 ≡ faults.Memory → (F.knows funs.now).funs self.action.code ≡ true) }
     {
         let code = self.action.code;
         match funs.call(alloc, code, &self.state, self.action.args.as_slice()) {
@@ -144,7 +144,8 @@ impl<M: Meaning> Ran<M> {
     /// The value that the function gave, or the cause for which it refused.
     pub fn outcome(&self) -> &Result<Value, Cause>
         ensures value { result.now ≡ self.now.outcome }
-        ensures meant { M.means self.now.job.action.code self.now.job.action.args self.now.job.state ≡ self.now.outcome }
+        ensures meant { M.means self.now.job.action.code self.now.job.action.args self.now.job.state
+            ≡ self.now.outcome }
     {
         &self.outcome
     }

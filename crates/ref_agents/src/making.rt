@@ -1,5 +1,6 @@
 //! Making an agent.
-ghost use Rattle.std.specs.Prelude.{◌≡◌, ◌≢◌, ◌<◌, ◌^◌, true, None, Some, IfOk, IfErr, OnErr, OnOk, length};
+ghost use Rattle.ref_log.specs.Told.{Tells, TellsThenMemory};
+ghost use Rattle.std.specs.Prelude.{◌≡◌, ◌≢◌, ◌<◌, ◌^◌, true, IfOk, IfErr, OnErr, OnOk, length};
 ghost use Rattle.ref_fun.specs.Rule.{passes};
 ghost use Rattle.ref_log.specs.declared.faults.MakeFault.TheVariants.{BadTally, Memory, PointLimit};
 ghost use Rattle.ref_agents.specs.Make.{agent_refusal, with_agent};
@@ -22,11 +23,10 @@ impl<M: Meaning> AgentStore<M> {
         rule: Option<Rule>,
         mode: ErrorMode,
     ) -> Result<u32, MakeFault>
-        ensures ok { OnOk result (agent_refusal M.accepts (F.knows_pred funs.now) self.old start rule ≡ None) }
+        ensures refused { TellsThenMemory Memory
+            (agent_refusal M.accepts (F.knows funs.now).preds self.old start rule) result }
         ensures number { IfOk result (λ g. g ≡ length self.old.agents) }
         ensures adds { OnOk result (self.new ≡ with_agent self.old start rule mode) }
-        ensures fault { IfErr result (λ f. f ≢ Memory → agent_refusal M.accepts (F.knows_pred funs.now) self.old start rule ≡ Some f) }
-        ensures memory { IfErr result (λ f. f ≡ Memory → agent_refusal M.accepts (F.knows_pred funs.now) self.old start rule ≡ None) }
         // An agent is no tally, and has no point.
         ensures kind { IfErr result (λ f. (f ≢ BadTally) × (f ≢ PointLimit)) }
         ensures err { OnErr result (self.new ≡ self.old) }
@@ -35,15 +35,15 @@ impl<M: Meaning> AgentStore<M> {
         Ok(self.add(alloc, start, rule, mode)?)
     }
 
-    // Tells whether an agent can be made with this state and this rule, if any.
-    fn check_make<F: Functions<M>>(
+    /// Tells whether an agent can be made with this state and this rule, if any. It takes no memory.
+    pub fn check_make<F: Functions<M>>(
         &self,
         funs: &F,
         start: &Value,
         rule: &Option<Rule>,
     ) -> Result<(), MakeFault>
-        ensures ok { OnOk result (agent_refusal M.accepts (F.knows_pred funs.now) self.now start.now rule.now ≡ None) }
-        ensures err { IfErr result (λ f. agent_refusal M.accepts (F.knows_pred funs.now) self.now start.now rule.now ≡ Some f) }
+        ensures refused { Tells (agent_refusal M.accepts (F.knows funs.now).preds self.now start.now rule.now) result }
+        // What `add` asks.
         ensures room { OnOk result (length self.now.agents < 2 ^ 20) }
         ensures accepted { OnOk result (passes M.accepts rule.now start.now ≡ true) }
         ensures told { IfErr result (λ f. f ≢ Memory) }
@@ -51,8 +51,8 @@ impl<M: Meaning> AgentStore<M> {
         check_make(funs, self.len(), false, 0, start, rule)
     }
 
-    // Adds an agent that can be made, and answers its number. A refused call changes nothing.
-    fn add(
+    /// Adds an agent that can be made, and answers its number. A refused call changes nothing.
+    pub fn add(
         &mut self,
         alloc: Global,
         start: Value,

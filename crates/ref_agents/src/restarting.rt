@@ -1,5 +1,6 @@
 //! How failed agents are restarted.
-ghost use Rattle.std.specs.Prelude.{◌≡◌, ◌≢◌, None, Some, IfErr, OnOk, OnErr, slice_set};
+ghost use Rattle.ref_log.specs.Told.{Tells, TellsThenMemory};
+ghost use Rattle.std.specs.Prelude.{◌≡◌, ◌≢◌, IfErr, OnOk, OnErr, slice_set};
 ghost use Rattle.ref_log.specs.Guards.{AreAccepted};
 ghost use Rattle.ref_agents.specs.Agents.{values_of, with_restart};
 ghost use Rattle.ref_agents.specs.Ends.{restart_refusal};
@@ -23,10 +24,9 @@ impl<M: Meaning> AgentStore<M> {
         state: Value,
         clear: bool,
     ) -> Result<(), RestartFault>
-        ensures ok { OnOk result (restart_refusal M.accepts (F.knows_pred funs.now) self.old g state ≡ None) }
+        ensures refused { TellsThenMemory Memory
+            (restart_refusal M.accepts (F.knows funs.now).preds self.old g state) result }
         ensures restarts { OnOk result (self.new ≡ with_restart self.old g state clear) }
-        ensures fault { IfErr result (λ f. f ≢ Memory → restart_refusal M.accepts (F.knows_pred funs.now) self.old g state ≡ Some f) }
-        ensures memory { IfErr result (λ f. f ≡ Memory → restart_refusal M.accepts (F.knows_pred funs.now) self.old g state ≡ None) }
         ensures err { OnErr result (self.new ≡ self.old) }
     {
         self.check_restart(funs, g, &state)?;
@@ -42,9 +42,9 @@ impl<M: Meaning> AgentStore<M> {
         g: u32,
         state: &Value,
     ) -> Result<(), RestartFault>
-        ensures ok { OnOk result (restart_refusal M.accepts (F.knows_pred funs.now) self.now g state.now ≡ None) }
-        ensures accepted { OnOk result (AreAccepted M.accepts self.now.guards (slice_set (values_of self.now.agents) g state.now)) }
-        ensures err { IfErr result (λ f. restart_refusal M.accepts (F.knows_pred funs.now) self.now g state.now ≡ Some f) }
+        ensures refused { Tells (restart_refusal M.accepts (F.knows funs.now).preds self.now g state.now) result }
+        ensures accepted { OnOk result (AreAccepted M.accepts self.now.guards
+            (slice_set (values_of self.now.agents) g state.now)) }
         ensures told { IfErr result (λ f. f ≢ Memory) }
     {
         let Some(agent) = self.agents.get(g as usize) else {

@@ -1,5 +1,6 @@
 //! The rules and the watches of agents.
-ghost use Rattle.std.specs.Prelude.{◌≡◌, ◌<◌, ◌↔◌, length, true, false, not, None, Some, IfOk, IfErr, OnOk, OnErr, option_copied};
+ghost use Rattle.ref_log.specs.Told.{Tells};
+ghost use Rattle.std.specs.Prelude.{◌≡◌, ◌<◌, ◌↔◌, length, false, not, IfOk, IfErr, OnOk, OnErr, option_copied};
 ghost use Rattle.ref_log.specs.Guards.{AreAccepted, are_known, keys_at, rule_at, rule_refusal, with_rule, with_watch, without_watch};
 ghost use Rattle.ref_log.specs.Watches.{has_key};
 ghost use Rattle.ref_log.specs.declared.faults.WatchFault.TheVariants as watches;
@@ -23,7 +24,7 @@ impl<M: Meaning> AgentStore<M> {
 
     /// Whether a table has the predicate of each rule here. Linear in the number of agents. It takes no memory.
     pub fn are_rules_known<F: Functions<M>>(&self, funs: &F) -> bool
-        ensures { result ≡ are_known (F.knows_pred funs.now) self.now.guards }
+        ensures { result ≡ are_known (F.knows funs.now).preds self.now.guards }
     {
         self.guards.are_known(funs)
     }
@@ -36,9 +37,9 @@ impl<M: Meaning> AgentStore<M> {
         g: u32,
         rule: Option<Rule>,
     ) -> Result<(), RuleFault>
-        ensures ok { OnOk result (rule_refusal M.accepts (F.knows_pred funs.now) (value_at self.old.agents g) rule ≡ None) }
+        ensures refused { Tells (rule_refusal M.accepts (F.knows funs.now).preds
+            (value_at self.old.agents g) rule) result }
         ensures sets { OnOk result (self.new ≡ with_guards self.old (with_rule self.old.guards g rule)) }
-        ensures fault { IfErr result (λ f. rule_refusal M.accepts (F.knows_pred funs.now) (value_at self.old.agents g) rule ≡ Some f) }
         ensures err { OnErr result (self.new ≡ self.old) }
     {
         self.guards

@@ -1,5 +1,6 @@
 //! Sending actions to agents.
-ghost use Rattle.std.specs.Prelude.{◌≡◌, ◌≢◌, [], None, Some, IfErr, OnOk, OnErr};
+ghost use Rattle.ref_log.specs.Told.{TellsThenMemory};
+ghost use Rattle.std.specs.Prelude.{◌≡◌, ◌≢◌, [], OnOk, OnErr};
 ghost use Rattle.ref_agents.specs.Account.{has_point};
 ghost use Rattle.ref_agents.specs.Agents.{outside, queued_of, send_refusal, with_agents, with_commit, with_release, with_send, with_sends, without_send, without_sends};
 ghost use Rattle.ref_agents.specs.declared.faults.SendFault.TheVariants as faults;
@@ -15,10 +16,8 @@ impl<M: Meaning> AgentStore<M> {
     /// Sends an action to an agent, outside of a transaction: it waits behind the others, and may be taken at once. A failed
     /// agent takes none. A refused call changes nothing.
     pub fn send(&mut self, _alloc: Global, g: u32, action: Action) -> Result<(), SendFault>
-        ensures ok { OnOk result (send_refusal self.old.agents g ≡ None) }
+        ensures refused { TellsThenMemory faults.Memory (send_refusal self.old.agents g) result }
         ensures sends { OnOk result (self.new ≡ with_agents self.old (with_send self.old.agents g (outside action))) }
-        ensures fault { IfErr result (λ f. f ≢ faults.Memory → send_refusal self.old.agents g ≡ Some f) }
-        ensures memory { IfErr result (λ f. f ≡ faults.Memory → send_refusal self.old.agents g ≡ None) }
         ensures err { OnErr result (self.new ≡ self.old) }
     {
         let Some(agent) = self.agents.get(g as usize) else {
@@ -98,7 +97,8 @@ impl<M: Meaning> AgentStore<M> {
     }
 
     fn queue_one(&mut self, at: u64, sent: &Sent) -> Result<(), AllocError>
-        ensures ok { OnOk result (self.new ≡ with_agents self.old (with_send self.old.agents sent.now.agent (queued_of at sent.now))) }
+        ensures ok { OnOk result (self.new
+            ≡ with_agents self.old (with_send self.old.agents sent.now.agent (queued_of at sent.now))) }
         ensures err { OnErr result (self.new ≡ self.old) }
     {
         let action = sent.action.share()?;

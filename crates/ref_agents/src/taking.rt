@@ -16,7 +16,8 @@ impl<M: Meaning> AgentStore<M> {
     /// that wait and of the commits that are held. A refused call changes nothing.
     pub fn take(&mut self) -> Result<Option<Job>, AllocError>
         ensures ready { IfOk result (λ found. IfSome found (λ job. is_ready_at self.old job.agent ≡ true)) }
-        ensures job { IfOk result (λ found. IfSome found (λ job. next_job job.agent (slice_get self.old.agents job.agent) ≡ Some job)) }
+        ensures job { IfOk result (λ found.
+            IfSome found (λ job. next_job job.agent (slice_get self.old.agents job.agent) ≡ Some job)) }
         ensures takes { IfOk result (λ found. IfSome found (λ job. self.new ≡ with_out self.old job.agent true)) }
         ensures none { IfOk result (λ found. found ≡ None → (g : ℕ) → is_ready_at self.old g ≡ false) }
         ensures same { IfOk result (λ found. found ≡ None → self.new ≡ self.old) }

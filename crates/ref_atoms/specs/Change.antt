@@ -7,6 +7,7 @@ use Rattle.std.specs.Option.{option_map, option_or}
 use Rattle.std.specs.Ordering.{eq_by_cmp}
 use Rattle.ref_edn.specs.Edn.{Edn}
 use Rattle.ref_edn.specs.Order.{edn_cmp}
+use Rattle.ref_fun.specs.Calls.{Known}
 use Rattle.ref_fun.specs.Meaning.{Means}
 use Rattle.ref_fun.specs.Rule.{Accepts, passes, unknown}
 use Rattle.ref_fun.specs.declared.faults.Cause.{Cause}
@@ -32,8 +33,9 @@ past_points at = if nat_lt (2 ^ 62) at then Some PointLimit else None
 -- ---- swap and reset
 
 -- the codes that the table lacks: that of the function, and then that of the rule
-abbrev pub lacking : (ℕ → Bool) → (ℕ → Bool) → Option Rule → Op → Option AtomFault
-lacking knows_fun knows_pred rule op = option_or (option_map NoSuchFun (missing knows_fun (codes_of op))) (option_map NoSuchFun (unknown knows_pred rule))
+abbrev pub lacking : Known → Option Rule → Op → Option AtomFault
+lacking knows rule op =
+    option_or (option_map NoSuchFun (missing knows.funs (codes_of op))) (option_map NoSuchFun (unknown knows.preds rule))
 
 -- what the function and the rule say
 abbrev pub late_refusal : Accepts → Option Rule → ℕ → Result Edn Cause → Option AtomFault
@@ -47,20 +49,20 @@ given_refusal accepts rule at (Alter code args) = None
 given_refusal accepts rule at (Commute code args) = None
 given_refusal accepts rule at Ensure = None
 
-abbrev pub early_refusal_if_here : Accepts → (ℕ → Bool) → (ℕ → Bool) → Option Rule → ℕ → Op → Option Edn → Option AtomFault
-early_refusal_if_here accepts knows_fun knows_pred rule at op None = Some NoSuchAtom
-early_refusal_if_here accepts knows_fun knows_pred rule at op (Some v) = option_or (lacking knows_fun knows_pred rule op) (given_refusal accepts rule at op)
+abbrev pub early_refusal_if_here : Accepts → Known → Option Rule → ℕ → Op → Option Edn → Option AtomFault
+early_refusal_if_here accepts knows rule at op None = Some NoSuchAtom
+early_refusal_if_here accepts knows rule at op (Some v) = option_or (lacking knows rule op) (given_refusal accepts rule at op)
 
-abbrev pub early_refusal : Accepts → (ℕ → Bool) → (ℕ → Bool) → AtomsSeen → ℕ → ℕ → Op → Option AtomFault
-early_refusal accepts knows_fun knows_pred atoms at a op = early_refusal_if_here accepts knows_fun knows_pred (rule_at atoms.guards a) at op (slice_get atoms.values a)
+abbrev pub early_refusal : Accepts → Known → AtomsSeen → ℕ → ℕ → Op → Option AtomFault
+early_refusal accepts knows atoms at a op = early_refusal_if_here accepts knows (rule_at atoms.guards a) at op (slice_get atoms.values a)
 
-abbrev pub refusal_if_here : Means → Accepts → (ℕ → Bool) → (ℕ → Bool) → Option Rule → ℕ → Op → Option Edn → Option AtomFault
-refusal_if_here means accepts knows_fun knows_pred rule at op None = Some NoSuchAtom
-refusal_if_here means accepts knows_fun knows_pred rule at op (Some v) = option_or (lacking knows_fun knows_pred rule op) (late_refusal accepts rule at (place means op v))
+abbrev pub refusal_if_here : Means → Accepts → Known → Option Rule → ℕ → Op → Option Edn → Option AtomFault
+refusal_if_here means accepts knows rule at op None = Some NoSuchAtom
+refusal_if_here means accepts knows rule at op (Some v) = option_or (lacking knows rule op) (late_refusal accepts rule at (place means op v))
 
 -- the first fault of an operation on an atom, where it would be the entry at this point
-abbrev pub change_refusal : Means → Accepts → (ℕ → Bool) → (ℕ → Bool) → AtomsSeen → ℕ → ℕ → Op → Option AtomFault
-change_refusal means accepts knows_fun knows_pred atoms at a op = refusal_if_here means accepts knows_fun knows_pred (rule_at atoms.guards a) at op (slice_get atoms.values a)
+abbrev pub change_refusal : Means → Accepts → Known → AtomsSeen → ℕ → ℕ → Op → Option AtomFault
+change_refusal means accepts knows atoms at a op = refusal_if_here means accepts knows (rule_at atoms.guards a) at op (slice_get atoms.values a)
 
 -- ---- compare and set
 

@@ -1,3 +1,4 @@
+-- To be read and believed: all.
 pub mod Atoms
 pub mod Change
 pub mod AtomFault

@@ -1,7 +1,8 @@
 //! What is asked before an atom is changed.
+ghost use Rattle.ref_log.specs.Told.{Tells, TellsOrMemory, TellsThenMemory};
 ghost use Rattle.std.specs.Prelude.{◌≡◌, ◌≢◌, ◌<◌, ◌≤◌, ◌^◌, List, true, None, Some, Ok, IfOk, IfErr, IfSome, OnOk, is_some, length, slice_get, slice_set};
 ghost use Rattle.ref_edn.specs.Edn.{Edn};
-ghost use Rattle.ref_fun.specs.Rule.{passes, unknown};
+ghost use Rattle.ref_fun.specs.Rule.{unknown};
 ghost use Rattle.ref_log.specs.Guards.{AreAccepted, keys_at, rule_at};
 ghost use Rattle.ref_log.specs.Replay.{codes_of, is_set, missing, place, sets_atom, step};
 ghost use Rattle.ref_log.specs.Watches.{notices_of};
@@ -31,16 +32,18 @@ impl<M: Meaning> AtomStore<M> {
     ) -> Result<Change, AtomFault>
         // An atom's entry is `swap!` or `reset!`, and no other operation.
         requires kind { is_set op ≡ true }
-        ensures ok { OnOk result (change_refusal M.means M.accepts (F.knows_fun funs.now) (F.knows_pred funs.now) self.now at a op ≡ None) }
+        ensures refused { TellsOrMemory faults.Memory (early_refusal M.accepts (F.knows funs.now) self.now at a op)
+            (change_refusal M.means M.accepts (F.knows funs.now) self.now at a op) result }
         ensures change { IfOk result (λ change. IsChangeOf M.means self.now a op change) }
         ensures old { IfOk result (λ change. slice_get self.now.values a ≡ Some change.swapped.old) }
-        ensures step { IfOk result (λ change. (refs : List Edn) → step M.means at change.entry (record { refs = refs; atoms = self.now.values }) ≡ Ok (record { refs = refs; atoms = slice_set self.now.values a change.value })) }
+        ensures step { IfOk result (λ change. (refs : List Edn)
+            → step M.means at change.entry (record { refs = refs; atoms = self.now.values })
+            ≡ Ok (record { refs = refs; atoms = slice_set self.now.values a change.value })) }
         ensures sets { IfOk result (λ change. sets_atom change.entry ≡ true) }
         ensures here { OnOk result (a < length self.now.values) }
         ensures limit { OnOk result (at ≤ 2 ^ 62) }
-        ensures accepted { IfOk result (λ change. AreAccepted M.accepts self.now.guards (slice_set self.now.values a change.value)) }
-        ensures fault { IfErr result (λ f. f ≢ faults.Memory → change_refusal M.means M.accepts (F.knows_fun funs.now) (F.knows_pred funs.now) self.now at a op ≡ Some f) }
-        ensures memory { IfErr result (λ f. f ≡ faults.Memory → early_refusal M.accepts (F.knows_fun funs.now) (F.knows_pred funs.now) self.now at a op ≡ None) }
+        ensures accepted { IfOk result (λ change.
+            AreAccepted M.accepts self.now.guards (slice_set self.now.values a change.value)) }
     {
         let Some(before) = self.value_of(a) else {
             return Err(AtomFault::NoSuchAtom);
@@ -62,17 +65,20 @@ impl<M: Meaning> AtomStore<M> {
         old: &Value,
         new: Value,
     ) -> Result<Option<Change>, AtomFault>
-        ensures ok { OnOk result (compare_refusal M.accepts (F.knows_pred funs.now) self.now at a old.now new ≡ None) }
+        ensures refused { TellsThenMemory faults.Memory
+            (compare_refusal M.accepts (F.knows funs.now).preds self.now at a old.now new) result }
         ensures same { IfOk result (λ change. (is_some change ≡ is_same_at self.now a old.now)) }
         ensures change { IfOk result (λ change. IfSome change (IsChangeOf M.means self.now a (Set new))) }
-        ensures step { IfOk result (λ change. IfSome change (λ c. (refs : List Edn) → step M.means at c.entry (record { refs = refs; atoms = self.now.values }) ≡ Ok (record { refs = refs; atoms = slice_set self.now.values a c.value }))) }
+        ensures step { IfOk result (λ change.
+            IfSome change (λ c. (refs : List Edn)
+            → step M.means at c.entry (record { refs = refs; atoms = self.now.values })
+            ≡ Ok (record { refs = refs; atoms = slice_set self.now.values a c.value }))) }
         ensures sets { IfOk result (λ change. IfSome change (λ c. sets_atom c.entry ≡ true)) }
         ensures here { OnOk result (a < length self.now.values) }
         ensures limit { IfOk result (λ change. IfSome change (λ c. at ≤ 2 ^ 62)) }
-        ensures accepted { IfOk result (λ change. IfSome change (λ c. AreAccepted M.accepts self.now.guards (slice_set self.now.values a c.value))) }
+        ensures accepted { IfOk result (λ change.
+            IfSome change (λ c. AreAccepted M.accepts self.now.guards (slice_set self.now.values a c.value))) }
         ensures from { IfOk result (λ change. IfSome change (λ c. c.swapped.old ≡ old.now)) }
-        ensures fault { IfErr result (λ f. f ≢ faults.Memory → compare_refusal M.accepts (F.knows_pred funs.now) self.now at a old.now new ≡ Some f) }
-        ensures memory { IfErr result (λ f. f ≡ faults.Memory → compare_refusal M.accepts (F.knows_pred funs.now) self.now at a old.now new ≡ None) }
         ensures grows { IfErr result (λ f. f ≡ faults.Memory → is_same_at self.now a old.now ≡ true) }
     {
         let Some(before) = self.value_of(a) else {
@@ -88,10 +94,9 @@ impl<M: Meaning> AtomStore<M> {
 
     // Tells the code of the function or of the rule that the table lacks.
     fn check_served<F: Functions<M>>(&self, funs: &F, a: u32, op: &Op) -> Result<(), AtomFault>
-        ensures ok { OnOk result (lacking (F.knows_fun funs.now) (F.knows_pred funs.now) (rule_at self.now.guards a) op.now ≡ None) }
-        ensures fun { OnOk result (missing (F.knows_fun funs.now) (codes_of op.now) ≡ None) }
-        ensures rule { OnOk result (unknown (F.knows_pred funs.now) (rule_at self.now.guards a) ≡ None) }
-        ensures err { IfErr result (λ f. lacking (F.knows_fun funs.now) (F.knows_pred funs.now) (rule_at self.now.guards a) op.now ≡ Some f) }
+        ensures refused { Tells (lacking (F.knows funs.now) (rule_at self.now.guards a) op.now) result }
+        ensures fun { OnOk result (missing (F.knows funs.now).funs (codes_of op.now) ≡ None) }
+        ensures rule { OnOk result (unknown (F.knows funs.now).preds (rule_at self.now.guards a) ≡ None) }
         ensures told { IfErr result (λ f. f ≢ faults.Memory) }
     {
         match op {
@@ -119,15 +124,14 @@ impl<M: Meaning> AtomStore<M> {
         before: &Value,
         op: &Op,
     ) -> Result<Value, AtomFault>
-        requires fun { missing (F.knows_fun funs.now) (codes_of op.now) ≡ None }
-        requires rule { unknown (F.knows_pred funs.now) (rule_at self.now.guards a) ≡ None }
-        ensures ok { OnOk result (late_refusal M.accepts (rule_at self.now.guards a) at (place M.means op.now before.now) ≡ None) }
+        requires fun { missing (F.knows funs.now).funs (codes_of op.now) ≡ None }
+        requires rule { unknown (F.knows funs.now).preds (rule_at self.now.guards a) ≡ None }
+        ensures refused { TellsOrMemory faults.Memory (given_refusal M.accepts (rule_at self.now.guards a) at op.now)
+            (late_refusal M.accepts (rule_at self.now.guards a) at (place M.means op.now before.now)) result }
         ensures value { IfOk result (λ v. place M.means op.now before.now ≡ Ok v) }
         ensures accepted { IfOk result (λ v. AreAccepted M.accepts self.now.guards (slice_set self.now.values a v)) }
         ensures limit { OnOk result (at ≤ 2 ^ 62) }
         ensures given { OnOk result (given_refusal M.accepts (rule_at self.now.guards a) at op.now ≡ None) }
-        ensures fault { IfErr result (λ f. f ≢ faults.Memory → late_refusal M.accepts (rule_at self.now.guards a) at (place M.means op.now before.now) ≡ Some f) }
-        ensures memory { IfErr result (λ f. f ≡ faults.Memory → given_refusal M.accepts (rule_at self.now.guards a) at op.now ≡ None) }
     {
         if let Op::Set(value) = op {
             self.check_value(funs, at, a, value)?;
@@ -151,11 +155,10 @@ impl<M: Meaning> AtomStore<M> {
         a: u32,
         value: &Value,
     ) -> Result<(), AtomFault>
-        requires { unknown (F.knows_pred funs.now) (rule_at self.now.guards a) ≡ None }
-        ensures ok { OnOk result (late_refusal M.accepts (rule_at self.now.guards a) at (Ok value.now) ≡ None) }
+        requires { unknown (F.knows funs.now).preds (rule_at self.now.guards a) ≡ None }
+        ensures refused { Tells (late_refusal M.accepts (rule_at self.now.guards a) at (Ok value.now)) result }
         ensures accepted { OnOk result (AreAccepted M.accepts self.now.guards (slice_set self.now.values a value.now)) }
         ensures limit { OnOk result (at ≤ 2 ^ 62) }
-        ensures err { IfErr result (λ f. late_refusal M.accepts (rule_at self.now.guards a) at (Ok value.now) ≡ Some f) }
         ensures told { IfErr result (λ f. f ≢ faults.Memory) }
     {
         if !self.guards.accepts(funs, a, value) {
@@ -178,12 +181,12 @@ impl<M: Meaning> AtomStore<M> {
         old: &Value,
         new: &Value,
     ) -> Result<bool, AtomFault>
-        ensures ok { OnOk result (compare_refusal_if_here M.accepts (F.knows_pred funs.now) (rule_at self.now.guards a) at old.now new.now (Some before.now) ≡ None) }
+        ensures refused { Tells (compare_refusal_if_here M.accepts (F.knows funs.now).preds
+            (rule_at self.now.guards a) at old.now new.now (Some before.now)) result }
         ensures same { IfOk result (λ same. same ≡ is_same old.now before.now) }
         ensures from { IfOk result (λ same. same ≡ true → before.now ≡ old.now) }
         ensures accepted { OnOk result (AreAccepted M.accepts self.now.guards (slice_set self.now.values a new.now)) }
         ensures limit { IfOk result (λ same. same ≡ true → at ≤ 2 ^ 62) }
-        ensures err { IfErr result (λ f. compare_refusal_if_here M.accepts (F.knows_pred funs.now) (rule_at self.now.guards a) at old.now new.now (Some before.now) ≡ Some f) }
         ensures told { IfErr result (λ f. f ≢ faults.Memory) }
     {
         if let Err(code) = self.guards.check_known(funs, a) {
@@ -213,7 +216,8 @@ impl<M: Meaning> AtomStore<M> {
         ensures value { IfOk result (λ c. (c.a ≡ a) × (c.value ≡ value)) }
         ensures swapped { IfOk result (λ c. (c.swapped.old ≡ before.now) × (c.swapped.new ≡ value)) }
         ensures entry { IfOk result (λ c. c.entry ≡ entries.Atom a op value) }
-        ensures notices { IfOk result (λ c. c.swapped.notices.items ≡ notices_of (who.Atom a) (keys_at self.now.guards a) before.now value) }
+        ensures notices { IfOk result (λ c. c.swapped.notices.items
+            ≡ notices_of (who.Atom a) (keys_at self.now.guards a) before.now value) }
         ensures err { IfErr result (λ f. f ≡ faults.Memory) }
     {
         let mut notices = Vec::new(alloc);

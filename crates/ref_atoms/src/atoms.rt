@@ -1,5 +1,6 @@
 //! The store of atoms.
-ghost use Rattle.std.specs.Prelude.{◌≡◌, ◌<◌, ◌≤◌, ◌↔◌, ◌^◌, [], true, false, not, IsTrue, None, Some, IfOk, IfErr, OnErr, OnOk, length, option_copied, slice_get};
+ghost use Rattle.ref_log.specs.Told.{Tells};
+ghost use Rattle.std.specs.Prelude.{◌≡◌, ◌<◌, ◌≤◌, ◌↔◌, ◌^◌, [], false, not, IsTrue, IfOk, IfErr, OnErr, OnOk, length, option_copied, slice_get};
 ghost use Rattle.ref_log.specs.Guards.{AreAccepted, are_known, keys_at, rule_at, rule_refusal, with_rule, with_watch, without_watch};
 ghost use Rattle.ref_log.specs.Watches.{has_key};
 ghost use Rattle.ref_log.specs.declared.faults.WatchFault.TheVariants as watches;
@@ -34,7 +35,8 @@ impl<M: Meaning> Model for AtomStore<M> {
 
     ghost view = { λ a. record { values = a.values.items; guards = a.guards } };
 
-    ghost invariant = { λ a. (length a.values.items ≤ 2 ^ 20) × (length a.guards ≡ length a.values.items) × AreAccepted M.accepts a.guards a.values.items };
+    ghost invariant = { λ a. (length a.values.items ≤ 2 ^ 20) × (length a.guards ≡ length a.values.items)
+        × AreAccepted M.accepts a.guards a.values.items };
 }
 
 impl<M: Meaning> AtomStore<M> {
@@ -83,7 +85,7 @@ impl<M: Meaning> AtomStore<M> {
 
     /// Whether a table has the predicate of each rule here. Linear in the number of atoms. It takes no memory.
     pub fn are_rules_known<F: Functions<M>>(&self, funs: &F) -> bool
-        ensures { result ≡ are_known (F.knows_pred funs.now) self.now.guards }
+        ensures { result ≡ are_known (F.knows funs.now).preds self.now.guards }
     {
         self.guards.are_known(funs)
     }
@@ -96,9 +98,9 @@ impl<M: Meaning> AtomStore<M> {
         a: u32,
         rule: Option<Rule>,
     ) -> Result<(), RuleFault>
-        ensures ok { OnOk result (rule_refusal M.accepts (F.knows_pred funs.now) (slice_get self.old.values a) rule ≡ None) }
+        ensures refused { Tells (rule_refusal M.accepts (F.knows funs.now).preds
+            (slice_get self.old.values a) rule) result }
         ensures sets { OnOk result (self.new ≡ with_guards self.old (with_rule self.old.guards a rule)) }
-        ensures fault { IfErr result (λ f. rule_refusal M.accepts (F.knows_pred funs.now) (slice_get self.old.values a) rule ≡ Some f) }
         ensures err { OnErr result (self.new ≡ self.old) }
     {
         let value = self.values.get(a as usize);

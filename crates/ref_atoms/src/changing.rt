@@ -1,5 +1,6 @@
 //! Changing an atom.
-ghost use Rattle.std.specs.Prelude.{◌≡◌, ◌≢◌, ◌<◌, List, true, false, [], None, Some, Ok, IfOk, IfErr, OnErr, OnOk, length, slice_get, slice_set};
+ghost use Rattle.ref_log.specs.Told.{TellsOrMemory, TellsThenMemory};
+ghost use Rattle.std.specs.Prelude.{◌≡◌, ◌<◌, List, true, false, [], Some, Ok, IfOk, IfErr, OnErr, length, slice_get, slice_set};
 ghost use Rattle.ref_edn.specs.Edn.{Edn};
 ghost use Rattle.ref_log.specs.Guards.{AreAccepted, keys_at};
 ghost use Rattle.ref_log.specs.Replay.{place, step};
@@ -31,14 +32,17 @@ impl<M: Meaning> AtomStore<M> {
         code: u32,
         args: Args,
     ) -> Result<Swapped, AtomFault>
-        ensures ok { OnOk result (change_refusal M.means M.accepts (F.knows_fun funs.now) (F.knows_pred funs.now) self.old at a (Alter code args) ≡ None) }
+        ensures refused { TellsOrMemory faults.Memory
+            (early_refusal M.accepts (F.knows funs.now) self.old at a (Alter code args))
+            (change_refusal M.means M.accepts (F.knows funs.now) self.old at a (Alter code args)) result }
         ensures old { IfOk result (λ s. slice_get self.old.values a ≡ Some s.old) }
         ensures new { IfOk result (λ s. place M.means (Alter code args) s.old ≡ Ok s.new) }
         ensures sets { IfOk result (λ s. self.new ≡ with_value self.old a s.new) }
-        ensures step { IfOk result (λ s. (refs : List Edn) → step M.means at (entries.Atom a (Alter code args) s.new) (record { refs = refs; atoms = self.old.values }) ≡ Ok (record { refs = refs; atoms = self.new.values })) }
-        ensures notices { IfOk result (λ s. s.notices.items ≡ notices_of (who.Atom a) (keys_at self.old.guards a) s.old s.new) }
-        ensures fault { IfErr result (λ f. f ≢ faults.Memory → change_refusal M.means M.accepts (F.knows_fun funs.now) (F.knows_pred funs.now) self.old at a (Alter code args) ≡ Some f) }
-        ensures memory { IfErr result (λ f. f ≡ faults.Memory → early_refusal M.accepts (F.knows_fun funs.now) (F.knows_pred funs.now) self.old at a (Alter code args) ≡ None) }
+        ensures step { IfOk result (λ s. (refs : List Edn)
+            → step M.means at (entries.Atom a (Alter code args) s.new)
+            (record { refs = refs; atoms = self.old.values }) ≡ Ok (record { refs = refs; atoms = self.new.values })) }
+        ensures notices { IfOk result (λ s. s.notices.items
+            ≡ notices_of (who.Atom a) (keys_at self.old.guards a) s.old s.new) }
         ensures err { OnErr result (self.new ≡ self.old) }
     {
         let change = self.prepare(alloc, funs, at, a, Op::Alter(code, args))?;
@@ -56,14 +60,16 @@ impl<M: Meaning> AtomStore<M> {
         a: u32,
         value: Value,
     ) -> Result<Swapped, AtomFault>
-        ensures ok { OnOk result (change_refusal M.means M.accepts (F.knows_fun funs.now) (F.knows_pred funs.now) self.old at a (Set value) ≡ None) }
+        ensures refused { TellsThenMemory faults.Memory
+            (change_refusal M.means M.accepts (F.knows funs.now) self.old at a (Set value)) result }
         ensures old { IfOk result (λ s. slice_get self.old.values a ≡ Some s.old) }
         ensures new { IfOk result (λ s. s.new ≡ value) }
         ensures sets { IfOk result (λ s. self.new ≡ with_value self.old a s.new) }
-        ensures step { IfOk result (λ s. (refs : List Edn) → step M.means at (entries.Atom a (Set value) s.new) (record { refs = refs; atoms = self.old.values }) ≡ Ok (record { refs = refs; atoms = self.new.values })) }
-        ensures notices { IfOk result (λ s. s.notices.items ≡ notices_of (who.Atom a) (keys_at self.old.guards a) s.old s.new) }
-        ensures fault { IfErr result (λ f. f ≢ faults.Memory → change_refusal M.means M.accepts (F.knows_fun funs.now) (F.knows_pred funs.now) self.old at a (Set value) ≡ Some f) }
-        ensures memory { IfErr result (λ f. f ≡ faults.Memory → change_refusal M.means M.accepts (F.knows_fun funs.now) (F.knows_pred funs.now) self.old at a (Set value) ≡ None) }
+        ensures step { IfOk result (λ s. (refs : List Edn)
+            → step M.means at (entries.Atom a (Set value) s.new) (record { refs = refs; atoms = self.old.values })
+            ≡ Ok (record { refs = refs; atoms = self.new.values })) }
+        ensures notices { IfOk result (λ s. s.notices.items
+            ≡ notices_of (who.Atom a) (keys_at self.old.guards a) s.old s.new) }
         ensures err { OnErr result (self.new ≡ self.old) }
     {
         let change = self.prepare(alloc, funs, at, a, Op::Set(value))?;
@@ -83,15 +89,17 @@ impl<M: Meaning> AtomStore<M> {
         old: &Value,
         new: Value,
     ) -> Result<Cas, AtomFault>
-        ensures ok { OnOk result (compare_refusal M.accepts (F.knows_pred funs.now) self.old at a old.now new ≡ None) }
+        ensures refused { TellsThenMemory faults.Memory
+            (compare_refusal M.accepts (F.knows funs.now).preds self.old at a old.now new) result }
         ensures done { IfOk result (λ c. c.done ≡ is_same_at self.old a old.now) }
         ensures sets { IfOk result (λ c. c.done ≡ true → self.new ≡ with_value self.old a new) }
-        ensures step { IfOk result (λ c. c.done ≡ true → (refs : List Edn) → step M.means at (entries.Atom a (Set new) new) (record { refs = refs; atoms = self.old.values }) ≡ Ok (record { refs = refs; atoms = self.new.values })) }
-        ensures notices { IfOk result (λ c. c.done ≡ true → c.notices.items ≡ notices_of (who.Atom a) (keys_at self.old.guards a) old.now new) }
+        ensures step { IfOk result (λ c. c.done ≡ true → (refs : List Edn)
+            → step M.means at (entries.Atom a (Set new) new) (record { refs = refs; atoms = self.old.values })
+            ≡ Ok (record { refs = refs; atoms = self.new.values })) }
+        ensures notices { IfOk result (λ c. c.done ≡ true
+            → c.notices.items ≡ notices_of (who.Atom a) (keys_at self.old.guards a) old.now new) }
         ensures unset { IfOk result (λ c. c.done ≡ false → self.new ≡ self.old) }
         ensures untold { IfOk result (λ c. c.done ≡ false → c.notices.items ≡ []) }
-        ensures fault { IfErr result (λ f. f ≢ faults.Memory → compare_refusal M.accepts (F.knows_pred funs.now) self.old at a old.now new ≡ Some f) }
-        ensures memory { IfErr result (λ f. f ≡ faults.Memory → compare_refusal M.accepts (F.knows_pred funs.now) self.old at a old.now new ≡ None) }
         ensures grows { IfErr result (λ f. f ≡ faults.Memory → is_same_at self.old a old.now ≡ true) }
         ensures err { OnErr result (self.new ≡ self.old) }
     {

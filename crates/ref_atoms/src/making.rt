@@ -1,5 +1,6 @@
 //! Making an atom.
-ghost use Rattle.std.specs.Prelude.{◌≡◌, ◌≢◌, ◌<◌, ◌≤◌, ◌^◌, true, false, None, Some, IfOk, IfErr, OnErr, OnOk, length};
+ghost use Rattle.ref_log.specs.Told.{Tells, TellsThenMemory};
+ghost use Rattle.std.specs.Prelude.{◌≡◌, ◌≢◌, ◌<◌, ◌≤◌, ◌^◌, true, false, IfOk, IfErr, OnErr, OnOk, length};
 ghost use Rattle.ref_fun.specs.Rule.{passes};
 ghost use Rattle.ref_log.specs.Make.{make_refusal};
 ghost use Rattle.ref_log.specs.declared.faults.MakeFault.TheVariants as makes;
@@ -22,11 +23,10 @@ impl<M: Meaning> AtomStore<M> {
         start: Value,
         rule: Option<Rule>,
     ) -> Result<u32, MakeFault>
-        ensures ok { OnOk result (make_refusal M.accepts (F.knows_pred funs.now) (length self.old.values) false at start rule ≡ None) }
+        ensures refused { TellsThenMemory makes.Memory
+            (make_refusal M.accepts (F.knows funs.now).preds (length self.old.values) false at start rule) result }
         ensures number { IfOk result (λ a. a ≡ length self.old.values) }
         ensures adds { OnOk result (self.new ≡ with_atom self.old start rule) }
-        ensures fault { IfErr result (λ f. f ≢ makes.Memory → make_refusal M.accepts (F.knows_pred funs.now) (length self.old.values) false at start rule ≡ Some f) }
-        ensures memory { IfErr result (λ f. f ≡ makes.Memory → make_refusal M.accepts (F.knows_pred funs.now) (length self.old.values) false at start rule ≡ None) }
         ensures err { OnErr result (self.new ≡ self.old) }
     {
         self.check_make(funs, at, &start, &rule)?;
@@ -41,8 +41,8 @@ impl<M: Meaning> AtomStore<M> {
         start: &Value,
         rule: &Option<Rule>,
     ) -> Result<(), MakeFault>
-        ensures ok { OnOk result (make_refusal M.accepts (F.knows_pred funs.now) (length self.now.values) false at start.now rule.now ≡ None) }
-        ensures err { IfErr result (λ f. make_refusal M.accepts (F.knows_pred funs.now) (length self.now.values) false at start.now rule.now ≡ Some f) }
+        ensures refused { Tells (make_refusal M.accepts (F.knows funs.now).preds
+            (length self.now.values) false at start.now rule.now) result }
         ensures room { OnOk result (length self.now.values < 2 ^ 20) }
         ensures limit { OnOk result (at ≤ 2 ^ 62) }
         ensures accepted { OnOk result (passes M.accepts rule.now start.now ≡ true) }

@@ -1,3 +1,6 @@
+-- To be read and believed: Edn (values), Lawful, Names, Order, Collections, Bytes, Grammar, Printed, Faults, Streams, View, Texts.
+-- What the reader answers, fault by fault, is told in Reading, ReadTokens and ReadParts; Grammar doesn't depend on it.
+-- OrderLaws are proved. The others are for private functions and proofs: Code, Most, Falls, SortKeys, Sorting, Marks, Deepest.
 pub mod Edn
 pub mod Code
 pub mod View

@@ -251,8 +251,10 @@ fn marked_elements<'a>(
     requires room { room ≤ 64 }
     requires empty { found.old.items ≡ [] }
     ensures falls { Falls found.new.items }
-    ensures twice { 0 < first_twice [] found.new.items → set_at room text.now ≡ Err (record { kind = Kind.Duplicate; left = first_twice [] found.new.items }) }
-    ensures once { first_twice [] found.new.items ≡ 0 → Gives (λ rest. (inserts [] (elements_of found.new.items), rest.now)) result (set_at room text.now) }
+    ensures twice { 0 < first_twice [] found.new.items
+        → set_at room text.now ≡ Err (record { kind = Kind.Duplicate; left = first_twice [] found.new.items }) }
+    ensures once { first_twice [] found.new.items ≡ 0
+        → Gives (λ rest. (inserts [] (elements_of found.new.items), rest.now)) result (set_at room text.now) }
     ensures shorter { IfOk result (λ rest. length rest.now < length text.now) }
 {
     let mut rest = text;
@@ -296,8 +298,11 @@ fn marked_entries<'a>(
     requires room { room ≤ 64 }
     requires empty { found.old.items ≡ [] }
     ensures falls { Falls (keys_of found.new.items) }
-    ensures twice { 0 < first_twice [] (keys_of found.new.items) → map_at room text.now ≡ Err (record { kind = Kind.Duplicate; left = first_twice [] (keys_of found.new.items) }) }
-    ensures once { first_twice [] (keys_of found.new.items) ≡ 0 → Gives (λ rest. (inserts_entries [] (pairs_of found.new.items), rest.now)) result (map_at room text.now) }
+    ensures twice { 0 < first_twice [] (keys_of found.new.items)
+        → map_at room text.now
+        ≡ Err (record { kind = Kind.Duplicate; left = first_twice [] (keys_of found.new.items) }) }
+    ensures once { first_twice [] (keys_of found.new.items) ≡ 0
+        → Gives (λ rest. (inserts_entries [] (pairs_of found.new.items), rest.now)) result (map_at room text.now) }
     ensures shorter { IfOk result (λ rest. length rest.now < length text.now) }
 {
     let mut rest = text;

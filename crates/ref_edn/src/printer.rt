@@ -158,7 +158,8 @@ fn append_element(i: usize, x: &Value, out: &mut Vec<u8>) -> Result<(), AllocErr
 
 #[cycle(append)]
 fn append_entry(i: usize, key: &Value, x: &Value, out: &mut Vec<u8>) -> Result<(), AllocError>
-    ensures ok { OnOk result (out.new.items ≡ out.old.items ++ ((if i == 0 then [] else 44 ∷ 32 ∷ []) ++ (printed key.now ++ 32 ∷ printed x.now))) }
+    ensures ok { OnOk result (out.new.items ≡ out.old.items
+        ++ ((if i == 0 then [] else 44 ∷ 32 ∷ []) ++ (printed key.now ++ 32 ∷ printed x.now))) }
     ensures kept { take (length out.old.items) out.new.items ≡ out.old.items }
 {
     append_gap(i, b", ", out)?;

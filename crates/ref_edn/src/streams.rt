@@ -1,7 +1,7 @@
 //! Readers and writers that tell their bytes and count their failures.
 ghost use Rattle.std.specs.Prelude.{◌≡◌, ◌≤◌, ◌<◌, ◌+◌, ◌-◌, ℕ, List, length, Option, IfOk, IfErr, IfSome, OnOk, OnErr, min, vec_len};
 ghost use Rattle.std.specs.Io.{ReadsAtMost, WritesAtMost};
-ghost use Rattle.std.specs.Io.KnownBytes.{Appends, Consumes, IsAtEnd, ReadConsumes, WriteAppends};
+ghost use Rattle.std.specs.Io.KnownBytes.{Appends, IsAtEnd, ReadConsumes, WriteAppends};
 ghost use Rattle.ref_edn.specs.declared.streams.InputFault.TheVariants as faults;
 ghost use Rattle.ref_edn.specs.Streams.{AppendsPart, ConsumesUpTo, Counts, CountsRead, counted};
 
@@ -165,7 +165,8 @@ pub fn read_to_end<S: Source>(
     ensures all { IfOk result (λ v. IfSome (S.left source.old) (λ all. v.items ≡ all)) }
     ensures end { OnOk result (IsAtEnd (S.left source.new)) }
     ensures limit { IfOk result (λ v. vec_len v ≤ limit) }
-    ensures too_long { IfErr result (λ e. e ≡ InputFault.TooLong → IfSome (S.left source.old) (λ all. limit < length all)) }
+    ensures too_long { IfErr result (λ e. e ≡ InputFault.TooLong
+        → IfSome (S.left source.old) (λ all. limit < length all)) }
     // No more is taken, and what was taken before a fault is lost.
     ensures taken { ConsumesUpTo (S.left source.old) (S.left source.new) (limit + 1) }
     // A read that failed is told by Read, and by nothing else.

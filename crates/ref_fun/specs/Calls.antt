@@ -14,6 +14,11 @@ use Rattle.ref_fun.specs.declared.faults.CallFault.TheVariants as calls
 use Rattle.ref_fun.specs.declared.faults.AddFault.{AddFault}
 use Rattle.ref_fun.specs.declared.faults.AddFault.TheVariants as adds
 
+-- The functions and the predicates that a table has, by their codes.
+pub record Known : Type 0 where
+  pub funs : ℕ → Bool
+  pub preds : ℕ → Bool
+
 -- ---- numbers
 
 abbrev pub call_fault_number : CallFault → ℕ
@@ -74,6 +79,6 @@ AddFaultComes taken count adds.Memory = HasRoom taken count
 -- ---- a table of Core
 
 -- A table has all functions of Core, and all its predicates.
-pub record HasCore (knows_fun knows_pred : ℕ → Bool) : Type 0 where
-  pub funs : (code : ℕ) → 1 ≤ code → code ≤ 10 → knows_fun code ≡ true
-  pub preds : (code : ℕ) → 101 ≤ code → code ≤ 109 → knows_pred code ≡ true
+pub record HasCore (knows : Known) : Type 0 where
+  pub funs : (code : ℕ) → 1 ≤ code → code ≤ 10 → knows.funs code ≡ true
+  pub preds : (code : ℕ) → 101 ≤ code → code ≤ 109 → knows.preds code ≡ true

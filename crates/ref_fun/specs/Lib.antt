@@ -1,3 +1,5 @@
+-- To be read and believed: all. Core is the table of functions and predicates, over Kinds, Integers, Collections and Predicates;
+-- Meaning, Rule, Calls and Table say what a call, a rule and a table are; Cause and Names are numbers and names.
 pub mod Cause
 pub mod Meaning
 pub mod Kinds

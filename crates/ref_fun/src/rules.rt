@@ -30,9 +30,9 @@ impl Rule {
 
 /// Tells the code of a rule, if there is one, that a table has no predicate of.
 pub fn check_known<M: Meaning, F: Functions<M>>(funs: &F, rule: &Option<Rule>) -> Result<(), u32>
-    ensures ok { OnOk result (unknown (F.knows_pred funs.now) rule.now ≡ None) }
-    ensures known { is_ok result ≡ is_known (F.knows_pred funs.now) rule.now }
-    ensures err { IfErr result (λ code. unknown (F.knows_pred funs.now) rule.now ≡ Some code) }
+    ensures ok { OnOk result (unknown (F.knows funs.now).preds rule.now ≡ None) }
+    ensures known { is_ok result ≡ is_known (F.knows funs.now).preds rule.now }
+    ensures err { IfErr result (λ code. unknown (F.knows funs.now).preds rule.now ≡ Some code) }
 {
     match rule {
         None => Ok(()),
@@ -48,7 +48,7 @@ pub fn check_known<M: Meaning, F: Functions<M>>(funs: &F, rule: &Option<Rule>) -
 
 /// Whether a rule that the table knows, or none, accepts a value.
 pub fn passes<M: Meaning, F: Functions<M>>(funs: &F, rule: &Option<Rule>, value: &Value) -> bool
-    requires { unknown (F.knows_pred funs.now) rule.now ≡ None }
+    requires { unknown (F.knows funs.now).preds rule.now ≡ None }
     ensures { result ≡ passes M.accepts rule.now value.now }
 {
     match rule {

@@ -42,7 +42,8 @@ impl StoredFun {
     /// The closure under this code. Who makes the closure proves what the type keeps of it.
     pub fn new(code: u32, run: Fun) -> StoredFun
         requires callable { (alloc : _) (state : _) (args : _) → length args.now ≤ 8 → Fun.pre run alloc state args }
-        requires answers { (alloc : _) (state : _) (args : _) (r : _) → Fun.post run alloc state args r → Answers (core_means code args.now state.now) r }
+        requires answers { (alloc : _) (state : _) (args : _) (r : _) → Fun.post run alloc state args r
+            → Answers (core_means code args.now state.now) r }
         ensures { fun_code result ≡ code }
     {
         StoredFun { code, run }
@@ -73,7 +74,8 @@ impl StoredPred {
     /// The closure under this code. Who makes the closure proves what the type keeps of it.
     pub fn new(code: u32, run: Pred) -> StoredPred
         requires callable { (state : _) (args : _) → length args.now ≤ 8 → Pred.pre run state args }
-        requires answers { (state : _) (args : _) (r : _) → Pred.post run state args r → r ≡ core_accepts code args.now state.now }
+        requires answers { (state : _) (args : _) (r : _) → Pred.post run state args r
+            → r ≡ core_accepts code args.now state.now }
         ensures { pred_code result ≡ code }
     {
         StoredPred { code, run }

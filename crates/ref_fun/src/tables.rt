@@ -1,8 +1,8 @@
 //! The table of functions and predicates, and what generic code asks of one.
-ghost use Rattle.std.specs.Prelude.{◌≡◌, ◌≤◌, ℕ, Bool, length, is_some, map, option_copied, IfErr, IfSome, OnErr, OnOk};
+ghost use Rattle.std.specs.Prelude.{◌≡◌, ◌≤◌, length, is_some, map, IfErr, IfSome, OnErr, OnOk};
 ghost use Rattle.std.specs.BTreeMap.{keys, btree_map_len};
 ghost use Rattle.std.specs.Bool.{OnFalse, OnTrue};
-ghost use Rattle.ref_fun.specs.Calls.{AddFaultComes, CallAnswers, HasCore, HasRoom, tested};
+ghost use Rattle.ref_fun.specs.Calls.{AddFaultComes, CallAnswers, HasCore, HasRoom, Known, tested};
 
 use crate::faults::{AddFault, CallFault, FunFault};
 use crate::meanings::{Core, Meaning};
@@ -16,17 +16,14 @@ pub const MOST_FUNCTIONS: usize = 64;
 
 /// A table that serves a meaning: what it has under a code answers as the meaning says.
 pub trait Functions<M: Meaning> {
-    /// Whether the table has a function of a code.
-    ghost knows_fun: { Self → ℕ → Bool };
-
-    /// Whether the table has a predicate of a code.
-    ghost knows_pred: { Self → ℕ → Bool };
+    /// The functions and the predicates that the table has, by their codes.
+    ghost knows: { Self → Known };
 
     fn has_fun(&self, code: u32) -> bool
-        ensures { result ≡ knows_fun self.now code };
+        ensures { result ≡ (knows self.now).funs code };
 
     fn has_pred(&self, code: u32) -> bool
-        ensures { result ≡ knows_pred self.now code };
+        ensures { result ≡ (knows self.now).preds code };
 
     /// Calls the function of a code. It costs a look-up and what the function costs.
     fn call(
@@ -37,18 +34,18 @@ pub trait Functions<M: Meaning> {
         args: &[Value],
     ) -> Result<Value, CallFault>
         requires { length args.now ≤ 8 }
-        ensures { CallAnswers (knows_fun self.now code) code (M.means code args.now state.now) result };
+        ensures { CallAnswers ((knows self.now).funs code) code (M.means code args.now state.now) result };
 
     /// Asks the predicate of a code, if there is one. It takes no memory.
     fn test(&self, code: u32, state: &Value, args: &[Value]) -> Option<bool>
         requires { length args.now ≤ 8 }
-        ensures { result ≡ tested (knows_pred self.now code) (M.accepts code args.now state.now) };
+        ensures { result ≡ tested ((knows self.now).preds code) (M.accepts code args.now state.now) };
 }
 
 /// Whether a table has all functions and predicates of [`Core`]. It costs as many look-ups.
 pub fn has_core<F: Functions<Core>>(funs: &F) -> bool
-    ensures has { OnTrue result (HasCore (F.knows_fun funs.now) (F.knows_pred funs.now)) }
-    ensures lacks { OnFalse result (HasCore (F.knows_fun funs.now) (F.knows_pred funs.now) → ⊥) }
+    ensures has { OnTrue result (HasCore (F.knows funs.now)) }
+    ensures lacks { OnFalse result (HasCore (F.knows funs.now) → ⊥) }
 {
     for code in 1..11u32 {
         if !funs.has_fun(code) {
@@ -91,7 +88,8 @@ impl FunTable {
     pub fn add_fun(&mut self, fun: StoredFun) -> Result<(), (StoredFun, AddFault)>
         ensures ok { OnOk result (AddsFun self.old fun self.new) }
         ensures room { OnOk result (HasRoom (knows_fun_of self.old (fun_code fun)) (fun_count self.old)) }
-        ensures fault { IfErr result (λ e. AddFaultComes (knows_fun_of self.old (fun_code fun)) (fun_count self.old) e.1) }
+        ensures fault { IfErr result (λ e. AddFaultComes (knows_fun_of self.old (fun_code fun))
+            (fun_count self.old) e.1) }
         ensures back { IfErr result (λ e. e.0 ≡ fun) }
         ensures err { OnErr result (SameFuns self.old self.new) }
         ensures preds { SamePreds self.old self.new }
@@ -113,7 +111,8 @@ impl FunTable {
     pub fn add_pred(&mut self, pred: StoredPred) -> Result<(), (StoredPred, AddFault)>
         ensures ok { OnOk result (AddsPred self.old pred self.new) }
         ensures room { OnOk result (HasRoom (knows_pred_of self.old (pred_code pred)) (pred_count self.old)) }
-        ensures fault { IfErr result (λ e. AddFaultComes (knows_pred_of self.old (pred_code pred)) (pred_count self.old) e.1) }
+        ensures fault { IfErr result (λ e. AddFaultComes (knows_pred_of self.old (pred_code pred))
+            (pred_count self.old) e.1) }
         ensures back { IfErr result (λ e. e.0 ≡ pred) }
         ensures err { OnErr result (SamePreds self.old self.new) }
         ensures funs { SameFuns self.old self.new }
@@ -149,9 +148,7 @@ impl FunTable {
 impl Functions<Core> for FunTable {
     ghost use Rattle.ref_fun.specs.Table.{knows_fun_of, knows_pred_of};
 
-    ghost knows_fun = { λ table code. knows_fun_of table code };
-
-    ghost knows_pred = { λ table code. knows_pred_of table code };
+    ghost knows = { λ table. record { funs = knows_fun_of table; preds = knows_pred_of table } };
 
     fn has_fun(&self, code: u32) -> bool {
         self.fun_at(code).is_some()

@@ -86,7 +86,7 @@ after_place-Ok : (free : Bool) (point : ℕ) (d : Done) (values after : List Edn
 after_place-Ok free point d values after (Ok v) is = (v, refl, if-Ok (free || is_kept d v) (slice_set values d.r v) after (Answer point) is)
 after_place-Ok free point d values after (Err c) is = absurd cc
 
-after_found-Ok : (means : Means) (free : Bool) (point : ℕ) (d : Done) (values after : List Edn) (there : Option Edn) → after_found means free point d values there ≡ Ok after → (old v : Edn) × (there ≡ Some old) × (place means d.op old ≡ Ok v) × (after ≡ slice_set values d.r v)
+pub after_found-Ok : (means : Means) (free : Bool) (point : ℕ) (d : Done) (values after : List Edn) (there : Option Edn) → after_found means free point d values there ≡ Ok after → (old v : Edn) × (there ≡ Some old) × (place means d.op old ≡ Ok v) × (after ≡ slice_set values d.r v)
 after_found-Ok means free point d values after (Some old) is =
     let set = after_place-Ok free point d values after (place means d.op old) is in
     (old, set.0, refl, set.1, set.2)
@@ -132,7 +132,7 @@ after_done-length means all point d values after is =
     ap (λ l. length l) set.4 ∙ length-set values d.r set.1
 
 -- Where all operations are applied, so is the first.
-after_dones-Ok : (means : Means) (all : List Done) (point : ℕ) (ds : List Done) (former : Result (List Edn) AuditFault) (after : List Edn) → after_dones means all point ds former ≡ Ok after → (values : List Edn) × (former ≡ Ok values)
+pub after_dones-Ok : (means : Means) (all : List Done) (point : ℕ) (ds : List Done) (former : Result (List Edn) AuditFault) (after : List Edn) → after_dones means all point ds former ≡ Ok after → (values : List Edn) × (former ≡ Ok values)
 after_dones-Ok means all point ds (Ok values) after is = (values, refl)
 after_dones-Ok means all point ds (Err fault) after is =
     let fails : Err fault ≡ Ok after = sym (after_dones-Err means all point ds fault) ∙ is in
@@ -167,7 +167,7 @@ length-append-one (x ∷ xs) v =
     omega (arith, more)
 
 -- The refs after an entry, where it is applied.
-refs_of : (state after : PlainState) (refs : Result (List Edn) AuditFault) → with_refs state refs ≡ Ok after → refs ≡ Ok after.refs
+pub refs_of : (state after : PlainState) (refs : Result (List Edn) AuditFault) → with_refs state refs ≡ Ok after → refs ≡ Ok after.refs
 refs_of state after (Ok refs) is = ap Ok cc
 refs_of state after (Err fault) is = absurd cc
 
@@ -198,7 +198,7 @@ step-refs means point (MadeAtom v) state after is =
     ap (λ l. length l) refs
 
 -- Where all entries are applied, so is the first.
-replay_from-Ok : (means : Means) (point : ℕ) (es : List Entry) (former : Result PlainState AuditFault) (after : PlainState) → replay_from means point es former ≡ Ok after → (state : PlainState) × (former ≡ Ok state)
+pub replay_from-Ok : (means : Means) (point : ℕ) (es : List Entry) (former : Result PlainState AuditFault) (after : PlainState) → replay_from means point es former ≡ Ok after → (state : PlainState) × (former ≡ Ok state)
 replay_from-Ok means point es (Ok state) after is = (state, refl)
 replay_from-Ok means point es (Err fault) after is =
     let fails : Err fault ≡ Ok after = sym (replay_from-Err means point es fault) ∙ is in

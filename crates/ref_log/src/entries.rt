@@ -1,7 +1,9 @@
 //! What a log is made of.
-use crate::lists::SharedVec;
+use crate::lists::{Share, SharedVec};
 use crate::operations::{Done, Op};
+use crate::sends::Sent;
 use ref_edn::Value;
+use std::alloc::AllocError;
 
 /// Who made a commit: the number of the worker, and of the step in its work.
 #[derive(Clone, Copy, Debug, Drop, PartialEq, Eq)]
@@ -39,4 +41,28 @@ pub struct Transaction {
     pub read_point: u64,
     /// The operations in the order in which they were made.
     pub dones: SharedVec<Done>,
+    /// What it sent to agents, in the order in which it was sent.
+    pub sends: SharedVec<Sent>,
+}
+
+impl Share for Transaction {
+    fn share(&self) -> Result<Transaction, AllocError> {
+        Ok(Transaction {
+            stamp: self.stamp,
+            read_point: self.read_point,
+            dones: self.dones.share()?,
+            sends: self.sends.share()?,
+        })
+    }
+}
+
+impl Share for Entry {
+    fn share(&self) -> Result<Entry, AllocError> {
+        match self {
+            Entry::Trans(transaction) => Ok(Entry::Trans(transaction.share()?)),
+            Entry::Atom(a, op, answer) => Ok(Entry::Atom(*a, op.share()?, answer.share()?)),
+            Entry::MadeRef(value) => Ok(Entry::MadeRef(value.share()?)),
+            Entry::MadeAtom(value) => Ok(Entry::MadeAtom(value.share()?)),
+        }
+    }
 }

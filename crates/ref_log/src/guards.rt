@@ -1,5 +1,6 @@
 //! The guards of references: the rule and the watches of each.
-ghost use Rattle.std.specs.Prelude.{◌≡◌, ◌≢◌, ◌<◌, ◌↔◌, ◌++◌, ◌∷◌, [], List, true, false, not, None, Some, IsTrue, IfOk, IfErr, IfSome, OnErr, OnOk, length, option_copied, slice_get, slice_set};
+ghost use Rattle.ref_log.specs.Told.{Tells};
+ghost use Rattle.std.specs.Prelude.{◌≡◌, ◌<◌, ◌↔◌, ◌++◌, ◌∷◌, [], List, true, false, not, None, IsTrue, IfOk, IfErr, IfSome, OnErr, OnOk, length, option_copied, slice_get, slice_set};
 ghost use Rattle.ref_edn.specs.Edn.{Edn};
 ghost use Rattle.ref_fun.specs.Rule.{Accepts, passes, unknown};
 ghost use Rattle.ref_log.specs.Guards.{AreAccepted, are_known, keys_at, rule_at, rule_refusal, with_guard, with_rule, with_watch, without_watch};
@@ -55,7 +56,9 @@ impl Guards {
     pub fn add(&mut self, alloc: Global, rule: Option<Rule>) -> Result<(), AllocError>
         ensures adds { OnOk result (self.new ≡ with_guard self.old rule) }
         // Where the rule accepts the new reference's value, so do all.
-        ensures accepted { OnOk result ((accepts : Accepts) (values : List Edn) (v : Edn) → length values ≡ length self.old → passes accepts rule v ≡ true → AreAccepted accepts self.old values → AreAccepted accepts self.new (values ++ v ∷ [])) }
+        ensures accepted { OnOk result ((accepts : Accepts) (values : List Edn) (v : Edn)
+            → length values ≡ length self.old → passes accepts rule v ≡ true → AreAccepted accepts self.old values
+            → AreAccepted accepts self.new (values ++ v ∷ [])) }
         ensures err { OnErr result (self.new ≡ self.old) }
     {
         self.items.push(Guard {
@@ -77,7 +80,7 @@ impl Guards {
 
     /// Whether a table has the predicate of each rule. Linear in the number of references. It takes no memory.
     pub fn are_known<M: Meaning, F: Functions<M>>(&self, funs: &F) -> bool
-        ensures { result ≡ are_known (F.knows_pred funs.now) self.now }
+        ensures { result ≡ are_known (F.knows funs.now).preds self.now }
     {
         for guard in &self.items {
             if check_known(funs, &guard.rule).is_err() {
@@ -89,8 +92,7 @@ impl Guards {
 
     /// Tells the code of a reference's rule, if it has one that a table has no predicate of.
     pub fn check_known<M: Meaning, F: Functions<M>>(&self, funs: &F, n: u32) -> Result<(), u32>
-        ensures ok { OnOk result (unknown (F.knows_pred funs.now) (rule_at self.now n) ≡ None) }
-        ensures err { IfErr result (λ code. unknown (F.knows_pred funs.now) (rule_at self.now n) ≡ Some code) }
+        ensures refused { Tells (unknown (F.knows funs.now).preds (rule_at self.now n)) result }
     {
         match self.items.get(n as usize) {
             Some(guard) => check_known(funs, &guard.rule),
@@ -100,10 +102,11 @@ impl Guards {
 
     /// Whether the rule of a reference, if it has one, accepts a value. A table knows the rule.
     pub fn accepts<M: Meaning, F: Functions<M>>(&self, funs: &F, n: u32, value: &Value) -> bool
-        requires { unknown (F.knows_pred funs.now) (rule_at self.now n) ≡ None }
+        requires { unknown (F.knows funs.now).preds (rule_at self.now n) ≡ None }
         ensures accepts { result ≡ passes M.accepts (rule_at self.now n) value.now }
         // Where it does, the reference may have this value.
-        ensures accepted { IsTrue result → (values : List Edn) → AreAccepted M.accepts self.now values → AreAccepted M.accepts self.now (slice_set values n value.now) }
+        ensures accepted { IsTrue result → (values : List Edn) → AreAccepted M.accepts self.now values
+            → AreAccepted M.accepts self.now (slice_set values n value.now) }
     {
         match self.items.get(n as usize) {
             Some(guard) => passes(funs, &guard.rule, value),
@@ -120,12 +123,13 @@ impl Guards {
         value: Option<&Value>,
         rule: Option<Rule>,
     ) -> Result<(), RuleFault>
-        ensures ok { OnOk result (rule_refusal M.accepts (F.knows_pred funs.now) (option_copied value.entry) rule ≡ None) }
+        ensures refused { Tells (rule_refusal M.accepts (F.knows funs.now).preds
+            (option_copied value.entry) rule) result }
         ensures sets { OnOk result (self.new ≡ with_rule self.old n rule) }
         // All rules accept, if they did before and the value is the reference's.
-        ensures accepted { OnOk result ((values : List Edn) → slice_get values n ≡ option_copied value.entry → AreAccepted M.accepts self.old values → AreAccepted M.accepts self.new values) }
+        ensures accepted { OnOk result ((values : List Edn) → slice_get values n ≡ option_copied value.entry
+            → AreAccepted M.accepts self.old values → AreAccepted M.accepts self.new values) }
         ensures all { length self.new ≡ length self.old }
-        ensures fault { IfErr result (λ f. rule_refusal M.accepts (F.knows_pred funs.now) (option_copied value.entry) rule ≡ Some f) }
         ensures err { OnErr result (self.new ≡ self.old) }
     {
         let Some(value) = value else {
@@ -148,7 +152,8 @@ impl Guards {
     pub fn add_watch(&mut self, n: u32, key: Value) -> Result<bool, WatchFault>
         ensures new { IfOk result (λ is_new. is_new ≡ not (has_key (keys_at self.old n) key)) }
         ensures adds { OnOk result (self.new ≡ with_watch self.old n key) }
-        ensures accepted { (accepts : Accepts) (values : List Edn) → AreAccepted accepts self.old values → AreAccepted accepts self.new values }
+        ensures accepted { (accepts : Accepts) (values : List Edn) → AreAccepted accepts self.old values
+            → AreAccepted accepts self.new values }
         ensures all { length self.new ≡ length self.old }
         ensures here { OnOk result (n < length self.old) }
         ensures fault { IfErr result (λ f. f ≡ watches.NoSuch ↔ (n < length self.old → ⊥)) }
@@ -166,7 +171,8 @@ impl Guards {
     pub fn remove_watch(&mut self, n: u32, key: &Value) -> bool
         ensures was { result ≡ has_key (keys_at self.old n) key.now }
         ensures removes { self.new ≡ without_watch self.old n key.now }
-        ensures accepted { (accepts : Accepts) (values : List Edn) → AreAccepted accepts self.old values → AreAccepted accepts self.new values }
+        ensures accepted { (accepts : Accepts) (values : List Edn) → AreAccepted accepts self.old values
+            → AreAccepted accepts self.new values }
         ensures all { length self.new ≡ length self.old }
     {
         match self.items.get_mut(n as usize) {
@@ -185,7 +191,8 @@ impl Guards {
         after: &Value,
         all: &mut Vec<Notice>,
     ) -> Result<(), AllocError>
-        ensures ok { OnOk result (all.new.items ≡ all.old.items ++ notices_of who (keys_at self.now n) before.now after.now) }
+        ensures ok { OnOk result (all.new.items ≡ all.old.items
+            ++ notices_of who (keys_at self.now n) before.now after.now) }
         ensures err { OnErr result (all.new.items ≡ all.old.items) }
     {
         match self.watches_of(n) {

@@ -1,5 +1,6 @@
 //! What a reference of each kind has to meet when it is made.
-ghost use Rattle.std.specs.Prelude.{◌≡◌, ◌≢◌, ◌<◌, ◌≤◌, ◌^◌, true, None, Some, IfErr, OnOk};
+ghost use Rattle.ref_log.specs.Told.{Tells};
+ghost use Rattle.std.specs.Prelude.{◌≡◌, ◌≢◌, ◌<◌, ◌≤◌, ◌^◌, true, IfErr, OnOk};
 ghost use Rattle.ref_fun.specs.Rule.{passes};
 ghost use Rattle.ref_log.specs.Make.{make_refusal};
 ghost use Rattle.ref_log.specs.declared.faults.MakeFault.TheVariants.{Memory};
@@ -24,8 +25,8 @@ pub fn check_make<M: Meaning, F: Functions<M>>(
     start: &Value,
     rule: &Option<Rule>,
 ) -> Result<(), MakeFault>
-    ensures ok { OnOk result (make_refusal M.accepts (F.knows_pred funs.now) count is_bad_tally at start.now rule.now ≡ None) }
-    ensures err { IfErr result (λ f. make_refusal M.accepts (F.knows_pred funs.now) count is_bad_tally at start.now rule.now ≡ Some f) }
+    ensures refused { Tells (make_refusal M.accepts
+        (F.knows funs.now).preds count is_bad_tally at start.now rule.now) result }
     // What the making goes on with.
     ensures room { OnOk result (count < 2 ^ 20) }
     ensures accepted { OnOk result (passes M.accepts rule.now start.now ≡ true) }

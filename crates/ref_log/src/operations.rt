@@ -54,7 +54,8 @@ impl Op {
         funs: &F,
         value: &Value,
     ) -> Result<Value, CallFault>
-        ensures { PlaceAnswers (missing (F.knows_fun funs.now) (codes_of self.now)) (place M.means self.now value.now) result }
+        ensures { PlaceAnswers (missing (F.knows funs.now).funs (codes_of self.now))
+            (place M.means self.now value.now) result }
     {
         match self {
             Op::Set(new) => shared(new),
@@ -67,8 +68,8 @@ impl Op {
 
     /// Whether a table has the function that the operation calls, if it calls one.
     pub fn is_served<M: Meaning, F: Functions<M>>(&self, funs: &F) -> bool
-        ensures yes { OnTrue result (missing (F.knows_fun funs.now) (codes_of self.now) ≡ None) }
-        ensures no { OnFalse result (missing (F.knows_fun funs.now) (codes_of self.now) ≢ None) }
+        ensures yes { OnTrue result (missing (F.knows funs.now).funs (codes_of self.now) ≡ None) }
+        ensures no { OnFalse result (missing (F.knows funs.now).funs (codes_of self.now) ≢ None) }
     {
         match self {
             Op::Alter(code, _) | Op::Commute(code, _) => funs.has_fun(*code),

@@ -1,5 +1,5 @@
 //! The slow replay.
-ghost use Rattle.std.specs.Prelude.{◌≡◌, ◌<◌, ◌^◌, ◌++◌, ◌∷◌, [], None, Ok, Err, IfOk, IfErr, OnOk, slice_get};
+ghost use Rattle.std.specs.Prelude.{◌≡◌, ◌<◌, ◌^◌, ◌++◌, ◌∷◌, [], None, Ok, IfOk, IfErr, OnOk};
 ghost use Rattle.ref_log.specs.Replay.{FaultComes, after_dones, after_one, done_of, missing, needed, needed_of_done, needed_of_dones, needed_of_step, point_after, replay, state_of, step};
 
 use crate::entries::Entry;
@@ -23,8 +23,10 @@ pub fn replay_plain<M: Meaning, F: Functions<M>>(
 ) -> Result<PlainState, AuditFault>
     requires { point_after base.now entries.now < 2 ^ 64 }
     ensures ok { IfOk result (λ state. replay M.means base.now entries.now ≡ Ok state) }
-    ensures served { OnOk result (missing (F.knows_fun funs.now) (needed M.means base.now entries.now) ≡ None) }
-    ensures err { IfErr result (λ fault. FaultComes (missing (F.knows_fun funs.now) (needed M.means base.now entries.now)) (replay M.means base.now entries.now) fault) }
+    ensures served { OnOk result (missing (F.knows funs.now).funs (needed M.means base.now entries.now) ≡ None) }
+    ensures err { IfErr result (λ fault.
+        FaultComes (missing (F.knows funs.now).funs (needed M.means base.now entries.now))
+        (replay M.means base.now entries.now) fault) }
 {
     let mut values = Values::of(alloc, base)?;
     for (i, entry) in entries.iter().enumerate() {
@@ -81,8 +83,11 @@ impl Values {
         entry: &Entry,
     ) -> Result<(), AuditFault>
         ensures ok { OnOk result (step M.means point entry.now self.old ≡ Ok self.new) }
-        ensures served { OnOk result (missing (F.knows_fun funs.now) (needed_of_step M.means point entry.now self.old) ≡ None) }
-        ensures err { IfErr result (λ fault. FaultComes (missing (F.knows_fun funs.now) (needed_of_step M.means point entry.now self.old)) (step M.means point entry.now self.old) fault) }
+        ensures served { OnOk result (missing (F.knows funs.now).funs
+            (needed_of_step M.means point entry.now self.old) ≡ None) }
+        ensures err { IfErr result (λ fault.
+            FaultComes (missing (F.knows funs.now).funs (needed_of_step M.means point entry.now self.old))
+            (step M.means point entry.now self.old) fault) }
     {
         match entry {
             Entry::Trans(transaction) => {
@@ -113,9 +118,14 @@ fn apply_dones<M: Meaning, F: Functions<M>>(
     dones: &SharedVec<Done>,
     values: &mut Vec<Value>,
 ) -> Result<(), AuditFault>
-    ensures ok { OnOk result (after_dones M.means dones.now point dones.now (Ok values.old.items) ≡ Ok values.new.items) }
-    ensures served { OnOk result (missing (F.knows_fun funs.now) (needed_of_dones M.means dones.now point dones.now (Ok values.old.items)) ≡ None) }
-    ensures err { IfErr result (λ fault. FaultComes (missing (F.knows_fun funs.now) (needed_of_dones M.means dones.now point dones.now (Ok values.old.items))) (after_dones M.means dones.now point dones.now (Ok values.old.items)) fault) }
+    ensures ok { OnOk result (after_dones M.means dones.now point dones.now (Ok values.old.items)
+        ≡ Ok values.new.items) }
+    ensures served { OnOk result (missing (F.knows funs.now).funs
+        (needed_of_dones M.means dones.now point dones.now (Ok values.old.items)) ≡ None) }
+    ensures err { IfErr result (λ fault.
+        FaultComes (missing (F.knows funs.now).funs
+        (needed_of_dones M.means dones.now point dones.now (Ok values.old.items)))
+        (after_dones M.means dones.now point dones.now (Ok values.old.items)) fault) }
 {
     let protected = protected_refs(alloc, dones.as_slice())?;
     for done in dones {
@@ -138,9 +148,14 @@ fn apply_op<M: Meaning, F: Functions<M>>(
     answer: &Value,
     values: &mut Vec<Value>,
 ) -> Result<(), AuditFault>
-    ensures ok { OnOk result (after_one M.means is_free point (done_of number op.now answer.now) values.old.items ≡ Ok values.new.items) }
-    ensures served { OnOk result (missing (F.knows_fun funs.now) (needed_of_done (done_of number op.now answer.now) (Ok values.old.items)) ≡ None) }
-    ensures err { IfErr result (λ fault. FaultComes (missing (F.knows_fun funs.now) (needed_of_done (done_of number op.now answer.now) (Ok values.old.items))) (after_one M.means is_free point (done_of number op.now answer.now) values.old.items) fault) }
+    ensures ok { OnOk result (after_one M.means is_free point (done_of number op.now answer.now) values.old.items
+        ≡ Ok values.new.items) }
+    ensures served { OnOk result (missing (F.knows funs.now).funs
+        (needed_of_done (done_of number op.now answer.now) (Ok values.old.items)) ≡ None) }
+    ensures err { IfErr result (λ fault.
+        FaultComes (missing (F.knows funs.now).funs
+        (needed_of_done (done_of number op.now answer.now) (Ok values.old.items)))
+        (after_one M.means is_free point (done_of number op.now answer.now) values.old.items) fault) }
 {
     let at = number as usize;
     if at >= values.len() {

@@ -1,6 +1,5 @@
 //! What a transaction sends.
-ghost use Rattle.std.specs.Prelude.{◌≡◌, IfOk};
-
+use crate::lists::Share;
 use ref_fun::Action;
 use std::alloc::AllocError;
 
@@ -11,11 +10,8 @@ pub struct Sent {
     pub action: Action,
 }
 
-impl Sent {
-    /// One more owner of the action's arguments. It takes no memory; only the count of owners can refuse.
-    pub fn share(&self) -> Result<Sent, AllocError>
-        ensures { IfOk result (λ s. s ≡ self.now) }
-    {
+impl Share for Sent {
+    fn share(&self) -> Result<Sent, AllocError> {
         Ok(Sent {
             agent: self.agent,
             action: self.action.share()?,

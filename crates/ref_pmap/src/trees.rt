@@ -1,5 +1,5 @@
 //! Trees with at least one entry.
-ghost use Rattle.std.specs.Prelude.{◌≡◌, ℕ, ◌+◌, ◌<◌, ◌≤◌, max, ◌⊎◌, ◌++◌, None, IfOk, OnOk, MatchOption};
+ghost use Rattle.std.specs.Prelude.{◌≡◌, ℕ, ◌+◌, ◌<◌, ◌≤◌, max, ◌⊎◌, ◌++◌, IfOk, OnOk, MatchOption};
 ghost use Rattle.std.specs.Option.{option_copied};
 ghost use Rattle.std.specs.FinMap as map;
 ghost use Rattle.ref_pmap.specs.Joined.{joined, single, IsWithin};
@@ -153,7 +153,8 @@ impl<V: Drop> Tree<V> {
     /// The tree without the key; `None` where nothing else is there.
     #[tactic(auto, using(crate::proofs::Removals::gone_single, crate::proofs::Removals::gone_other, crate::proofs::Removals::gone_left, crate::proofs::Removals::gone_right, crate::proofs::Removals::only_right, crate::proofs::Removals::only_left))]
     pub(crate) fn without(&self, alloc: Global, key: u32) -> Result<Option<Tree<V>>, AllocError>
-        ensures { IfOk result (λ o. MatchOption o (map.remove self.now.0 key ≡ map.empty) (λ t. t.0 ≡ map.remove self.now.0 key)) }
+        ensures { IfOk result (λ o. MatchOption o (map.remove self.now.0 key ≡ map.empty)
+            (λ t. t.0 ≡ map.remove self.now.0 key)) }
     {
         match &*self.node {
             Node::Leaf(k, _) => {

@@ -4,3 +4,4 @@ pub mod Legal
 pub mod Moved
 pub mod Accepted
 pub mod Since
+pub mod Tallies

@@ -6,7 +6,7 @@ use Rattle.std.proofs.lemmas.Bool.{eqb-true, or_cases, and_parts, ltb-true}
 use Rattle.ref_edn.specs.Edn.{Edn}
 use Rattle.ref_log.specs.Replay.{is_commute, is_protected}
 use Rattle.ref_log.specs.declared.operations.Done.{Done}
-use Rattle.ref_tx.specs.Inner.{fit_tally}
+use Rattle.ref_log.specs.Tally.{fit_tally}
 use Rattle.ref_refs.specs.declared.faults.Alien.TheVariants as aliens
 use Rattle.ref_refs.specs.declared.faults.CommitFault.{CommitFault}
 use Rattle.ref_refs.specs.declared.faults.CommitFault.TheVariants.{Foreign}

@@ -1,8 +1,8 @@
 -- When a transaction can be committed, and what its commit makes.
 --
--- A commit is asked for at a point, which comes right after the present one. What stands here speaks of the values and the
--- last changes of all refs as they are before it, and of the transaction as a record: its read point, the values that it
--- began with, its operations with their answers.
+-- A commit is asked for at a point, which comes right after the present one, by whoever knows how many agents there are. What
+-- stands here speaks of the values and the last changes of all refs as they are before it, and of the transaction as a record:
+-- its read point, the values that it began with, its operations with their answers, and what it sends.
 use Rattle.std.specs.Prelude.{ℕ, ◌^◌, ◌==◌, nat_lt, Bool, true, false, not, ◌&&◌, if◌then◌else◌, List, [], ◌∷◌, ◌++◌, find, length, slice_get, slice_set, Option, None, Some, Result, Ok, Err}
 use Rattle.std.specs.List.{range_with_len}
 use Rattle.std.specs.Option.{option_map}
@@ -10,6 +10,7 @@ use Rattle.std.specs.Ordering.{eq_by_cmp}
 use Rattle.ref_edn.specs.Edn.{Edn}
 use Rattle.ref_edn.specs.Order.{edn_cmp}
 use Rattle.ref_fun.specs.declared.faults.Cause.{Cause}
+use Rattle.ref_fun.specs.Calls.{Known}
 use Rattle.ref_fun.specs.Meaning.{Means}
 use Rattle.ref_fun.specs.Rule.{Accepts, unknown}
 use Rattle.ref_fun.specs.declared.rules.Rule.{Rule}
@@ -23,7 +24,8 @@ use Rattle.ref_log.specs.declared.entries.Stamp.{Stamp}
 use Rattle.ref_log.specs.declared.operations.Op.{Op}
 use Rattle.ref_log.specs.declared.operations.Op.TheVariants.{Set, Alter, Commute, Ensure}
 use Rattle.ref_log.specs.declared.operations.Done.{Done}
-use Rattle.ref_tx.specs.Inner.{fit_tally}
+use Rattle.ref_log.specs.declared.sends.Sent.{Sent}
+use Rattle.ref_log.specs.Tally.{fit_tally}
 use Rattle.ref_tx.specs.Seen.{TxSeen}
 use Rattle.ref_refs.specs.Seen.{RefsSeen, changed_at}
 use Rattle.ref_refs.specs.Watches.{touched_refs}
@@ -43,6 +45,10 @@ has_ref values r = nat_lt r (length values)
 -- the first operation on a ref that isn't here
 abbrev pub alien_ref : List Edn → List Done → Option CommitFault
 alien_ref values ds = option_map (λ d. Foreign (aliens.Ref d.r)) (find (λ d. not (has_ref values d.r)) ds)
+
+-- the first send to an agent that isn't here, where there are so many
+abbrev pub alien_agent : ℕ → List Sent → Option CommitFault
+alien_agent agents ss = option_map (λ s. Foreign (aliens.Agent s.agent)) (find (λ s. not (nat_lt s.agent agents)) ss)
 
 -- an operation that the tally here doesn't take
 abbrev pub alien_tally : Option ℕ → List Done → Option CommitFault
@@ -143,22 +149,26 @@ past_points at = if nat_lt (2 ^ 62) at then Some PointLimit else None
 -- ---- all together
 
 -- what is foreign, but for the values
-abbrev pub alien : RefsSeen → ℕ → TxSeen → Option CommitFault
-alien store at tx = or_fault (alien_ref store.values tx.dones) (or_fault (alien_tally store.tally tx.dones) (alien_point at tx.read_point))
+abbrev pub alien : RefsSeen → ℕ → ℕ → TxSeen → Option CommitFault
+alien store at agents tx =
+    or_fault (alien_ref store.values tx.dones)
+    (or_fault (alien_agent agents tx.sends)
+    (or_fault (alien_tally store.tally tx.dones)
+    (alien_point at tx.read_point)))
 
 -- The first fault that is known before any memory is taken.
-abbrev pub early_refusal : (ℕ → Bool) → (ℕ → Bool) → RefsSeen → ℕ → TxSeen → Option CommitFault
-early_refusal knows_fun knows_pred store at tx =
-    or_fault (alien store at tx)
-    (or_fault (lacking knows_fun tx.dones)
-    (or_fault (lacking_rule knows_pred store.guards tx.dones)
+abbrev pub early_refusal : Known → RefsSeen → ℕ → ℕ → TxSeen → Option CommitFault
+early_refusal knows store at agents tx =
+    or_fault (alien store at agents tx)
+    (or_fault (lacking knows.funs tx.dones)
+    (or_fault (lacking_rule knows.preds store.guards tx.dones)
     (or_fault (conflict store tx)
     (alien_value store.values tx))))
 
--- The first fault of a commit at this point, if it has one.
-abbrev pub commit_refusal : Means → Accepts → (ℕ → Bool) → (ℕ → Bool) → RefsSeen → ℕ → TxSeen → Option CommitFault
-commit_refusal means accepts knows_fun knows_pred store at tx =
-    or_fault (early_refusal knows_fun knows_pred store at tx)
+-- The first fault of a commit at this point, where there are so many agents, if it has one.
+abbrev pub commit_refusal : Means → Accepts → Known → RefsSeen → ℕ → ℕ → TxSeen → Option CommitFault
+commit_refusal means accepts knows store at agents tx =
+    or_fault (early_refusal knows store at agents tx)
     (or_fault (refused means tx.dones store.values)
     (or_fault (invalid accepts store.guards tx.dones (after_dones means tx.dones at tx.dones (Ok store.values)))
     (past_points at)))
@@ -167,7 +177,7 @@ commit_refusal means accepts knows_fun knows_pred store at tx =
 
 -- its entry
 abbrev pub entry_of : Stamp → TxSeen → Entry
-entry_of stamp tx = Trans (record { stamp = stamp; read_point = tx.read_point; dones = tx.dones })
+entry_of stamp tx = Trans (record { stamp = stamp; read_point = tx.read_point; dones = tx.dones; sends = tx.sends })
 
 -- the last change of a ref after one operation of a commit at this point
 abbrev pub changed_by_one : List ℕ → ℕ → Done → ℕ → ℕ

@@ -1,8 +1,8 @@
 //! The tests before a commit.
-ghost use Rattle.std.specs.Prelude.{◌≡◌, ◌≢◌, ◌<◌, [], ◌∷◌, None, Some, IfErr, OnOk};
-ghost use Rattle.ref_log.specs.Tally.{is_count};
-ghost use Rattle.ref_tx.specs.Inner.{fit_tally};
-ghost use Rattle.ref_refs.specs.Commit.{alien_ref, changed_after, differs_at, first_protected, lacking};
+ghost use Rattle.ref_log.specs.Told.{Tells};
+ghost use Rattle.std.specs.Prelude.{◌≡◌, ◌≢◌, [], ◌∷◌, None, IfErr};
+ghost use Rattle.ref_log.specs.Tally.{counted, fit_tally, is_count};
+ghost use Rattle.ref_refs.specs.Commit.{alien_agent, alien_ref, changed_after, differs_at, first_protected, lacking};
 ghost use Rattle.ref_refs.specs.declared.faults.CommitFault.TheVariants.{Memory};
 ghost use Rattle.ref_refs.specs.Seen.{are_unchanged_since};
 ghost use Rattle.ref_refs.specs.Smaller.{smaller};
@@ -10,17 +10,29 @@ ghost use Rattle.ref_refs.specs.Smaller.{smaller};
 use crate::faults::{Alien, CommitFault};
 use ref_edn::{Node, Value};
 use ref_fun::{Functions, Meaning};
-use ref_log::{Done, Op, SharedVec};
+use ref_log::{Done, Op, Sent, SharedVec};
 
 // Tells the first operation on a ref that isn't here.
 pub(crate) fn check_refs(values: &[Value], dones: &[Done]) -> Result<(), CommitFault>
-    ensures ok { OnOk result (alien_ref values.now dones.now ≡ None) }
-    ensures err { IfErr result (λ f. alien_ref values.now dones.now ≡ Some f) }
+    ensures refused { Tells (alien_ref values.now dones.now) result }
     ensures told { IfErr result (λ f. f ≢ Memory) }
 {
     for done in dones {
         if done.r as usize >= values.len() {
             return Err(CommitFault::Foreign(Alien::Ref(done.r)));
+        }
+    }
+    Ok(())
+}
+
+// Tells the first send to an agent that isn't here, where there are so many.
+pub(crate) fn check_agents(agents: usize, sends: &[Sent]) -> Result<(), CommitFault>
+    ensures refused { Tells (alien_agent agents sends.now) result }
+    ensures told { IfErr result (λ f. f ≢ Memory) }
+{
+    for sent in sends {
+        if sent.agent as usize >= agents {
+            return Err(CommitFault::Foreign(Alien::Agent(sent.agent)));
         }
     }
     Ok(())
@@ -46,8 +58,7 @@ pub(crate) fn check_served<M: Meaning, F: Functions<M>>(
     funs: &F,
     dones: &[Done],
 ) -> Result<(), CommitFault>
-    ensures ok { OnOk result (lacking (F.knows_fun funs.now) dones.now ≡ None) }
-    ensures err { IfErr result (λ f. lacking (F.knows_fun funs.now) dones.now ≡ Some f) }
+    ensures refused { Tells (lacking (F.knows funs.now).funs dones.now) result }
     ensures told { IfErr result (λ f. f ≢ Memory) }
 {
     for done in dones {
@@ -149,5 +160,15 @@ pub(crate) fn is_count(value: &Value) -> bool
     match value.node() {
         Node::Int(n) => *n >= 0,
         _ => false,
+    }
+}
+
+// The number that a count is: an integer of 0 or more. It is 0 of all else.
+pub(crate) fn counted(value: &Value) -> u64
+    ensures { result ≡ counted (value.now ∷ []) }
+{
+    match value.node() {
+        Node::Int(n) if *n >= 0 => *n as u64,
+        _ => 0,
     }
 }

@@ -1,16 +1,20 @@
 //! Committing a transaction.
-ghost use Rattle.std.specs.Prelude.{◌≡◌, ◌≢◌, ◌≤◌, ◌-◌, ◌^◌, ℕ, List, true, None, Some, Ok, IfOk, IfErr, OnOk, OnErr, length, slice_get};
+ghost use Rattle.ref_log.specs.Told.{Tells, TellsBack, TellsOrMemory};
+ghost use Rattle.std.specs.Prelude.{◌≡◌, ◌≢◌, ◌≤◌, ◌-◌, ◌+◌, ◌^◌, ℕ, List, true, None, Some, Ok, IfOk, IfErr, OnOk, OnErr, slice_get};
 ghost use Rattle.std.specs.Option.{option_map};
 ghost use Rattle.ref_edn.specs.Edn.{Edn};
 ghost use Rattle.ref_log.specs.Guards.{AreAccepted};
 ghost use Rattle.ref_log.specs.Replay.{after_dones, is_protected, step};
+ghost use Rattle.ref_log.specs.Tally.{added_by_dones, fit_tally, tally_value};
 ghost use Rattle.ref_tx.specs.Inner.{inner_value};
 ghost use Rattle.ref_refs.specs.Commit.{alien, alien_ref, alien_value, changed_by, commit_refusal, conflict, early_refusal, entry_of, first_invalid, lacking, lacking_rule};
 ghost use Rattle.ref_refs.specs.Seen.{changed_at, are_unchanged_since};
 ghost use Rattle.ref_refs.specs.Watches.{notices, touched_refs};
 ghost use Rattle.ref_refs.specs.declared.faults.CommitFault.TheVariants as commits;
 
-use crate::checking::{check_refs, check_served, first_changed, first_differing, fits_tally};
+use crate::checking::{
+    check_agents, check_refs, check_served, first_changed, first_differing, fits_tally,
+};
 use crate::faults::{Alien, CommitFault, Conflict};
 use crate::lasts::move_lasts;
 use crate::placing::place_all;
@@ -45,6 +49,9 @@ impl<M: Meaning> RefStore<M> {
     /// The rules of the refs that it changes are asked of the values that they get. Their watches are told in the order of
     /// the refs, and those of one ref in the order of adding, also where the value is the same as before.
     ///
+    /// The caller says how many agents there are. What the transaction sends stands in the entry, and nothing else comes of it
+    /// here.
+    ///
     /// A refused commit changes nothing and hands the transaction back. The tests are made in this order: what is foreign,
     /// functions and predicates that the table lacks, the conflict, a foreign value, a refusal over the latest values, a
     /// rule that doesn't accept, the end of points.
@@ -56,25 +63,32 @@ impl<M: Meaning> RefStore<M> {
         alloc: Global,
         funs: &F,
         at: u64,
+        agents: usize,
         stamp: Stamp,
         tx: Tx<M>,
     ) -> Result<Landed, (Tx<M>, CommitFault)>
         requires new { 1 ≤ at }
         requires last { are_unchanged_since self.old.lasts (at - 1) ≡ true }
-        ensures ok { OnOk result (commit_refusal M.means M.accepts (F.knows_fun funs.now) (F.knows_pred funs.now) self.old at tx ≡ None) }
+        ensures refused { TellsBack commits.Memory (early_refusal (F.knows funs.now) self.old at agents tx)
+            (commit_refusal M.means M.accepts (F.knows funs.now) self.old at agents tx) result }
         ensures entry { IfOk result (λ landed. landed.entry ≡ entry_of stamp tx) }
-        ensures notices { IfOk result (λ landed. landed.notices.items ≡ notices self.old.guards self.old.values self.new.values (touched_refs tx.dones)) }
-        ensures values { OnOk result ((atoms : List Edn) → step M.means at (entry_of stamp tx) (record { refs = self.old.values; atoms = atoms }) ≡ Ok (record { refs = self.new.values; atoms = atoms })) }
-        ensures inner { OnOk result ((r : ℕ) → is_protected tx.dones r ≡ true → slice_get self.new.values r ≡ inner_value M.means tx r) }
+        ensures notices { IfOk result (λ landed. landed.notices.items
+            ≡ notices self.old.guards self.old.values self.new.values (touched_refs tx.dones)) }
+        ensures values { OnOk result ((atoms : List Edn)
+            → step M.means at (entry_of stamp tx) (record { refs = self.old.values; atoms = atoms })
+            ≡ Ok (record { refs = self.new.values; atoms = atoms })) }
+        ensures inner { OnOk result ((r : ℕ) → is_protected tx.dones r ≡ true
+            → slice_get self.new.values r ≡ inner_value M.means tx r) }
         ensures lasts { OnOk result ((r : ℕ) → changed_at self.new.lasts r ≡ changed_by self.old.lasts at tx.dones r) }
         ensures since { OnOk result (are_unchanged_since self.new.lasts at ≡ true) }
         ensures rest { OnOk result ((self.new.tally ≡ self.old.tally) × (self.new.guards ≡ self.old.guards)) }
-        ensures fault { IfErr result (λ e. e.1 ≢ commits.Memory → commit_refusal M.means M.accepts (F.knows_fun funs.now) (F.knows_pred funs.now) self.old at tx ≡ Some e.1) }
-        ensures memory { IfErr result (λ e. e.1 ≡ commits.Memory → early_refusal (F.knows_fun funs.now) (F.knows_pred funs.now) self.old at tx ≡ None) }
+        // The tally goes up by what was commuted, and by nothing else.
+        ensures tally { OnOk result (tally_value self.new.tally self.new.values
+            ≡ tally_value self.old.tally self.old.values + added_by_dones self.old.tally tx.dones) }
         ensures back { IfErr result (λ e. e.0 ≡ tx) }
         ensures err { OnErr result (self.new ≡ self.old) }
     {
-        match self.prepare(alloc, funs, at, stamp, &tx) {
+        match self.prepare(alloc, funs, at, agents, stamp, &tx) {
             Ok(prepared) => {
                 self.install(at, prepared.values, tx.dones());
                 Ok(prepared.landed)
@@ -89,23 +103,29 @@ impl<M: Meaning> RefStore<M> {
         alloc: Global,
         funs: &F,
         at: u64,
+        agents: usize,
         stamp: Stamp,
         tx: &Tx<M>,
     ) -> Result<Prepared, CommitFault>
-        ensures ok { OnOk result (commit_refusal M.means M.accepts (F.knows_fun funs.now) (F.knows_pred funs.now) self.now at tx.now ≡ None) }
+        ensures refused { TellsOrMemory commits.Memory (early_refusal (F.knows funs.now) self.now at agents tx.now)
+            (commit_refusal M.means M.accepts (F.knows funs.now) self.now at agents tx.now) result }
         ensures here { OnOk result (alien_ref self.now.values tx.now.dones ≡ None) }
-        ensures values { IfOk result (λ p. (atoms : List Edn) → step M.means at (entry_of stamp tx.now) (record { refs = self.now.values; atoms = atoms }) ≡ Ok (record { refs = p.values.items; atoms = atoms })) }
+        ensures values { IfOk result (λ p. (atoms : List Edn)
+            → step M.means at (entry_of stamp tx.now) (record { refs = self.now.values; atoms = atoms })
+            ≡ Ok (record { refs = p.values.items; atoms = atoms })) }
         // What `install` asks.
-        ensures made { IfOk result (λ p. after_dones M.means tx.now.dones at tx.now.dones (Ok self.now.values) ≡ Ok p.values.items) }
+        ensures fits { OnOk result (fit_tally self.now.tally tx.now.dones ≡ true) }
+        ensures made { IfOk result (λ p. after_dones M.means tx.now.dones at tx.now.dones (Ok self.now.values)
+            ≡ Ok p.values.items) }
         ensures accepted { IfOk result (λ p. AreAccepted M.accepts self.now.guards p.values.items) }
         ensures entry { IfOk result (λ p. p.landed.entry ≡ entry_of stamp tx.now) }
-        ensures notices { IfOk result (λ p. p.landed.notices.items ≡ notices self.now.guards self.now.values p.values.items (touched_refs tx.now.dones)) }
-        ensures inner { IfOk result (λ p. (r : ℕ) → is_protected tx.now.dones r ≡ true → slice_get p.values.items r ≡ inner_value M.means tx.now r) }
+        ensures notices { IfOk result (λ p. p.landed.notices.items
+            ≡ notices self.now.guards self.now.values p.values.items (touched_refs tx.now.dones)) }
+        ensures inner { IfOk result (λ p. (r : ℕ) → is_protected tx.now.dones r ≡ true
+            → slice_get p.values.items r ≡ inner_value M.means tx.now r) }
         ensures limit { OnOk result (at ≤ 2 ^ 62) }
-        ensures fault { IfErr result (λ f. f ≢ commits.Memory → commit_refusal M.means M.accepts (F.knows_fun funs.now) (F.knows_pred funs.now) self.now at tx.now ≡ Some f) }
-        ensures memory { IfErr result (λ f. f ≡ commits.Memory → early_refusal (F.knows_fun funs.now) (F.knows_pred funs.now) self.now at tx.now ≡ None) }
     {
-        self.check(funs, at, tx)?;
+        self.check(funs, at, agents, tx)?;
         let dones = tx.dones();
         let values = place_all(alloc, funs, self.values.as_slice(), tx)?;
         let touched = self.check_rules(alloc, funs, dones, &values)?;
@@ -114,11 +134,11 @@ impl<M: Meaning> RefStore<M> {
         }
         let before = self.values.as_slice();
         let notices = notices(alloc, &self.guards, before, &values, &touched)?;
-        let dones = SharedVec::of(alloc, share_all(alloc, dones)?)?;
         let entry = Entry::Trans(Transaction {
             stamp,
             read_point: tx.read_point(),
-            dones,
+            dones: SharedVec::of(alloc, share_all(alloc, dones)?)?,
+            sends: SharedVec::of(alloc, share_all(alloc, tx.sends())?)?,
         });
         Ok(Prepared {
             values,
@@ -132,12 +152,15 @@ impl<M: Meaning> RefStore<M> {
         requires new { 1 ≤ at }
         requires last { are_unchanged_since self.old.lasts (at - 1) ≡ true }
         requires here { alien_ref self.old.values dones.now ≡ None }
+        requires fits { fit_tally self.old.tally dones.now ≡ true }
         requires made { after_dones M.means dones.now at dones.now (Ok self.old.values) ≡ Ok values.items }
         requires accepted { AreAccepted M.accepts self.old.guards values.items }
         ensures values { self.new.values ≡ values.items }
         ensures lasts { (r : ℕ) → changed_at self.new.lasts r ≡ changed_by self.old.lasts at dones.now r }
         ensures since { are_unchanged_since self.new.lasts at ≡ true }
         ensures rest { (self.new.tally ≡ self.old.tally) × (self.new.guards ≡ self.old.guards) }
+        ensures tally { tally_value self.new.tally self.new.values
+            ≡ tally_value self.old.tally self.old.values + added_by_dones self.old.tally dones.now }
     {
         move_lasts(&mut self.lasts, at, dones);
         self.values = values;
@@ -153,12 +176,14 @@ impl<M: Meaning> RefStore<M> {
         dones: &[Done],
         values: &[Value],
     ) -> Result<Vec<u32>, CommitFault>
-        requires known { lacking_rule (F.knows_pred funs.now) self.now.guards dones.now ≡ None }
+        requires known { lacking_rule (F.knows funs.now).preds self.now.guards dones.now ≡ None }
         requires made { (at : ℕ) → after_dones M.means dones.now at dones.now (Ok self.now.values) ≡ Ok values.now }
         ensures touched { IfOk result (λ rs. rs.items ≡ touched_refs dones.now) }
         ensures ok { OnOk result (first_invalid M.accepts self.now.guards values.now (touched_refs dones.now) ≡ None) }
         ensures accepted { OnOk result (AreAccepted M.accepts self.now.guards values.now) }
-        ensures err { IfErr result (λ f. f ≢ commits.Memory → option_map commits.Invalid (first_invalid M.accepts self.now.guards values.now (touched_refs dones.now)) ≡ Some f) }
+        ensures err { IfErr result (λ f. f ≢ commits.Memory
+            → option_map commits.Invalid (first_invalid M.accepts self.now.guards values.now (touched_refs dones.now))
+            ≡ Some f) }
     {
         let touched = touched_refs(alloc, dones)?;
         match first_invalid(funs, &self.guards, values, &touched) {
@@ -168,16 +193,22 @@ impl<M: Meaning> RefStore<M> {
     }
 
     // Asks all that can be asked before memory is taken.
-    fn check<F: Functions<M>>(&self, funs: &F, at: u64, tx: &Tx<M>) -> Result<(), CommitFault>
-        ensures ok { OnOk result (early_refusal (F.knows_fun funs.now) (F.knows_pred funs.now) self.now at tx.now ≡ None) }
+    fn check<F: Functions<M>>(
+        &self,
+        funs: &F,
+        at: u64,
+        agents: usize,
+        tx: &Tx<M>,
+    ) -> Result<(), CommitFault>
+        ensures refused { Tells (early_refusal (F.knows funs.now) self.now at agents tx.now) result }
         ensures here { OnOk result (alien_ref self.now.values tx.now.dones ≡ None) }
-        ensures served { OnOk result (lacking (F.knows_fun funs.now) tx.now.dones ≡ None) }
-        ensures known { OnOk result (lacking_rule (F.knows_pred funs.now) self.now.guards tx.now.dones ≡ None) }
+        ensures fits { OnOk result (fit_tally self.now.tally tx.now.dones ≡ true) }
+        ensures served { OnOk result (lacking (F.knows funs.now).funs tx.now.dones ≡ None) }
+        ensures known { OnOk result (lacking_rule (F.knows funs.now).preds self.now.guards tx.now.dones ≡ None) }
         ensures unchanged { OnOk result (alien_value self.now.values tx.now ≡ None) }
-        ensures err { IfErr result (λ f. early_refusal (F.knows_fun funs.now) (F.knows_pred funs.now) self.now at tx.now ≡ Some f) }
         ensures told { IfErr result (λ f. f ≢ commits.Memory) }
     {
-        self.check_foreign(at, tx)?;
+        self.check_foreign(at, agents, tx)?;
         check_served(funs, tx.dones())?;
         check_rules_known(funs, &self.guards, tx.dones())?;
         self.check_conflict(tx)?;
@@ -185,13 +216,14 @@ impl<M: Meaning> RefStore<M> {
     }
 
     // Tells what of a transaction is foreign, but for its values.
-    fn check_foreign(&self, at: u64, tx: &Tx<M>) -> Result<(), CommitFault>
-        ensures ok { OnOk result (alien self.now at tx.now ≡ None) }
+    fn check_foreign(&self, at: u64, agents: usize, tx: &Tx<M>) -> Result<(), CommitFault>
+        ensures refused { Tells (alien self.now at agents tx.now) result }
         ensures here { OnOk result (alien_ref self.now.values tx.now.dones ≡ None) }
-        ensures err { IfErr result (λ f. alien self.now at tx.now ≡ Some f) }
+        ensures fits { OnOk result (fit_tally self.now.tally tx.now.dones ≡ true) }
         ensures told { IfErr result (λ f. f ≢ commits.Memory) }
     {
         check_refs(self.values.as_slice(), tx.dones())?;
+        check_agents(agents, tx.sends())?;
         if !fits_tally(self.tally, tx.dones()) {
             return Err(CommitFault::Foreign(Alien::Tally));
         }
@@ -204,8 +236,7 @@ impl<M: Meaning> RefStore<M> {
 
     fn check_conflict(&self, tx: &Tx<M>) -> Result<(), CommitFault>
         requires { alien_ref self.now.values tx.now.dones ≡ None }
-        ensures ok { OnOk result (conflict self.now tx.now ≡ None) }
-        ensures err { IfErr result (λ f. conflict self.now tx.now ≡ Some f) }
+        ensures refused { Tells (conflict self.now tx.now) result }
         ensures told { IfErr result (λ f. f ≢ commits.Memory) }
     {
         let read_point = tx.read_point();
@@ -227,8 +258,7 @@ impl<M: Meaning> RefStore<M> {
 
     fn check_values(&self, tx: &Tx<M>) -> Result<(), CommitFault>
         requires { alien_ref self.now.values tx.now.dones ≡ None }
-        ensures ok { OnOk result (alien_value self.now.values tx.now ≡ None) }
-        ensures err { IfErr result (λ f. alien_value self.now.values tx.now ≡ Some f) }
+        ensures refused { Tells (alien_value self.now.values tx.now) result }
         ensures told { IfErr result (λ f. f ≢ commits.Memory) }
     {
         match first_differing(self.values.as_slice(), tx.began(), tx.dones()) {

@@ -1,5 +1,6 @@
 //! Making a ref.
-ghost use Rattle.std.specs.Prelude.{◌≡◌, ◌≢◌, ◌<◌, ◌≤◌, ◌^◌, ℕ, true, false, None, Some, IfOk, IfErr, OnErr, OnOk, length};
+ghost use Rattle.ref_log.specs.Told.{Tells, TellsThenMemory};
+ghost use Rattle.std.specs.Prelude.{◌≡◌, ◌≢◌, ◌<◌, ◌≤◌, ◌^◌, ℕ, true, false, IfOk, IfErr, OnErr, OnOk, length};
 ghost use Rattle.ref_fun.specs.Rule.{passes};
 ghost use Rattle.ref_log.specs.declared.faults.MakeFault.TheVariants as makes;
 ghost use Rattle.ref_refs.specs.Make.{is_bad_tally, made_at, make_refusal, with_ref};
@@ -26,13 +27,12 @@ impl<M: Meaning> RefStore<M> {
         tally: bool,
     ) -> Result<u32, MakeFault>
         requires { are_unchanged_since self.old.lasts at ≡ true }
-        ensures ok { OnOk result (make_refusal M.accepts (F.knows_pred funs.now) self.old at start rule tally ≡ None) }
+        ensures refused { TellsThenMemory makes.Memory
+            (make_refusal M.accepts (F.knows funs.now).preds self.old at start rule tally) result }
         ensures number { IfOk result (λ r. r ≡ length self.old.values) }
         ensures adds { OnOk result (self.new ≡ with_ref self.old at start rule tally) }
         ensures lasts { OnOk result ((r : ℕ) → changed_at self.new.lasts r ≡ made_at self.old at r) }
         ensures since { are_unchanged_since self.new.lasts at ≡ true }
-        ensures fault { IfErr result (λ f. f ≢ makes.Memory → make_refusal M.accepts (F.knows_pred funs.now) self.old at start rule tally ≡ Some f) }
-        ensures memory { IfErr result (λ f. f ≡ makes.Memory → make_refusal M.accepts (F.knows_pred funs.now) self.old at start rule tally ≡ None) }
         ensures err { OnErr result (self.new ≡ self.old) }
     {
         self.check_make(funs, at, &start, &rule, tally)?;
@@ -49,8 +49,8 @@ impl<M: Meaning> RefStore<M> {
         rule: &Option<Rule>,
         tally: bool,
     ) -> Result<(), MakeFault>
-        ensures ok { OnOk result (make_refusal M.accepts (F.knows_pred funs.now) self.now at start.now rule.now tally ≡ None) }
-        ensures err { IfErr result (λ f. make_refusal M.accepts (F.knows_pred funs.now) self.now at start.now rule.now tally ≡ Some f) }
+        ensures refused { Tells (make_refusal M.accepts
+            (F.knows funs.now).preds self.now at start.now rule.now tally) result }
         // What `add` asks.
         ensures room { OnOk result (length self.now.values < 2 ^ 20) }
         ensures tally { OnOk result (is_bad_tally self.now start.now tally ≡ false) }

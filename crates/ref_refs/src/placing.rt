@@ -25,12 +25,14 @@ pub(crate) fn place_all<M: Meaning, F: Functions<M>>(
     tx: &Tx<M>,
 ) -> Result<Vec<Value>, CommitFault>
     requires here { alien_ref values.now tx.now.dones ≡ None }
-    requires served { lacking (F.knows_fun funs.now) tx.now.dones ≡ None }
+    requires served { lacking (F.knows funs.now).funs tx.now.dones ≡ None }
     requires unchanged { alien_value values.now tx.now ≡ None }
-    ensures ok { IfOk result (λ after. (at : ℕ) → after_dones M.means tx.now.dones at tx.now.dones (Ok values.now) ≡ Ok after.items) }
+    ensures ok { IfOk result (λ after. (at : ℕ)
+        → after_dones M.means tx.now.dones at tx.now.dones (Ok values.now) ≡ Ok after.items) }
     ensures all { IfOk result (λ after. length after.items ≡ length values.now) }
     ensures unrefused { OnOk result (refused M.means tx.now.dones values.now ≡ None) }
-    ensures inner { IfOk result (λ after. (r : ℕ) → is_protected tx.now.dones r ≡ true → slice_get after.items r ≡ inner_value M.means tx.now r) }
+    ensures inner { IfOk result (λ after. (r : ℕ) → is_protected tx.now.dones r ≡ true
+        → slice_get after.items r ≡ inner_value M.means tx.now r) }
     ensures fault { IfErr result (λ f. f ≢ Memory → refused M.means tx.now.dones values.now ≡ Some f) }
 {
     let dones = tx.dones();
@@ -52,15 +54,18 @@ fn place_one<M: Meaning, F: Functions<M>>(
     values: &mut Vec<Value>,
 ) -> Result<(), CommitFault>
     requires here { done.now.r < length values.old.items }
-    requires served { missing (F.knows_fun funs.now) (commuted_code done.now.op) ≡ None }
+    requires served { missing (F.knows funs.now).funs (commuted_code done.now.op) ≡ None }
     requires free { is_free ≡ true → is_commute done.now.op ≡ true }
-    requires kept { is_free ≡ false → option_map (place M.means done.now.op) (slice_get values.old.items done.now.r) ≡ Some (Ok done.now.answer) }
+    requires kept { is_free ≡ false → option_map (place M.means done.now.op) (slice_get values.old.items done.now.r)
+        ≡ Some (Ok done.now.answer) }
     ensures ok { OnOk result ((at : ℕ) → after_one M.means is_free at done.now values.old.items ≡ Ok values.new.items) }
     ensures all { length values.new.items ≡ length values.old.items }
     ensures others { (r : ℕ) → (done.now.r == r) ≡ false → slice_get values.new.items r ≡ slice_get values.old.items r }
     ensures answers { OnOk result (is_free ≡ false → slice_get values.new.items done.now.r ≡ Some done.now.answer) }
-    ensures unrefused { OnOk result ((ds : List Done) → refused M.means (done.now ∷ ds) values.old.items ≡ refused M.means ds values.new.items) }
-    ensures fault { IfErr result (λ f. f ≢ Memory → (ds : List Done) → refused M.means (done.now ∷ ds) values.old.items ≡ Some f) }
+    ensures unrefused { OnOk result ((ds : List Done)
+        → refused M.means (done.now ∷ ds) values.old.items ≡ refused M.means ds values.new.items) }
+    ensures fault { IfErr result (λ f. f ≢ Memory → (ds : List Done)
+        → refused M.means (done.now ∷ ds) values.old.items ≡ Some f) }
 {
     let r = done.r as usize;
     values[r] = next_value(alloc, funs, is_free, done, &values[r])?;
@@ -76,12 +81,13 @@ fn next_value<M: Meaning, F: Functions<M>>(
     done: &Done,
     value: &Value,
 ) -> Result<Value, CommitFault>
-    requires served { missing (F.knows_fun funs.now) (commuted_code done.now.op) ≡ None }
+    requires served { missing (F.knows funs.now).funs (commuted_code done.now.op) ≡ None }
     requires free { is_free ≡ true → is_commute done.now.op ≡ true }
     requires kept { is_free ≡ false → place M.means done.now.op value.now ≡ Ok done.now.answer }
     ensures ok { IfOk result (λ v. place M.means done.now.op value.now ≡ Ok v) }
     ensures answers { IfOk result (λ v. is_free ≡ false → v ≡ done.now.answer) }
-    ensures fault { IfErr result (λ f. f ≢ Memory → (later : Edn → Option Fault) → refused_at done.now.r (Some (place M.means done.now.op value.now)) later ≡ Some f) }
+    ensures fault { IfErr result (λ f. f ≢ Memory → (later : Edn → Option Fault)
+        → refused_at done.now.r (Some (place M.means done.now.op value.now)) later ≡ Some f) }
 {
     if !is_free {
         return Ok(done.answer.share()?);
@@ -97,9 +103,10 @@ fn again<M: Meaning, F: Functions<M>>(
     value: &Value,
 ) -> Result<Value, CommitFault>
     requires commute { is_commute done.now.op ≡ true }
-    requires served { missing (F.knows_fun funs.now) (commuted_code done.now.op) ≡ None }
+    requires served { missing (F.knows funs.now).funs (commuted_code done.now.op) ≡ None }
     ensures ok { IfOk result (λ v. place M.means done.now.op value.now ≡ Ok v) }
-    ensures fault { IfErr result (λ f. f ≢ Memory → (later : Edn → Option Fault) → refused_at done.now.r (Some (place M.means done.now.op value.now)) later ≡ Some f) }
+    ensures fault { IfErr result (λ f. f ≢ Memory → (later : Edn → Option Fault)
+        → refused_at done.now.r (Some (place M.means done.now.op value.now)) later ≡ Some f) }
 {
     match done.op.place(alloc, funs, value) {
         Ok(value) => Ok(value),

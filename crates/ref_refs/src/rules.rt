@@ -1,5 +1,6 @@
 //! What the rules of refs ask of values.
-ghost use Rattle.std.specs.Prelude.{◌≡◌, ◌≢◌, None, Some, IfErr, OnOk};
+ghost use Rattle.ref_log.specs.Told.{Tells};
+ghost use Rattle.std.specs.Prelude.{◌≡◌, ◌≢◌, None, IfErr};
 ghost use Rattle.ref_refs.specs.Commit.{first_invalid, lacking_rule, unknown_at};
 ghost use Rattle.ref_fun.specs.Rule.{unknown};
 ghost use Rattle.ref_log.specs.Guards.{is_accepted_at, rule_at};
@@ -17,8 +18,7 @@ pub(crate) fn check_rules_known<M: Meaning, F: Functions<M>>(
     guards: &Guards,
     dones: &[Done],
 ) -> Result<(), CommitFault>
-    ensures ok { OnOk result (lacking_rule (F.knows_pred funs.now) guards.now dones.now ≡ None) }
-    ensures err { IfErr result (λ f. lacking_rule (F.knows_pred funs.now) guards.now dones.now ≡ Some f) }
+    ensures refused { Tells (lacking_rule (F.knows funs.now).preds guards.now dones.now) result }
     ensures told { IfErr result (λ f. f ≢ Memory) }
 {
     for done in dones {
@@ -32,8 +32,7 @@ fn check_rule_known<M: Meaning, F: Functions<M>>(
     guards: &Guards,
     done: &Done,
 ) -> Result<(), CommitFault>
-    ensures ok { OnOk result (unknown_at (F.knows_pred funs.now) guards.now done.now ≡ None) }
-    ensures err { IfErr result (λ f. unknown_at (F.knows_pred funs.now) guards.now done.now ≡ Some f) }
+    ensures refused { Tells (unknown_at (F.knows funs.now).preds guards.now done.now) result }
     ensures told { IfErr result (λ f. f ≢ Memory) }
 {
     if done.op.is_ensure() {
@@ -52,7 +51,7 @@ pub(crate) fn first_invalid<M: Meaning, F: Functions<M>>(
     values: &[Value],
     touched: &[u32],
 ) -> Option<u32>
-    requires { AreKnown (F.knows_pred funs.now) guards.now touched.now }
+    requires { AreKnown (F.knows funs.now).preds guards.now touched.now }
     ensures { result ≡ first_invalid M.accepts guards.now values.now touched.now }
 {
     for r in touched {
@@ -70,7 +69,7 @@ fn is_accepted<M: Meaning, F: Functions<M>>(
     values: &[Value],
     r: u32,
 ) -> bool
-    requires { unknown (F.knows_pred funs.now) (rule_at guards.now r) ≡ None }
+    requires { unknown (F.knows funs.now).preds (rule_at guards.now r) ≡ None }
     ensures { result ≡ is_accepted_at M.accepts guards.now values.now r }
 {
     match values.get(r as usize) {

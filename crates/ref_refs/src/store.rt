@@ -1,11 +1,13 @@
 //! The store of refs.
-ghost use Rattle.std.specs.Prelude.{◌≡◌, ◌≤◌, ◌<◌, ◌^◌, ◌↔◌, [], IsTrue, true, false, not, None, Some, IfOk, IfErr, OnErr, OnOk, length, option_copied, slice_get};
+ghost use Rattle.ref_log.specs.Told.{Tells};
+ghost use Rattle.std.specs.Prelude.{◌≡◌, ◌≤◌, ◌<◌, ◌^◌, ◌↔◌, [], IsTrue, true, false, not, None, IfOk, IfErr, OnErr, OnOk, length, option_copied, slice_get};
 ghost use Rattle.ref_log.specs.Guards.{AreAccepted, are_known, keys_at, rule_at, rule_refusal, with_rule, with_watch, without_watch};
+ghost use Rattle.ref_log.specs.Tally.{IsTally, tally_value};
 ghost use Rattle.ref_log.specs.Watches.{has_key};
 ghost use Rattle.ref_log.specs.declared.faults.WatchFault.TheVariants as watches;
 ghost use Rattle.ref_refs.specs.Seen.{changed_at, are_unchanged_since, with_guards};
 
-use crate::checking::are_unchanged_since;
+use crate::checking::{are_unchanged_since, counted};
 use ref_edn::Value;
 use ref_fun::{Functions, Meaning, Rule};
 use ref_log::{Guards, RuleFault, SharedVec, WatchFault, share_all};
@@ -16,7 +18,7 @@ use std::marker::{Model, PhantomData};
 /// The values of refs at one point. Contracts see the values by number, the point of each ref's last change, the number of
 /// the tally, and the rule and the watches of each ref.
 ///
-/// It is always so that each rule accepts the value of its ref.
+/// It is always so that each rule accepts the value of its ref, and that the tally is an integer of 0 or more.
 #[derive(Drop)]
 pub struct RefStore<M: Meaning> {
     pub(crate) values: Vec<Value>,
@@ -31,6 +33,7 @@ impl<M: Meaning> Model for RefStore<M> {
     ghost use Rattle.std.specs.Coded.{codes};
     ghost use Rattle.ref_edn.specs.Code.{edn_code};
     ghost use Rattle.ref_log.specs.Guards.{AreAccepted};
+    ghost use Rattle.ref_log.specs.Tally.{IsTally, tally_value};
     ghost use Rattle.ref_refs.specs.Seen.{RefsSeen};
 
     ghost Value = { RefsSeen };
@@ -39,7 +42,9 @@ impl<M: Meaning> Model for RefStore<M> {
 
     ghost view = { λ a. record { values = a.values.items; lasts = a.lasts.items; tally = a.tally; guards = a.guards } };
 
-    ghost invariant = { λ a. (length a.lasts.items ≡ length a.values.items) × (length a.guards ≡ length a.values.items) × (length a.values.items ≤ 2 ^ 20) × AreAccepted M.accepts a.guards a.values.items };
+    ghost invariant = { λ a. (length a.lasts.items ≡ length a.values.items) × (length a.guards ≡ length a.values.items)
+        × (length a.values.items ≤ 2 ^ 20) × AreAccepted M.accepts a.guards a.values.items
+        × IsTally a.tally a.values.items (tally_value a.tally a.values.items) };
 }
 
 impl<M: Meaning> RefStore<M> {
@@ -87,6 +92,21 @@ impl<M: Meaning> RefStore<M> {
         self.tally
     }
 
+    /// The tally's value, and 0 where there is no tally.
+    pub fn tally_value(&self) -> u64
+        ensures value { result ≡ tally_value self.now.tally self.now.values }
+        // The tally is an integer of 0 or more.
+        ensures tally { IsTally self.now.tally self.now.values result }
+    {
+        match self.tally {
+            Some(t) => match self.value_of(t) {
+                Some(value) => counted(value),
+                None => 0,
+            },
+            None => 0,
+        }
+    }
+
     /// The point of a ref's last change: 0 where it was declared at the start and never changed, or isn't there.
     pub fn changed_at(&self, r: u32) -> u64
         ensures { result ≡ changed_at self.now.lasts r }
@@ -115,7 +135,7 @@ impl<M: Meaning> RefStore<M> {
 
     /// Whether a table has the predicate of each rule here. Linear in the number of refs. It takes no memory.
     pub fn are_rules_known<F: Functions<M>>(&self, funs: &F) -> bool
-        ensures { result ≡ are_known (F.knows_pred funs.now) self.now.guards }
+        ensures { result ≡ are_known (F.knows funs.now).preds self.now.guards }
     {
         self.guards.are_known(funs)
     }
@@ -128,9 +148,9 @@ impl<M: Meaning> RefStore<M> {
         r: u32,
         rule: Option<Rule>,
     ) -> Result<(), RuleFault>
-        ensures ok { OnOk result (rule_refusal M.accepts (F.knows_pred funs.now) (slice_get self.old.values r) rule ≡ None) }
+        ensures refused { Tells (rule_refusal M.accepts (F.knows funs.now).preds
+            (slice_get self.old.values r) rule) result }
         ensures sets { OnOk result (self.new ≡ with_guards self.old (with_rule self.old.guards r rule)) }
-        ensures fault { IfErr result (λ f. rule_refusal M.accepts (F.knows_pred funs.now) (slice_get self.old.values r) rule ≡ Some f) }
         ensures err { OnErr result (self.new ≡ self.old) }
     {
         let value = self.values.get(r as usize);
@@ -160,12 +180,13 @@ impl<M: Meaning> RefStore<M> {
     }
 
     /// Begins a transaction, which reads the values as they are now. The point is the present one: no ref has changed after
-    /// it. Linear in the number of refs.
-    pub fn begin(&self, alloc: Global, point: u64) -> Result<Tx<M>, AllocError>
+    /// it; there are so many agents. Linear in the number of refs.
+    pub fn begin(&self, alloc: Global, point: u64, agents: usize) -> Result<Tx<M>, AllocError>
         requires { are_unchanged_since self.now.lasts point ≡ true }
-        ensures { IfOk result (λ tx. tx ≡ record { read_point = point; began = self.now.values; dones = []; tally = self.now.tally }) }
+        ensures { IfOk result (λ tx. tx
+            ≡ record { read_point = point; began = self.now.values; dones = []; sends = []; tally = self.now.tally; agents = agents }) }
     {
         let values = SharedVec::of(alloc, share_all(alloc, self.values.as_slice())?)?;
-        Ok(Tx::start(alloc, point, values, self.tally))
+        Ok(Tx::start(alloc, point, values, self.tally, agents))
     }
 }

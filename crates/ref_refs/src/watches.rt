@@ -71,7 +71,8 @@ fn tell_if_here(
     r: u32,
     all: &mut Vec<Notice>,
 ) -> Result<(), AllocError>
-    ensures { OnOk result (all.new.items ≡ all.old.items ++ notices_if_here r (keys_at guards.now r) (option_copied before.entry) (option_copied after.entry)) }
+    ensures { OnOk result (all.new.items ≡ all.old.items
+        ++ notices_if_here r (keys_at guards.now r) (option_copied before.entry) (option_copied after.entry)) }
 {
     match (before, after) {
         (Some(before), Some(after)) => guards.tell(r, Who::Ref(r), before, after, all),

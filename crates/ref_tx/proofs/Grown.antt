@@ -9,14 +9,15 @@ use Rattle.std.proofs.lemmas.List.Folds.{list_any-append, list_all-append}
 use Rattle.ref_edn.specs.Edn.{Edn}
 use Rattle.ref_fun.specs.Meaning.{Means}
 use Rattle.ref_log.specs.Replay.{is_set, is_commute}
-use Rattle.ref_log.specs.Tally.{fits_tally}
+use Rattle.ref_log.specs.Tally.{fit_tally, fits_tally, is_tally}
 use Rattle.ref_log.specs.declared.operations.Op.{Op}
 use Rattle.ref_log.specs.declared.operations.Done.{Done}
+use Rattle.ref_log.specs.declared.sends.Sent.{Sent}
 use Rattle.ref_tx.specs.declared.faults.TxFault.{TxFault}
 use Rattle.ref_tx.specs.declared.faults.TxFault.TheVariants.{NoSuchRef, SetAfterCommute, TallyOnly}
 use Rattle.ref_tx.specs.declared.owns.Own.{Own}
 use Rattle.ref_tx.specs.Seen.{TxSeen}
-use Rattle.ref_tx.specs.Inner.{after_ops, has_ref, is_tally, is_commuted, fit_tally, refusal, inner_value, value_after, and_place, IsTx}
+use Rattle.ref_tx.specs.Inner.{after_ops, has_ref, is_commuted, refusal, inner_value, value_after, and_place, IsTx}
 use Rattle.ref_tx.specs.Own.{own_value, own_commuted, IsTableOf}
 use Rattle.ref_tx.specs.Laws.{value_after-here, value_after-elsewhere, AreAnswers-append}
 
@@ -80,13 +81,13 @@ table_more means began ds d commuted own new is gives commutes updates = record 
 allowed_fits : (tx : TxSeen) (r : ℕ) (op : Op) → refusal tx r op ≡ None → (is_tally tx.tally r && not (fits_tally op)) ≡ false
 allowed_fits tx r op e = last_failed (not (has_ref tx r)) (is_set op && is_commuted tx.dones r) (is_tally tx.tally r && not (fits_tally op)) NoSuchRef SetAfterCommute TallyOnly e
 
-pub tx_more : (means : Means) (read_point : ℕ) (began : List Edn) (ds : List Done) (tally : Option ℕ) (d : Done) → IsTx means began ds tally
-    → refusal (record { read_point = read_point; began = began; dones = ds; tally = tally }) d.r d.op ≡ None
+pub tx_more : (means : Means) (read_point : ℕ) (began : List Edn) (ds : List Done) (sends : List Sent) (tally : Option ℕ) (agents : ℕ) (d : Done) → IsTx means began ds tally
+    → refusal (record { read_point = read_point; began = began; dones = ds; sends = sends; tally = tally; agents = agents }) d.r d.op ≡ None
     → and_place means d.op (value_after means began ds d.r) ≡ Some d.answer
     → IsTx means began (ds ++ d ∷ []) tally
-tx_more means read_point began ds tally d is allowed gives = record {
+tx_more means read_point began ds sends tally agents d is allowed gives = record {
   answered = AreAnswers-append means began [] ds d is.answered (value_after-here means began ds d d.r (eq-eqb d.r d.r refl) ∙ gives);
-  tallied = fits_more tally ds d is.tallied (allowed_fits (record { read_point = read_point; began = began; dones = ds; tally = tally }) d.r d.op allowed);
+  tallied = fits_more tally ds d is.tallied (allowed_fits (record { read_point = read_point; began = began; dones = ds; sends = sends; tally = tally; agents = agents }) d.r d.op allowed);
 }
 
 pub value_more : (means : Means) (began : List Edn) (ds : List Done) (r : ℕ) (op : Op) (v : Edn) → and_place means op (value_after means began ds r) ≡ Some v
@@ -105,8 +106,8 @@ table_same means began ds m n same is = record {
 }
 
 -- What a transaction keeps, after one operation more.
-pub kept_more : (means : Means) (tx : TxSeen) (read_point : ℕ) (began : List Edn) (ds new : List Done) (tally : Option ℕ) (own after : ℕ → Option Own) (r : ℕ) (op : Op) (v kept answer : Edn) (commuted : Bool)
-    → tx ≡ record { read_point = read_point; began = began; dones = ds; tally = tally }
+pub kept_more : (means : Means) (tx : TxSeen) (read_point : ℕ) (began : List Edn) (ds new : List Done) (sends : List Sent) (tally : Option ℕ) (agents : ℕ) (own after : ℕ → Option Own) (r : ℕ) (op : Op) (v kept answer : Edn) (commuted : Bool)
+    → tx ≡ record { read_point = read_point; began = began; dones = ds; sends = sends; tally = tally; agents = agents }
     → IsTx means began ds tally × IsTableOf means began ds own
     → refusal tx r op ≡ None
     → and_place means op (inner_value means tx r) ≡ Some v
@@ -116,13 +117,13 @@ pub kept_more : (means : Means) (tx : TxSeen) (read_point : ℕ) (began : List E
     → new ≡ ds ++ (record { r = r; op = op; answer = answer }) ∷ []
     → ((q : ℕ) → after q ≡ cond (r == q) (Some (record { value = kept; commuted = commuted })) (own q))
     → IsTx means began new tally × IsTableOf means began new after
-kept_more means tx read_point began ds new tally own after r op v kept answer commuted seen is allowed gives commutes keeps answers adds updates =
-    let before : TxSeen = record { read_point = read_point; began = began; dones = ds; tally = tally } in
+kept_more means tx read_point began ds new sends tally agents own after r op v kept answer commuted seen is allowed gives commutes keeps answers adds updates =
+    let before : TxSeen = record { read_point = read_point; began = began; dones = ds; sends = sends; tally = tally; agents = agents } in
     let d : Done = record { r = r; op = op; answer = v } in
     let placed : and_place means op (value_after means began ds r) ≡ Some v = ap (λ t. and_place means op (inner_value means t r)) (sym seen) ∙ gives in
     let more : new ≡ ds ++ d ∷ [] = adds ∙ ap (λ x. ds ++ (record { r = r; op = op; answer = x }) ∷ []) answers in
     rw more (
-      tx_more means read_point began ds tally d is.0 (ap (λ t. refusal t r op) (sym seen) ∙ allowed) placed,
+      tx_more means read_point began ds sends tally agents d is.0 (ap (λ t. refusal t r op) (sym seen) ∙ allowed) placed,
       table_more means began ds d commuted own after is.1 placed (commutes ∙ ap (λ t. is_commuted t.dones r || is_commute op) seen)
           (λ q. updates q ∙ ap (λ x. cond (r == q) (Some (record { value = x; commuted = commuted })) (own q)) keeps),
     )

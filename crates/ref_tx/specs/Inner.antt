@@ -1,19 +1,20 @@
 -- In-transaction values, and what a transaction answers.
-use Rattle.std.specs.Prelude.{ℕ, ◌==◌, Bool, true, false, not, ◌&&◌, ◌||◌, if◌then◌else◌, nat_lt, List, [], ◌∷◌, ◌++◌, length, Option, None, Some, Result, Ok, Err, slice_get, ◌≡◌}
-use Rattle.std.specs.List.{list_any, list_all}
+use Rattle.std.specs.Prelude.{ℕ, ◌==◌, Bool, true, not, ◌&&◌, if◌then◌else◌, nat_lt, List, [], ◌∷◌, ◌++◌, length, Option, None, Some, Result, Ok, Err, slice_get, ◌≡◌}
+use Rattle.std.specs.List.{list_any}
 use Rattle.std.specs.Option.{option_map, option_or}
 use Rattle.ref_edn.specs.Edn.{Edn}
 use Rattle.ref_fun.specs.declared.faults.Cause.{Cause}
 use Rattle.ref_fun.specs.Meaning.{Means}
 use Rattle.ref_fun.specs.Rule.{is_accepted}
+use Rattle.ref_fun.specs.declared.actions.Action.{Action}
 use Rattle.ref_fun.specs.declared.rules.Rule.{Rule}
 use Rattle.ref_log.specs.Replay.{codes_of, is_commute, is_set, missing, place}
-use Rattle.ref_log.specs.Tally.{fits_tally}
+use Rattle.ref_log.specs.Tally.{fit_tally, fits_tally, is_tally}
 use Rattle.ref_log.specs.declared.operations.Done.{Done}
 use Rattle.ref_log.specs.declared.operations.Op.{Op}
 use Rattle.ref_tx.specs.Seen.{TxSeen}
 use Rattle.ref_tx.specs.declared.faults.TxFault.{TxFault}
-use Rattle.ref_tx.specs.declared.faults.TxFault.TheVariants.{NoSuchRef, SetAfterCommute, TallyOnly, Refused, NoSuchFun, NotMet}
+use Rattle.ref_tx.specs.declared.faults.TxFault.TheVariants.{NoSuchRef, SetAfterCommute, TallyOnly, Refused, NoSuchFun, NoSuchAgent, NotMet}
 
 -- ---- in-transaction values
 
@@ -55,14 +56,6 @@ has_ref tx r = nat_lt r (length tx.began)
 
 abbrev pub is_commuted : List Done → ℕ → Bool
 is_commuted ds r = list_any (λ d. d.r == r && is_commute d.op) ds
-
-abbrev pub is_tally : Option ℕ → ℕ → Bool
-is_tally (Some t) r = t == r
-is_tally None r = false
-
--- Each operation on the tally is one that the tally takes.
-abbrev pub fit_tally : Option ℕ → List Done → Bool
-fit_tally tally ds = list_all (λ d. not (is_tally tally d.r) || fits_tally d.op) ds
 
 abbrev pub told : Result Edn Cause → Result Edn TxFault
 told (Ok v) = Ok v
@@ -110,6 +103,19 @@ unmet accepts knows rule (Some v) =
     if not (knows rule.code) then Some (NoSuchFun rule.code) else
     if is_accepted accepts rule v then None else
     Some NotMet
+
+-- ---- what is sent
+
+-- The first fault of sending an action of the function of this code to an agent. The function isn't called.
+abbrev pub send_refusal : (ℕ → Bool) → TxSeen → ℕ → ℕ → Option TxFault
+send_refusal knows tx g code =
+    if not (knows code) then Some (NoSuchFun code) else
+    if not (nat_lt g tx.agents) then Some NoSuchAgent else
+    None
+
+-- The transaction with one send more, the last.
+abbrev pub with_sent : TxSeen → ℕ → Action → TxSeen
+with_sent tx g action = record tx { sends = tx.sends ++ record { agent = g; action = action } ∷ [] }
 
 -- ---- one operation more
 

@@ -1,3 +1,4 @@
+-- To be read and believed: Seen, Inner, TxFault. Laws are proved; Own is for private functions and proofs.
 pub mod Seen
 pub mod Inner
 pub mod Own

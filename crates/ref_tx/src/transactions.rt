@@ -1,23 +1,25 @@
 //! An open transaction.
+ghost use Rattle.ref_log.specs.Told.{AnswersOrMemory, Tells, TellsThenMemory};
 ghost use Rattle.std.specs.BTreeMap.{get};
 ghost use Rattle.std.specs.Ordering.{nat_cmp};
-ghost use Rattle.std.specs.Prelude.{◌==◌, ◌||◌, cond, ◌≡◌, ◌≢◌, ◌≤◌, ℕ, [], true, false, Ok, Err, Some, None, IfOk, IfErr, OnOk, OnErr, option_copied, slice_get};
+ghost use Rattle.std.specs.Prelude.{◌==◌, ◌||◌, cond, ◌≡◌, ◌≢◌, ℕ, [], true, false, Ok, Err, Some, None, IfOk, IfErr, OnOk, OnErr};
 ghost use Rattle.ref_log.specs.Replay.{codes_of, is_commute, missing, place};
 ghost use Rattle.ref_log.specs.declared.operations.Op.TheVariants.{Set, Alter, Commute, Ensure};
-ghost use Rattle.ref_tx.specs.Inner.{IsTx, inner_value, has_ref, is_commuted, is_tally, refusal, refusal_by, early_refusal, answer_of, and_place, called, unmet, with_done};
+ghost use Rattle.ref_log.specs.Tally.{is_tally};
+ghost use Rattle.ref_tx.specs.Inner.{IsTx, inner_value, has_ref, is_commuted, refusal, refusal_by, early_refusal, answer_of, and_place, called, send_refusal, unmet, with_done, with_sent};
 ghost use Rattle.ref_tx.specs.declared.faults.TxFault.TheVariants.{NoSuchRef, Memory};
 
 use crate::faults::TxFault;
 use crate::owns::Own;
 use ref_edn::Value;
-use ref_fun::{CallFault, Functions, Meaning, Rule};
-use ref_log::{Args, Done, Op, SharedVec};
+use ref_fun::{Action, CallFault, Functions, Meaning, Rule};
+use ref_log::{Args, Done, Op, Sent, SharedVec};
 use std::alloc::{AllocError, Global};
 use std::collections::BTreeMap;
 use std::marker::{Model, PhantomData};
 
 /// A transaction that is open. Contracts see its read point, the values that it began with, its operations with their
-/// answers, and the number of the tally.
+/// answers, what it sends, the number of the tally, and how many agents there were.
 ///
 /// A call costs a look-up among the refs that the transaction has operated on, and its function.
 #[derive(Drop)]
@@ -25,7 +27,9 @@ pub struct Tx<M: Meaning> {
     read_point: u64,
     began: SharedVec<Value>,
     dones: Vec<Done>,
+    sends: Vec<Sent>,
     tally: Option<u32>,
+    agents: usize,
     own: BTreeMap<u32, Own>,
     of: PhantomData<M>,
 }
@@ -43,27 +47,38 @@ impl<M: Meaning> Model for Tx<M> {
 
     ghost coded = { Prim.hlevel (codes, edn_code) };
 
-    ghost view = { λ a. record { read_point = a.read_point; began = a.began; dones = a.dones.items; tally = a.tally } };
+    ghost view = { λ a. record {
+      read_point = a.read_point;
+      began = a.began;
+      dones = a.dones.items;
+      sends = a.sends.items;
+      tally = a.tally;
+      agents = a.agents;
+    } };
 
     ghost invariant = { λ a. IsTx M.means a.began a.dones.items a.tally × IsTableOf M.means a.began a.dones.items (get nat_cmp a.own) };
 }
 
 impl<M: Meaning> Tx<M> {
-    /// A transaction that has done nothing. It reads the values as of this point; the tally is the ref of this number.
-    /// It takes no memory.
+    /// A transaction that has done nothing. It reads the values as of this point; the tally is the ref of this number, and
+    /// there are so many agents. It takes no memory.
     pub fn start(
         alloc: Global,
         read_point: u64,
         began: SharedVec<Value>,
         tally: Option<u32>,
+        agents: usize,
     ) -> Tx<M>
-        ensures { result ≡ record { read_point = read_point; began = began; dones = []; tally = tally } }
+        ensures { result
+            ≡ record { read_point = read_point; began = began; dones = []; sends = []; tally = tally; agents = agents } }
     {
         Tx {
             read_point,
             began,
             dones: Vec::new(alloc),
+            sends: Vec::new(alloc),
             tally,
+            agents,
             own: BTreeMap::new(alloc),
             of: PhantomData,
         }
@@ -91,6 +106,13 @@ impl<M: Meaning> Tx<M> {
         self.dones.as_slice()
     }
 
+    /// What it sends when it is committed, in the order in which it was sent.
+    pub fn sends(&self) -> &[Sent]
+        ensures { result.now ≡ self.now.sends }
+    {
+        self.sends.as_slice()
+    }
+
     /// The in-transaction value of a ref: Clojure's `deref`. It takes no memory.
     #[tactic(auto, using(crate::proofs::Grown::none_stays))]
     pub fn deref(&self, r: u32) -> Result<&Value, TxFault>
@@ -110,11 +132,10 @@ impl<M: Meaning> Tx<M> {
 
     /// Sets a ref to a value, and answers it: Clojure's `ref-set`.
     pub fn ref_set(&mut self, alloc: Global, r: u32, value: Value) -> Result<Value, TxFault>
-        ensures ok { IfOk result (λ v. answer_of M.means (λ code. true) self.old r (Set value) ≡ Ok v) }
+        ensures answers { AnswersOrMemory Memory (early_refusal (λ code. true) self.old r (Set value))
+            (answer_of M.means (λ code. true) self.old r (Set value)) result }
         ensures adds { IfOk result (λ v. self.new ≡ with_done self.old r (Set value) v) }
         ensures inner { IfOk result (λ v. inner_value M.means self.new r ≡ Some v) }
-        ensures fault { IfErr result (λ f. f ≢ Memory → answer_of M.means (λ code. true) self.old r (Set value) ≡ Err f) }
-        ensures memory { IfErr result (λ f. f ≡ Memory → early_refusal (λ code. true) self.old r (Set value) ≡ None) }
         ensures err { OnErr result (self.new ≡ self.old) }
     {
         self.check(r, true, false)?;
@@ -132,11 +153,10 @@ impl<M: Meaning> Tx<M> {
         code: u32,
         args: Args,
     ) -> Result<Value, TxFault>
-        ensures ok { IfOk result (λ v. answer_of M.means (F.knows_fun funs.now) self.old r (Alter code args) ≡ Ok v) }
+        ensures answers { AnswersOrMemory Memory (early_refusal (F.knows funs.now).funs self.old r (Alter code args))
+            (answer_of M.means (F.knows funs.now).funs self.old r (Alter code args)) result }
         ensures adds { IfOk result (λ v. self.new ≡ with_done self.old r (Alter code args) v) }
         ensures inner { IfOk result (λ v. inner_value M.means self.new r ≡ Some v) }
-        ensures fault { IfErr result (λ f. f ≢ Memory → answer_of M.means (F.knows_fun funs.now) self.old r (Alter code args) ≡ Err f) }
-        ensures memory { IfErr result (λ f. f ≡ Memory → early_refusal (F.knows_fun funs.now) self.old r (Alter code args) ≡ None) }
         ensures err { OnErr result (self.new ≡ self.old) }
     {
         let before = self.check(r, true, false)?;
@@ -155,11 +175,11 @@ impl<M: Meaning> Tx<M> {
         code: u32,
         args: Args,
     ) -> Result<Value, TxFault>
-        ensures ok { IfOk result (λ v. answer_of M.means (F.knows_fun funs.now) self.old r (Commute code args) ≡ Ok v) }
+        ensures answers { AnswersOrMemory Memory
+            (early_refusal (F.knows funs.now).funs self.old r (Commute code args))
+            (answer_of M.means (F.knows funs.now).funs self.old r (Commute code args)) result }
         ensures adds { IfOk result (λ v. self.new ≡ with_done self.old r (Commute code args) v) }
         ensures inner { IfOk result (λ v. inner_value M.means self.new r ≡ Some v) }
-        ensures fault { IfErr result (λ f. f ≢ Memory → answer_of M.means (F.knows_fun funs.now) self.old r (Commute code args) ≡ Err f) }
-        ensures memory { IfErr result (λ f. f ≡ Memory → early_refusal (F.knows_fun funs.now) self.old r (Commute code args) ≡ None) }
         ensures err { OnErr result (self.new ≡ self.old) }
     {
         let op = Op::Commute(code, args);
@@ -170,21 +190,46 @@ impl<M: Meaning> Tx<M> {
 
     /// Protects a ref until the commit, and answers its in-transaction value: Clojure's `ensure`.
     pub fn ensure(&mut self, alloc: Global, r: u32) -> Result<Value, TxFault>
-        ensures ok { IfOk result (λ v. answer_of M.means (λ code. true) self.old r Ensure ≡ Ok v) }
+        ensures answers { AnswersOrMemory Memory (early_refusal (λ code. true) self.old r Ensure)
+            (answer_of M.means (λ code. true) self.old r Ensure) result }
         ensures adds { IfOk result (λ v. self.new ≡ with_done self.old r Ensure v) }
         ensures inner { IfOk result (λ v. inner_value M.means self.new r ≡ Some v) }
-        ensures fault { IfErr result (λ f. f ≢ Memory → answer_of M.means (λ code. true) self.old r Ensure ≡ Err f) }
-        ensures memory { IfErr result (λ f. f ≡ Memory → early_refusal (λ code. true) self.old r Ensure ≡ None) }
         ensures err { OnErr result (self.new ≡ self.old) }
     {
         let value = self.check(r, false, true)?.share()?;
         self.record(alloc, r, Op::Ensure, value)
     }
 
+    /// Sends an action to an agent: Clojure's `send` in a transaction, which holds it until the commit. The table has to have
+    /// the function, and isn't asked for more; there have to have been so many agents when the transaction began. Behind it
+    /// stands what is sent later.
+    pub fn send<F: Functions<M>>(
+        &mut self,
+        _alloc: Global,
+        funs: &F,
+        g: u32,
+        code: u32,
+        args: Args,
+    ) -> Result<(), TxFault>
+        ensures refused { TellsThenMemory Memory (send_refusal (F.knows funs.now).funs self.old g code) result }
+        ensures adds { OnOk result (self.new ≡ with_sent self.old g (record { code = code; args = args })) }
+        ensures err { OnErr result (self.new ≡ self.old) }
+    {
+        if !funs.has_fun(code) {
+            return Err(TxFault::NoSuchFun(code));
+        }
+        if g as usize >= self.agents {
+            return Err(TxFault::NoSuchAgent);
+        }
+        let action = Action { code, args };
+        self.sends.push(Sent { agent: g, action })?;
+        Ok(())
+    }
+
     /// Asks whether a rule accepts the in-transaction value of a ref. It adds no operation and takes no memory.
     pub fn require<F: Functions<M>>(&self, funs: &F, r: u32, rule: &Rule) -> Result<(), TxFault>
-        ensures ok { OnOk result (unmet M.accepts (F.knows_pred funs.now) rule.now (inner_value M.means self.now r) ≡ None) }
-        ensures err { IfErr result (λ f. unmet M.accepts (F.knows_pred funs.now) rule.now (inner_value M.means self.now r) ≡ Some f) }
+        ensures refused { Tells (unmet M.accepts (F.knows funs.now).preds rule.now
+            (inner_value M.means self.now r)) result }
     {
         let value = self.deref(r)?;
         match funs.test(rule.code, value, rule.args.as_slice()) {
@@ -196,9 +241,8 @@ impl<M: Meaning> Tx<M> {
 
     // The in-transaction value of a ref, where an operation isn't refused before its function is asked for.
     fn check(&self, r: u32, sets: bool, fits_tally: bool) -> Result<&Value, TxFault>
-        ensures ok { OnOk result (refusal_by self.now r sets fits_tally ≡ None) }
+        ensures refused { Tells (refusal_by self.now r sets fits_tally) result }
         ensures value { IfOk result (λ v. inner_value M.means self.now r ≡ Some v.now) }
-        ensures fault { IfErr result (λ f. refusal_by self.now r sets fits_tally ≡ Some f) }
         ensures told { IfErr result (λ f. f ≢ Memory) }
     {
         let value = self.deref(r)?;
@@ -260,7 +304,9 @@ impl<M: Meaning> Tx<M> {
 // Keeps what stands for a ref from now on.
 #[tactic(auto, using(crate::proofs::Grown::tied))]
 fn put(own: &mut BTreeMap<u32, Own>, r: u32, value: Value, commuted: bool) -> Result<(), AllocError>
-    ensures ok { OnOk result ((q : ℕ) → get nat_cmp own.new q ≡ cond (r == q) (Some (record { value = value; commuted = commuted })) (get nat_cmp own.old q)) }
+    ensures ok { OnOk result ((q : ℕ)
+        → get nat_cmp own.new q
+        ≡ cond (r == q) (Some (record { value = value; commuted = commuted })) (get nat_cmp own.old q)) }
     ensures err { OnErr result (own.new.entries ≡ own.old.entries) }
 {
     own.insert(r, Own { value, commuted })?;
@@ -274,10 +320,12 @@ fn call<M: Meaning, F: Functions<M>>(
     op: &Op,
     value: &Value,
 ) -> Result<Value, TxFault>
-    ensures ok { IfOk result (λ v. called M.means op.now (Some value.now) (missing (F.knows_fun funs.now) (codes_of op.now)) ≡ Ok v) }
+    ensures ok { IfOk result (λ v. called M.means op.now (Some value.now)
+        (missing (F.knows funs.now).funs (codes_of op.now)) ≡ Ok v) }
+    ensures fault { IfErr result (λ f. f ≢ Memory
+        → called M.means op.now (Some value.now) (missing (F.knows funs.now).funs (codes_of op.now)) ≡ Err f) }
+    ensures memory { IfErr result (λ f. f ≡ Memory → missing (F.knows funs.now).funs (codes_of op.now) ≡ None) }
     ensures place { IfOk result (λ v. place M.means op.now value.now ≡ Ok v) }
-    ensures fault { IfErr result (λ f. f ≢ Memory → called M.means op.now (Some value.now) (missing (F.knows_fun funs.now) (codes_of op.now)) ≡ Err f) }
-    ensures memory { IfErr result (λ f. f ≡ Memory → missing (F.knows_fun funs.now) (codes_of op.now) ≡ None) }
 {
     match op.place(alloc, funs, value) {
         Ok(value) => Ok(value),

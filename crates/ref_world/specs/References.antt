@@ -1,5 +1,5 @@
--- The references of a world by kind and number. There are no agents.
-use Rattle.std.specs.Prelude.{ℕ, Bool, ◌&&◌, List, [], Option, slice_get}
+-- The references of a world by kind and number.
+use Rattle.std.specs.Prelude.{ℕ, Bool, ◌&&◌, List, Option, slice_get}
 use Rattle.ref_edn.specs.Edn.{Edn}
 use Rattle.ref_fun.specs.Rule.{Accepts}
 use Rattle.ref_fun.specs.declared.rules.Rule.{Rule}
@@ -8,10 +8,11 @@ use Rattle.ref_log.specs.declared.guards.Guard.{Guard}
 use Rattle.ref_log.specs.declared.faults.RuleFault.{RuleFault}
 use Rattle.ref_log.specs.declared.notices.Who.{Who}
 use Rattle.ref_log.specs.declared.notices.Who.TheVariants.{Ref, Atom, Agent}
+use Rattle.ref_agents.specs.Agents as agents
 use Rattle.ref_atoms.specs.Atoms as atoms
 use Rattle.ref_refs.specs.Seen as refs
 use Rattle.ref_world.specs.Seen.{WorldSeen}
-use Rattle.ref_world.specs.World.{with_atoms, with_refs}
+use Rattle.ref_world.specs.World.{with_agents, with_atoms, with_refs}
 
 -- the number of a reference
 abbrev pub number_of : Who → ℕ
@@ -19,22 +20,22 @@ number_of (Ref r) = r
 number_of (Atom a) = a
 number_of (Agent g) = g
 
--- the values of its kind
+-- the values of its kind: those of agents are their states
 abbrev pub values_of : WorldSeen → Who → List Edn
 values_of world (Ref r) = world.refs.values
 values_of world (Atom a) = world.atoms.values
-values_of world (Agent g) = []
+values_of world (Agent g) = agents.values_of world.agents.agents
 
 -- the rules and the watches of its kind
 abbrev pub guards_of : WorldSeen → Who → List Guard
 guards_of world (Ref r) = world.refs.guards
 guards_of world (Atom a) = world.atoms.guards
-guards_of world (Agent g) = []
+guards_of world (Agent g) = world.agents.guards
 
 abbrev pub with_guards : WorldSeen → Who → List Guard → WorldSeen
 with_guards world (Ref r) gs = with_refs world (refs.with_guards world.refs gs)
 with_guards world (Atom a) gs = with_atoms world (atoms.with_guards world.atoms gs)
-with_guards world (Agent g) gs = world
+with_guards world (Agent g) gs = with_agents world (agents.with_guards world.agents gs)
 
 -- the value of a reference, if it is there
 abbrev pub value_at : WorldSeen → Who → Option Edn
@@ -67,4 +68,4 @@ without_watch world who key = with_guards world who (guards.without_watch (guard
 
 -- Whether a table knows the predicate of each rule here.
 abbrev pub are_known : (ℕ → Bool) → WorldSeen → Bool
-are_known knows world = guards.are_known knows world.refs.guards && guards.are_known knows world.atoms.guards
+are_known knows world = guards.are_known knows world.refs.guards && (guards.are_known knows world.atoms.guards && guards.are_known knows world.agents.guards)

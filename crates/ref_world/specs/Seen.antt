@@ -1,13 +1,30 @@
--- What a world shows: plain data.
-use Rattle.std.specs.Prelude.{List}
+-- What a world and a share of it show: plain data.
+use Rattle.std.specs.Prelude.{ℕ, List}
+use Rattle.ref_agents.specs.Agents.{AgentsSeen}
 use Rattle.ref_atoms.specs.Atoms.{AtomsSeen}
 use Rattle.ref_log.specs.declared.entries.Entry.{Entry}
 use Rattle.ref_log.specs.declared.states.Base.{Base}
 use Rattle.ref_refs.specs.Seen.{RefsSeen}
+use Rattle.ref_world.specs.declared.shares.LogReceipt.{LogReceipt}
 
--- the base, the log of the entries after it, and all refs and atoms as they are now
+-- how many transactions were committed, how much they added to the tally, and what the tally began with: 0 where there is none
+pub record BooksSeen : Type 0 where
+  pub commits : ℕ
+  pub added : ℕ
+  pub start : ℕ
+
+-- the base, the log of the entries after it, all refs, atoms and agents as they are now, and the books
 pub record WorldSeen : Type 0 where
   pub base : Base
   pub log : List Entry
   pub refs : RefsSeen
   pub atoms : AtomsSeen
+  pub agents : AgentsSeen
+  pub books : BooksSeen
+
+-- of 2^32 parts these, and what was done with them: so many commits, so much added to the tally, and the receipts in order
+pub record ShareSeen : Type 0 where
+  pub parts : ℕ
+  pub commits : ℕ
+  pub added : ℕ
+  pub receipts : List LogReceipt

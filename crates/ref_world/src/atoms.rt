@@ -1,5 +1,6 @@
 //! The calls that change one atom.
-ghost use Rattle.std.specs.Prelude.{◌≡◌, ◌≢◌, ◌≤◌, ◌<◌, ◌^◌, ◌+◌, ℕ, List, true, false, [], None, Some, Ok, IfOk, IfErr, OnErr, OnOk, length, slice_get, slice_set};
+ghost use Rattle.ref_log.specs.Told.{TellsOrMemory, TellsThenMemory};
+ghost use Rattle.std.specs.Prelude.{◌≡◌, ◌≤◌, ◌<◌, ◌^◌, ◌+◌, ℕ, List, true, false, [], Option, Some, Ok, IfOk, IfErr, OnErr, OnOk, length, slice_get, slice_set};
 ghost use Rattle.ref_edn.specs.Edn.{Edn};
 ghost use Rattle.ref_log.specs.Guards.{AreAccepted, keys_at};
 ghost use Rattle.ref_atoms.specs.Atoms.{with_value};
@@ -10,89 +11,121 @@ ghost use Rattle.ref_log.specs.Watches.{notices_of};
 ghost use Rattle.ref_log.specs.declared.entries.Entry.TheVariants as entries;
 ghost use Rattle.ref_log.specs.declared.notices.Who.TheVariants as who;
 ghost use Rattle.ref_log.specs.declared.operations.Op.TheVariants.{Alter, Set};
-ghost use Rattle.ref_world.specs.World.{point_of, values_now, with_entry};
+ghost use Rattle.ref_world.specs.Shares.{with_receipt};
+ghost use Rattle.ref_world.specs.World.{IsUncounted, point_of, values_now, with_entry};
 
+use crate::shares::{LogReceipt, Share};
 use crate::worlds::World;
 use ref_atoms::{AtomFault, Cas, Change, Swapped};
 use ref_edn::Value;
 use ref_fun::{Args, Functions, Meaning};
-use ref_log::Op;
+use ref_log::{Op, Share as _};
 use std::alloc::{AllocError, Global};
+use std::sync::ledger::Ledger;
 
-impl<M: Meaning> World<M> {
+impl<M: Meaning, C: Ledger, A: Ledger> World<M, C, A> {
     /// Sets an atom to the function of its value and the arguments, as Clojure's `swap!`, and adds one entry. The atom's rule
-    /// is asked of the new value. A refused call changes nothing.
+    /// is asked of the new value. The share gets the entry's receipt. A refused call changes nothing.
     pub fn swap<F: Functions<M>>(
         &mut self,
         alloc: Global,
         funs: &F,
+        share: &mut Share<C, A>,
         a: u32,
         code: u32,
         args: Args,
     ) -> Result<Swapped, AtomFault>
-        ensures ok { OnOk result (change_refusal M.means M.accepts (F.knows_fun funs.now) (F.knows_pred funs.now) self.old.atoms (point_of self.old + 1) a (Alter code args) ≡ None) }
+        ensures refused { TellsOrMemory faults.Memory
+            (early_refusal M.accepts (F.knows funs.now) self.old.atoms (point_of self.old + 1) a (Alter code args))
+            (change_refusal M.means M.accepts (F.knows funs.now) self.old.atoms (point_of self.old + 1) a
+            (Alter code args)) result }
         ensures old { IfOk result (λ s. slice_get self.old.atoms.values a ≡ Some s.old) }
         ensures new { IfOk result (λ s. place M.means (Alter code args) s.old ≡ Ok s.new) }
-        ensures entry { IfOk result (λ s. self.new ≡ with_entry self.old (entries.Atom a (Alter code args) s.new) self.old.refs (with_value self.old.atoms a s.new)) }
-        ensures values { IfOk result (λ s. step M.means (point_of self.old + 1) (entries.Atom a (Alter code args) s.new) (values_now self.old.refs self.old.atoms) ≡ Ok (values_now self.new.refs self.new.atoms)) }
-        ensures notices { IfOk result (λ s. s.notices.items ≡ notices_of (who.Atom a) (keys_at self.old.atoms.guards a) s.old s.new) }
-        ensures fault { IfErr result (λ f. f ≢ faults.Memory → change_refusal M.means M.accepts (F.knows_fun funs.now) (F.knows_pred funs.now) self.old.atoms (point_of self.old + 1) a (Alter code args) ≡ Some f) }
-        ensures memory { IfErr result (λ f. f ≡ faults.Memory → early_refusal M.accepts (F.knows_fun funs.now) (F.knows_pred funs.now) self.old.atoms (point_of self.old + 1) a (Alter code args) ≡ None) }
+        ensures entry { IfOk result (λ s. self.new
+            ≡ with_entry self.old (entries.Atom a (Alter code args) s.new) self.old.refs
+            (with_value self.old.atoms a s.new)) }
+        ensures values { IfOk result (λ s. step M.means (point_of self.old + 1)
+            (entries.Atom a (Alter code args) s.new) (values_now self.old.refs self.old.atoms)
+            ≡ Ok (values_now self.new.refs self.new.atoms)) }
+        ensures notices { IfOk result (λ s. s.notices.items
+            ≡ notices_of (who.Atom a) (keys_at self.old.atoms.guards a) s.old s.new) }
+        ensures share { IfOk result (λ s. share.new
+            ≡ with_receipt share.old (point_of self.old + 1) (entries.Atom a (Alter code args) s.new)) }
         ensures err { OnErr result (self.new ≡ self.old) }
+        ensures same { OnErr result (share.new ≡ share.old) }
     {
         let at = self.point() + 1;
         let change = self
             .atoms
             .prepare(alloc, funs, at, a, Op::Alter(code, args))?;
-        Ok(self.enter(a, change)?)
+        Ok(self.enter(share, a, change)?)
     }
 
     /// Sets an atom to a value regardless of the one that it has, as Clojure's `reset!`, and adds one entry. The atom's rule
-    /// is asked of the new value. A refused call changes nothing.
+    /// is asked of the new value. The share gets the entry's receipt. A refused call changes nothing.
     pub fn reset<F: Functions<M>>(
         &mut self,
         alloc: Global,
         funs: &F,
+        share: &mut Share<C, A>,
         a: u32,
         value: Value,
     ) -> Result<Swapped, AtomFault>
-        ensures ok { OnOk result (change_refusal M.means M.accepts (F.knows_fun funs.now) (F.knows_pred funs.now) self.old.atoms (point_of self.old + 1) a (Set value) ≡ None) }
+        ensures refused { TellsThenMemory faults.Memory
+            (change_refusal M.means M.accepts (F.knows funs.now) self.old.atoms (point_of self.old + 1) a
+            (Set value)) result }
         ensures old { IfOk result (λ s. slice_get self.old.atoms.values a ≡ Some s.old) }
         ensures new { IfOk result (λ s. s.new ≡ value) }
-        ensures entry { OnOk result (self.new ≡ with_entry self.old (entries.Atom a (Set value) value) self.old.refs (with_value self.old.atoms a value)) }
-        ensures values { OnOk result (step M.means (point_of self.old + 1) (entries.Atom a (Set value) value) (values_now self.old.refs self.old.atoms) ≡ Ok (values_now self.new.refs self.new.atoms)) }
-        ensures notices { IfOk result (λ s. s.notices.items ≡ notices_of (who.Atom a) (keys_at self.old.atoms.guards a) s.old value) }
-        ensures fault { IfErr result (λ f. f ≢ faults.Memory → change_refusal M.means M.accepts (F.knows_fun funs.now) (F.knows_pred funs.now) self.old.atoms (point_of self.old + 1) a (Set value) ≡ Some f) }
-        ensures memory { IfErr result (λ f. f ≡ faults.Memory → change_refusal M.means M.accepts (F.knows_fun funs.now) (F.knows_pred funs.now) self.old.atoms (point_of self.old + 1) a (Set value) ≡ None) }
+        ensures entry { OnOk result (self.new
+            ≡ with_entry self.old (entries.Atom a (Set value) value) self.old.refs
+            (with_value self.old.atoms a value)) }
+        ensures values { OnOk result (step M.means (point_of self.old + 1) (entries.Atom a (Set value) value)
+            (values_now self.old.refs self.old.atoms) ≡ Ok (values_now self.new.refs self.new.atoms)) }
+        ensures notices { IfOk result (λ s. s.notices.items
+            ≡ notices_of (who.Atom a) (keys_at self.old.atoms.guards a) s.old value) }
+        ensures share { OnOk result (share.new
+            ≡ with_receipt share.old (point_of self.old + 1) (entries.Atom a (Set value) value)) }
         ensures err { OnErr result (self.new ≡ self.old) }
+        ensures same { OnErr result (share.new ≡ share.old) }
     {
         let at = self.point() + 1;
         let change = self.atoms.prepare(alloc, funs, at, a, Op::Set(value))?;
-        Ok(self.enter(a, change)?)
+        Ok(self.enter(share, a, change)?)
     }
 
     /// Sets an atom to a new value where it has the old one that is given, as Clojure's `compare-and-set!`, and answers
     /// whether it did. The atom's rule is asked of the new value before the comparison. Where it did one entry is added, also
-    /// where the values are equal; where it answers false, and where it is refused, nothing is changed.
+    /// where the values are equal, and the share gets its receipt; where it answers false, and where it is refused, nothing is
+    /// changed.
     pub fn compare_and_set<F: Functions<M>>(
         &mut self,
         alloc: Global,
         funs: &F,
+        share: &mut Share<C, A>,
         a: u32,
         old: &Value,
         new: Value,
     ) -> Result<Cas, AtomFault>
-        ensures ok { OnOk result (compare_refusal M.accepts (F.knows_pred funs.now) self.old.atoms (point_of self.old + 1) a old.now new ≡ None) }
+        ensures refused { TellsThenMemory faults.Memory
+            (compare_refusal M.accepts (F.knows funs.now).preds self.old.atoms
+            (point_of self.old + 1) a old.now new) result }
         ensures done { IfOk result (λ c. c.done ≡ is_same_at self.old.atoms a old.now) }
-        ensures entry { IfOk result (λ c. c.done ≡ true → self.new ≡ with_entry self.old (entries.Atom a (Set new) new) self.old.refs (with_value self.old.atoms a new)) }
-        ensures values { IfOk result (λ c. c.done ≡ true → step M.means (point_of self.old + 1) (entries.Atom a (Set new) new) (values_now self.old.refs self.old.atoms) ≡ Ok (values_now self.new.refs self.new.atoms)) }
-        ensures notices { IfOk result (λ c. c.done ≡ true → c.notices.items ≡ notices_of (who.Atom a) (keys_at self.old.atoms.guards a) old.now new) }
+        ensures entry { IfOk result (λ c. c.done ≡ true
+            → self.new ≡ with_entry self.old (entries.Atom a (Set new) new) self.old.refs
+            (with_value self.old.atoms a new)) }
+        ensures values { IfOk result (λ c. c.done ≡ true
+            → step M.means (point_of self.old + 1) (entries.Atom a (Set new) new)
+            (values_now self.old.refs self.old.atoms) ≡ Ok (values_now self.new.refs self.new.atoms)) }
+        ensures notices { IfOk result (λ c. c.done ≡ true
+            → c.notices.items ≡ notices_of (who.Atom a) (keys_at self.old.atoms.guards a) old.now new) }
+        ensures share { IfOk result (λ c. c.done ≡ true
+            → share.new ≡ with_receipt share.old (point_of self.old + 1) (entries.Atom a (Set new) new)) }
         ensures unset { IfOk result (λ c. c.done ≡ false → self.new ≡ self.old) }
+        ensures unshared { IfOk result (λ c. c.done ≡ false → share.new ≡ share.old) }
         ensures untold { IfOk result (λ c. c.done ≡ false → c.notices.items ≡ []) }
-        ensures fault { IfErr result (λ f. f ≢ faults.Memory → compare_refusal M.accepts (F.knows_pred funs.now) self.old.atoms (point_of self.old + 1) a old.now new ≡ Some f) }
-        ensures memory { IfErr result (λ f. f ≡ faults.Memory → compare_refusal M.accepts (F.knows_pred funs.now) self.old.atoms (point_of self.old + 1) a old.now new ≡ None) }
         ensures grows { IfErr result (λ f. f ≡ faults.Memory → is_same_at self.old.atoms a old.now ≡ true) }
         ensures err { OnErr result (self.new ≡ self.old) }
+        ensures same { OnErr result (share.new ≡ share.old) }
     {
         let at = self.point() + 1;
         let Some(change) = self.atoms.prepare_compare(alloc, funs, at, a, old, new)? else {
@@ -101,7 +134,7 @@ impl<M: Meaning> World<M> {
                 notices: Vec::new(alloc),
             });
         };
-        let swapped = self.enter(a, change)?;
+        let swapped = self.enter(share, a, change)?;
         Ok(Cas {
             done: true,
             notices: swapped.notices,
@@ -109,21 +142,38 @@ impl<M: Meaning> World<M> {
     }
 
     // Puts a change of an atom in its place, with its entry, and answers what it answers. The growth comes first.
-    fn enter(&mut self, a: u32, change: Change) -> Result<Swapped, AllocError>
+    fn enter(
+        &mut self,
+        share: &mut Share<C, A>,
+        a: u32,
+        change: Change,
+    ) -> Result<Swapped, AllocError>
         requires here { a < length self.old.atoms.values }
-        requires accepted { AreAccepted M.accepts self.old.atoms.guards (slice_set self.old.atoms.values a change.value) }
+        requires accepted { AreAccepted M.accepts self.old.atoms.guards
+            (slice_set self.old.atoms.values a change.value) }
         requires limit { point_of self.old + 1 ≤ 2 ^ 62 }
-        requires step { (refs : List Edn) → step M.means (point_of self.old + 1) change.entry (record { refs = refs; atoms = self.old.atoms.values }) ≡ Ok (record { refs = refs; atoms = slice_set self.old.atoms.values a change.value }) }
+        requires step { (refs : List Edn) → step M.means (point_of self.old + 1) change.entry
+            (record { refs = refs; atoms = self.old.atoms.values })
+            ≡ Ok (record { refs = refs; atoms = slice_set self.old.atoms.values a change.value }) }
         requires sets { sets_atom change.entry ≡ true }
         requires leaves { (refs r : ℕ) → is_changed_by refs change.entry r ≡ false }
-        ensures entry { OnOk result (self.new ≡ with_entry self.old change.entry self.old.refs (with_value self.old.atoms a change.value)) }
-        ensures values { OnOk result (step M.means (point_of self.old + 1) change.entry (values_now self.old.refs self.old.atoms) ≡ Ok (values_now self.new.refs self.new.atoms)) }
+        requires uncounted { (tally : Option ℕ) → IsUncounted tally change.entry }
+        ensures entry { OnOk result (self.new
+            ≡ with_entry self.old change.entry self.old.refs (with_value self.old.atoms a change.value)) }
+        ensures values { OnOk result (step M.means (point_of self.old + 1) change.entry
+            (values_now self.old.refs self.old.atoms) ≡ Ok (values_now self.new.refs self.new.atoms)) }
         ensures swapped { IfOk result (λ s. s ≡ change.swapped) }
+        ensures share { OnOk result (share.new ≡ with_receipt share.old (point_of self.old + 1) change.entry) }
         ensures err { OnErr result (self.new ≡ self.old) }
+        ensures same { OnErr result (share.new ≡ share.old) }
     {
+        let point = self.point() + 1;
+        let entry = change.entry.share()?;
         self.log.reserve(1)?;
+        share.receipts.reserve(1)?;
         self.atoms.install(a, change.value);
         self.log.push_reserved(change.entry);
+        share.receipts.push_reserved(LogReceipt { point, entry });
         Ok(change.swapped)
     }
 }

@@ -1,19 +1,24 @@
 //! Transactions: where they begin, and the world's only commit.
-ghost use Rattle.std.specs.Prelude.{◌≡◌, ◌≢◌, ◌+◌, ℕ, [], true, None, Some, Ok, IfOk, IfErr, OnErr, OnOk, slice_get};
+ghost use Rattle.ref_log.specs.Told.{TellsBack};
+ghost use Rattle.std.specs.Prelude.{◌≡◌, ◌+◌, ℕ, [], true, Ok, IfOk, IfErr, OnErr, OnOk, length, slice_get};
 ghost use Rattle.ref_log.specs.Replay.{is_protected, step};
 ghost use Rattle.ref_refs.specs.Commit.{changed_by, commit_refusal, early_refusal, entry_of};
 ghost use Rattle.ref_refs.specs.Seen.{changed_at};
 ghost use Rattle.ref_refs.specs.Watches.{notices, touched_refs};
 ghost use Rattle.ref_refs.specs.declared.faults.CommitFault.TheVariants as commits;
+ghost use Rattle.ref_log.specs.Tally.{added_by_dones};
 ghost use Rattle.ref_tx.specs.Inner.{inner_value};
-ghost use Rattle.ref_world.specs.World.{point_of, values_now, with_entry};
+ghost use Rattle.ref_world.specs.Shares as shares;
+ghost use Rattle.ref_world.specs.World.{point_of, values_now, with_commit};
 
+use crate::shares::{LogReceipt, Share};
 use crate::worlds::World;
 use ref_fun::{Functions, Meaning};
-use ref_log::{Notice, Stamp};
+use ref_log::{Notice, Share as _, Stamp};
 use ref_refs::{CommitFault, Landed, Prepared};
 use ref_tx::Tx;
 use std::alloc::{AllocError, Global};
+use std::sync::ledger::Ledger;
 
 /// What a commit answers: its point, its stamp, and what the watches are to be told.
 #[derive(Drop)]
@@ -23,54 +28,90 @@ pub struct Receipt {
     pub notices: Vec<Notice>,
 }
 
-impl<M: Meaning> World<M> {
+impl<M: Meaning, C: Ledger, A: Ledger> World<M, C, A> {
     /// Begins a transaction over the values as they are now. Linear in the number of refs.
     pub fn begin(&self, alloc: Global) -> Result<Tx<M>, AllocError>
-        ensures { IfOk result (λ tx. tx ≡ record { read_point = point_of self.now; began = self.now.refs.values; dones = []; tally = self.now.refs.tally }) }
+        ensures { IfOk result (λ tx. tx
+            ≡ record {
+              read_point = point_of self.now;
+              began = self.now.refs.values;
+              dones = [];
+              sends = [];
+              tally = self.now.refs.tally;
+              agents = length self.now.agents.agents;
+            }) }
     {
-        self.refs.begin(alloc, self.point())
+        self.refs.begin(alloc, self.point(), self.agents.len())
     }
 
     /// Commits a transaction at the next point, as one entry more of the log. What was commuted is made on the latest value;
-    /// where a ref was set, altered or ensured too, it gets its in-transaction value. The stamp goes into the entry.
+    /// where a ref was set, altered or ensured too, it gets its in-transaction value. The stamp goes into the entry. What the
+    /// transaction sends waits at the ends of its agents' queues, in order, and is held until [`World::release`] is called with
+    /// the commit's point; a failed agent takes it too. The share gets the commit, what it adds to the tally, and its receipt.
     ///
     /// A refused commit changes nothing and hands the transaction back. The tests are made in this order: what is foreign,
     /// functions and predicates that the table lacks, the conflict, a foreign value, a refusal over the latest values, a rule
-    /// that doesn't accept, the end of points. All growths come before the first change. The cost is that of the store's
-    /// commit: linear in the number of refs.
+    /// that doesn't accept, the end of points. All growths come before the first change, but for the sends, which are taken back
+    /// where there is no memory for all of them. The cost is that of the store's commit, linear in the number of refs, and a
+    /// step for each send, logarithmic in the number of agents with actions that wait.
     pub fn commit_with<F: Functions<M>>(
         &mut self,
         alloc: Global,
         funs: &F,
+        share: &mut Share<C, A>,
         stamp: Stamp,
         tx: Tx<M>,
     ) -> Result<Receipt, (Tx<M>, CommitFault)>
-        ensures ok { OnOk result (commit_refusal M.means M.accepts (F.knows_fun funs.now) (F.knows_pred funs.now) self.old.refs (point_of self.old + 1) tx ≡ None) }
-        // The base stays, the log has one entry more, and no atom is changed.
-        ensures entry { OnOk result (self.new ≡ with_entry self.old (entry_of stamp tx) self.new.refs self.old.atoms) }
-        ensures values { OnOk result (step M.means (point_of self.old + 1) (entry_of stamp tx) (values_now self.old.refs self.old.atoms) ≡ Ok (values_now self.new.refs self.new.atoms)) }
-        ensures inner { OnOk result ((r : ℕ) → is_protected tx.dones r ≡ true → slice_get self.new.refs.values r ≡ inner_value M.means tx r) }
-        ensures lasts { OnOk result ((r : ℕ) → changed_at self.new.refs.lasts r ≡ changed_by self.old.refs.lasts (point_of self.old + 1) tx.dones r) }
-        ensures rest { OnOk result ((self.new.refs.tally ≡ self.old.refs.tally) × (self.new.refs.guards ≡ self.old.refs.guards)) }
+        ensures refused { TellsBack commits.Memory
+            (early_refusal (F.knows funs.now) self.old.refs (point_of self.old + 1)
+            (length self.old.agents.agents) tx)
+            (commit_refusal M.means M.accepts (F.knows funs.now) self.old.refs (point_of self.old + 1)
+            (length self.old.agents.agents) tx) result }
+        // The base stays, the log has one entry more, no atom is changed, and the sends stand in their queues.
+        ensures entry { OnOk result (self.new ≡ with_commit self.old (entry_of stamp tx) self.new.refs tx.sends) }
+        ensures values { OnOk result (step M.means (point_of self.old + 1) (entry_of stamp tx)
+            (values_now self.old.refs self.old.atoms) ≡ Ok (values_now self.new.refs self.new.atoms)) }
+        ensures inner { OnOk result ((r : ℕ) → is_protected tx.dones r ≡ true
+            → slice_get self.new.refs.values r ≡ inner_value M.means tx r) }
+        ensures lasts { OnOk result ((r : ℕ)
+            → changed_at self.new.refs.lasts r ≡ changed_by self.old.refs.lasts (point_of self.old + 1) tx.dones r) }
+        ensures rest { OnOk result ((self.new.refs.tally ≡ self.old.refs.tally)
+            × (self.new.refs.guards ≡ self.old.refs.guards)) }
         ensures receipt { IfOk result (λ receipt. (receipt.point ≡ point_of self.old + 1) × (receipt.stamp ≡ stamp)) }
-        ensures notices { IfOk result (λ receipt. receipt.notices.items ≡ notices self.old.refs.guards self.old.refs.values self.new.refs.values (touched_refs tx.dones)) }
-        ensures fault { IfErr result (λ e. e.1 ≢ commits.Memory → commit_refusal M.means M.accepts (F.knows_fun funs.now) (F.knows_pred funs.now) self.old.refs (point_of self.old + 1) tx ≡ Some e.1) }
-        ensures memory { IfErr result (λ e. e.1 ≡ commits.Memory → early_refusal (F.knows_fun funs.now) (F.knows_pred funs.now) self.old.refs (point_of self.old + 1) tx ≡ None) }
+        ensures notices { IfOk result (λ receipt. receipt.notices.items
+            ≡ notices self.old.refs.guards self.old.refs.values self.new.refs.values (touched_refs tx.dones)) }
+        ensures share { OnOk result (share.new ≡ shares.with_commit share.old (point_of self.old + 1) (entry_of stamp tx)
+            (added_by_dones self.old.refs.tally tx.dones)) }
         ensures back { IfErr result (λ e. e.0 ≡ tx) }
         ensures err { OnErr result (self.new ≡ self.old) }
+        ensures same { OnErr result (share.new ≡ share.old) }
     {
         let at = self.point() + 1;
-        let prepared = match self.refs.prepare(alloc, funs, at, stamp, &tx) {
+        let agents = self.agents.len();
+        let prepared = match self.refs.prepare(alloc, funs, at, agents, stamp, &tx) {
             Ok(prepared) => prepared,
             Err(fault) => return Err((tx, fault)),
         };
-        if self.log.reserve(1).is_err() {
-            return Err((tx, CommitFault::Memory));
-        }
         let Prepared { values, landed } = prepared;
         let Landed { entry, notices } = landed;
+        let Ok(kept) = entry.share() else {
+            return Err((tx, CommitFault::Memory));
+        };
+        if self.log.reserve(1).is_err() || share.receipts.reserve(1).is_err() {
+            return Err((tx, CommitFault::Memory));
+        }
+        if self.agents.send_held(alloc, at, tx.sends()).is_err() {
+            return Err((tx, CommitFault::Memory));
+        }
+        // From here on nothing can fail.
+        let before = self.refs.tally_value();
         self.refs.install(at, values, tx.dones());
         self.log.push_reserved(entry);
+        share.receipts.push_reserved(LogReceipt {
+            point: at,
+            entry: kept,
+        });
+        self.books.book(share, self.refs.tally_value() - before);
         Ok(Receipt {
             point: at,
             stamp,

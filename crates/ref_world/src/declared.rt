@@ -1,10 +1,11 @@
 //! The references that a world begins with, and their base.
-ghost use Rattle.std.specs.Prelude.{◌≡◌, ◌≢◌, ◌≤◌, [], true, Ok, Err, IfOk, IfErr, OnOk, length};
+ghost use Rattle.std.specs.Prelude.{◌≡◌, ◌≢◌, [], true, Ok, Err, IfOk, IfErr, OnOk, length};
 ghost use Rattle.ref_log.specs.declared.faults.MakeFault.TheVariants as makes;
 ghost use Rattle.ref_refs.specs.Seen.{are_unchanged_since};
-ghost use Rattle.ref_world.specs.Starts.{base_of, no_atoms, no_refs, refusal_of, with_atom, with_declared_atoms, with_declared_refs, with_ref};
+ghost use Rattle.ref_world.specs.Starts.{base_of, declared_agents, declared_atoms, declared_refs, refusal_of, with_agent, with_atom, with_ref};
 
-use crate::starts::{AtomStart, RefStart};
+use crate::starts::{AgentStart, AtomStart, RefStart};
+use ref_agents::AgentStore;
 use ref_atoms::AtomStore;
 use ref_edn::Value;
 use ref_fun::{Functions, Meaning, Rule};
@@ -18,9 +19,10 @@ pub(crate) fn declared_refs<M: Meaning, F: Functions<M>>(
     funs: &F,
     starts: &[RefStart],
 ) -> Result<RefStore<M>, (Who, MakeFault)>
-    ensures ok { IfOk result (λ refs. with_declared_refs M.accepts (F.knows_pred funs.now) starts.now (Ok no_refs) ≡ Ok refs) }
+    ensures ok { IfOk result (λ refs. declared_refs M.accepts (F.knows funs.now).preds starts.now ≡ Ok refs) }
     ensures since { IfOk result (λ refs. are_unchanged_since refs.lasts 0 ≡ true) }
-    ensures fault { IfErr result (λ e. e.1 ≢ makes.Memory → with_declared_refs M.accepts (F.knows_pred funs.now) starts.now (Ok no_refs) ≡ Err e) }
+    ensures fault { IfErr result (λ e. e.1 ≢ makes.Memory
+        → declared_refs M.accepts (F.knows funs.now).preds starts.now ≡ Err e) }
 {
     let mut refs = RefStore::empty(alloc);
     for start in starts {
@@ -38,10 +40,12 @@ fn declare_ref<M: Meaning, F: Functions<M>>(
     refs: &mut RefStore<M>,
 ) -> Result<(), (Who, MakeFault)>
     requires { are_unchanged_since refs.old.lasts 0 ≡ true }
-    ensures ok { OnOk result (with_ref M.accepts (F.knows_pred funs.now) start.now refs.old ≡ Ok refs.new) }
+    ensures ok { OnOk result (with_ref M.accepts (F.knows funs.now).preds start.now refs.old ≡ Ok refs.new) }
     ensures since { are_unchanged_since refs.new.lasts 0 ≡ true }
-    ensures fault { IfErr result (λ e. e.1 ≢ makes.Memory → with_ref M.accepts (F.knows_pred funs.now) start.now refs.old ≡ Err e) }
-    ensures memory { IfErr result (λ e. e.1 ≡ makes.Memory → refusal_of (with_ref M.accepts (F.knows_pred funs.now) start.now refs.old) ≡ None) }
+    ensures fault { IfErr result (λ e. e.1 ≢ makes.Memory
+        → with_ref M.accepts (F.knows funs.now).preds start.now refs.old ≡ Err e) }
+    ensures memory { IfErr result (λ e. e.1 ≡ makes.Memory
+        → refusal_of (with_ref M.accepts (F.knows funs.now).preds start.now refs.old) ≡ None) }
 {
     let who = Who::Ref(refs.len() as u32);
     if let Err(fault) = refs.check_make(funs, 0, &start.value, &start.rule, start.tally) {
@@ -62,8 +66,9 @@ pub(crate) fn declared_atoms<M: Meaning, F: Functions<M>>(
     funs: &F,
     starts: &[AtomStart],
 ) -> Result<AtomStore<M>, (Who, MakeFault)>
-    ensures ok { IfOk result (λ atoms. with_declared_atoms M.accepts (F.knows_pred funs.now) starts.now (Ok no_atoms) ≡ Ok atoms) }
-    ensures fault { IfErr result (λ e. e.1 ≢ makes.Memory → with_declared_atoms M.accepts (F.knows_pred funs.now) starts.now (Ok no_atoms) ≡ Err e) }
+    ensures ok { IfOk result (λ atoms. declared_atoms M.accepts (F.knows funs.now).preds starts.now ≡ Ok atoms) }
+    ensures fault { IfErr result (λ e. e.1 ≢ makes.Memory
+        → declared_atoms M.accepts (F.knows funs.now).preds starts.now ≡ Err e) }
 {
     let mut atoms = AtomStore::empty(alloc);
     for start in starts {
@@ -80,9 +85,11 @@ fn declare_atom<M: Meaning, F: Functions<M>>(
     start: &AtomStart,
     atoms: &mut AtomStore<M>,
 ) -> Result<(), (Who, MakeFault)>
-    ensures ok { OnOk result (with_atom M.accepts (F.knows_pred funs.now) start.now atoms.old ≡ Ok atoms.new) }
-    ensures fault { IfErr result (λ e. e.1 ≢ makes.Memory → with_atom M.accepts (F.knows_pred funs.now) start.now atoms.old ≡ Err e) }
-    ensures memory { IfErr result (λ e. e.1 ≡ makes.Memory → refusal_of (with_atom M.accepts (F.knows_pred funs.now) start.now atoms.old) ≡ None) }
+    ensures ok { OnOk result (with_atom M.accepts (F.knows funs.now).preds start.now atoms.old ≡ Ok atoms.new) }
+    ensures fault { IfErr result (λ e. e.1 ≢ makes.Memory
+        → with_atom M.accepts (F.knows funs.now).preds start.now atoms.old ≡ Err e) }
+    ensures memory { IfErr result (λ e. e.1 ≡ makes.Memory
+        → refusal_of (with_atom M.accepts (F.knows funs.now).preds start.now atoms.old) ≡ None) }
 {
     let who = Who::Atom(atoms.len() as u32);
     if let Err(fault) = atoms.check_make(funs, 0, &start.value, &start.rule) {
@@ -92,6 +99,52 @@ fn declare_atom<M: Meaning, F: Functions<M>>(
         return Err((who, MakeFault::Memory));
     };
     match atoms.add(alloc, value, rule) {
+        Ok(_) => Ok(()),
+        Err(_) => Err((who, MakeFault::Memory)),
+    }
+}
+
+// The agents, made one by one.
+pub(crate) fn declared_agents<M: Meaning, F: Functions<M>>(
+    alloc: Global,
+    funs: &F,
+    starts: &[AgentStart],
+) -> Result<AgentStore<M>, (Who, MakeFault)>
+    ensures ok { IfOk result (λ agents. declared_agents M.accepts (F.knows funs.now).preds starts.now ≡ Ok agents) }
+    ensures held { IfOk result (λ agents. agents.unreleased ≡ []) }
+    ensures fault { IfErr result (λ e. e.1 ≢ makes.Memory
+        → declared_agents M.accepts (F.knows funs.now).preds starts.now ≡ Err e) }
+{
+    let mut agents = AgentStore::empty(alloc);
+    for start in starts {
+        if let Err(refused) = declare_agent(alloc, funs, start, &mut agents) {
+            return Err(refused);
+        }
+    }
+    Ok(agents)
+}
+
+fn declare_agent<M: Meaning, F: Functions<M>>(
+    alloc: Global,
+    funs: &F,
+    start: &AgentStart,
+    agents: &mut AgentStore<M>,
+) -> Result<(), (Who, MakeFault)>
+    ensures ok { OnOk result (with_agent M.accepts (F.knows funs.now).preds start.now agents.old ≡ Ok agents.new) }
+    ensures held { agents.new.unreleased ≡ agents.old.unreleased }
+    ensures fault { IfErr result (λ e. e.1 ≢ makes.Memory
+        → with_agent M.accepts (F.knows funs.now).preds start.now agents.old ≡ Err e) }
+    ensures memory { IfErr result (λ e. e.1 ≡ makes.Memory
+        → refusal_of (with_agent M.accepts (F.knows funs.now).preds start.now agents.old) ≡ None) }
+{
+    let who = Who::Agent(agents.len() as u32);
+    if let Err(fault) = agents.check_make(funs, &start.value, &start.rule) {
+        return Err((who, fault));
+    }
+    let Ok((value, rule)) = shared(&start.value, &start.rule) else {
+        return Err((who, MakeFault::Memory));
+    };
+    match agents.add(alloc, value, rule, start.mode) {
         Ok(_) => Ok(()),
         Err(_) => Err((who, MakeFault::Memory)),
     }

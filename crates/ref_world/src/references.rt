@@ -1,5 +1,6 @@
 //! What can be asked of each kind of reference: its value, its rule and its watches.
-ghost use Rattle.std.specs.Prelude.{◌≡◌, ◌≢◌, ◌↔◌, true, false, not, None, Some, IfOk, IfErr, OnErr, OnOk, is_some, option_copied};
+ghost use Rattle.ref_log.specs.Told.{Tells};
+ghost use Rattle.std.specs.Prelude.{◌≡◌, ◌≢◌, ◌↔◌, true, false, not, None, IfOk, IfErr, OnErr, OnOk, option_copied};
 ghost use Rattle.ref_log.specs.Watches.{has_key};
 ghost use Rattle.ref_log.specs.declared.faults.WatchFault.TheVariants as watches;
 ghost use Rattle.ref_world.specs.References.{are_known, is_accepted_at, keys_at, rule_at, rule_refusal, value_at, with_rule, with_watch, without_watch};
@@ -10,9 +11,10 @@ use ref_edn::Value;
 use ref_fun::{Functions, Meaning, Rule};
 use ref_log::{RuleFault, WatchFault, Who};
 use std::alloc::Global;
+use std::sync::ledger::Ledger;
 
-impl<M: Meaning> World<M> {
-    /// The value of a reference now, if it is there. It takes no memory.
+impl<M: Meaning, C: Ledger, A: Ledger> World<M, C, A> {
+    /// The value of a reference now, if it is there: of an agent its state. It takes no memory.
     pub fn value_of(&self, who: Who) -> Option<&Value>
         ensures value { option_copied result ≡ value_at self.now who }
         // Every ref and atom holds what the stored entries, replayed one by one on the stored base, give.
@@ -21,7 +23,7 @@ impl<M: Meaning> World<M> {
         match who {
             Who::Ref(r) => self.refs.value_of(r),
             Who::Atom(a) => self.atoms.value_of(a),
-            Who::Agent(_) => None,
+            Who::Agent(g) => self.agents.value_of(g),
         }
     }
 
@@ -34,7 +36,7 @@ impl<M: Meaning> World<M> {
         match who {
             Who::Ref(r) => self.refs.rule_of(r),
             Who::Atom(a) => self.atoms.rule_of(a),
-            Who::Agent(_) => None,
+            Who::Agent(g) => self.agents.rule_of(g),
         }
     }
 
@@ -46,15 +48,14 @@ impl<M: Meaning> World<M> {
         who: Who,
         rule: Option<Rule>,
     ) -> Result<(), RuleFault>
-        ensures ok { OnOk result (rule_refusal M.accepts (F.knows_pred funs.now) self.old who rule ≡ None) }
+        ensures refused { Tells (rule_refusal M.accepts (F.knows funs.now).preds self.old who rule) result }
         ensures sets { OnOk result (self.new ≡ with_rule self.old who rule) }
-        ensures fault { IfErr result (λ f. rule_refusal M.accepts (F.knows_pred funs.now) self.old who rule ≡ Some f) }
         ensures err { OnErr result (self.new ≡ self.old) }
     {
         match who {
             Who::Ref(r) => self.refs.set_validator(funs, r, rule),
             Who::Atom(a) => self.atoms.set_validator(funs, a, rule),
-            Who::Agent(_) => Err(RuleFault::NoSuch),
+            Who::Agent(g) => self.agents.set_validator(funs, g, rule),
         }
     }
 
@@ -71,7 +72,7 @@ impl<M: Meaning> World<M> {
         match who {
             Who::Ref(r) => self.refs.add_watch(alloc, r, key),
             Who::Atom(a) => self.atoms.add_watch(alloc, a, key),
-            Who::Agent(_) => Err(WatchFault::NoSuch),
+            Who::Agent(g) => self.agents.add_watch(alloc, g, key),
         }
     }
 
@@ -84,14 +85,16 @@ impl<M: Meaning> World<M> {
         match who {
             Who::Ref(r) => self.refs.remove_watch(r, key),
             Who::Atom(a) => self.atoms.remove_watch(a, key),
-            Who::Agent(_) => false,
+            Who::Agent(g) => self.agents.remove_watch(g, key),
         }
     }
 
     /// Whether a table has the predicate of each rule here. Linear in the number of references. It takes no memory.
     pub fn served_by<F: Functions<M>>(&self, funs: &F) -> bool
-        ensures { result ≡ are_known (F.knows_pred funs.now) self.now }
+        ensures { result ≡ are_known (F.knows funs.now).preds self.now }
     {
-        self.refs.are_rules_known(funs) && self.atoms.are_rules_known(funs)
+        self.refs.are_rules_known(funs)
+            && self.atoms.are_rules_known(funs)
+            && self.agents.are_rules_known(funs)
     }
 }

@@ -1,4 +1,5 @@
 //! What a world begins with.
+use ref_agents::ErrorMode;
 use ref_edn::Value;
 use ref_fun::Rule;
 
@@ -17,9 +18,18 @@ pub struct AtomStart {
     pub rule: Option<Rule>,
 }
 
+/// An agent that is declared: its state, its rule, if it has one, and its error mode.
+#[derive(Drop)]
+pub struct AgentStart {
+    pub value: Value,
+    pub rule: Option<Rule>,
+    pub mode: ErrorMode,
+}
+
 /// The references that a world begins with. Each gets the next number of its kind.
 #[derive(Drop)]
 pub struct Start {
     pub refs: Vec<RefStart>,
     pub atoms: Vec<AtomStart>,
+    pub agents: Vec<AgentStart>,
 }

@@ -1,74 +1,117 @@
 //! The world and what it tells.
-ghost use Rattle.std.specs.Prelude.{◌≡◌, ◌≢◌, ◌≤◌, ◌^◌, [], true, length, None, Some, Ok, IfOk, IfErr, OnOk};
+ghost use Rattle.std.specs.Prelude.{◌≡◌, ◌≢◌, ◌≤◌, ◌^◌, ◌+◌, [], true, length, None, Some, Ok, IfOk, IfErr, OnOk};
 ghost use Rattle.std.specs.List.{list_all};
 ghost use Rattle.ref_log.specs.Replay.{sets_atom};
+ghost use Rattle.ref_log.specs.Tally.{IsTally, added_of, commits_of, fits_entry};
 ghost use Rattle.ref_log.specs.declared.faults.MakeFault.TheVariants as makes;
 ghost use Rattle.ref_refs.specs.Seen.{are_unchanged_since};
-ghost use Rattle.ref_world.specs.Starts.{base_of, no_atoms, no_refs, start_refusal, with_declared_atoms, with_declared_refs};
-ghost use Rattle.ref_world.specs.World.{HasLastChanges, point_of};
+ghost use Rattle.ref_world.specs.Starts as starts;
+ghost use Rattle.ref_world.specs.Starts.{start_refusal};
+ghost use Rattle.ref_world.specs.Shares.{all_parts, whole};
+ghost use Rattle.ref_world.specs.World.{HasLastChanges, are_past, point_of};
 
-use crate::declared::{base_of, declared_atoms, declared_refs};
+use crate::books::Books;
+use crate::declared::{base_of, declared_agents, declared_atoms, declared_refs};
+use crate::shares::Share;
 use crate::starts::Start;
+use ref_agents::AgentStore;
 use ref_atoms::AtomStore;
 use ref_fun::{Functions, Meaning};
 use ref_log::{Base, Entry, MakeFault, Who};
 use ref_refs::RefStore;
 use std::alloc::Global;
 use std::marker::Model;
+use std::sync::ledger::{Blank, Ledger};
 
-/// Refs and atoms, with a base and a log. Contracts see plain data.
+/// Refs and atoms with a base and a log, agents, and books. Contracts see plain data.
 ///
-/// It is always so that the log has a replay on the base and gives the values now, and that the point of each ref's last
-/// change is that of the last entry which made or touched it.
+/// It is always so that the log has a replay on the base and gives the values of refs and atoms now, and that the point of each
+/// ref's last change is that of the last entry which made or touched it; that each agent's state is its start folded over its
+/// done actions, and an agent is failed exactly where its last handled action is marked failed; that each rule accepts; and
+/// that no commit whose sends are held comes after the present point. The books have how many transactions were committed and how
+/// much they added to the tally, as base and log say, and the tally holds its start plus what was added.
+///
+/// C and A name the two books, of commits and of what was added: the shares of a world have these names too, and what is in the
+/// books is what all of its shares have together.
 #[derive(Drop)]
-pub struct World<M: Meaning> {
+pub struct World<M: Meaning, C: Ledger, A: Ledger> {
     pub(crate) base: Base,
     pub(crate) log: Vec<Entry>,
     pub(crate) refs: RefStore<M>,
     pub(crate) atoms: AtomStore<M>,
+    pub(crate) agents: AgentStore<M>,
+    pub(crate) books: Books<C, A>,
 }
 
-impl<M: Meaning> Model for World<M> {
+impl<M: Meaning, C: Ledger, A: Ledger> Model for World<M, C, A> {
     ghost use Rattle.std.specs.Coded.{codes};
     ghost use Rattle.ref_edn.specs.Code.{edn_code};
     ghost use Rattle.ref_world.specs.Seen.{WorldSeen};
-    ghost use Rattle.ref_world.specs.World.{IsWorld};
+    ghost use Rattle.ref_world.specs.World.{AreBooks, IsWorld};
 
     ghost Value = { WorldSeen };
 
     ghost coded = { Prim.hlevel (codes, edn_code) };
 
-    ghost view = { λ a. record { base = a.base; log = a.log.items; refs = a.refs; atoms = a.atoms } };
+    ghost view = { λ a. record {
+      base = a.base;
+      log = a.log.items;
+      refs = a.refs;
+      atoms = a.atoms;
+      agents = a.agents;
+      books = a.books;
+    } };
 
-    ghost invariant = { λ a. IsWorld M.means a.base a.log.items a.refs a.atoms };
+    ghost invariant = { λ a. IsWorld M.means a.base a.log.items a.refs a.atoms a.agents.unreleased
+        × AreBooks a.base a.log.items a.refs.tally a.refs.values a.books };
 }
 
-impl<M: Meaning> World<M> {
-    /// A world that begins with these references, the refs made before the atoms, at point 0 and with no entry. Where one of
-    /// them can't be made it is told which and why; where memory is refused, which one says nothing.
+impl<M: Meaning, C: Ledger, A: Ledger> World<M, C, A> {
+    /// A world that begins with these references, refs made before atoms before agents, at point 0 and with no entry, and its
+    /// whole share. Where one of the references can't be made it is told which and why; where memory is refused, which one says
+    /// nothing. The blanks become the books, and are spent where the world is refused, too.
     pub fn new<F: Functions<M>>(
         alloc: Global,
         funs: &F,
         start: Start,
-    ) -> Result<World<M>, (Who, MakeFault)>
-        ensures ok { OnOk result (start_refusal M.accepts (F.knows_pred funs.now) start.refs.items start.atoms.items ≡ None) }
-        ensures refs { IfOk result (λ w. with_declared_refs M.accepts (F.knows_pred funs.now) start.refs.items (Ok no_refs) ≡ Ok w.refs) }
-        ensures atoms { IfOk result (λ w. with_declared_atoms M.accepts (F.knows_pred funs.now) start.atoms.items (Ok no_atoms) ≡ Ok w.atoms) }
-        ensures base { IfOk result (λ w. w.base ≡ base_of w.refs w.atoms) }
-        ensures log { IfOk result (λ w. w.log ≡ []) }
-        ensures fault { IfErr result (λ e. e.1 ≢ makes.Memory → start_refusal M.accepts (F.knows_pred funs.now) start.refs.items start.atoms.items ≡ Some e) }
+        commits: Blank,
+        added: Blank,
+    ) -> Result<(World<M, C, A>, Share<C, A>), (Who, MakeFault)>
+        requires commits { (commits.name ≡ C.name) × (commits.parts ≡ C.parts) × (commits.parts ≡ all_parts) }
+        requires added { (added.name ≡ A.name) × (added.parts ≡ A.parts) × (added.parts ≡ all_parts) }
+        ensures ok { OnOk result (start_refusal M.accepts (F.knows funs.now).preds start ≡ None) }
+        ensures refs { IfOk result (λ r. starts.declared_refs M.accepts (F.knows funs.now).preds start.refs.items
+            ≡ Ok r.0.refs) }
+        ensures atoms { IfOk result (λ r. starts.declared_atoms M.accepts (F.knows funs.now).preds start.atoms.items
+            ≡ Ok r.0.atoms) }
+        ensures agents { IfOk result (λ r. starts.declared_agents M.accepts
+            (F.knows funs.now).preds start.agents.items ≡ Ok r.0.agents) }
+        ensures base { IfOk result (λ r. r.0.base ≡ starts.base_of r.0.refs r.0.atoms) }
+        ensures log { IfOk result (λ r. r.0.log ≡ []) }
+        ensures books { IfOk result (λ r. r.0.books ≡ starts.books_of r.0.refs) }
+        ensures share { IfOk result (λ r. r.1 ≡ whole) }
+        ensures fault { IfErr result (λ e. e.1 ≢ makes.Memory
+            → start_refusal M.accepts (F.knows funs.now).preds start ≡ Some e) }
     {
         let refs = declared_refs(alloc, funs, &start.refs)?;
         let atoms = declared_atoms(alloc, funs, &start.atoms)?;
-        match base_of(alloc, &refs, &atoms) {
-            Ok(base) => Ok(World {
-                base,
-                log: Vec::new(alloc),
-                refs,
-                atoms,
-            }),
-            Err(_) => Err((Who::Ref(0), MakeFault::Memory)),
-        }
+        let agents = declared_agents(alloc, funs, &start.agents)?;
+        let Ok(base) = base_of(alloc, &refs, &atoms) else {
+            return Err((Who::Ref(0), MakeFault::Memory));
+        };
+        let (books, commit_parts, added_parts) = Books::open(refs.tally_value(), commits, added);
+        let world = World {
+            base,
+            log: Vec::new(alloc),
+            refs,
+            atoms,
+            agents,
+            books,
+        };
+        Ok((
+            world,
+            Share::whole(Vec::new(alloc), commit_parts, added_parts),
+        ))
     }
 
     /// The present point: how many entries there ever were, at most 2^62.
@@ -78,8 +121,9 @@ impl<M: Meaning> World<M> {
         // The point of each ref's last change is that of the last entry which made or touched it.
         ensures lasts { HasLastChanges self.now.base self.now.log self.now.refs }
         ensures tally { self.now.base.tally ≡ self.now.refs.tally }
-        // No ref has changed after it.
+        // No ref has changed after it, and no commit whose sends are held comes after it.
         ensures since { are_unchanged_since self.now.refs.lasts (point_of self.now) ≡ true }
+        ensures held { are_past (point_of self.now) self.now.agents.unreleased ≡ true }
     {
         self.base.point + self.log.len() as u64
     }
@@ -101,4 +145,47 @@ impl<M: Meaning> World<M> {
     {
         self.log.as_slice()
     }
+
+    /// How many transactions were committed.
+    pub fn commits(&self) -> u64
+        ensures value { result ≡ self.now.books.commits }
+        // Those up to the base, and the transactions of the log.
+        ensures books { result ≡ self.now.base.commits + commits_of self.now.log }
+    {
+        self.books.commits
+    }
+
+    /// How much was added to the tally since its start; 0 where there is no tally.
+    pub fn added(&self) -> u64
+        ensures value { result ≡ self.now.books.added }
+        // What was added up to the base, and the arguments of the commutes on the tally in the log.
+        ensures books { result ≡ self.now.base.added + added_of self.now.refs.tally self.now.log }
+        // No entry changes the tally in another way, and it holds its start plus what was added.
+        ensures lawful { list_all (fits_entry self.now.refs.tally) self.now.log ≡ true }
+        ensures tally { IsTally self.now.refs.tally self.now.refs.values (self.now.books.start + result) }
+    {
+        self.books.added
+    }
+
+    /// What a share has of the books, where it is whole: all commits, and all that was added to the tally. It changes nothing.
+    pub fn totals(&mut self, share: &mut Share<C, A>) -> Totals
+        ensures value { result ≡ record { commits = self.old.books.commits; added = self.old.books.added } }
+        ensures whole { share.old.parts ≡ all_parts
+            → (result.commits ≡ share.old.commits) × (result.added ≡ share.old.added) }
+        ensures world { self.new ≡ self.old }
+        ensures share { share.new ≡ share.old }
+    {
+        self.books.audit(share);
+        Totals {
+            commits: self.books.commits,
+            added: self.books.added,
+        }
+    }
+}
+
+/// How many transactions were committed, and how much they added to the tally.
+#[derive(Clone, Copy, Debug, Drop, PartialEq, Eq)]
+pub struct Totals {
+    pub commits: u64,
+    pub added: u64,
 }

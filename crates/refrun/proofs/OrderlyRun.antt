@@ -119,7 +119,7 @@ module _ (plan : PlanSeen) (k : ℕ) (world : WorldSeen) (refused : List Refusal
 
   pub committed : (world' : WorldSeen) (ops : List Planned) → slice_get plan.steps k ≡ Some ops → IsCommitted (stamp_at k) ops world world' → HasRunTo plan (k + 1) world' refused
   committed world' ops step is =
-      let t : Transaction = record { stamp = stamp_at k; read_point = length world.log; dones = is.dones } in
+      let t : Transaction = record { stamp = stamp_at k; read_point = length world.log; dones = is.dones; sends = [] } in
       let ts : List Transaction = done.transactions in
       let named : asked is.dones ≡ ops = asked_answers ops world.values is.dones is.answered in
       let read : t.read_point ≡ length ts = ap (λ (es : List Entry). length es) done.log ∙ length-map ts (λ u. Trans u) in

@@ -1,3 +1,4 @@
+-- To be read and believed: all but Steps and Kinds, which are for private functions.
 pub mod Plan
 pub mod Workload
 pub mod Kinds

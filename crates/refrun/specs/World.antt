@@ -69,7 +69,7 @@ answers means (p ∷ ps) values = and_then_rest p (answer means p (slice_get val
 
 -- the entry of a transaction that read as of this point
 abbrev pub entry_of : Stamp → ℕ → List Done → Entry
-entry_of stamp read_point dones = Trans (record { stamp = stamp; read_point = read_point; dones = dones })
+entry_of stamp read_point dones = Trans (record { stamp = stamp; read_point = read_point; dones = dones; sends = [] })
 
 -- A transaction with these operations ran alone and was committed: the log has one entry more, which keeps their
 -- answers and the point before it as its read point, and the values are those after that entry.

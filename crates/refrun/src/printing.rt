@@ -1,5 +1,5 @@
 //! The elements of a text, each on a line.
-ghost use Rattle.std.specs.Prelude.{◌≡◌, ◌≢◌, ◌++◌, IfOk, IfErr, IfSome, OnOk};
+ghost use Rattle.std.specs.Prelude.{◌≡◌, ◌≢◌, IfOk, IfErr, IfSome, OnOk};
 ghost use Rattle.ref_edn.specs.Grammar.{AreTexts};
 ghost use Rattle.ref_edn.specs.Streams.{ConsumesUpTo};
 ghost use Rattle.refrun.specs.Printing.{IsOfElements, IsOfPrinting, IsPrintOf, printed_lines};
@@ -22,11 +22,14 @@ pub fn print_text<R: Source, W: Sink>(
 ) -> Result<(), RunFault>
     // It reads no further than one byte past what a text may have.
     ensures taken { ConsumesUpTo (R.left reader.old) (R.left reader.new) 16777217 }
-    ensures ok { OnOk result (HasWritten IsPrintOf (R.left reader.old) (R.left reader.new) (W.written writer.old) (W.written writer.new)) }
+    ensures ok { OnOk result (HasWritten IsPrintOf (R.left reader.old) (R.left reader.new) (W.written writer.old)
+        (W.written writer.new)) }
     // The text or its length is at fault, where the fault says so.
     ensures fault { IfErr result (λ f. IfSome (R.left reader.old) (λ text. IsInputAtFault AreTexts text f)) }
     ensures kinds { IfErr result IsOfPrinting }
-    ensures write { IfErr result (λ f. f ≡ RunFault.Write → HasBrokenOff IsPrintOf (R.left reader.old) (R.left reader.new) (W.written writer.old) (W.written writer.new)) }
+    ensures write { IfErr result (λ f. f ≡ RunFault.Write
+        → HasBrokenOff IsPrintOf (R.left reader.old) (R.left reader.new) (W.written writer.old)
+        (W.written writer.new)) }
     // Before any other fault nothing was written.
     ensures silent { IfErr result (λ f. f ≢ RunFault.Write → W.written writer.new ≡ W.written writer.old) }
     ensures reads { CountsReads (R.failures reader.old) (R.failures reader.new) result }

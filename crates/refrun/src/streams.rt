@@ -17,7 +17,8 @@ pub(crate) fn read_input<R: Source>(alloc: Global, reader: &mut R) -> Result<Vec
     ensures end { OnOk result (IsAtEnd (R.left reader.new)) }
     ensures short { IfOk result (λ text. vec_len text ≤ 16777216) }
     ensures kinds { IfErr result IsOfInput }
-    ensures too_long { IfErr result (λ f. f ≡ RunFault.InputTooLong → IfSome (R.left reader.old) (λ all. 16777216 < length all)) }
+    ensures too_long { IfErr result (λ f. f ≡ RunFault.InputTooLong
+        → IfSome (R.left reader.old) (λ all. 16777216 < length all)) }
     ensures taken { ConsumesUpTo (R.left reader.old) (R.left reader.new) 16777217 }
     ensures reads { CountsReads (R.failures reader.old) (R.failures reader.new) result }
 {

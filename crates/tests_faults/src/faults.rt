@@ -1,5 +1,5 @@
 //! The faults of replays, operations, makings, rules, watches, commits, atoms and agents.
-use ref_agents::{FinishFault, JobFault, RestartFault, SendFault};
+use ref_agents::{FinishFault, JobFault, ModeFault, RestartFault, SendFault};
 use ref_atoms::AtomFault;
 use ref_fun::Cause;
 use ref_log::{AuditFault, MakeFault, RuleFault, WatchFault};
@@ -208,6 +208,18 @@ const SEND_FAULTS: &[(SendFault, u8, &str)] = &[
 #[test]
 fn faults_of_sends(rt: HostRuntime) -> Result<(), Fail> {
     check_all!(&rt; SEND_FAULTS);
+    Ok(())
+}
+
+const MODE_FAULTS: &[(ModeFault, u8, &str)] = &[(
+    ModeFault::NoSuchAgent,
+    1,
+    "there is no such agent",
+)];
+
+#[test]
+fn faults_of_modes(rt: HostRuntime) -> Result<(), Fail> {
+    check_all!(&rt; MODE_FAULTS);
     Ok(())
 }
 

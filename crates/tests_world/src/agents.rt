@@ -1,10 +1,10 @@
-//! Agents: their queues and jobs, error modes and restarts. No world has them yet, so these rows are run on the stores apart.
-use crate::rows::check_apart;
+//! Agents: their queues and jobs, error modes and restarts, and what transactions send them.
+use crate::rows::check_anywhere;
 use std::test::Fail;
 
 #[test]
 fn agents_by_hand(rt: HostRuntime) -> Result<(), Fail> {
-    check_apart(
+    check_anywhere(
         &rt,
         "",
         r##"
@@ -14,20 +14,27 @@ fn agents_by_hand(rt: HostRuntime) -> Result<(), Fail> {
             [] [] [[rule 0 [>= 0]]] [send g + 1 :ok] [send g - 5 :ok] [send g + 2 :ok] [act :changed] [act [:failed :invalid]] [restart g 10 clear :ok] [now g 10] [account g [10 0]] [act :none]
             // In the other mode the agent goes on as if neither action nor error had been.
             [] [] [[continue 0 [>= 0]]] [send g + 1 :ok] [send g - 5 :ok] [send g + :k :ok] [send g + 2 :ok] [act :changed] [act [:continued :invalid]] [act [:continued [:refused :wrong-kind]]] [error g :none] [act :changed] [now g 3] [account g [0 :done :passed :passed :done 0]] [restart g 1 :not-failed]
+            // A failed agent takes what a commit sends, and holds it. Setting the mode doesn't make it go on; a restart does, once.
+            [] [] [[rule 0 [>= 0]]] [begin 1 0] [1 send g + 2 :ok] [send g - 1 :ok] [act [:failed :invalid]] [commit 1 1] [release 1 true] [act :none] [mode g continue :ok] [error g :invalid] [act :none] [restart g 5 :ok] [act :changed] [now g 7] [restart g 5 :not-failed] [mode g fail :ok] [send g - 9 :ok] [act [:failed :invalid]] [restart g -1 :invalid] [now g 7] [error g :invalid] [account g [5 :done :failed 0]]
             // What a commit sent can be taken once it is released.
             [] [] [0] [begin 1 0] [1 send g + 1 :ok] [commit 1 1] [act :none] [account g [0 1]] [release 2 false] [release 1 true] [release 1 false] [act :changed] [now g 1]
             // It waits in its place: what was sent later waits behind it.
             [] [] [0 0] [begin 1 0] [1 send g + 1 :ok] [1 send h + 5 :ok] [commit 1 1] [send g + 2 :ok] [send h + 6 :ok] [act :none] [release 1 true] [act :changed] [act :changed] [act :changed] [act :changed] [act :none] [now g 3] [now h 11]
             // A commit that sends nothing has nothing to be released.
             [] [] [0] [begin 1 0] [commit 1 1] [release 1 false] [begin 2 1] [2 send g + 1 :ok] [commit 2 2] [account g [0 1]] [release 2 true]
-            // A failed agent takes what a commit sends, and holds it. Setting the mode doesn't make it go on.
-            [] [] [[rule 0 [>= 0]]] [send g - 1 :ok] [act [:failed :invalid]] [begin 1 0] [1 send g + 2 :ok] [commit 1 1] [release 1 true] [act :none] [mode g continue :ok] [error g :invalid] [act :none] [restart g 5 :ok] [act :changed] [now g 7] [restart g 5 :not-failed] [mode g fail :ok] [send g - 9 :ok] [act [:failed :invalid]] [restart g -1 :invalid] [now g 7] [error g :invalid]
             // A cleared send leaves its commit to be released.
             [] [] [[rule 0 [>= 0]]] [send g - 1 :ok] [act [:failed :invalid]] [begin 1 0] [1 send g + 2 :ok] [commit 1 1] [restart g 5 clear :ok] [account g [5 0]] [release 1 true]
+            // Sends of a commit are taken in their order, also those to one agent, and what was sent before them comes first.
+            [] [] [0] [watch g :k true] [begin 1 0] [1 send g + 1 :ok] [1 send g - 5 :ok] [1 send g + 2 :ok] [send g + 10 :ok] [commit 1 1] [account g [0 4]] [act [:changed [g :k 0 10]]] [act :none] [release 1 true] [act [:changed [g :k 10 11]]] [act [:changed [g :k 11 6]]] [act [:changed [g :k 6 8]]] [act :none]
+            // The function and the agent are asked for when it is sent, the function first; what came later isn't there.
+            [] [] [0] [begin 1 0] [1 send g + 1 :ok] [1 send g 99 [:no-such-fun 99]] [1 send i 99 [:no-such-fun 99]] [1 send i + 1 :no-such-agent] [make-agent 7 h] [1 send h + 1 :no-such-agent] [1 send-by-fewer g inc [:no-such-fun 3]] [commit 1 1] [account g [0 1]] [account h [7 0]] [begin 2 1] [2 send h + 1 :ok] [commit 2 2] [release 2 true] [act :changed] [now h 8]
             // A transaction that isn't committed sends nothing.
+            [9223372036854775806 0] [] [0] [begin 1 0] [1 commute a + 1 9223372036854775807] [1 set b 1 1] [1 send g + 1 :ok] [begin 2 0] [2 commute a + 1 9223372036854775807] [commit 2 1] [commit 1 [:refused 0 :overflow]] [now b 0] [account g [0 0]] [act :none] [release 2 false]
             [0] [] [0] [begin 1 0] [1 set a 1 1] [1 send g + 1 :ok] [begin 2 0] [2 set a 2 2] [commit 2 1] [commit 1 [:conflict 0 0 1]] [account g [0 0]] [release 1 false] [act :none]
             // At most one job of an agent is on its way; its number counts the handled ones.
             [] [] [0 0] [send g + 1 :ok] [send g + 1 :ok] [send h + 1 :ok] [next [g 0]] [next [h 0]] [act :changed] [now g 1] [next [h 0]] [act :changed] [now g 2] [account g [0 :done :done 0]] [lose h] [act :none] [account h [0 1]] [send h + 1 :ok] [act :none] [restart h 5 :not-failed] [send g + 1 :ok] [next [g 2]]
+            // A busy agent takes sends, which wait behind the action that is on its way.
+            [] [] [0] [send g + 1 :ok] [send g + 2 :ok] [lose g] [send g + 3 :ok] [account g [0 3]] [begin 1 0] [1 send g + 4 :ok] [commit 1 1] [account g [0 4]] [act :none]
             // A job that isn't on its way here is foreign.
             [] [] [0] [stranger g + 1 :foreign] [send g + 2 :ok] [stranger g + 2 :foreign] [lose g] [stranger g + 1 :foreign] [now g 0] [stranger g + 2 :changed] [now g 2]
             // Watches are told, but not of a restart.
@@ -40,18 +47,6 @@ fn agents_by_hand(rt: HostRuntime) -> Result<(), Fail> {
             [] [] [] [agents 0] [act :none] [make-agent [rule 0 [>= 1]] :invalid] [make-agent [rule 0 [nil?]] [:no-such-fun 0]] [make-agent [rule 1 [>= 1]] g] [make-agent 7 h] [agents 2] [rule g [>= 1]] [rule h :none] [now h 7] [now i :none] [account i :none] [error i :none]
             [] [] [3] [validate g [<= 2] :invalid] [validate g [<= 3] :ok] [rule g [<= 3]] [send g + 1 :ok] [act [:failed :invalid]] [validate g nil :ok] [restart g 9 :ok] [now g 9] [validate h nil :no-such] [validate g [nil?] [:no-such-fun 0]] [mode h fail :no-such-agent] [send h + 1 :no-such-agent] [restart h 1 :no-such-agent]
             [1] [2] [3 [rule 0 [>= 1]]] [refused h :invalid]
-        "##,
-    )
-}
-
-// The store of agents holds what a commit sends, and leaves out what goes to an agent that isn't there.
-#[test]
-fn sends_to_nobody_are_left_out(rt: HostRuntime) -> Result<(), Fail> {
-    check_apart(
-        &rt,
-        "",
-        r##"
-            [] [] [0] [begin 1 0] [1 send g + 1 :ok] [1 send i + 1 :ok] [commit 1 1] [account g [0 1]] [release 1 true]
         "##,
     )
 }

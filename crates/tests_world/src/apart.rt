@@ -1,16 +1,18 @@
 //! The stores side by side as the subject of rows. They are called as a world calls them; the present point and the log are kept
 //! here. The present point can be set by hand, so that rows reach the last one.
 use crate::forms::Start;
-use crate::subjects::{By, Committed, Extent, Kind, Look, Open, STAMP, Starts, Subject};
+use crate::subjects::{
+    By, Committed, Extent, Ground, Kind, Look, Open, STAMP, Starts, Subject, Visit,
+};
+use crate::tables::Tables;
 use ref_agents::{
     AgentStore, ErrorMode, FinishFault, Finished, Job, ModeFault, Ran, RestartFault, SendFault,
 };
 use ref_atoms::{AtomFault, AtomStore, Cas, Swapped};
 use ref_edn::Value;
 use ref_fun::{Action, Args, Core, Rule};
-use ref_log::{Base, Entry, MakeFault, Op, RuleFault, Sent, SharedVec, WatchFault, Who};
+use ref_log::{Base, Entry, MakeFault, Op, RuleFault, SharedVec, WatchFault, Who};
 use ref_refs::RefStore;
-use ref_tx::TxFault;
 use ref_world::Receipt;
 use std::alloc::{AllocError, Global};
 
@@ -126,37 +128,54 @@ impl Apart {
     }
 }
 
-impl Subject for Apart {
-    fn start(by: By, starts: Starts) -> Result<Apart, (Who, MakeFault)> {
+/// The stores side by side.
+pub(crate) struct Aparts;
+
+impl Ground for Aparts {
+    fn with<V: Visit>(
+        tables: &Tables,
+        starts: Starts,
+        visit: V,
+    ) -> Result<V::Out, (Who, MakeFault)> {
+        let apart = Apart::start(tables.all(), starts)?;
+        Ok(visit.visit(tables, apart))
+    }
+}
+
+impl Apart {
+    /// The references, made one by one at point 0; or the first that can't be made, and why.
+    pub(crate) fn start(by: By, starts: Starts) -> Result<Apart, (Who, MakeFault)> {
         let Ok(mut apart) = Apart::empty(by.alloc, &starts) else {
             return Err((Who::Ref(0), MakeFault::Memory));
         };
         apart.make_all(by, starts)?;
         Ok(apart)
     }
+}
 
+impl Subject for Apart {
     fn begin(&self, alloc: Global) -> Result<Open, AllocError> {
         if !self.refs.are_unchanged_since(self.point) {
             return Err(AllocError);
         }
-        Ok(Open {
-            tx: self.refs.begin(alloc, self.point)?,
-            sends: Vec::new(alloc),
-        })
+        self.refs.begin(alloc, self.point, self.agents.len())
     }
 
     fn commit(&mut self, by: By, open: Open) -> Committed {
-        let Open { tx, sends } = open;
         if self.point == u64::MAX || !self.refs.are_unchanged_since(self.point) {
             return Err(AllocError);
         }
         let at = self.point + 1;
-        let landed = match self.refs.commit(by.alloc, by.funs, at, STAMP, tx) {
+        let (By { alloc, funs }, agents) = (by, self.agents.len());
+        let landed = match self.refs.commit(alloc, funs, at, agents, STAMP, open) {
             Ok(landed) => landed,
-            Err((tx, fault)) => return Ok(Err((Open { tx, sends }, fault))),
+            Err(refused) => return Ok(Err(refused)),
         };
+        if let Entry::Trans(transaction) = &landed.entry {
+            self.agents
+                .send_held(alloc, at, transaction.sends.as_slice())?;
+        }
         self.enter(landed.entry)?;
-        self.agents.send_held(by.alloc, at, &sends)?;
         Ok(Ok(Receipt {
             point: at,
             stamp: STAMP,
@@ -279,11 +298,6 @@ impl Subject for Apart {
 
     fn send(&mut self, alloc: Global, g: u32, action: Action) -> Result<(), SendFault> {
         self.agents.send(alloc, g, action)
-    }
-
-    fn send_in(&self, open: &mut Open, agent: u32, action: Action) -> Result<(), TxFault> {
-        open.sends.push(Sent { agent, action })?;
-        Ok(())
     }
 
     fn release(&mut self, point: u64) -> bool {

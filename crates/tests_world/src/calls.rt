@@ -1,10 +1,9 @@
 //! The calls of a row on transactions, refs and atoms.
 use crate::forms::{
-    action_from, agent_at, args_from, atom_at, code_at, number_at, ref_at, rule_at, start_of,
-    value_at, who_of, word_at,
+    agent_at, args_from, atom_at, code_at, number_at, ref_at, rule_at, start_of, value_at, who_of,
+    word_at,
 };
 use crate::jobs::{agents_answer, is_of_agents};
-use crate::rows::starts_of;
 use crate::subjects::{By, Kind, Open, STAMP, Subject};
 use crate::tables::Tables;
 use crate::words::{
@@ -84,7 +83,7 @@ pub(crate) fn put_back(places: &mut Vec<Option<Open>>, i: usize, open: Open) {
 
 fn begin<S: Subject>(alloc: Global, stage: &mut Stage<S>, call: &[Value]) -> Answer {
     let open = stage.subject.begin(alloc)?;
-    let read_point = open.tx.read_point();
+    let read_point = open.read_point();
     put_back(&mut stage.open, number_at(call, 1) as usize, open);
     left(number(read_point)?)
 }
@@ -141,10 +140,10 @@ fn is_last(dones: &[Done], before: usize, r: u32, answer: &Value) -> bool {
 // Makes an operation. The transaction keeps it with its answer, or is as before where it only reads or is refused.
 fn operated(by: By, open: &mut Open, called: &str, r: u32, call: &[Value]) -> Form {
     let alloc = by.alloc;
-    let (before, count) = (open_form(alloc, open)?, open.tx.dones().len());
-    let answer = operation(by, &mut open.tx, called, r, call);
+    let (before, count) = (open_form(alloc, open)?, open.dones().len());
+    let answer = operation(by, open, called, r, call);
     let is_right = match &answer {
-        Ok(value) if is_kept(called) => is_last(open.tx.dones(), count, r, value),
+        Ok(value) if is_kept(called) => is_last(open.dones(), count, r, value),
         _ => open_form(alloc, open)? == before,
     };
     if !is_right {
@@ -156,8 +155,19 @@ fn operated(by: By, open: &mut Open, called: &str, r: u32, call: &[Value]) -> Fo
     }
 }
 
-fn sent<S: Subject>(alloc: Global, subject: &S, open: &mut Open, call: &[Value]) -> Form {
-    match subject.send_in(open, agent_at(call, 1), action_from(alloc, call, 2)?) {
+// Sends an action in a transaction. It is kept as the last, or the transaction is as before.
+fn sent(by: By, open: &mut Open, call: &[Value]) -> Form {
+    let By { alloc, funs } = by;
+    let (g, code) = (agent_at(call, 1), code_at(call, 2));
+    let before = open_form(alloc, open)?;
+    let answer = open.send(alloc, funs, g, code, args_from(alloc, call, 3)?);
+    let is_right = match (&answer, open.sends().last()) {
+        (Ok(()), Some(sent)) => sent.agent == g && sent.action.code == code,
+        (Ok(()), None) => false,
+        (Err(_), _) => open_form(alloc, open)? == before,
+    };
+    match answer {
+        _ if !is_right => word(alloc, "wrong-sends"),
         Ok(()) => word(alloc, "ok"),
         Err(fault) => variant_form(alloc, &fault),
     }
@@ -176,7 +186,7 @@ fn operate<S: Subject>(
     };
     let r = ref_at(call, 1, stage.subject.extent().tally);
     let answer = match called {
-        "send" => sent(by.alloc, &stage.subject, &mut open, call),
+        "send" => sent(by, &mut open, call),
         _ => operated(by, &mut open, called, r, call),
     };
     put_back(&mut stage.open, i, open);
@@ -346,16 +356,6 @@ fn look<S: Subject>(
 
 // ---- All calls
 
-fn other<S: Subject>(by: By, stage: &mut Stage<S>, call: &[Value]) -> Answer {
-    match S::start(by, starts_of(by.alloc, call)?) {
-        Ok(subject) => {
-            stage.subject = subject;
-            made(word(by.alloc, "ok")?)
-        }
-        Err((_, fault)) => refused(by.alloc, &fault),
-    }
-}
-
 fn set_point<S: Subject>(alloc: Global, subject: &mut S, point: u64) -> Answer {
     if subject.set_point(point) {
         made(word(alloc, "ok")?)
@@ -416,7 +416,6 @@ pub(crate) fn answer<S: Subject>(tables: &Tables, stage: &mut Stage<S>, call: &[
     match called {
         "begin" => begin(by.alloc, stage, call),
         "commit" => commit(by, stage, call),
-        "other" => other(by, stage, rest),
         _ => subject_answer(by, &mut stage.subject, called, call),
     }
 }

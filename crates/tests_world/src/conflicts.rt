@@ -36,7 +36,8 @@ fn commits_by_hand(rt: HostRuntime) -> Result<(), Fail> {
             [0 0 0] [] [] [begin 1 0] [1 set c 1 1] [1 set b 1 1] [begin 2 0] [2 set c 2 2] [commit 2 1] [begin 3 1] [3 set b 3 3] [commit 3 2] [commit 1 [:conflict 1 0 2]]
             // An alter isn't made again, so its function isn't needed.
             [0] [] [] [begin 1 0] [1 alter a - 1 -1] [commit-by-fewer 1 1] [now a -1]
-            // A commit that does nothing makes an entry.
+            // A commit that does nothing makes an entry, also where there is no ref.
+            [] [] [] [begin 1 0] [1 began []] [commit 1 1] [entries 1] [point 1] [refs 0]
             [0] [] [] [begin 1 0] [commit 1 1] [entries 1] [point 1] [now a 0] [changed a 0] [refs 1]
             // What is only ensured isn't touched; what is set, altered or commuted is, whatever its value.
             [0 0] [] [] [begin 1 0] [1 ensure a 0] [begin 2 0] [2 set a 5 5] [commit 1 1] [now a 0] [changed a 0] [entries 1] [commit 2 2] [changed a 2]
@@ -60,7 +61,10 @@ fn foreign_transactions_by_hand(rt: HostRuntime) -> Result<(), Fail> {
             [0] [] [] [begin 2 0] [commit 2 1] [begin 1 1] [1 set a 5 5] [other [0] :ok] [commit 1 [:foreign :point 1]] [now a 0] [begin 2 0] [commit 2 1] [commit 1 2] [now a 5]
             [0] [] [] [begin 1 0] [1 set a 5 5] [other [[tally 0]] :ok] [commit 1 [:foreign :tally]] [begin 2 0] [2 commute t + 5 5] [commit 2 1] [now t 5]
             [0] [] [] [begin 1 0] [1 commute a + 1 1] [other [5] :ok] [commit 1 1] [now a 6]
-            // Of two faults the first in order is told: foreign refs, tally and point, functions, conflicts, foreign values, refusals.
+            [0] [] [0 0] [begin 1 0] [1 send h + 1 :ok] [other [0] [] [0] :ok] [commit 1 [:foreign :agent 1]] [account g [0 0]] [entries 0] [make-agent 0 h] [commit 1 1] [account h [0 1]]
+            // Of two faults the first in order is told: foreign refs, agents, tally and point, functions, conflicts, foreign values, refusals.
+            [0 0] [] [0 0] [begin 1 0] [1 send h + 1 :ok] [1 set b 1 1] [other [[tally 0]] [] [0] :ok] [commit 1 [:foreign :ref 1]]
+            [0] [] [0 0] [begin 1 0] [1 set a 1 1] [1 send g + 1 :ok] [1 send h + 1 :ok] [other [[tally 0]] [] [0] :ok] [commit 1 [:foreign :agent 1]] [make-agent 0 h] [commit 1 [:foreign :tally]]
             [0 0] [] [] [begin 2 0] [commit 2 1] [begin 1 1] [1 set b 1 1] [other [0] :ok] [commit 1 [:foreign :ref 1]]
             [0 0] [] [] [begin 1 0] [1 set a 1 1] [1 set b 1 1] [other [[tally 0]] :ok] [commit 1 [:foreign :ref 1]]
             [0] [] [] [begin 2 0] [commit 2 1] [begin 1 1] [1 set a 1 1] [other [[tally 0]] :ok] [commit 1 [:foreign :tally]] [begin 2 0] [commit 2 1] [commit 1 [:foreign :tally]]

@@ -1,11 +1,11 @@
 //! Transactions that are drawn, against the slow replay.
-use crate::apart::Apart;
+use crate::apart::Aparts;
 use crate::calls::{Stage, put_back, taken};
 use crate::forms::{args_from, read};
 use crate::rows::{is_replayed, no_open, starts_of};
-use crate::subjects::{By, Open, STAMP, Subject};
-use crate::tables::table_of;
-use crate::whole::Whole;
+use crate::subjects::{By, Ground, Open, STAMP, Subject, Visit};
+use crate::tables::{Tables, table_of};
+use crate::whole::Worlds;
 use ref_edn::{Node, Value};
 use ref_fun::{Cause, Core, FunTable};
 use ref_log::{Base, Entry, Share, SharedVec, Transaction, replay_plain};
@@ -57,9 +57,26 @@ fn operate(by: By, tx: &mut Tx<Core>, r: u32, n: i64, drawn: Draw) -> Result<Val
 // Two integers, the tally, and nil.
 const STARTS: &str = "[0 10 [tally 5] nil]";
 
-fn subject_of<S: Subject>(by: By, starts: &str) -> Result<S, AllocError> {
-    let row = read(by.alloc, starts)?;
-    S::start(by, starts_of(by.alloc, &row)?).map_err(|_| AllocError)
+// One table in the place of both.
+fn only(alloc: Global, funs: &FunTable) -> Tables {
+    Tables {
+        alloc,
+        funs,
+        fewer: funs,
+    }
+}
+
+// Does something with a subject that starts so.
+fn with<G: Ground, V: Visit>(
+    tables: &Tables,
+    starts: &str,
+    visit: V,
+) -> Result<V::Out, AllocError> {
+    let row = read(tables.alloc, starts)?;
+    match G::with(tables, starts_of(tables.alloc, &row)?, visit) {
+        Ok(out) => Ok(out),
+        Err(_) => Err(AllocError),
+    }
 }
 
 // Makes up to 8 operations on the first three refs, and tells how many were refused.
@@ -86,6 +103,7 @@ fn entry_of(alloc: Global, tx: &Tx<Core>) -> Result<Entry, AllocError> {
         stamp: STAMP,
         read_point: 0,
         dones: SharedVec::of(alloc, dones)?,
+        sends: SharedVec::of(alloc, Vec::new(alloc))?,
     }))
 }
 
@@ -120,7 +138,7 @@ fn is_one_replayed(
     seed: &mut u64,
     counts: &mut Counts,
 ) -> Result<bool, AllocError> {
-    let mut tx: Tx<Core> = Tx::start(by.alloc, 0, base.refs.share()?, base.tally);
+    let mut tx: Tx<Core> = Tx::start(by.alloc, 0, base.refs.share()?, base.tally, 0);
     let refused = operate_often(by, &mut tx, seed)?;
     counts.refused = counts.refused.saturating_add(refused);
     counts.recorded = counts.recorded.saturating_add(tx.dones().len());
@@ -142,14 +160,24 @@ fn drawn_counts(by: By, base: &Base) -> Result<Option<Counts>, AllocError> {
     Ok(Some(counts))
 }
 
+#[derive(Drop)]
+struct Counting;
+
+impl Visit for Counting {
+    type Out = Result<Option<Counts>, AllocError>;
+
+    fn visit<S: Subject>(self, tables: &Tables, subject: S) -> Result<Option<Counts>, AllocError> {
+        let by = tables.all();
+        match subject.log() {
+            Some((base, _)) => drawn_counts(by, base),
+            None => Ok(None),
+        }
+    }
+}
+
 fn counts_in_a_world(alloc: Global) -> Result<Option<Counts>, AllocError> {
     let funs = table_of(alloc, &[1, 2], &[])?;
-    let by = By { alloc, funs: &funs };
-    let world: Whole = subject_of(by, STARTS)?;
-    match world.log() {
-        Some((base, _)) => drawn_counts(by, base),
-        None => Ok(None),
-    }
+    with::<Worlds, Counting>(&only(alloc, &funs), STARTS, Counting)?
 }
 
 #[test]
@@ -208,7 +236,7 @@ fn step<S: Subject>(
     }
     let drawn = next_draw(seed);
     let (r, n) = ((drawn.r % 4) as u32, (drawn.n % 4) as i64);
-    let answer = operate(by, &mut open.tx, r, n, drawn);
+    let answer = operate(by, &mut open, r, n, drawn);
     put_back(&mut stage.open, i, open);
     match answer {
         Err(TxFault::Memory) => Err(AllocError),
@@ -216,36 +244,59 @@ fn step<S: Subject>(
     }
 }
 
-// Makes 80 steps, and says whether each could be made and the slow replay agrees.
-fn interleave<S: Subject>(
-    by: By,
-    seed: &mut u64,
-    outcomes: &mut Outcomes,
-) -> Result<bool, AllocError> {
-    let mut stage: Stage<S> = Stage {
-        subject: subject_of(by, NEAR_THE_END)?,
-        open: no_open(by.alloc)?,
-    };
-    for _ in 0..80 {
-        if !step(by, &mut stage, seed, outcomes)? {
-            return Ok(false);
+// 80 steps.
+#[derive(Drop)]
+struct Interleaving {
+    seed: u64,
+    outcomes: Outcomes,
+}
+
+impl Visit for Interleaving {
+    type Out = Result<Option<Interleaving>, AllocError>;
+
+    // None where a step couldn't be made, or the slow replay disagrees.
+    fn visit<S: Subject>(
+        self,
+        tables: &Tables,
+        subject: S,
+    ) -> Result<Option<Interleaving>, AllocError> {
+        let by = tables.all();
+        let Interleaving {
+            mut seed,
+            mut outcomes,
+        } = self;
+        let mut stage: Stage<S> = Stage {
+            subject,
+            open: no_open(by.alloc)?,
+        };
+        for _ in 0..80 {
+            if !step(by, &mut stage, &mut seed, &mut outcomes)? {
+                return Ok(None);
+            }
+        }
+        if is_replayed(by, &stage.subject)? {
+            Ok(Some(Interleaving { seed, outcomes }))
+        } else {
+            Ok(None)
         }
     }
-    is_replayed(by, &stage.subject)
 }
 
 // What comes of 2,000 interleavings; none where the slow replay of one disagrees.
-fn counted<S: Subject>(alloc: Global) -> Result<Option<Outcomes>, AllocError> {
+fn counted<G: Ground>(alloc: Global) -> Result<Option<Outcomes>, AllocError> {
     let funs = table_of(alloc, &[1, 2], &[])?;
-    let by = By { alloc, funs: &funs };
-    let mut seed: u64 = 30;
-    let mut outcomes = NOTHING;
+    let tables = only(alloc, &funs);
+    let mut drawn = Interleaving {
+        seed: 30,
+        outcomes: NOTHING,
+    };
     for _ in 0..2000 {
-        if !interleave::<S>(by, &mut seed, &mut outcomes)? {
-            return Ok(None);
+        match with::<G, Interleaving>(&tables, NEAR_THE_END, drawn)?? {
+            Some(next) => drawn = next,
+            None => return Ok(None),
         }
     }
-    Ok(Some(outcomes))
+    Ok(Some(drawn.outcomes))
 }
 
 const NOTHING: Outcomes = Outcomes {
@@ -263,12 +314,12 @@ const WANTED: Outcomes = Outcomes {
 
 #[test]
 fn interleavings_are_replayed_in_a_world(rt: HostRuntime) -> Result<(), Fail> {
-    assert_eq!(rt; counted::<Whole>(rt.alloc())?, Some(WANTED));
+    assert_eq!(rt; counted::<Worlds>(rt.alloc())?, Some(WANTED));
     Ok(())
 }
 
 #[test]
 fn interleavings_are_replayed_apart(rt: HostRuntime) -> Result<(), Fail> {
-    assert_eq!(rt; counted::<Apart>(rt.alloc())?, Some(WANTED));
+    assert_eq!(rt; counted::<Aparts>(rt.alloc())?, Some(WANTED));
     Ok(())
 }

@@ -1,4 +1,5 @@
 //! The calls of a row on agents.
+use crate::apart::Apart;
 use crate::calls::{Answer, left, made, refused, settled, wrong};
 use crate::forms::{action_from, agent_at, number_at, read, value_at, word_at};
 use crate::rows::starts_of;
@@ -81,7 +82,7 @@ fn lose<S: Subject>(alloc: Global, subject: &mut S) -> Answer {
 fn stranger<S: Subject>(by: By, subject: &mut S, call: &[Value]) -> Answer {
     let alloc = by.alloc;
     let starts = starts_of(alloc, &read(alloc, "[] [] [0]")?)?;
-    let Ok(mut other) = S::start(by, starts) else {
+    let Ok(mut other) = Apart::start(by, starts) else {
         return wrong(alloc, "no-agents");
     };
     let sent = other.send(alloc, agent_at(call, 1), action_from(alloc, call, 2)?);

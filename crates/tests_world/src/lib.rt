@@ -6,6 +6,7 @@
 //! | Modules | |
 //! |---|---|
 //! | `transactions`, `conflicts`, `rules`, `atoms`, `agents`, `makings` | the rows |
+//! | `shares` | shares of a world |
 //! | `limits`, `pieces`, `replay`, `drawn` | full stores and the last point, small types, logs by hand, drawn transactions |
 //! | `rows`, `calls`, `jobs` | what runs rows: the calls of transactions, refs and atoms, and those of agents |
 //! | `forms`, `words`, `tables` | reading what a row is written with, writing what is answered, tables of functions |
@@ -40,6 +41,8 @@ mod replay;
 mod rows;
 #[cfg(test)]
 mod rules;
+#[cfg(test)]
+mod shares;
 #[cfg(test)]
 mod subjects;
 #[cfg(test)]

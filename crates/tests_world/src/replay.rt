@@ -40,6 +40,7 @@ fn transaction_of(alloc: Global, forms: &[Value]) -> Result<Transaction, AllocEr
         stamp: Stamp { worker: 0, step: 0 },
         read_point: 0,
         dones: SharedVec::of(alloc, dones)?,
+        sends: SharedVec::of(alloc, Vec::new(alloc))?,
     })
 }
 

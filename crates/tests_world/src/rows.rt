@@ -33,12 +33,12 @@
 //!
 //! Where a call is refused or only tells something, the subject has to be as it was before. At the end the slow replay of its
 //! log has to give its values. A row that isn't written so ends its test with an `AllocError`.
-use crate::apart::Apart;
+use crate::apart::Aparts;
 use crate::calls::{Stage, answer};
-use crate::forms::{members, read, row_of, starts_at};
-use crate::subjects::{By, Extent, Look, Open, Starts, Subject};
+use crate::forms::{members, read, row_of, starts_at, word_at};
+use crate::subjects::{By, Extent, Ground, Look, Open, Starts, Subject, Visit};
 use crate::tables::{Tables, table_of};
-use crate::whole::Whole;
+use crate::whole::Worlds;
 use crate::words::{Form, form, name, value_form, variant_form, vector};
 use ref_edn::Value;
 use ref_fun::{Core, FunTable};
@@ -128,25 +128,48 @@ pub(crate) fn no_open(alloc: Global) -> Result<Vec<Option<Open>>, AllocError> {
     Ok(open)
 }
 
-// The first element of a row that is a wrong call, by its place; the end of the row where the slow replay disagrees.
-fn wrong_place<S: Subject>(
-    tables: &Tables,
-    subject: S,
-    row: &[Value],
-) -> Result<Option<usize>, AllocError> {
-    let mut stage = Stage {
-        subject,
-        open: no_open(tables.alloc)?,
-    };
-    for (i, form) in row.iter().enumerate().skip(3) {
-        if !is_right(tables, &mut stage, form)? {
-            return Ok(Some(i));
+// How a part of a row ends: with a wrong call at a place, at the end of the row, or where another subject takes this one's place.
+#[derive(Drop)]
+enum Ended {
+    Wrong(usize),
+    Right,
+    Other(usize, Vec<Option<Open>>),
+}
+
+// The part of a row from a place on, with the transactions that are open.
+#[derive(Drop)]
+struct Part<'a> {
+    row: &'a [Value],
+    from: usize,
+    open: Vec<Option<Open>>,
+}
+
+// Whether another subject is to take this one's place.
+fn is_other(alloc: Global, form: &Value) -> Result<bool, AllocError> {
+    let parts = members(alloc, form)?;
+    Ok(matches!(word_at(&parts, 0), "other"))
+}
+
+impl<'a> Visit for Part<'a> {
+    type Out = Result<Ended, AllocError>;
+
+    fn visit<S: Subject>(self, tables: &Tables, subject: S) -> Result<Ended, AllocError> {
+        let Part { row, from, open } = self;
+        let mut stage = Stage { subject, open };
+        for (i, form) in row.iter().enumerate().skip(from) {
+            if is_other(tables.alloc, form)? {
+                return Ok(Ended::Other(i, stage.open));
+            }
+            if !is_right(tables, &mut stage, form)? {
+                return Ok(Ended::Wrong(i));
+            }
+        }
+        if is_replayed(tables.all(), &stage.subject)? {
+            Ok(Ended::Right)
+        } else {
+            Ok(Ended::Wrong(row.len()))
         }
     }
-    if is_replayed(tables.all(), &stage.subject)? {
-        return Ok(None);
-    }
-    Ok(Some(row.len()))
 }
 
 // `[refused x :invalid]`: what a row says whose references can't be made.
@@ -155,20 +178,60 @@ fn refused_form(alloc: Global, who: Who, fault: MakeFault) -> Form {
     vector(alloc, vec![in alloc; form(alloc, "refused")?, who, fault]?)
 }
 
-fn wrong_place_of<S: Subject>(tables: &Tables, row: &str) -> Result<Option<usize>, AllocError> {
-    let alloc = tables.alloc;
-    let row = read(alloc, row)?;
-    match S::start(tables.all(), starts_of(alloc, &row)?) {
-        Ok(subject) => wrong_place::<S>(tables, subject, &row),
-        Err((who, fault)) => match row.as_slice() {
-            [_, _, _, told] if *told == refused_form(alloc, who, fault)? => Ok(None),
-            _ => Ok(Some(3)),
-        },
+fn is_refused_row(
+    alloc: Global,
+    row: &[Value],
+    who: Who,
+    fault: MakeFault,
+) -> Result<bool, AllocError> {
+    match row {
+        [_, _, _, told] => Ok(*told == refused_form(alloc, who, fault)?),
+        _ => Ok(false),
     }
 }
 
+// What the subject of a part of a row starts with: the row's start, or what `[other [5] [] [] :ok]` says.
+fn part_starts(alloc: Global, row: &[Value], from: usize) -> Result<Starts, AllocError> {
+    match row.get(from.wrapping_sub(1)) {
+        Some(form) if from > 3 => {
+            let parts = members(alloc, form)?;
+            starts_of(alloc, parts.get(1..).unwrap_or(&[]))
+        }
+        _ => starts_of(alloc, row),
+    }
+}
+
+// The first element of a row that is a wrong call, by its place; the end of the row where the slow replay disagrees.
+fn wrong_place_of<G: Ground>(tables: &Tables, row: &str) -> Result<Option<usize>, AllocError> {
+    let alloc = tables.alloc;
+    let row = read(alloc, row)?;
+    let (mut from, mut open) = (3usize, no_open(alloc)?);
+    for _ in 0..row.len() {
+        let part = Part {
+            row: row.as_slice(),
+            from,
+            open,
+        };
+        match G::with(tables, part_starts(alloc, &row, from)?, part) {
+            Ok(ended) => match ended? {
+                Ended::Right => return Ok(None),
+                Ended::Wrong(i) => return Ok(Some(i)),
+                Ended::Other(i, left) => {
+                    from = i.saturating_add(1);
+                    open = left;
+                }
+            },
+            Err((who, fault)) => {
+                let is_right = is_refused_row(alloc, &row, who, fault)?;
+                return Ok(if is_right { None } else { Some(from) });
+            }
+        }
+    }
+    Ok(Some(from))
+}
+
 // The first row of a table that is wrong on a subject, with the place in it. Each begins with the same start.
-fn first_wrong_by<S: Subject>(
+fn first_wrong_by<G: Ground>(
     tables: &Tables,
     start: &str,
     table: &str,
@@ -178,14 +241,14 @@ fn first_wrong_by<S: Subject>(
             continue;
         };
         let row = format!(in tables.alloc; "{start} {row}")?;
-        if let Some(i) = wrong_place_of::<S>(tables, row.as_str())? {
+        if let Some(i) = wrong_place_of::<G>(tables, row.as_str())? {
             return Ok(Some(format!(in tables.alloc; "at {i}: {row}")?));
         }
     }
     Ok(None)
 }
 
-fn first_wrong<S: Subject>(
+fn first_wrong<G: Ground>(
     alloc: Global,
     start: &str,
     table: &str,
@@ -197,7 +260,7 @@ fn first_wrong<S: Subject>(
         funs: &funs,
         fewer: &fewer,
     };
-    first_wrong_by::<S>(&tables, start, table)
+    first_wrong_by::<G>(&tables, start, table)
 }
 
 /// Each row of a table is right on the stores apart. A line is a row, or a remark if it begins with `//`.
@@ -206,7 +269,7 @@ pub(crate) fn check_apart(
     start: &str,
     table: &str,
 ) -> Result<(), Fail> {
-    let wrong = first_wrong::<Apart>(rt.alloc(), start, table)?;
+    let wrong = first_wrong::<Aparts>(rt.alloc(), start, table)?;
     assert!(rt; wrong.is_none(), "{wrong:?}");
     Ok(())
 }
@@ -217,7 +280,7 @@ pub(crate) fn check_anywhere(
     start: &str,
     table: &str,
 ) -> Result<(), Fail> {
-    let wrong = first_wrong::<Whole>(rt.alloc(), start, table)?;
+    let wrong = first_wrong::<Worlds>(rt.alloc(), start, table)?;
     assert!(rt; wrong.is_none(), "in a world, {wrong:?}");
     check_apart(rt, start, table)
 }

@@ -1,5 +1,6 @@
 //! What rows are run on.
 use crate::forms::Start;
+use crate::tables::Tables;
 use crate::words::{Form, account_form, number, rule_form, value_form, variant_form, word};
 use ref_agents::{
     Account, AgentError, ErrorMode, FinishFault, Finished, Job, ModeFault, Ran, RestartFault,
@@ -8,9 +9,9 @@ use ref_agents::{
 use ref_atoms::{AtomFault, Cas, Swapped};
 use ref_edn::Value;
 use ref_fun::{Action, Args, Core, FunTable, Rule};
-use ref_log::{Base, Entry, MakeFault, RuleFault, Sent, Stamp, WatchFault, Who};
+use ref_log::{Base, Entry, MakeFault, RuleFault, Stamp, WatchFault, Who};
 use ref_refs::CommitFault;
-use ref_tx::{Tx, TxFault};
+use ref_tx::Tx;
 use ref_world::Receipt;
 use std::alloc::{AllocError, Global};
 
@@ -39,12 +40,8 @@ pub(crate) struct Starts {
     pub(crate) agents: Vec<Start>,
 }
 
-/// An open transaction, and what it sends.
-#[derive(Drop)]
-pub(crate) struct Open {
-    pub(crate) tx: Tx<Core>,
-    pub(crate) sends: Vec<Sent>,
-}
+/// An open transaction.
+pub(crate) type Open = Tx<Core>;
 
 /// What a commit answers. Want of memory is also where the subject is in no state to commit.
 pub(crate) type Committed = Result<Result<Receipt, (Open, CommitFault)>, AllocError>;
@@ -131,11 +128,25 @@ impl Extent {
     }
 }
 
+/// What is done with a subject. Each world has a type of its own, by the names of its books.
+pub(crate) trait Visit: Drop + Sized {
+    type Out: Drop;
+
+    fn visit<S: Subject>(self, tables: &Tables, subject: S) -> Self::Out;
+}
+
+/// Where subjects are made.
+pub(crate) trait Ground {
+    /// What is done with a subject of these references, made one by one at point 0; or the first that can't be made, and why.
+    fn with<V: Visit>(
+        tables: &Tables,
+        starts: Starts,
+        visit: V,
+    ) -> Result<V::Out, (Who, MakeFault)>;
+}
+
 /// References with a log, and the calls on them.
 pub(crate) trait Subject: Drop + Sized {
-    /// The references, made one by one at point 0; or the first that can't be made, and why.
-    fn start(by: By, starts: Starts) -> Result<Self, (Who, MakeFault)>;
-
     fn begin(&self, alloc: Global) -> Result<Open, AllocError>;
 
     fn commit(&mut self, by: By, open: Open) -> Committed;
@@ -167,9 +178,6 @@ pub(crate) trait Subject: Drop + Sized {
     fn set_point(&mut self, point: u64) -> bool;
 
     fn send(&mut self, alloc: Global, g: u32, action: Action) -> Result<(), SendFault>;
-
-    /// An action that a transaction sends.
-    fn send_in(&self, open: &mut Open, g: u32, action: Action) -> Result<(), TxFault>;
 
     fn release(&mut self, point: u64) -> bool;
 

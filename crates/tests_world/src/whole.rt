@@ -1,18 +1,59 @@
-//! A world as the subject of rows. It has no agents: none can be made, and each call on one says that it isn't there.
+//! A world as the subject of rows.
+ghost use Rattle.std.specs.Prelude.{◌≡◌};
+ghost use Rattle.ref_world.specs.Shares.{all_parts};
+
 use crate::forms::Start;
-use crate::subjects::{By, Committed, Extent, Kind, Look, Open, STAMP, Starts, Subject};
+use crate::subjects::{
+    By, Committed, Extent, Ground, Kind, Look, Open, STAMP, Starts, Subject, Visit,
+};
+use crate::tables::Tables;
 use ref_agents::{ErrorMode, FinishFault, Finished, Job, ModeFault, Ran, RestartFault, SendFault};
 use ref_atoms::{AtomFault, Cas, Swapped};
 use ref_edn::Value;
 use ref_fun::{Action, Args, Core, Rule};
 use ref_log::{Base, Entry, MakeFault, RuleFault, Transaction, WatchFault, Who};
-use ref_tx::TxFault;
-use ref_world::{AtomStart, RefStart, World};
+use ref_world::{ALL_PARTS, AgentStart, AtomStart, RefStart, Share, World};
 use std::alloc::{AllocError, Global};
+use std::marker::Brand;
+use std::sync::ledger::{Blank, Ledger};
 
+/// A world, and its whole share.
 #[derive(Drop)]
-pub(crate) struct Whole {
-    world: World<Core>,
+struct Whole<C: Ledger, A: Ledger> {
+    world: World<Core, C, A>,
+    share: Share<C, A>,
+}
+
+/// Worlds.
+pub(crate) struct Worlds;
+
+impl Ground for Worlds {
+    fn with<V: Visit>(
+        tables: &Tables,
+        starts: Starts,
+        visit: V,
+    ) -> Result<V::Out, (Who, MakeFault)> {
+        let (commits, added) = (Blank::new(ALL_PARTS), Blank::new(ALL_PARTS));
+        with_world::<Brand, Brand, V>(tables, starts, visit, commits, added)
+    }
+}
+
+fn with_world<C: Ledger, A: Ledger, V: Visit>(
+    tables: &Tables,
+    starts: Starts,
+    visit: V,
+    commits: Blank,
+    added: Blank,
+) -> Result<V::Out, (Who, MakeFault)>
+    requires commits { (commits.name ≡ C.name) × (commits.parts ≡ C.parts) × (commits.parts ≡ all_parts) }
+    requires added { (added.name ≡ A.name) × (added.parts ≡ A.parts) × (added.parts ≡ all_parts) }
+{
+    let By { alloc, funs } = tables.all();
+    let Ok(start) = declared(alloc, starts) else {
+        return Err((Who::Ref(0), MakeFault::Memory));
+    };
+    let (world, share) = World::<Core, C, A>::new(alloc, funs, start, commits, added)?;
+    Ok(visit.visit(tables, Whole { world, share }))
 }
 
 fn declared(alloc: Global, starts: Starts) -> Result<ref_world::Start, AllocError> {
@@ -31,7 +72,21 @@ fn declared(alloc: Global, starts: Starts) -> Result<ref_world::Start, AllocErro
         let Start { value, rule, .. } = start;
         atoms.push(AtomStart { value, rule })?;
     }
-    Ok(ref_world::Start { refs, atoms })
+    let mut agents = Vec::new(alloc);
+    for start in starts.agents {
+        let Start {
+            value,
+            rule,
+            mode,
+            ..
+        } = start;
+        agents.push(AgentStart { value, rule, mode })?;
+    }
+    Ok(ref_world::Start {
+        refs,
+        atoms,
+        agents,
+    })
 }
 
 // Whether a transaction set, altered or commuted a ref.
@@ -65,43 +120,39 @@ fn last_change(base: &Base, log: &[Entry], r: u32) -> u64 {
     last
 }
 
-impl Subject for Whole {
-    fn start(by: By, starts: Starts) -> Result<Whole, (Who, MakeFault)> {
-        if !starts.agents.is_empty() {
-            return Err((Who::Agent(0), MakeFault::Full));
+// How many agents there are, where there are fewer than 8.
+fn agents_of<C: Ledger, A: Ledger>(world: &World<Core, C, A>) -> usize {
+    for g in 0..8u32 {
+        if world.account(g).is_none() {
+            return g as usize;
         }
-        let Ok(start) = declared(by.alloc, starts) else {
-            return Err((Who::Ref(0), MakeFault::Memory));
-        };
-        let world = World::new(by.alloc, by.funs, start)?;
-        Ok(Whole { world })
     }
+    8
+}
 
+impl<C: Ledger, A: Ledger> Subject for Whole<C, A> {
     fn begin(&self, alloc: Global) -> Result<Open, AllocError> {
-        Ok(Open {
-            tx: self.world.begin(alloc)?,
-            sends: Vec::new(alloc),
-        })
+        self.world.begin(alloc)
     }
 
     fn commit(&mut self, by: By, open: Open) -> Committed {
-        let Open { tx, sends } = open;
-        match self.world.commit_with(by.alloc, by.funs, STAMP, tx) {
-            Ok(receipt) => Ok(Ok(receipt)),
-            Err((tx, fault)) => Ok(Err((Open { tx, sends }, fault))),
-        }
+        let (By { alloc, funs }, share) = (by, &mut self.share);
+        Ok(self.world.commit_with(alloc, funs, share, STAMP, open))
     }
 
     fn swap(&mut self, by: By, a: u32, code: u32, args: Args) -> Result<Swapped, AtomFault> {
-        self.world.swap(by.alloc, by.funs, a, code, args)
+        let (By { alloc, funs }, share) = (by, &mut self.share);
+        self.world.swap(alloc, funs, share, a, code, args)
     }
 
     fn reset(&mut self, by: By, a: u32, value: Value) -> Result<Swapped, AtomFault> {
-        self.world.reset(by.alloc, by.funs, a, value)
+        let (By { alloc, funs }, share) = (by, &mut self.share);
+        self.world.reset(alloc, funs, share, a, value)
     }
 
     fn cas(&mut self, by: By, a: u32, old: &Value, new: Value) -> Result<Cas, AtomFault> {
-        self.world.compare_and_set(by.alloc, by.funs, a, old, new)
+        let (By { alloc, funs }, share) = (by, &mut self.share);
+        self.world.compare_and_set(alloc, funs, share, a, old, new)
     }
 
     fn make(&mut self, by: By, kind: Kind, start: Start) -> Result<Who, MakeFault> {
@@ -110,12 +161,12 @@ impl Subject for Whole {
             value,
             rule,
             tally,
-            ..
+            mode,
         } = start;
         match kind {
             Kind::Ref => Ok(Who::Ref(world.make_ref(alloc, funs, value, rule, tally)?)),
             Kind::Atom => Ok(Who::Atom(world.make_atom(alloc, funs, value, rule)?)),
-            Kind::Agent => Err(MakeFault::Full),
+            Kind::Agent => Ok(Who::Agent(world.make_agent(alloc, funs, value, rule, mode)?)),
         }
     }
 
@@ -141,16 +192,20 @@ impl Subject for Whole {
             _ => 0,
         };
         let (value, rule) = (self.world.value_of(who), self.world.rule_of(who));
-        Look::of(alloc, value, rule, changed)
+        let look = Look::of(alloc, value, rule, changed)?;
+        match who {
+            Who::Agent(g) => look.with(alloc, self.world.error_of(g), self.world.account(g)),
+            _ => Ok(look),
+        }
     }
 
-    // There are those of the base, and those that were made later.
+    // There are those of the base, and those that were made later. Agents are counted.
     fn extent(&self) -> Extent {
         let base = self.world.base();
         let mut extent = Extent {
             refs: base.refs.len(),
             atoms: base.atoms.len(),
-            agents: 0,
+            agents: agents_of(&self.world),
             entries: self.world.log().len(),
             tally: base.tally,
             point: self.world.point(),
@@ -173,35 +228,31 @@ impl Subject for Whole {
         false
     }
 
-    fn send(&mut self, _alloc: Global, _g: u32, _action: Action) -> Result<(), SendFault> {
-        Err(SendFault::NoSuchAgent)
+    fn send(&mut self, alloc: Global, g: u32, action: Action) -> Result<(), SendFault> {
+        self.world.send(alloc, g, action)
     }
 
-    fn send_in(&self, _open: &mut Open, _g: u32, _action: Action) -> Result<(), TxFault> {
-        Err(TxFault::NoSuchAgent)
-    }
-
-    fn release(&mut self, _point: u64) -> bool {
-        false
+    fn release(&mut self, point: u64) -> bool {
+        self.world.release(point)
     }
 
     fn take(&mut self) -> Result<Option<Job>, AllocError> {
-        Ok(None)
+        self.world.take()
     }
 
     fn put_back(&mut self, job: Job) -> Result<(), Job> {
-        Err(job)
+        self.world.put_back(job)
     }
 
-    fn finish(&mut self, _by: By, ran: Ran<Core>) -> Result<Finished, (Ran<Core>, FinishFault)> {
-        Err((ran, FinishFault::Foreign))
+    fn finish(&mut self, by: By, ran: Ran<Core>) -> Result<Finished, (Ran<Core>, FinishFault)> {
+        self.world.finish(by.alloc, by.funs, ran)
     }
 
-    fn restart(&mut self, _by: By, _g: u32, _to: Value, _clear: bool) -> Result<(), RestartFault> {
-        Err(RestartFault::NoSuchAgent)
+    fn restart(&mut self, by: By, g: u32, state: Value, clear: bool) -> Result<(), RestartFault> {
+        self.world.restart(by.alloc, by.funs, g, state, clear)
     }
 
-    fn set_error_mode(&mut self, _g: u32, _mode: ErrorMode) -> Result<(), ModeFault> {
-        Err(ModeFault::NoSuchAgent)
+    fn set_error_mode(&mut self, g: u32, mode: ErrorMode) -> Result<(), ModeFault> {
+        self.world.set_error_mode(g, mode)
     }
 }

@@ -139,11 +139,11 @@ pub(crate) fn account_form(alloc: Global, account: Option<&Account>) -> Form {
 
 /// `[0 0 5 1 6 1]`: the read point of a transaction, the ref and the answer of each operation, and how much it sends.
 pub(crate) fn open_form(alloc: Global, open: &Open) -> Form {
-    let mut all = vec![in alloc; number(open.tx.read_point())?]?;
-    for done in open.tx.dones() {
+    let mut all = vec![in alloc; number(open.read_point())?]?;
+    for done in open.dones() {
         all.push(number(u64::from(done.r))?)?;
         all.push(done.answer.share()?)?;
     }
-    all.push(number(open.sends.len() as u64)?)?;
+    all.push(number(open.sends().len() as u64)?)?;
     vector(alloc, all)
 }

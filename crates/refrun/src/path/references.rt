@@ -81,7 +81,8 @@ pub(crate) fn references(alloc: Global, forms: &Items) -> Result<(Vec<Declared>,
     ensures refs { IfOk result (λ r. AllZip IsReference forms.now r.0.items) }
     ensures names { IfOk result (λ r. r.1 ≡ names_of r.0.items) }
     ensures apart { IfOk result (λ r. AllPairs (λ m n. m ≢ n) (names_of r.0.items)) }
-    ensures none { IfErr result (λ f. f ≢ PlanFault.Memory → (refs : List Declared) → AllZip IsReference forms.now refs → AllPairs (λ m n. m ≢ n) (names_of refs) → ⊥) }
+    ensures none { IfErr result (λ f. f ≢ PlanFault.Memory → (refs : List Declared)
+        → AllZip IsReference forms.now refs → AllPairs (λ m n. m ≢ n) (names_of refs) → ⊥) }
 {
     let mut refs = Vec::new(alloc);
     let mut names = Names::empty(alloc);

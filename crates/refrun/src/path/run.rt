@@ -27,13 +27,16 @@ pub fn run_workload<F: Functions<Core>, R: Source, W: Sink>(
     reader: &mut R,
     writer: &mut W,
 ) -> Result<Verdict, RunFault>
-    requires { HasCore (F.knows_fun funs.now) (F.knows_pred funs.now) }
+    requires { HasCore (F.knows funs.now) }
     // It reads no further than one byte past what a workload may have.
     ensures taken { ConsumesUpTo (R.left reader.old) (R.left reader.new) 16777217 }
-    ensures ok { IfOk result (λ verdict. HasWritten (IsReportOf verdict) (R.left reader.old) (R.left reader.new) (W.written writer.old) (W.written writer.new)) }
+    ensures ok { IfOk result (λ verdict.
+        HasWritten (IsReportOf verdict) (R.left reader.old) (R.left reader.new) (W.written writer.old)
+        (W.written writer.new)) }
     // The text, its value or its length is at fault, where the fault says so.
     ensures fault { IfErr result (λ f. IfSome (R.left reader.old) (λ text. IsAtFault text f)) }
-    ensures write { IfErr result (λ f. f ≡ RunFault.Write → HasBrokenOff IsReport (R.left reader.old) (R.left reader.new) (W.written writer.old) (W.written writer.new)) }
+    ensures write { IfErr result (λ f. f ≡ RunFault.Write
+        → HasBrokenOff IsReport (R.left reader.old) (R.left reader.new) (W.written writer.old) (W.written writer.new)) }
     // Before any other fault nothing was written.
     ensures silent { IfErr result (λ f. f ≢ RunFault.Write → W.written writer.new ≡ W.written writer.old) }
     ensures reads { CountsReads (R.failures reader.old) (R.failures reader.new) result }
@@ -51,7 +54,7 @@ fn report_of<F: Functions<Core>>(
     funs: &F,
     text: &[u8],
 ) -> Result<(Vec<u8>, Verdict), RunFault>
-    requires { HasCore (F.knows_fun funs.now) (F.knows_pred funs.now) }
+    requires { HasCore (F.knows funs.now) }
     ensures ok { IfOk result (λ r. IsReportOf r.1 text.now r.0.items) }
     ensures fault { IfErr result (λ f. IsAtFault text.now f) }
     ensures inner { IfErr result IsOfText }
@@ -69,7 +72,7 @@ fn report_of_plan<F: Functions<Core>>(
 ) -> Result<(Vec<u8>, Verdict), RunFault>
     requires refs { length plan.now.refs ≤ 4096 }
     requires steps { length plan.now.steps ≤ 10000 }
-    requires served { All (All (IsServed (F.knows_fun funs.now))) plan.now.steps }
+    requires served { All (All (IsServed (F.knows funs.now).funs)) plan.now.steps }
     ensures ok { IfOk result (λ r. IsPlanReport plan.now r.0.items r.1) }
     ensures inner { IfErr result IsOfPlan }
 {

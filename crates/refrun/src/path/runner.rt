@@ -1,5 +1,5 @@
 //! The steps of a plan, run one after another.
-ghost use Rattle.std.specs.Prelude.{◌≡◌, ◌≤◌, ◌⊎◌, ◌++◌, ◌∷◌, [], All, IfOk, IfErr, OnOk, length};
+ghost use Rattle.std.specs.Prelude.{◌≡◌, ◌≤◌, All, IfOk, IfErr, OnOk, length};
 ghost use Rattle.refrun.specs.Orderly.{IsOrderly};
 ghost use Rattle.refrun.specs.Plan.{values_of};
 ghost use Rattle.refrun.specs.Run.{IsOfPlan};
@@ -24,7 +24,7 @@ pub(crate) fn run_plan<F: Functions<Core>>(
     plan: &Plan,
 ) -> Result<(World, Vec<Refusal>), RunFault>
     requires few { length plan.now.steps ≤ 10000 }
-    requires served { All (All (IsServed (F.knows_fun funs.now))) plan.now.steps }
+    requires served { All (All (IsServed (F.knows funs.now).funs)) plan.now.steps }
     ensures ok { IfOk result (λ ran. IsOrderly plan.now ran.0 ran.1.items) }
     ensures fault { IfErr result IsOfPlan }
 {
@@ -65,7 +65,7 @@ fn run_step<F: Functions<Core>>(
     stamp: Stamp,
     ops: &[Planned],
 ) -> Result<(), RunFault>
-    requires { All (IsServed (F.knows_fun funs.now)) ops.now }
+    requires { All (IsServed (F.knows funs.now).funs) ops.now }
     ensures fault { IfErr result IsOfPlan }
     ensures ok { OnOk result (StepRan stamp ops.now world.old refused.old.items world.new refused.new.items) }
 {

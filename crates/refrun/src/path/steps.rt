@@ -59,8 +59,10 @@ struct Alter<'a> {
 }
 
 fn alter_in(form: &Value) -> Option<Alter<'_>>
-    ensures some { IfSome result (λ a. form.now ≡ vector (items_of (keyword alter_word ∷ symbol a.name.now ∷ symbol a.function.now ∷ a.arguments))) }
-    ensures none { IfNone result ((name function : List ℕ) (arguments : List Edn) → form.now ≡ vector (items_of (keyword alter_word ∷ symbol name ∷ symbol function ∷ arguments)) → ⊥) }
+    ensures some { IfSome result (λ a. form.now
+        ≡ vector (items_of (keyword alter_word ∷ symbol a.name.now ∷ symbol a.function.now ∷ a.arguments))) }
+    ensures none { IfNone result ((name function : List ℕ) (arguments : List Edn)
+        → form.now ≡ vector (items_of (keyword alter_word ∷ symbol name ∷ symbol function ∷ arguments)) → ⊥) }
 {
     let mut parts = vector_in(form)?.iter();
     let (word, name, function) = (parts.next()?, parts.next()?, parts.next()?);
@@ -126,8 +128,10 @@ fn operation(alloc: Global, names: &Names, form: &Value) -> Result<Planned, Wron
 
 // The operations behind `:tx` in `[:tx OPERATION ..]`.
 fn tx_in(form: &Value) -> Option<Iter<'_>>
-    ensures some { IfSome result (λ forms. (form.now ≡ vector (items_of (keyword tx_word ∷ forms))) × (length forms ≤ 256)) }
-    ensures none { IfNone result ((forms : List Edn) → length forms ≤ 256 → form.now ≡ vector (items_of (keyword tx_word ∷ forms)) → ⊥) }
+    ensures some { IfSome result (λ forms. (form.now ≡ vector (items_of (keyword tx_word ∷ forms)))
+        × (length forms ≤ 256)) }
+    ensures none { IfNone result ((forms : List Edn) → length forms ≤ 256
+        → form.now ≡ vector (items_of (keyword tx_word ∷ forms)) → ⊥) }
 {
     let items = vector_in(form)?;
     let mut forms = items.iter();
@@ -156,7 +160,8 @@ fn worse(worst: Option<Wrong>, wrong: Wrong) -> Wrong
 #[tactic(auto, using(crate::proofs::Steps::known_more))]
 fn operations(alloc: Global, names: &Names, forms: Iter<'_>) -> Result<Vec<Planned>, Wrong>
     ensures ok { IfOk result (λ ops. AllZip (IsAlter names.now) forms.entry ops.items) }
-    ensures wrong { IfErr result (λ e. e ≢ Wrong.Memory → (ops : List PlannedOp) → AllZip (IsAlter names.now) forms.entry ops → ⊥) }
+    ensures wrong { IfErr result (λ e. e ≢ Wrong.Memory → (ops : List PlannedOp)
+        → AllZip (IsAlter names.now) forms.entry ops → ⊥) }
 {
     let mut ops = Vec::new(alloc);
     let mut worst = None;
@@ -204,7 +209,8 @@ fn plan_fault(wrong: Wrong, step: u32) -> PlanFault
 pub(crate) fn steps(alloc: Global, names: &Names, forms: &Items) -> Result<Vec<Step>, PlanFault>
     requires { length forms.now ≤ 10000 }
     ensures ok { IfOk result (λ steps. AllZip (IsStep names.now) forms.now steps.items) }
-    ensures none { IfErr result (λ f. f ≢ PlanFault.Memory → (steps : List (List PlannedOp)) → AllZip (IsStep names.now) forms.now steps → ⊥) }
+    ensures none { IfErr result (λ f. f ≢ PlanFault.Memory → (steps : List (List PlannedOp))
+        → AllZip (IsStep names.now) forms.now steps → ⊥) }
 {
     let mut steps = Vec::new(alloc);
     for i in 0..forms.len() {

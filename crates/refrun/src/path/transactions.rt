@@ -43,7 +43,7 @@ impl<T: Drop> From<AllocFailed<T>> for TxFault {
 
 /// Whether a table has the functions of these operations.
 pub fn serves<F: Functions<Core>>(funs: &F, ops: &[Planned]) -> bool
-    ensures { OnTrue result (All (IsServed (F.knows_fun funs.now)) ops.now) }
+    ensures { OnTrue result (All (IsServed (F.knows funs.now).funs) ops.now) }
 {
     for planned in ops {
         if !is_served(funs, planned) {
@@ -54,7 +54,7 @@ pub fn serves<F: Functions<Core>>(funs: &F, ops: &[Planned]) -> bool
 }
 
 fn is_served<F: Functions<Core>>(funs: &F, planned: &Planned) -> bool
-    ensures { OnTrue result (IsServed (F.knows_fun funs.now) planned.now) }
+    ensures { OnTrue result (IsServed (F.knows funs.now).funs planned.now) }
 {
     planned.op.is_served::<Core, F>(funs)
 }
@@ -67,11 +67,13 @@ fn apply<F: Functions<Core>>(
     planned: &Planned,
     values: &mut Vec<Value>,
 ) -> Result<Done, TxFault>
-    requires { IsServed (F.knows_fun funs.now) planned.now }
+    requires { IsServed (F.knows funs.now).funs planned.now }
     ensures done { IfOk result (λ d. d ≡ done_of planned.now d.answer) }
-    ensures answer { IfOk result (λ d. answer core_means planned.now (slice_get values.old.items planned.now.r) ≡ Ok d.answer) }
+    ensures answer { IfOk result (λ d. answer core_means planned.now (slice_get values.old.items planned.now.r)
+        ≡ Ok d.answer) }
     ensures values { IfOk result (λ d. values.new.items ≡ slice_set values.old.items planned.now.r d.answer) }
-    ensures fault { IfErr result (λ f. f ≢ TxFault.Memory → answer core_means planned.now (slice_get values.old.items planned.now.r) ≡ Err f) }
+    ensures fault { IfErr result (λ f. f ≢ TxFault.Memory
+        → answer core_means planned.now (slice_get values.old.items planned.now.r) ≡ Err f) }
 {
     let at = planned.r as usize;
     let Some(value) = values.get(at) else {
@@ -99,9 +101,10 @@ pub(crate) fn apply_all<F: Functions<Core>>(
     ops: &[Planned],
     values: &mut Vec<Value>,
 ) -> Result<Vec<Done>, TxFault>
-    requires { All (IsServed (F.knows_fun funs.now)) ops.now }
+    requires { All (IsServed (F.knows funs.now).funs) ops.now }
     ensures answers { IfOk result (λ dones. answers core_means ops.now values.old.items ≡ Ok dones.items) }
-    ensures values { IfOk result (λ dones. (all : List Done) (point : ℕ) → after_dones core_means all point dones.items (Ok values.old.items) ≡ Ok values.new.items) }
+    ensures values { IfOk result (λ dones. (all : List Done) (point : ℕ)
+        → after_dones core_means all point dones.items (Ok values.old.items) ≡ Ok values.new.items) }
     ensures fault { IfErr result (λ f. f ≢ TxFault.Memory → answers core_means ops.now values.old.items ≡ Err f) }
 {
     let mut dones = Vec::new(alloc);

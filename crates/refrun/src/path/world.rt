@@ -82,7 +82,7 @@ impl World {
         stamp: Stamp,
         ops: &[Planned],
     ) -> Result<(), TxFault>
-        requires { All (IsServed (F.knows_fun funs.now)) ops.now }
+        requires { All (IsServed (F.knows funs.now).funs) ops.now }
         ensures ok { OnOk result (IsCommitted stamp ops.now self.old self.new) }
         // The fault is the first refusal; want of memory may stand in place of anything.
         ensures fault { IfErr result (λ f. f ≢ TxFault.Memory → answers core_means ops.now self.old.values ≡ Err f) }
@@ -90,10 +90,12 @@ impl World {
     {
         let mut values = share_all(alloc, self.values.as_slice())?;
         let dones = apply_all(alloc, funs, ops, &mut values)?;
+        let nothing = SharedVec::of(alloc, Vec::new(alloc))?;
         let entry = Entry::Trans(Transaction {
             stamp,
             read_point: self.commits(),
             dones: SharedVec::of(alloc, dones)?,
+            sends: nothing,
         });
         self.log.push(entry)?;
         self.values = values;

@@ -4,5 +4,5 @@ use Rattle.ref_refs.proofs.checking.check_served.Given as goal
 
 abbrev pub invariant-loop-done : goal.invariant-loop-done
 invariant-loop-done g l =
-    let knows = g.F.Functions.knows_fun l.funs in
+    let knows = (g.F.Functions.knows l.funs).funs in
     lacking knows (drop l.done-index l.dones) ≡ lacking knows l.dones

@@ -1,5 +1,5 @@
 use Rattle.std.proofs.Common.{◌≡◌, Some, drop}
-use Rattle.ref_tx.specs.Inner.{fit_tally}
+use Rattle.ref_log.specs.Tally.{fit_tally}
 use Rattle.ref_refs.proofs.checking.fits_tally.Given as goal
 
 abbrev pub invariant-loop-done : goal.invariant-loop-done

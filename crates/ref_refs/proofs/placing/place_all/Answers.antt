@@ -27,7 +27,7 @@ place_one-requires-clause-here g c =
 
 pub place_one-requires-clause-served : goal.place_one-requires-clause-served
 place_one-requires-clause-served g c =
-    let knows = g.F.Functions.knows_fun c.args.funs.now in
+    let knows = (g.F.Functions.knows c.args.funs.now).funs in
     served_at knows c.dones-dones.result.now c.loop-done.done-index c.done-item.result (no_map NoSuchFun _ (ap (lacking knows) c.dones-dones.ensures.value ∙ c.requires.served)) c.loop-done-test.true c.done-item.is
 
 pub place_one-requires-clause-kept : goal.place_one-requires-clause-kept

@@ -1,6 +1,7 @@
-use Rattle.ref_world.proofs.Starting.{atoms_fail}
+use Rattle.ref_world.specs.Starts.{with_atom}
+use Rattle.ref_world.proofs.Starting.{one_fails}
 use Rattle.ref_world.proofs.declared.declared_atoms.Goals as goal
 
 pub returns-in-Err-clause-fault : goal.returns-in-Err-clause-fault
 returns-in-Err-clause-fault g c =
-    λ other. atoms_fail g.M.Meaning.accepts (g.F.Functions.knows_pred c.args.funs.now) c.args.starts.now c.loop-start.start-index c.start-item.result c.loop-start.atoms _ c.in-Err.refused c.loop-start.invariant c.loop-start-test.true c.start-item.is (c.in-Err.ensures.fault other)
+    λ other. one_fails (with_atom g.M.Meaning.accepts (g.F.Functions.knows c.args.funs.now).preds) c.args.starts.now c.loop-start.start-index c.start-item.result c.loop-start.atoms _ c.in-Err.refused c.loop-start.invariant c.loop-start-test.true c.start-item.is (c.in-Err.ensures.fault other)

@@ -9,7 +9,7 @@ use Rattle.ref_refs.proofs.store.RefStore.check_rules.Goals as goal
 pub first_invalid-requires : goal.first_invalid-requires
 first_invalid-requires g c =
     let guards_are = ap (λ (s : RefsSeen). s.guards) c.self.view_is in
-    rw (guards_are, c.deref.ensures.value, c.in_ok-touched.ensures) (known_touched (g.F.Functions.knows_pred c.args.funs.now) c.args.self.now.guards c.args.dones.now c.requires.known)
+    rw (guards_are, c.deref.ensures.value, c.in_ok-touched.ensures) (known_touched (g.F.Functions.knows c.args.funs.now).preds c.args.self.now.guards c.args.dones.now c.requires.known)
 
 pub returns-in-None-clause-accepted : goal.returns-in-None-clause-accepted
 returns-in-None-clause-accepted g c =

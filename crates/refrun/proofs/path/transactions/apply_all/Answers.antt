@@ -6,7 +6,7 @@ use Rattle.refrun.proofs.path.transactions.apply_all.Goals as goal
 
 pub apply-requires : goal.apply-requires
 apply-requires g c =
-    let served = IsServed (g.F.Functions.knows_fun c.args.funs.now) in
+    let served = IsServed (g.F.Functions.knows c.args.funs.now).funs in
     subst served (sym c.planned-item.is) (All-get_or served _ _ c.planned-item.result c.loop-planned-test.true c.requires)
 
 pub loop-planned-preserved : goal.loop-planned-preserved

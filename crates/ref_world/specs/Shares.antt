@@ -1,0 +1,33 @@
+-- What a call does to a share.
+use Rattle.std.specs.Prelude.{ℕ, ◌+◌, [], ◌∷◌, ◌++◌}
+use Rattle.ref_log.specs.declared.entries.Entry.{Entry}
+use Rattle.ref_world.specs.Seen.{ShareSeen}
+
+-- how many parts all shares of a world have
+abbrev pub all_parts : ℕ
+all_parts = 4294967296
+
+-- a whole share of a world in which nothing was done
+abbrev pub whole : ShareSeen
+whole = record { parts = all_parts; commits = 0; added = 0; receipts = [] }
+
+-- with the receipt of the entry at this point
+abbrev pub with_receipt : ShareSeen → ℕ → Entry → ShareSeen
+with_receipt share point e = record share { receipts = share.receipts ++ record { point = point; entry = e } ∷ [] }
+
+-- with a commit at this point more, its receipt, and what it added to the tally
+abbrev pub with_commit : ShareSeen → ℕ → Entry → ℕ → ShareSeen
+with_commit share point e added = record share {
+  commits = share.commits + 1;
+  added = share.added + added;
+  receipts = share.receipts ++ record { point = point; entry = e } ∷ [];
+}
+
+-- with what another share has
+abbrev pub joined : ShareSeen → ShareSeen → ShareSeen
+joined share other = record {
+  parts = share.parts + other.parts;
+  commits = share.commits + other.commits;
+  added = share.added + other.added;
+  receipts = share.receipts ++ other.receipts;
+}

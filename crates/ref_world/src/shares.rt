@@ -1,0 +1,141 @@
+//! Shares of what is done to a world.
+ghost use Rattle.std.specs.Prelude.{◌≡◌, ◌+◌, ◌<◌, ◌==◌, ◌↔◌, [], IsSome, IfSome, IfNone, OnOk, OnErr, IfErr};
+ghost use Rattle.ref_world.specs.Shares.{all_parts, joined, whole};
+
+use ref_log::Entry;
+use std::marker::Model;
+use std::sync::ledger::{Ledger, Share as Part};
+
+/// How many parts all shares of a world have: 2^32.
+pub const ALL_PARTS: u64 = 4_294_967_296;
+
+/// What is kept of a call that added an entry to the log: the entry whole, and its point.
+#[derive(Drop)]
+pub struct LogReceipt {
+    pub point: u64,
+    pub entry: Entry,
+}
+
+/// Some of the 2^32 parts of a world, and what was done with them: how many commits, how much they added to the tally, and the
+/// receipt of each entry that a commit or a change of an atom added, in the order of the calls.
+///
+/// A world comes with one share, which has all parts. Whoever is to change it gets some of them by [`Share::split`]; the calls
+/// that add such an entry take the share and count in it. C and A name the world's books, so that a share fits no other
+/// world and meets no share of one. Where all are joined again, what is in the share is what is in the world's books. A share
+/// that is let go takes its parts with it.
+#[derive(Drop)]
+pub struct Share<C: Ledger, A: Ledger> {
+    parts: u64,
+    pub(crate) commits: Part<C>,
+    pub(crate) added: Part<A>,
+    pub(crate) receipts: Vec<LogReceipt>,
+}
+
+impl<C: Ledger, A: Ledger> Model for Share<C, A> {
+    ghost use Rattle.std.specs.Prelude.{◌≡◌, ◌<◌};
+    ghost use Rattle.std.specs.Coded.{codes};
+    ghost use Rattle.ref_edn.specs.Code.{edn_code};
+    ghost use Rattle.ref_world.specs.Seen.{ShareSeen};
+    ghost use Rattle.ref_world.specs.Shares.{all_parts};
+
+    ghost Value = { ShareSeen };
+
+    ghost coded = { Prim.hlevel (codes, edn_code) };
+
+    ghost view = { λ s. record {
+      parts = s.parts;
+      commits = s.commits.amount;
+      added = s.added.amount;
+      receipts = s.receipts.items;
+    } };
+
+    ghost invariant = { λ s. (s.commits.parts ≡ s.parts) × (s.added.parts ≡ s.parts) × (0 < s.parts)
+        × (C.parts ≡ all_parts) × (A.parts ≡ all_parts) };
+}
+
+impl<C: Ledger, A: Ledger> Share<C, A> {
+    // The share with all parts, of a world in which nothing was done.
+    pub(crate) fn whole(receipts: Vec<LogReceipt>, commits: Part<C>, added: Part<A>) -> Share<C, A>
+        requires parts { (commits.parts ≡ all_parts) × (added.parts ≡ all_parts) }
+        requires names { (C.parts ≡ all_parts) × (A.parts ≡ all_parts) }
+        requires amounts { (commits.amount ≡ 0) × (added.amount ≡ 0) }
+        requires receipts { receipts.items ≡ [] }
+        ensures { result ≡ whole }
+    {
+        Share {
+            parts: ALL_PARTS,
+            commits,
+            added,
+            receipts,
+        }
+    }
+
+    /// How many of the 2^32 parts it has: at least one.
+    pub fn parts(&self) -> u64
+        ensures value { result ≡ self.now.parts }
+        ensures some { 0 < result }
+    {
+        self.parts
+    }
+
+    /// Whether it has all parts.
+    pub fn is_whole(&self) -> bool
+        ensures { result ≡ (self.now.parts == all_parts) }
+    {
+        self.parts == ALL_PARTS
+    }
+
+    /// The receipts, in the order in which the calls were made.
+    pub fn receipts(&self) -> &[LogReceipt]
+        ensures { result.now ≡ self.now.receipts }
+    {
+        self.receipts.as_slice()
+    }
+
+    /// Another share with so many of the parts, with which nothing was done; None for 0 of them, and for as many as it has or
+    /// more. It takes no memory.
+    pub fn split(&mut self, parts: u64) -> Option<Share<C, A>>
+        ensures when { IsSome result ↔ ((0 < parts) × (parts < self.old.parts)) }
+        ensures some { IfSome result (λ s. s ≡ record whole { parts = parts }) }
+        ensures left { IfSome result (λ s. self.new.parts + parts ≡ self.old.parts) }
+        ensures same { (self.new.commits ≡ self.old.commits) × (self.new.added ≡ self.old.added)
+            × (self.new.receipts ≡ self.old.receipts) }
+        ensures none { IfNone result (self.new ≡ self.old) }
+    {
+        if parts == 0 || parts >= self.parts {
+            return None;
+        }
+        let commits = self.commits.split_off(parts, 0);
+        let added = self.added.split_off(parts, 0);
+        self.parts -= parts;
+        Some(Share {
+            parts,
+            commits,
+            added,
+            receipts: Vec::new(*self.receipts.allocator()),
+        })
+    }
+
+    /// Takes all of another share in, its receipts behind the others. Linear in the number of those. Where there is no memory
+    /// for them it changes nothing and hands the other share back.
+    pub fn join(&mut self, other: Share<C, A>) -> Result<(), Share<C, A>>
+        ensures ok { OnOk result (self.new ≡ joined self.old other) }
+        ensures back { IfErr result (λ s. s ≡ other) }
+        ensures err { OnErr result (self.new ≡ self.old) }
+    {
+        if self.receipts.reserve(other.receipts.len()).is_err() {
+            return Err(other);
+        }
+        let Share {
+            parts,
+            commits,
+            added,
+            mut receipts,
+        } = other;
+        let _ = self.receipts.append(&mut receipts);
+        self.commits.merge(commits);
+        self.added.merge(added);
+        self.parts += parts;
+        Ok(())
+    }
+}

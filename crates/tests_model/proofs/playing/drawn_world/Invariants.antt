@@ -1,0 +1,7 @@
+use Rattle.tests_model.proofs.playing.drawn_world.Given as goal
+
+abbrev pub ghosts-is_refused-C-Ledger : goal.ghosts-is_refused-C-Ledger
+ghosts-is_refused-C-Ledger g a = record { name = a.commits.name; parts = a.commits.parts }
+
+abbrev pub ghosts-is_refused-A-Ledger : goal.ghosts-is_refused-A-Ledger
+ghosts-is_refused-A-Ledger g a = record { name = a.added.name; parts = a.added.parts }

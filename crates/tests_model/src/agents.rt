@@ -1,0 +1,340 @@
+//! Agents of the model.
+use crate::model::{Answer, Model, PlainStart, Told};
+use crate::plain::{Plain, PlainCall, Table, means, passes};
+use ref_agents::{
+    AgentError, ErrorMode, FinishFault, JobFault, Mark, ModeFault, RestartFault, SendFault, SentBy,
+};
+use ref_fun::Cause;
+use ref_log::Who;
+use std::alloc::{AllocError, Global};
+
+/// A job: the agent, the number of the action, the action, and the state that it is for.
+#[derive(Clone, Copy, Drop, PartialEq)]
+pub(crate) struct PlainJob {
+    pub(crate) agent: u32,
+    pub(crate) number: u64,
+    pub(crate) call: PlainCall,
+    pub(crate) state: Plain,
+}
+
+/// What an agent has beside its state, its rule and its watches.
+#[derive(Drop)]
+pub(crate) struct PlainAccount {
+    pub(crate) start: Plain,
+    pub(crate) handled: Vec<(PlainCall, Mark)>,
+    pub(crate) queue: Vec<(PlainCall, SentBy)>,
+    pub(crate) mode: ErrorMode,
+    pub(crate) error: Option<AgentError>,
+    /// The job that is out.
+    pub(crate) out: Option<PlainJob>,
+}
+
+/// How a job ended.
+#[derive(Drop)]
+pub(crate) enum PlainFinished {
+    Changed(Vec<Told>),
+    Failed(AgentError),
+    Continued(AgentError),
+}
+
+/// What came of an action that ran.
+pub(crate) type Ended = Result<Plain, Cause>;
+
+impl PlainAccount {
+    pub(crate) fn new(alloc: Global, start: PlainStart) -> PlainAccount {
+        PlainAccount {
+            start: start.value,
+            handled: Vec::new(alloc),
+            queue: Vec::new(alloc),
+            mode: start.mode,
+            error: None,
+            out: None,
+        }
+    }
+
+    // The head of the queue is handled.
+    fn end(&mut self, mark: Mark) -> Result<(), AllocError> {
+        if !self.queue.is_empty() {
+            let (call, _) = self.queue.remove(0);
+            self.handled.push((call, mark))?;
+        }
+        self.out = None;
+        Ok(())
+    }
+
+    fn fail(&mut self, error: AgentError) -> Result<PlainFinished, AllocError> {
+        match self.mode {
+            ErrorMode::Fail => {
+                self.error = Some(error);
+                self.end(Mark::Failed)?;
+                Ok(PlainFinished::Failed(error))
+            }
+            ErrorMode::Continue => {
+                self.end(Mark::Passed)?;
+                Ok(PlainFinished::Continued(error))
+            }
+        }
+    }
+
+    fn restart(&mut self, state: Plain, clear: bool) {
+        self.start = state;
+        self.handled.clear();
+        self.error = None;
+        if clear {
+            self.queue.clear();
+        }
+    }
+}
+
+/// What comes of the action of a job, by a table.
+pub(crate) fn plain_run(table: Table, job: PlainJob) -> Result<Ended, JobFault> {
+    match table.lacked_fun(job.call.code) {
+        Some(code) => Err(JobFault::NoSuchFun(code)),
+        None => Ok(means(job.call, job.state)),
+    }
+}
+
+// ---- Sends
+
+impl Model {
+    pub(crate) fn is_failed(&self, g: u32) -> bool {
+        match self.accounts.get(g as usize) {
+            Some(account) => account.error.is_some(),
+            None => false,
+        }
+    }
+
+    /// Whether actions wait for an agent that is failed.
+    pub(crate) fn waits(&self, g: u32) -> bool {
+        match self.accounts.get(g as usize) {
+            Some(account) => account.error.is_some() && !account.queue.is_empty(),
+            None => false,
+        }
+    }
+
+    /// The first commit that is held and of whose sends none waits any more.
+    pub(crate) fn first_dropped(&self) -> Option<u64> {
+        self.held
+            .iter()
+            .copied()
+            .find(|point| !self.has_queued(*point))
+    }
+
+    /// Whether an action waits that the commit at this point sent.
+    pub(crate) fn has_queued(&self, point: u64) -> bool {
+        for account in &self.accounts {
+            for (_, by) in &account.queue {
+                if *by == SentBy::Commit(point) {
+                    return true;
+                }
+            }
+        }
+        false
+    }
+
+    pub(crate) fn queue(&mut self, g: u32, call: PlainCall, by: SentBy) -> Result<(), AllocError> {
+        if let Some(account) = self.accounts.get_mut(g as usize) {
+            account.queue.push((call, by))?;
+        }
+        Ok(())
+    }
+
+    pub(crate) fn send(&mut self, g: u32, call: PlainCall) -> Answer<(), SendFault> {
+        if g as usize >= self.accounts.len() {
+            return Ok(Err(SendFault::NoSuchAgent));
+        }
+        if self.is_failed(g) {
+            return Ok(Err(SendFault::Failed));
+        }
+        self.queue(g, call, SentBy::Outside)?;
+        Ok(Ok(()))
+    }
+
+    pub(crate) fn release(&mut self, point: u64) -> bool {
+        let was = self.held.contains(&point);
+        self.held.retain(|p| *p != point);
+        was
+    }
+}
+
+// ---- Jobs
+
+impl Model {
+    fn is_free(&self, by: SentBy) -> bool {
+        match by {
+            SentBy::Outside => true,
+            SentBy::Commit(point) => !self.held.contains(&point),
+        }
+    }
+
+    /// The job of an agent that is ready.
+    pub(crate) fn ready_job(&self, g: u32) -> Option<PlainJob> {
+        let account = self.accounts.get(g as usize)?;
+        let (call, by) = account.queue.first().copied()?;
+        if account.error.is_some() || account.out.is_some() || !self.is_free(by) {
+            return None;
+        }
+        Some(PlainJob {
+            agent: g,
+            number: account.handled.len() as u64,
+            call,
+            state: self.agents.get(g as usize)?.value,
+        })
+    }
+
+    /// The first agent that is failed.
+    pub(crate) fn first_failed(&self) -> Option<u32> {
+        for (g, account) in (0..u32::MAX).zip(&self.accounts) {
+            if account.error.is_some() {
+                return Some(g);
+            }
+        }
+        None
+    }
+
+    pub(crate) fn is_one_ready(&self) -> bool {
+        for (g, _) in (0..u32::MAX).zip(&self.accounts) {
+            if self.ready_job(g).is_some() {
+                return true;
+            }
+        }
+        false
+    }
+
+    /// The job of an agent is out, or none is.
+    pub(crate) fn set_out(&mut self, g: u32, out: Option<PlainJob>) {
+        if let Some(account) = self.accounts.get_mut(g as usize) {
+            account.out = out;
+        }
+    }
+
+    fn is_out(&self, job: PlainJob) -> bool {
+        match self.accounts.get(job.agent as usize) {
+            Some(account) => account.out == Some(job),
+            None => false,
+        }
+    }
+
+    /// Why a job isn't out: none is, or one that differs in one thing alone.
+    pub(crate) fn foreign_number(&self, job: PlainJob) -> Option<u8> {
+        let Some(out) = self.accounts.get(job.agent as usize)?.out else {
+            return Some(0);
+        };
+        let differs = (
+            out.number != job.number,
+            out.call != job.call,
+            out.state != job.state,
+        );
+        match differs {
+            (true, false, false) => Some(1),
+            (false, true, false) => Some(2),
+            (false, false, true) => Some(3),
+            _ => None,
+        }
+    }
+
+    pub(crate) fn put_back(&mut self, job: PlainJob) -> bool {
+        let is_out = self.is_out(job);
+        if is_out {
+            self.set_out(job.agent, None);
+        }
+        is_out
+    }
+
+    // Ends the head of the queue with the new state, or with why there is none.
+    fn end(
+        &mut self,
+        g: u32,
+        judged: Result<Plain, AgentError>,
+    ) -> Result<PlainFinished, AllocError> {
+        let mut told = Vec::new(self.alloc);
+        if let Ok(new) = judged {
+            self.set_value(Who::Agent(g), new, &mut told)?;
+        }
+        let Some(account) = self.accounts.get_mut(g as usize) else {
+            return Err(AllocError);
+        };
+        match judged {
+            Err(error) => account.fail(error),
+            Ok(_) => {
+                account.end(Mark::Done)?;
+                Ok(PlainFinished::Changed(told))
+            }
+        }
+    }
+
+    /// Ends a job that ran.
+    pub(crate) fn finish(
+        &mut self,
+        table: Table,
+        job: PlainJob,
+        ended: Ended,
+    ) -> Answer<PlainFinished, FinishFault> {
+        if !self.is_out(job) {
+            return Ok(Err(FinishFault::Foreign));
+        }
+        let rule = self.rule_of(job.agent);
+        if let Some(code) = table.lacked_pred(rule) {
+            return Ok(Err(FinishFault::NoSuchFun(code)));
+        }
+        Ok(Ok(self.end(job.agent, judged(rule, ended))?))
+    }
+
+    fn rule_of(&self, g: u32) -> Option<PlainCall> {
+        self.agents.get(g as usize)?.rule
+    }
+}
+
+// The new state, or why there is none.
+fn judged(rule: Option<PlainCall>, ended: Ended) -> Result<Plain, AgentError> {
+    match ended {
+        Ok(new) if passes(rule, new) => Ok(new),
+        Ok(_) => Err(AgentError::Invalid),
+        Err(cause) => Err(AgentError::Refused(cause)),
+    }
+}
+
+// ---- Failed agents
+
+impl Model {
+    fn check_restart(&self, table: Table, g: u32, state: Plain) -> Result<(), RestartFault> {
+        let Some(agent) = self.agents.get(g as usize) else {
+            return Err(RestartFault::NoSuchAgent);
+        };
+        if let Some(code) = table.lacked_pred(agent.rule) {
+            return Err(RestartFault::NoSuchFun(code));
+        }
+        if !self.is_failed(g) {
+            return Err(RestartFault::NotFailed);
+        }
+        if !passes(agent.rule, state) {
+            return Err(RestartFault::Invalid);
+        }
+        Ok(())
+    }
+
+    pub(crate) fn restart(
+        &mut self,
+        table: Table,
+        g: u32,
+        state: Plain,
+        clear: bool,
+    ) -> Result<(), RestartFault> {
+        self.check_restart(table, g, state)?;
+        if let Some(agent) = self.agents.get_mut(g as usize) {
+            agent.value = state;
+        }
+        if let Some(account) = self.accounts.get_mut(g as usize) {
+            account.restart(state, clear);
+        }
+        Ok(())
+    }
+
+    pub(crate) fn set_error_mode(&mut self, g: u32, mode: ErrorMode) -> Result<(), ModeFault> {
+        let Some(account) = self.accounts.get_mut(g as usize) else {
+            return Err(ModeFault::NoSuchAgent);
+        };
+        account.mode = mode;
+        Ok(())
+    }
+}

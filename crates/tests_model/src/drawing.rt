@@ -1,0 +1,202 @@
+//! What is drawn: numbers, values, functions, rules, references.
+use crate::model::{Kind, Model, PlainStart};
+use crate::plain::{Given, Plain, PlainCall, Table};
+use ref_agents::ErrorMode;
+use ref_log::Who;
+
+/// Numbers that follow one another as if by chance. The same first one gives the same row.
+#[derive(Clone, Copy, Drop)]
+pub(crate) struct Draws {
+    state: u64,
+}
+
+impl Draws {
+    pub(crate) fn of(first: u64) -> Draws {
+        Draws { state: first }
+    }
+
+    fn next(&mut self) -> u64 {
+        self.state = self.state.wrapping_add(0x9E37_79B9_7F4A_7C15);
+        let mixed = (self.state ^ (self.state >> 30)).wrapping_mul(0xBF58_476D_1CE4_E5B9);
+        let mixed = (mixed ^ (mixed >> 27)).wrapping_mul(0x94D0_49BB_1331_11EB);
+        mixed ^ (mixed >> 31)
+    }
+
+    /// A number below `limit`, or 0.
+    pub(crate) fn below(&mut self, limit: usize) -> usize {
+        let drawn = self.next() as usize;
+        if limit == 0 { 0 } else { drawn % limit }
+    }
+
+    pub(crate) fn once_in(&mut self, times: usize) -> bool {
+        self.below(times) == 0
+    }
+
+    // An integer from `least` on, below `least + 12`.
+    fn small(&mut self, least: i64) -> i64 {
+        least.saturating_add((self.next() % 12) as i64)
+    }
+
+    // An integer that is one of the first or the last three.
+    fn extreme(&mut self) -> i64 {
+        let far = (self.next() % 3) as i64;
+        if self.once_in(2) {
+            i64::MAX.saturating_sub(far)
+        } else {
+            i64::MIN.saturating_add(far)
+        }
+    }
+
+    pub(crate) fn value(&mut self) -> Plain {
+        match self.below(20) {
+            0 | 1 => Plain::Nil,
+            2 | 3 => Plain::Int(self.extreme()),
+            _ => Plain::Int(self.small(-3)),
+        }
+    }
+
+    fn given(&mut self) -> Given {
+        match self.below(10) {
+            0 => Given::Nothing,
+            1 => Given::Two(self.value(), self.value()),
+            _ => Given::One(self.value()),
+        }
+    }
+
+    /// A function with arguments, now and then one that no table has.
+    pub(crate) fn function(&mut self) -> PlainCall {
+        let code = match self.below(16) {
+            0 => 7,
+            1 | 2 => 3,
+            3..=6 => 2,
+            _ => 1,
+        };
+        let given = if code == 3 && !self.once_in(4) {
+            Given::Nothing
+        } else {
+            self.given()
+        };
+        PlainCall { code, given }
+    }
+
+    /// An action. Two of them are drawn often: one that fails, and one that may be the same in two worlds.
+    pub(crate) fn action(&mut self) -> PlainCall {
+        let (code, given) = match self.below(8) {
+            0..=2 => (2, Given::One(Plain::Nil)),
+            3..=5 => (1, Given::One(Plain::Int(1))),
+            _ => return self.function(),
+        };
+        PlainCall { code, given }
+    }
+
+    fn bound(&mut self, least: i64) -> Given {
+        match self.below(20) {
+            0 => Given::Nothing,
+            1 => Given::One(Plain::Nil),
+            _ => Given::One(Plain::Int(self.small(least))),
+        }
+    }
+
+    /// A predicate with arguments, now and then one that no table has.
+    pub(crate) fn rule(&mut self) -> PlainCall {
+        match self.below(16) {
+            0 => PlainCall {
+                code: 104,
+                given: Given::Nothing,
+            },
+            1..=6 => PlainCall {
+                code: 102,
+                given: self.bound(0),
+            },
+            _ => PlainCall {
+                code: 101,
+                given: self.bound(-9),
+            },
+        }
+    }
+
+    /// A rule or none.
+    pub(crate) fn rule_or_none(&mut self) -> Option<PlainCall> {
+        if self.once_in(3) {
+            Some(self.rule())
+        } else {
+            None
+        }
+    }
+
+    pub(crate) fn mode(&mut self) -> ErrorMode {
+        if self.once_in(2) {
+            ErrorMode::Continue
+        } else {
+            ErrorMode::Fail
+        }
+    }
+
+    /// How many references of a kind there are at the start: mostly one or some, but no more than so many.
+    pub(crate) fn count(&mut self, most: usize) -> usize {
+        if self.once_in(20) {
+            0
+        } else {
+            self.below(most).saturating_add(1)
+        }
+    }
+
+    /// How many calls a list has.
+    pub(crate) fn length(&mut self) -> u32 {
+        5 + (self.next() % 56) as u32
+    }
+
+    /// What a reference begins with. It may be meant as the tally.
+    pub(crate) fn start(&mut self) -> PlainStart {
+        PlainStart {
+            value: self.value(),
+            rule: self.rule_or_none(),
+            tally: self.once_in(6),
+            mode: self.mode(),
+        }
+    }
+
+    /// A number below a count, now and then one past it.
+    pub(crate) fn near(&mut self, count: usize) -> u32 {
+        let number = if self.once_in(12) {
+            count.saturating_add(self.below(2))
+        } else {
+            self.below(count)
+        };
+        u32::try_from(number).unwrap_or(u32::MAX)
+    }
+
+    pub(crate) fn kind(&mut self) -> Kind {
+        match self.below(3) {
+            0 => Kind::Ref,
+            1 => Kind::Atom,
+            _ => Kind::Agent,
+        }
+    }
+
+    /// The number of a reference of a kind, now and then of one that isn't there.
+    pub(crate) fn number(&mut self, model: &Model, kind: Kind) -> u32 {
+        self.near(model.count(kind))
+    }
+
+    pub(crate) fn who(&mut self, model: &Model) -> Who {
+        match self.kind() {
+            Kind::Ref => Who::Ref(self.number(model, Kind::Ref)),
+            Kind::Atom => Who::Atom(self.number(model, Kind::Atom)),
+            Kind::Agent => Who::Agent(self.number(model, Kind::Agent)),
+        }
+    }
+
+    pub(crate) fn key(&mut self) -> Plain {
+        Plain::Int(self.small(0) % 2)
+    }
+
+    /// The table that has all functions, now and then the one that has fewer.
+    pub(crate) fn table(&mut self) -> Table {
+        if self.once_in(8) {
+            Table::Fewer
+        } else {
+            Table::Full
+        }
+    }
+}

@@ -1,0 +1,171 @@
+//! The values of the model, and what its functions and predicates mean.
+use ref_fun::Cause;
+
+/// A value.
+#[derive(Clone, Copy, Drop, PartialEq)]
+pub(crate) enum Plain {
+    Nil,
+    Int(i64),
+}
+
+/// The arguments of a function or a predicate.
+#[derive(Clone, Copy, Drop, PartialEq)]
+pub(crate) enum Given {
+    Nothing,
+    One(Plain),
+    Two(Plain, Plain),
+}
+
+/// A function or a predicate by its code, with its arguments.
+#[derive(Clone, Copy, Drop, PartialEq)]
+pub(crate) struct PlainCall {
+    pub(crate) code: u32,
+    pub(crate) given: Given,
+}
+
+/// An operation on a ref or an atom.
+#[derive(Clone, Copy, Drop, PartialEq)]
+pub(crate) enum PlainOp {
+    Set(Plain),
+    Alter(PlainCall),
+    Commute(PlainCall),
+    Ensure,
+}
+
+fn held(sum: Option<i64>) -> Result<Plain, Cause> {
+    match sum {
+        Some(n) => Ok(Plain::Int(n)),
+        None => Err(Cause::Overflow),
+    }
+}
+
+// The state and the arguments added up, left to right.
+fn plus(state: Plain, given: Given) -> Result<Plain, Cause> {
+    match (state, given) {
+        (Plain::Int(n), Given::Nothing) => Ok(Plain::Int(n)),
+        (Plain::Int(n), Given::One(Plain::Int(a))) => held(n.checked_add(a)),
+        (Plain::Int(n), Given::Two(Plain::Int(a), Plain::Int(b))) => match n.checked_add(a) {
+            Some(sum) => held(sum.checked_add(b)),
+            None => Err(Cause::Overflow),
+        },
+        _ => Err(Cause::WrongKind),
+    }
+}
+
+// The negation, or the arguments taken off, left to right.
+fn minus(state: Plain, given: Given) -> Result<Plain, Cause> {
+    match (state, given) {
+        (Plain::Int(n), Given::Nothing) => held(n.checked_neg()),
+        (Plain::Int(n), Given::One(Plain::Int(a))) => held(n.checked_sub(a)),
+        (Plain::Int(n), Given::Two(Plain::Int(a), Plain::Int(b))) => match n.checked_sub(a) {
+            Some(rest) => held(rest.checked_sub(b)),
+            None => Err(Cause::Overflow),
+        },
+        _ => Err(Cause::WrongKind),
+    }
+}
+
+fn inc(state: Plain, given: Given) -> Result<Plain, Cause> {
+    match (state, given) {
+        (Plain::Int(n), Given::Nothing) => held(n.checked_add(1)),
+        (_, Given::Nothing) => Err(Cause::WrongKind),
+        _ => Err(Cause::WrongArity),
+    }
+}
+
+/// What a function gives, or why it refuses.
+pub(crate) fn means(call: PlainCall, state: Plain) -> Result<Plain, Cause> {
+    match call.code {
+        1 => plus(state, call.given),
+        2 => minus(state, call.given),
+        3 => inc(state, call.given),
+        _ => Err(Cause::WrongArity),
+    }
+}
+
+fn accepts(rule: PlainCall, value: Plain) -> bool {
+    match (rule.given, value) {
+        (Given::One(Plain::Int(bound)), Plain::Int(n)) => match rule.code {
+            101 => n >= bound,
+            102 => n <= bound,
+            _ => false,
+        },
+        _ => false,
+    }
+}
+
+/// Whether a rule, if there is one, accepts a value.
+pub(crate) fn passes(rule: Option<PlainCall>, value: Plain) -> bool {
+    match rule {
+        Some(rule) => accepts(rule, value),
+        None => true,
+    }
+}
+
+/// The value that an operation makes of one, or why its function refuses.
+pub(crate) fn place(op: PlainOp, value: Plain) -> Result<Plain, Cause> {
+    match op {
+        PlainOp::Set(new) => Ok(new),
+        PlainOp::Alter(call) | PlainOp::Commute(call) => means(call, value),
+        PlainOp::Ensure => Ok(value),
+    }
+}
+
+/// Whether an operation may be made on the tally.
+pub(crate) fn fits_tally(op: PlainOp) -> bool {
+    match op {
+        PlainOp::Ensure => true,
+        PlainOp::Commute(call) => {
+            call.code == 1 && matches!(call.given, Given::One(Plain::Int(n)) if n >= 0)
+        }
+        PlainOp::Set(_) | PlainOp::Alter(_) => false,
+    }
+}
+
+/// A table of functions: `+`, `-`, `inc`, `>=` and `<=`, or fewer: `+` and `>=` alone.
+#[derive(Clone, Copy, Drop)]
+pub(crate) enum Table {
+    Full,
+    Fewer,
+}
+
+impl Table {
+    pub(crate) fn funs(self) -> &'static [u32] {
+        match self {
+            Table::Full => &[1, 2, 3],
+            Table::Fewer => &[1],
+        }
+    }
+
+    pub(crate) fn preds(self) -> &'static [u32] {
+        match self {
+            Table::Full => &[101, 102],
+            Table::Fewer => &[101],
+        }
+    }
+
+    /// The code, where the table has no function of it.
+    pub(crate) fn lacked_fun(self, code: u32) -> Option<u32> {
+        if self.funs().contains(&code) {
+            None
+        } else {
+            Some(code)
+        }
+    }
+
+    /// The code of the function of an operation, where the table lacks it.
+    pub(crate) fn lacked(self, op: PlainOp) -> Option<u32> {
+        match op {
+            PlainOp::Alter(call) | PlainOp::Commute(call) => self.lacked_fun(call.code),
+            PlainOp::Set(_) | PlainOp::Ensure => None,
+        }
+    }
+
+    /// The code of a rule, if there is one and the table lacks its predicate.
+    pub(crate) fn lacked_pred(self, rule: Option<PlainCall>) -> Option<u32> {
+        match rule {
+            Some(rule) if !self.preds().contains(&rule.code) => Some(rule.code),
+            _ => None,
+        }
+    }
+}
