@@ -1,0 +1,74 @@
+use Rattle.std.proofs.Common.{rules, of_calls, refl, arith, ◌∷◌, Ok, Err}
+use Rattle.ref_shared.proofs.Chains.{final, one_more}
+use Rattle.ref_shared.proofs.transacting.Shared+Core+C+A.transact_by.Goals as goal
+
+pub returns-in-Err-clause-fault : goal.returns-in-Err-clause-fault
+returns-in-Err-clause-fault g c =
+    let so_far = c.loop-attempt.invariant.called in
+    let call = rw c.in-Err.is at c.body.ensures in (
+      record { began = _; answer = Err c.in-Err.e; left = _ },
+      so_far.0,
+      one_more _ _ _ _ _ _ _ _ so_far.1 so_far.2 c.loop-attempt.invariant.room
+          (record { fresh = c.in-Ok.ensures; called = record { shown = _; shows = refl; left = _; called = call; leaves = refl } }),
+      refl,
+    )
+
+pub returns-in-Ok-commit-clause-ok : goal.returns-in-Ok-commit-clause-ok
+returns-in-Ok-commit-clause-ok g c =
+    let so_far = c.loop-attempt.invariant.called in
+    let call = rw c.in-Ok-body.is at c.body.ensures in
+    record {
+      call = record { began = _; answer = Ok c.in-Ok-body.answer; left = _ };
+      earlier = so_far.0;
+      calls = one_more _ _ _ _ _ _ _ _ so_far.1 so_far.2 c.loop-attempt.invariant.room
+          (record { fresh = c.in-Ok.ensures; called = record { shown = _; shows = refl; left = _; called = call; leaves = refl } });
+      answered = refl;
+      landed = search rules;
+    }
+
+pub returns-then-attempt-tries-clause-fault : goal.returns-then-attempt-tries-clause-fault
+returns-then-attempt-tries-clause-fault g c =
+    let so_far = c.loop-attempt.invariant.called in
+    let call = rw c.in-Ok-body.is at c.body.ensures in (
+      record { began = _; answer = Ok c.in-Ok-body.answer; left = _ },
+      so_far.0,
+      one_more _ _ _ _ _ _ _ _ so_far.1 so_far.2 c.loop-attempt.invariant.room
+          (record { fresh = c.in-Ok.ensures; called = record { shown = _; shows = refl; left = _; called = call; leaves = refl } }),
+      refl,
+      omega (arith, so_far.2, c.if-attempt-tries.true),
+      search rules,
+    )
+
+pub loop-attempt-preserved : goal.loop-attempt-preserved
+loop-attempt-preserved g c =
+    let so_far = c.loop-attempt.invariant.called in
+    let call = rw c.in-Ok-body.is at c.body.ensures in
+    record {
+      body = search (of_calls, rules);
+      share = search rules;
+      called = (
+        (record { began = _; answer = Ok c.in-Ok-body.answer; left = _ }) ∷ so_far.0,
+        (_, so_far.1, record { fresh = c.in-Ok.ensures; called = record { shown = _; shows = refl; left = _; called = call; leaves = refl } }),
+        omega (arith, so_far.2),
+      );
+      room = omega (arith, c.loop-attempt.invariant.room, c.if-attempt-tries.false);
+    }
+
+pub returns-in-Memory-clause-fault : goal.returns-in-Memory-clause-fault
+returns-in-Memory-clause-fault g c =
+    let so_far = c.loop-attempt.invariant.called in
+    let call = rw c.in-Ok-body.is at c.body.ensures in (
+      (record { began = _; answer = Ok c.in-Ok-body.answer; left = _ }) ∷ so_far.0,
+      one_more _ _ _ _ _ _ _ _ so_far.1 so_far.2 c.loop-attempt.invariant.room
+          (record { fresh = c.in-Ok.ensures; called = record { shown = _; shows = refl; left = _; called = call; leaves = refl } }),
+    )
+
+pub returns-in_default-fault-clause-fault : goal.returns-in_default-fault-clause-fault
+returns-in_default-fault-clause-fault g c =
+    let so_far = c.loop-attempt.invariant.called in
+    let call = rw c.in-Ok-body.is at c.body.ensures in (
+      (record { began = _; answer = Ok c.in-Ok-body.answer; left = _ }) ∷ so_far.0,
+      one_more _ _ _ _ _ _ _ _ so_far.1 so_far.2 c.loop-attempt.invariant.room
+          (record { fresh = c.in-Ok.ensures; called = record { shown = _; shows = refl; left = _; called = call; leaves = refl } }),
+      final _ c.in_default-fault.not-Conflict c.in_default-fault.not-Memory,
+    )

@@ -1,0 +1,75 @@
+-- The calls of a transaction's body.
+use Rattle.std.specs.Prelude.{◌≡◌, ℕ, ◌+◌, ◌≤◌, List, [], ◌∷◌, length, Result, Err}
+use Rattle.std.specs.Fn.{Mut, CalledAtMut}
+use Rattle.std.specs.Borrow.{MutBor}
+use Rattle.ref_log.specs.declared.entries.Stamp.{Stamp}
+use Rattle.ref_refs.specs.Conflicts.{IsConflictOf}
+use Rattle.ref_refs.specs.declared.faults.CommitFault.{CommitFault}
+use Rattle.ref_refs.specs.declared.faults.CommitFault.TheVariants as commits
+use Rattle.ref_tx.specs.Seen.{TxSeen}
+use Rattle.ref_world.specs.Seen.{ShareSeen}
+use Rattle.ref_shared.specs.Commits.{HasCommitted}
+use Rattle.ref_shared.specs.declared.faults.TransactFault.{TransactFault}
+use Rattle.ref_shared.specs.declared.faults.TransactFault.TheVariants.{GaveUp, Body, Commit, Memory}
+
+-- what the predicates of a body over a transaction are, which answers an R
+abbrev pub BodyOf : Type 0 → Type 0 → Type 1
+BodyOf B R = Mut B (MutBor TxSeen × Unit {0}) (R × (MutBor TxSeen × Unit {0}))
+
+-- a call of a body: the transaction that it got, what it answered, and the transaction that it left
+pub record Call (R : Type 0) : Type 0 where
+  pub began : TxSeen
+  pub answer : R
+  pub left : TxSeen
+
+-- a transaction in which nothing was done yet
+pub record IsFresh (tx : TxSeen) : Type 0 where
+  pub dones : tx.dones ≡ []
+  pub sends : tx.sends ≡ []
+
+-- The body, called so, may answer so: it gets a fresh transaction.
+pub record Calls {B R : Type 0} (g : BodyOf B R) (before : B) (call : Call R) (after : B) : Type 0 where
+  pub fresh : IsFresh call.began
+  pub called : CalledAtMut g before call.began call.answer after call.left
+
+-- the calls of the body, the latest first, that took it from one state to another, each from where the one before it left it
+abbrev pub Called : {B R : Type 0} → BodyOf B R → B → List (Call R) → B → Type 0
+Called g first [] last = first ≡ last
+Called {B} g first (call ∷ earlier) last = (between : B) × Called g first earlier between × Calls g between call last
+
+-- These are all calls of the body that there were, and at most so many.
+pub record AllCalls {B R : Type 0} (g : BodyOf B R) (body last : B) (calls : List (Call R)) (tries : ℕ) : Type 0 where
+  pub called : Called g body calls last
+  pub few : length calls ≤ tries
+
+-- The last call of the body answered so, and what it left was committed.
+pub record Committed {B R : Type 0} (g : BodyOf B R) (body last : B) (tries : ℕ) (answer : R) (stamp : Stamp) (point : ℕ) (old new : ShareSeen) : Type 0 where
+  pub call : Call R
+  pub earlier : List (Call R)
+  pub calls : AllCalls g body last (call ∷ earlier) tries
+  pub answered : call.answer ≡ answer
+  pub landed : HasCommitted stamp call.left point old new
+
+-- a fault of a commit that ends a transaction as such: neither a conflict nor want of memory
+abbrev pub IsFinal : CommitFault → Type 0
+IsFinal (commits.Foreign what) = Unit {0}
+IsFinal (commits.Conflict c) = ⊥
+IsFinal (commits.Refused r cause) = Unit {0}
+IsFinal (commits.Invalid r) = Unit {0}
+IsFinal commits.PointLimit = Unit {0}
+IsFinal commits.Memory = ⊥
+IsFinal (commits.NoSuchFun code) = Unit {0}
+
+-- When a transaction's faults come: giving up after all tries, with a conflict of what the last call left; a body's fault as the
+-- last call answered.
+abbrev pub FaultComes : {B T E : Type 0} → BodyOf B (Result T E) → B → B → ℕ → TransactFault E → Type 0
+FaultComes {B} {T} {E} g body last tries (GaveUp n conflict) =
+    (call : Call (Result T E)) × (earlier : List (Call (Result T E))) × AllCalls g body last (call ∷ earlier) tries
+    × (n ≡ tries) × (length earlier + 1 ≡ tries) × IsConflictOf call.left conflict
+FaultComes {B} {T} {E} g body last tries (Body e) =
+    (call : Call (Result T E)) × (earlier : List (Call (Result T E))) × AllCalls g body last (call ∷ earlier) tries
+    × (call.answer ≡ Err e)
+FaultComes {B} {T} {E} g body last tries (Commit fault) =
+    (calls : List (Call (Result T E))) × AllCalls g body last calls tries × IsFinal fault
+FaultComes {B} {T} {E} g body last tries Memory =
+    (calls : List (Call (Result T E))) × AllCalls g body last calls tries

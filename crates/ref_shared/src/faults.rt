@@ -1,0 +1,118 @@
+//! Why a call on a shared world is refused.
+ghost use Rattle.std.specs.Prelude.{◌≡◌};
+ghost use Rattle.ref_shared.specs.Faults.{gather_fault_number, transact_fault_number, work_fault_number};
+ghost use Rattle.ref_shared.specs.declared.faults.GatherFault.TheVariants as gathers;
+
+use ref_agents::JobFault;
+use ref_refs::{CommitFault, Conflict};
+use std::alloc::{AllocError, AllocFailed};
+use thiserror::Error;
+
+/// Why a transaction came to no commit. World and share are as they were. E is what the body may answer.
+#[derive(Clone, Copy, Debug, Drop, PartialEq, Eq)]
+pub enum TransactFault<E> {
+    /// Each of so many tries was in conflict, the last of them so.
+    GaveUp { tries: u32, conflict: Conflict },
+    /// The body ended the transaction.
+    Body(E),
+    /// The commit was refused, and another try would be too.
+    Commit(CommitFault),
+    Memory,
+}
+
+impl<E> TransactFault<E> {
+    /// The number of the fault.
+    pub fn number(&self) -> u8
+        ensures { result ≡ transact_fault_number self.now }
+    {
+        match self {
+            TransactFault::GaveUp { .. } => 1,
+            TransactFault::Body(_) => 2,
+            TransactFault::Commit(_) => 3,
+            TransactFault::Memory => 4,
+        }
+    }
+}
+
+/// Why an action wasn't run to its end.
+#[derive(Clone, Copy, Debug, Drop, PartialEq, Eq, Error)]
+pub enum WorkFault {
+    /// The table lacks this code: of the action's function, or of the predicate that the agent's rule names. The action waits
+    /// again.
+    #[error("the table lacks code {0}")]
+    NoSuchFun(u32),
+    /// Where an action was taken, it waits again.
+    #[error("out of memory")]
+    Memory,
+    /// The job that was taken is no job of this world any more. A right program never meets this.
+    #[error("the job isn't on its way here")]
+    Foreign,
+}
+
+impl WorkFault {
+    /// The number of the fault.
+    pub fn number(&self) -> u8
+        ensures { result ≡ work_fault_number self.now }
+    {
+        match self {
+            WorkFault::NoSuchFun(_) => 1,
+            WorkFault::Memory => 2,
+            WorkFault::Foreign => 3,
+        }
+    }
+}
+
+impl From<JobFault> for WorkFault {
+    ghost use Rattle.ref_shared.specs.Faults.{work_fault_of};
+
+    ghost from_gives = { λ e f. f ≡ work_fault_of e };
+
+    fn from(e: JobFault) -> WorkFault {
+        match e {
+            JobFault::NoSuchFun(code) => WorkFault::NoSuchFun(code),
+            JobFault::Memory => WorkFault::Memory,
+        }
+    }
+}
+
+/// Why the receipts don't fit the log.
+#[derive(Clone, Copy, Debug, Drop, PartialEq, Eq, Error)]
+pub enum GatherFault {
+    /// An entry of a transaction or an atom lacks its equal receipt, or a receipt its entry.
+    #[error("log and receipts differ")]
+    ReceiptMissing,
+    /// The steps of a worker don't rise along the log, or one of them began before the worker's entry before it was there.
+    #[error("the steps of a worker are out of order")]
+    OutOfOrder,
+    #[error("out of memory")]
+    Memory,
+}
+
+impl GatherFault {
+    /// The number of the fault: its place in the order of the tests.
+    pub fn number(&self) -> u8
+        ensures { result ≡ gather_fault_number self.now }
+    {
+        match self {
+            GatherFault::ReceiptMissing => 1,
+            GatherFault::OutOfOrder => 2,
+            GatherFault::Memory => 3,
+        }
+    }
+}
+
+impl From<AllocError> for GatherFault {
+    ghost from_gives = { λ _ f. f ≡ gathers.Memory };
+
+    fn from(_e: AllocError) -> GatherFault {
+        GatherFault::Memory
+    }
+}
+
+impl<T: Drop> From<AllocFailed<T>> for GatherFault {
+    ghost from_gives = { λ _ f. f ≡ gathers.Memory };
+
+    fn from(_e: AllocFailed<T>) -> GatherFault {
+        GatherFault::Memory
+    }
+}

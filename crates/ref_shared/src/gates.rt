@@ -1,0 +1,46 @@
+//! What is called between the steps of a transaction and of an action.
+use ref_log::Notice;
+
+/// Where a transaction or an action stands.
+#[derive(Clone, Copy, Debug, Drop, PartialEq, Eq)]
+pub enum Spot {
+    BeforeBody,
+    AfterBody,
+    AfterCommit,
+    BeforeAction,
+    AfterAction,
+}
+
+/// What is called at each [`Spot`], with the lock free: it may wait for other threads, as tests of what comes between do.
+pub trait Gate {
+    fn pass(&mut self, spot: Spot);
+}
+
+/// Who is told what the watches are to be told, with the lock free: of one commit or one action in order. Between two of them
+/// there is none, since two threads deliver side by side.
+pub trait WatchSink {
+    fn told(&mut self, notice: &Notice);
+}
+
+/// A gate that lets all pass.
+#[derive(Clone, Copy, Debug, Drop)]
+pub struct Open;
+
+impl Gate for Open {
+    fn pass(&mut self, _spot: Spot) {}
+}
+
+/// A sink that tells nobody.
+#[derive(Clone, Copy, Debug, Drop)]
+pub struct Quiet;
+
+impl WatchSink for Quiet {
+    fn told(&mut self, _notice: &Notice) {}
+}
+
+// Tells each notice, in order.
+pub(crate) fn tell<S: WatchSink>(sink: &mut S, notices: &[Notice]) {
+    for notice in notices {
+        sink.told(notice);
+    }
+}

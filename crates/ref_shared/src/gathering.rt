@@ -1,0 +1,36 @@
+//! Compares what a log holds with the receipts of those who wrote it.
+ghost use Rattle.std.specs.Prelude.{◌+◌, ◌<◌, ◌^◌, IfErr, OnOk, length};
+ghost use Rattle.ref_shared.specs.Gather.{GatherFails, InOrder, ReceiptsMatch};
+
+use crate::faults::GatherFault;
+use crate::matching::receipts_match;
+use crate::order::in_order;
+use ref_log::Entry;
+use ref_world::LogReceipt;
+use std::alloc::Global;
+
+/// Compares the entries of a log past its base with the receipts of those who added them. Ok where the receipts past the base's
+/// point are just the entries of transactions and of atoms with their points, whole, each once, and where of two transactions
+/// of one worker the later in the log has the later step, and was begun when the earlier was there. Receipts up to the base's
+/// point are passed over, and their order says nothing.
+///
+/// Linear in the sizes of log and receipts, which are compared whole, but for a logarithm of the number of workers. It takes a
+/// byte for each entry, and some for each worker.
+pub fn match_receipts(
+    alloc: Global,
+    base_point: u64,
+    log: &[Entry],
+    receipts: &[LogReceipt],
+) -> Result<(), GatherFault>
+    requires { base_point + length log.now < 2 ^ 63 }
+    ensures ok { OnOk result (ReceiptsMatch base_point log.now receipts.now × InOrder base_point log.now) }
+    ensures fault { IfErr result (λ f. GatherFails base_point log.now receipts.now f) }
+{
+    if !receipts_match(alloc, base_point, log, receipts)? {
+        return Err(GatherFault::ReceiptMissing);
+    }
+    if !in_order(alloc, base_point, log)? {
+        return Err(GatherFault::OutOfOrder);
+    }
+    Ok(())
+}

@@ -1,0 +1,320 @@
+//! A world under one lock.
+ghost use Rattle.std.specs.Prelude.{◌≡◌, [], true, false, Ok, IfOk, IfErr, OnErr, OnOk};
+ghost use Rattle.ref_log.specs.Replay.{place};
+ghost use Rattle.ref_log.specs.declared.entries.Entry.TheVariants as entries;
+ghost use Rattle.ref_log.specs.declared.operations.Op.TheVariants.{Alter, Set};
+ghost use Rattle.ref_refs.specs.Conflicts.{ConflictFits};
+ghost use Rattle.ref_world.specs.Shares.{all_parts};
+ghost use Rattle.ref_shared.specs.Bodies.{IsFresh};
+ghost use Rattle.ref_shared.specs.Commits.{HasCommitted, HasReceipt};
+ghost use Rattle.ref_shared.specs.Gather.{GatherFails, InOrder, ReceiptsMatch};
+
+use crate::faults::GatherFault;
+use crate::gathering::match_receipts;
+use ref_agents::{AgentError, ErrorMode, ModeFault, RestartFault, SendFault};
+use ref_atoms::{AtomFault, Cas, Swapped};
+use ref_edn::Value;
+use ref_fun::{Action, Args, Functions, Meaning, Rule};
+use ref_log::{MakeFault, RuleFault, Stamp, WatchFault, Who};
+use ref_refs::CommitFault;
+use ref_tx::Tx;
+use ref_world::{Receipt, Share, Totals, World};
+use std::alloc::{AllocError, Global};
+use std::sync::ledger::Ledger;
+use std::sync::{Condvar, Mutex, MutexGuard, Wait};
+
+// What the lock is round: the world, and whether the shared world was closed.
+#[derive(Drop)]
+pub(crate) struct Held<M: Meaning, C: Ledger, A: Ledger> {
+    pub(crate) world: World<M, C, A>,
+    pub(crate) is_closed: bool,
+}
+
+/// A world that threads share.
+///
+/// It stands under one lock. Each call but [`Shared::new`] and [`Shared::finish`] takes that lock, makes one call of the world,
+/// and lets go; [`Shared::transact`] and [`Shared::work_once`] take it for each of their steps. The lock is never held while a
+/// transaction's body, an action, a gate or a sink runs, and whoever finds it free finds a world of which all is so that the
+/// type [`World`] tells. What was found at one lock need not hold at the next.
+///
+/// The calls may wait for the lock, and promise what they say where they return. A thread that never lets its body, its gate or
+/// its sink come back keeps nobody from the lock.
+#[derive(Drop)]
+pub struct Shared<M: Meaning, C: Ledger, A: Ledger> {
+    held: Mutex<Held<M, C, A>>,
+    // Woken where an agent may have become ready, and at the end.
+    pub(crate) ready: Condvar,
+}
+
+impl<M: Meaning, C: Ledger, A: Ledger> Shared<M, C, A> {
+    /// Puts a world under a lock. It waits for nobody.
+    pub fn new(world: World<M, C, A>) -> Shared<M, C, A> {
+        let held = Held {
+            world,
+            is_closed: false,
+        };
+        Shared {
+            held: Mutex::new(held),
+            ready: Condvar::new(),
+        }
+    }
+
+    // The lock. It is free again where the guard is let go.
+    pub(crate) fn lock<R: Wait>(&self, rt: &R) -> MutexGuard<'_, Held<M, C, A>> {
+        self.held.lock(rt)
+    }
+
+    /// Begins a transaction over the values as they are now: see [`World::begin`].
+    pub fn begin<R: Wait>(&self, rt: &R, alloc: Global) -> Result<Tx<M>, AllocError>
+        ensures { IfOk result (λ tx. IsFresh tx) }
+    {
+        self.lock(rt).world.begin(alloc)
+    }
+
+    /// Commits a transaction: see [`World::commit_with`]. The watches are to be told the notices of the receipt, and then the
+    /// commit's sends to be let out by [`Shared::release`], which whoever calls this does; [`Shared::transact`] does all of it.
+    pub fn commit<R: Wait, F: Functions<M>>(
+        &self,
+        rt: &R,
+        alloc: Global,
+        funs: &F,
+        share: &mut Share<C, A>,
+        stamp: Stamp,
+        tx: Tx<M>,
+    ) -> Result<Receipt, (Tx<M>, CommitFault)>
+        ensures stamp { IfOk result (λ receipt. receipt.stamp ≡ stamp) }
+        ensures share { IfOk result (λ receipt. HasCommitted stamp tx receipt.point share.old share.new) }
+        ensures conflict { IfErr result (λ e. ConflictFits tx e.1) }
+        ensures back { IfErr result (λ e. e.0 ≡ tx) }
+        ensures same { OnErr result (share.new ≡ share.old) }
+    {
+        self.lock(rt)
+            .world
+            .commit_with(alloc, funs, share, stamp, tx)
+    }
+
+    /// Lets out what the commit at this point sent, and wakes those who wait for an agent: see [`World::release`].
+    pub fn release<R: Wait>(&self, rt: &R, point: u64) -> bool {
+        let had_sends = self.lock(rt).world.release(point);
+        if had_sends {
+            self.ready.notify_all();
+        }
+        had_sends
+    }
+
+    /// The value of a reference now, if it is there: of an agent its state. It takes no memory, but std can refuse one more
+    /// owner.
+    pub fn value_of<R: Wait>(&self, rt: &R, who: Who) -> Result<Option<Value>, AllocError> {
+        match self.lock(rt).world.value_of(who) {
+            Some(value) => Ok(Some(value.share()?)),
+            None => Ok(None),
+        }
+    }
+
+    /// Gives a reference another rule, or none: see [`World::set_validator`].
+    pub fn set_validator<R: Wait, F: Functions<M>>(
+        &self,
+        rt: &R,
+        funs: &F,
+        who: Who,
+        rule: Option<Rule>,
+    ) -> Result<(), RuleFault> {
+        self.lock(rt).world.set_validator(funs, who, rule)
+    }
+
+    /// Adds a watch to a reference: see [`World::add_watch`].
+    pub fn add_watch<R: Wait>(
+        &self,
+        rt: &R,
+        alloc: Global,
+        who: Who,
+        key: Value,
+    ) -> Result<bool, WatchFault> {
+        self.lock(rt).world.add_watch(alloc, who, key)
+    }
+
+    /// Takes a watch away from a reference: see [`World::remove_watch`].
+    pub fn remove_watch<R: Wait>(&self, rt: &R, who: Who, key: &Value) -> bool {
+        self.lock(rt).world.remove_watch(who, key)
+    }
+
+    /// Makes a ref: see [`World::make_ref`].
+    pub fn make_ref<R: Wait, F: Functions<M>>(
+        &self,
+        rt: &R,
+        alloc: Global,
+        funs: &F,
+        value: Value,
+        rule: Option<Rule>,
+        tally: bool,
+    ) -> Result<u32, MakeFault> {
+        self.lock(rt)
+            .world
+            .make_ref(alloc, funs, value, rule, tally)
+    }
+
+    /// Makes an atom: see [`World::make_atom`].
+    pub fn make_atom<R: Wait, F: Functions<M>>(
+        &self,
+        rt: &R,
+        alloc: Global,
+        funs: &F,
+        value: Value,
+        rule: Option<Rule>,
+    ) -> Result<u32, MakeFault> {
+        self.lock(rt).world.make_atom(alloc, funs, value, rule)
+    }
+
+    /// Makes an agent: see [`World::make_agent`].
+    pub fn make_agent<R: Wait, F: Functions<M>>(
+        &self,
+        rt: &R,
+        alloc: Global,
+        funs: &F,
+        value: Value,
+        rule: Option<Rule>,
+        mode: ErrorMode,
+    ) -> Result<u32, MakeFault> {
+        self.lock(rt)
+            .world
+            .make_agent(alloc, funs, value, rule, mode)
+    }
+
+    /// Sets an atom to the function of its value and the arguments: see [`World::swap`]. The watches are to be told the notices
+    /// of the answer, which whoever calls this does.
+    pub fn swap<R: Wait, F: Functions<M>>(
+        &self,
+        rt: &R,
+        alloc: Global,
+        funs: &F,
+        share: &mut Share<C, A>,
+        a: u32,
+        code: u32,
+        args: Args,
+    ) -> Result<Swapped, AtomFault>
+        ensures new { IfOk result (λ s. place M.means (Alter code args) s.old ≡ Ok s.new) }
+        ensures share { IfOk result (λ s. HasReceipt (entries.Atom a (Alter code args) s.new) share.old share.new) }
+        ensures same { OnErr result (share.new ≡ share.old) }
+    {
+        self.lock(rt).world.swap(alloc, funs, share, a, code, args)
+    }
+
+    /// Sets an atom to a value regardless of the one that it has: see [`World::reset`]. The watches are to be told the notices of
+    /// the answer, which whoever calls this does.
+    pub fn reset<R: Wait, F: Functions<M>>(
+        &self,
+        rt: &R,
+        alloc: Global,
+        funs: &F,
+        share: &mut Share<C, A>,
+        a: u32,
+        value: Value,
+    ) -> Result<Swapped, AtomFault>
+        ensures new { IfOk result (λ s. s.new ≡ value) }
+        ensures share { OnOk result (HasReceipt (entries.Atom a (Set value) value) share.old share.new) }
+        ensures same { OnErr result (share.new ≡ share.old) }
+    {
+        self.lock(rt).world.reset(alloc, funs, share, a, value)
+    }
+
+    /// Sets an atom to a new value where it has the old one that is given: see [`World::compare_and_set`]. The watches are to be
+    /// told the notices of the answer, which whoever calls this does.
+    pub fn compare_and_set<R: Wait, F: Functions<M>>(
+        &self,
+        rt: &R,
+        alloc: Global,
+        funs: &F,
+        share: &mut Share<C, A>,
+        a: u32,
+        old: &Value,
+        new: Value,
+    ) -> Result<Cas, AtomFault>
+        ensures share { IfOk result (λ c. c.done ≡ true
+            → HasReceipt (entries.Atom a (Set new) new) share.old share.new) }
+        ensures unshared { IfOk result (λ c. c.done ≡ false → share.new ≡ share.old) }
+        ensures untold { IfOk result (λ c. c.done ≡ false → c.notices.items ≡ []) }
+        ensures same { OnErr result (share.new ≡ share.old) }
+    {
+        self.lock(rt)
+            .world
+            .compare_and_set(alloc, funs, share, a, old, new)
+    }
+
+    /// Sends an action to an agent, and wakes one who waits for an agent: see [`World::send`].
+    pub fn send<R: Wait>(
+        &self,
+        rt: &R,
+        alloc: Global,
+        g: u32,
+        action: Action,
+    ) -> Result<(), SendFault> {
+        let sent = self.lock(rt).world.send(alloc, g, action);
+        if sent.is_ok() {
+            self.ready.notify_one();
+        }
+        sent
+    }
+
+    /// Restarts a failed agent, and wakes one who waits for an agent: see [`World::restart`].
+    pub fn restart<R: Wait, F: Functions<M>>(
+        &self,
+        rt: &R,
+        alloc: Global,
+        funs: &F,
+        g: u32,
+        state: Value,
+        clear: bool,
+    ) -> Result<(), RestartFault> {
+        let restarted = self.lock(rt).world.restart(alloc, funs, g, state, clear);
+        if restarted.is_ok() {
+            self.ready.notify_one();
+        }
+        restarted
+    }
+
+    /// Sets what happens where an action of an agent fails: see [`World::set_error_mode`].
+    pub fn set_error_mode<R: Wait>(
+        &self,
+        rt: &R,
+        g: u32,
+        mode: ErrorMode,
+    ) -> Result<(), ModeFault> {
+        self.lock(rt).world.set_error_mode(g, mode)
+    }
+
+    /// The error of a failed agent: see [`World::error_of`].
+    pub fn error_of<R: Wait>(&self, rt: &R, g: u32) -> Option<AgentError> {
+        self.lock(rt).world.error_of(g)
+    }
+
+    /// Takes the world out, with the totals of all its shares, which have to be joined again. It takes no lock and waits for
+    /// nobody: whoever has all of the shared world is alone with it. The receipts are compared with the log by
+    /// [`match_receipts`]; where they don't fit, or there is no memory to compare them, world and share come back.
+    pub fn finish(
+        self,
+        alloc: Global,
+        share: Share<C, A>,
+    ) -> Result<(World<M, C, A>, Totals), (World<M, C, A>, Share<C, A>, GatherFault)>
+        requires whole { share.parts ≡ all_parts }
+        ensures totals { IfOk result (λ r. (r.1.commits ≡ share.commits) × (r.1.added ≡ share.added)) }
+        ensures books { IfOk result (λ r. (r.1.commits ≡ r.0.books.commits) × (r.1.added ≡ r.0.books.added)) }
+        ensures ok { IfOk result (λ r. ReceiptsMatch r.0.base.point r.0.log share.receipts
+            × InOrder r.0.base.point r.0.log) }
+        ensures fault { IfErr result (λ e. GatherFails e.0.base.point e.0.log share.receipts e.2) }
+        ensures back { IfErr result (λ e. e.1 ≡ share) }
+    {
+        let Shared { held, ready: _ } = self;
+        let Held {
+            mut world,
+            is_closed: _,
+        } = held.into_inner();
+        // A world's points end at 2^62.
+        let _ = world.point();
+        let mut share = share;
+        let totals = world.totals(&mut share);
+        match match_receipts(alloc, world.base().point, world.log(), share.receipts()) {
+            Ok(()) => Ok((world, totals)),
+            Err(fault) => Err((world, share, fault)),
+        }
+    }
+}

@@ -1,0 +1,118 @@
+//! Transactions that are tried again.
+ghost use Rattle.std.specs.Prelude.{◌≡◌, ◌<◌, Ok, IfOk, IfErr, OnErr};
+ghost use Rattle.ref_shared.specs.Bodies.{Committed, FaultComes};
+
+use crate::faults::TransactFault;
+use crate::gates::{Gate, Spot, WatchSink, tell};
+use crate::shared::Shared;
+use ref_fun::{Core, Functions};
+use ref_log::Stamp;
+use ref_refs::CommitFault;
+use ref_tx::Tx;
+use ref_world::{Receipt, Share};
+use std::alloc::Global;
+use std::sync::Wait;
+use std::sync::ledger::Ledger;
+
+impl<C: Ledger, A: Ledger> Shared<Core, C, A> {
+    /// Runs a body on a transaction and commits it, as Clojure's `dosync`. Where the commit is in conflict all begins anew, with
+    /// the values then, at most `tries` times, at least once. After a commit the sink is told what the watches are to be told,
+    /// and then what the transaction sent is let out. The answer is what the body's last call answered, and the receipt.
+    ///
+    /// The body is called with the lock free, at most `tries` times, each time with a transaction in which nothing was done.
+    /// What its earlier calls did beside the transaction stays done. Where a fault is answered, this call has committed nothing,
+    /// and no send is left of it. A fault of the body, a refused commit other than a conflict, and want of memory end it.
+    ///
+    /// A program whose functions mean what [`Core`]'s mean calls this; another begins, commits and releases by itself.
+    pub fn transact<
+        R: Wait,
+        F: Functions<Core>,
+        T: Drop,
+        E,
+        G: Gate,
+        S: WatchSink,
+        B: FnMut(&mut Tx<Core>) -> Result<T, E>,
+    >(
+        &self,
+        rt: &R,
+        alloc: Global,
+        funs: &F,
+        share: &mut Share<C, A>,
+        stamp: Stamp,
+        tries: u32,
+        gate: &mut G,
+        sink: &mut S,
+        mut body: B,
+    ) -> Result<(T, Receipt), TransactFault<E>>
+        requires body { B.IsAlwaysCallable body }
+        requires tries { 0 < tries }
+        ensures ok { IfOk result (λ r. (last : B)
+            × Committed B.FnMut body last tries (Ok r.0) stamp r.1.point share.old share.new) }
+        ensures stamp { IfOk result (λ r. r.1.stamp ≡ stamp) }
+        ensures fault { IfErr result (λ f. (last : B) × FaultComes B.FnMut body last tries f) }
+        ensures same { OnErr result (share.new ≡ share.old) }
+    {
+        self.transact_by(rt, alloc, funs, share, stamp, tries, gate, sink, &mut body)
+    }
+
+    /// As [`Shared::transact`], with a body that is lent: it comes back as its last call left it, and the clauses tell all its
+    /// calls, at most `tries`.
+    pub fn transact_by<
+        R: Wait,
+        F: Functions<Core>,
+        T: Drop,
+        E,
+        G: Gate,
+        S: WatchSink,
+        B: FnMut(&mut Tx<Core>) -> Result<T, E>,
+    >(
+        &self,
+        rt: &R,
+        alloc: Global,
+        funs: &F,
+        share: &mut Share<C, A>,
+        stamp: Stamp,
+        tries: u32,
+        gate: &mut G,
+        sink: &mut S,
+        body: &mut B,
+    ) -> Result<(T, Receipt), TransactFault<E>>
+        requires body { B.IsAlwaysCallable body.old }
+        requires tries { 0 < tries }
+        ensures ok { IfOk result (λ r. Committed B.FnMut body.old body.new tries
+            (Ok r.0) stamp r.1.point share.old share.new) }
+        ensures stamp { IfOk result (λ r. r.1.stamp ≡ stamp) }
+        ensures fault { IfErr result (λ f. FaultComes B.FnMut body.old body.new tries f) }
+        ensures same { OnErr result (share.new ≡ share.old) }
+    {
+        for attempt in 0..tries {
+            let Ok(mut tx) = self.begin(rt, alloc) else {
+                return Err(TransactFault::Memory);
+            };
+            gate.pass(Spot::BeforeBody);
+            let answer = match body(&mut tx) {
+                Ok(answer) => answer,
+                Err(e) => return Err(TransactFault::Body(e)),
+            };
+            gate.pass(Spot::AfterBody);
+            match self.commit(rt, alloc, funs, share, stamp, tx) {
+                Ok(receipt) => {
+                    gate.pass(Spot::AfterCommit);
+                    tell(sink, receipt.notices.as_slice());
+                    self.release(rt, receipt.point);
+                    return Ok((answer, receipt));
+                }
+                Err((_, fault)) => match fault {
+                    CommitFault::Conflict(conflict) => {
+                        if attempt + 1 == tries {
+                            return Err(TransactFault::GaveUp { tries, conflict });
+                        }
+                    }
+                    CommitFault::Memory => return Err(TransactFault::Memory),
+                    fault => return Err(TransactFault::Commit(fault)),
+                },
+            }
+        }
+        unreachable!()
+    }
+}
