@@ -1,0 +1,230 @@
+//! Each call by one thread.
+ghost use Rattle.std.specs.Prelude.{◌≡◌};
+ghost use Rattle.ref_world.specs.Shares.{all_parts};
+
+use crate::worlds::{
+    By, STAMP, Stop, Told, all_told, at_least, closed, done, int_at, int_of, one_arg, opened,
+    plain_start, table, value,
+};
+use ref_agents::ErrorMode;
+use ref_log::{MakeFault, RuleFault, Who};
+use ref_world::ALL_PARTS;
+use std::marker::Brand;
+use std::sync::Wait;
+use std::sync::ledger::{Blank, Ledger};
+use std::test::Fail;
+
+// The point of a commit, and what the next transaction reads.
+#[derive(Debug, Drop, PartialEq)]
+struct Read {
+    point: u64,
+    read_point: u64,
+    value: Option<i64>,
+}
+
+fn try_commit<C: Ledger, A: Ledger, R: Wait>(
+    rt: &R,
+    by: By,
+    commits: Blank,
+    added: Blank,
+) -> Result<Read, Stop>
+    requires commits { (commits.name ≡ C.name) × (commits.parts ≡ C.parts) × (commits.parts ≡ all_parts) }
+    requires added { (added.name ≡ A.name) × (added.parts ≡ A.parts) × (added.parts ≡ all_parts) }
+{
+    let By { alloc, funs } = by;
+    let start = plain_start(alloc, "0", "")?;
+    let (shared, mut share) = opened::<C, A>(by, start, commits, added)?;
+    let mut tx = shared.begin(rt, alloc)?;
+    let _ = done(tx.ref_set(alloc, 0, value(alloc, "5")?))?;
+    let receipt = done(shared.commit(rt, alloc, funs, &mut share, STAMP, tx))?;
+    let tx = shared.begin(rt, alloc)?;
+    Ok(Read {
+        point: receipt.point,
+        read_point: tx.read_point(),
+        value: int_of(done(tx.deref(0))?),
+    })
+}
+
+#[test]
+fn a_transaction_reads_what_was_committed(rt: HostRuntime) -> Result<(), Fail> {
+    let alloc = rt.alloc();
+    let funs = table(alloc)?;
+    let by = By { alloc, funs: &funs };
+    let (commits, added) = (Blank::new(ALL_PARTS), Blank::new(ALL_PARTS));
+    let read = try_commit::<Brand, Brand, _>(&rt, by, commits, added)?;
+    let wanted = Read {
+        point: 1,
+        read_point: 1,
+        value: Some(5),
+    };
+    assert_eq!(rt; read, wanted);
+    Ok(())
+}
+
+// What the changes of an atom answered, and what was there then.
+#[derive(Debug, Drop, PartialEq)]
+struct Changes {
+    swapped: (Option<i64>, Option<i64>),
+    swap_told: Vec<Told>,
+    reset: (Option<i64>, Option<i64>),
+    reset_told: Vec<Told>,
+    value: Option<i64>,
+    // Whether the comparison answers true, and how many receipts there are then.
+    from_nine: (bool, usize),
+    from_seven: (bool, usize),
+    commits: u64,
+}
+
+fn try_atoms<C: Ledger, A: Ledger, R: Wait>(
+    rt: &R,
+    by: By,
+    commits: Blank,
+    added: Blank,
+) -> Result<Changes, Stop>
+    requires commits { (commits.name ≡ C.name) × (commits.parts ≡ C.parts) × (commits.parts ≡ all_parts) }
+    requires added { (added.name ≡ A.name) × (added.parts ≡ A.parts) × (added.parts ≡ all_parts) }
+{
+    let By { alloc, funs } = by;
+    let start = plain_start(alloc, "", "1")?;
+    let (shared, mut share) = opened::<C, A>(by, start, commits, added)?;
+    let _ = done(shared.add_watch(rt, alloc, Who::Atom(0), value(alloc, ":k")?))?;
+    let one = one_arg(alloc, "1")?;
+    let swapped = done(shared.swap(rt, alloc, funs, &mut share, 0, 1, one))?;
+    let seven = value(alloc, "7")?;
+    let reset = done(shared.reset(rt, alloc, funs, &mut share, 0, seven))?;
+    let now = int_at(rt, &shared, Who::Atom(0));
+    let (nine, one) = (value(alloc, "9")?, value(alloc, "1")?);
+    let unset = done(shared.compare_and_set(rt, alloc, funs, &mut share, 0, &nine, one))?;
+    let from_nine = (unset.done, share.receipts().len());
+    let (seven, eight) = (value(alloc, "7")?, value(alloc, "8")?);
+    let set = done(shared.compare_and_set(rt, alloc, funs, &mut share, 0, &seven, eight))?;
+    let from_seven = (set.done, share.receipts().len());
+    let (_, totals) = closed(alloc, shared, share)?;
+    Ok(Changes {
+        swapped: (int_of(&swapped.old), int_of(&swapped.new)),
+        swap_told: all_told(alloc, &swapped.notices)?,
+        reset: (int_of(&reset.old), int_of(&reset.new)),
+        reset_told: all_told(alloc, &reset.notices)?,
+        value: now,
+        from_nine,
+        from_seven,
+        commits: totals.commits,
+    })
+}
+
+#[test]
+fn atoms_change_and_tell_their_watches(rt: HostRuntime) -> Result<(), Fail> {
+    let alloc = rt.alloc();
+    let funs = table(alloc)?;
+    let by = By { alloc, funs: &funs };
+    let (commits, added) = (Blank::new(ALL_PARTS), Blank::new(ALL_PARTS));
+    let changes = try_atoms::<Brand, Brand, _>(&rt, by, commits, added)?;
+    let wanted = Changes {
+        swapped: (Some(1), Some(2)),
+        swap_told: vec![in alloc; (Who::Atom(0), true, Some(1), Some(2))]?,
+        reset: (Some(2), Some(7)),
+        reset_told: vec![in alloc; (Who::Atom(0), true, Some(2), Some(7))]?,
+        value: Some(7),
+        from_nine: (false, 2),
+        from_seven: (true, 3),
+        commits: 0,
+    };
+    assert_eq!(rt; changes, wanted);
+    Ok(())
+}
+
+// What the calls answered that make references and give them rules and watches.
+#[derive(Debug, Drop, PartialEq)]
+struct Made {
+    refs: (Result<u32, MakeFault>, Result<u32, MakeFault>),
+    atoms: (Result<u32, MakeFault>, Result<u32, MakeFault>),
+    agents: (Result<u32, MakeFault>, Result<u32, MakeFault>),
+    // A rule that refuses the value, one that accepts it, and a making that this one refuses.
+    rules: (Result<(), RuleFault>, Result<(), RuleFault>),
+    unmade: Result<u32, MakeFault>,
+    // The key is new, then it isn't; it is there, then it isn't.
+    watches: (bool, bool, bool, bool),
+    values: (Option<i64>, Option<i64>, Option<i64>),
+    commits: u64,
+}
+
+fn try_makings<C: Ledger, A: Ledger, R: Wait>(
+    rt: &R,
+    by: By,
+    commits: Blank,
+    added: Blank,
+) -> Result<Made, Stop>
+    requires commits { (commits.name ≡ C.name) × (commits.parts ≡ C.parts) × (commits.parts ≡ all_parts) }
+    requires added { (added.name ≡ A.name) × (added.parts ≡ A.parts) × (added.parts ≡ all_parts) }
+{
+    let By { alloc, funs } = by;
+    let start = plain_start(alloc, "", "")?;
+    let (shared, share) = opened::<C, A>(by, start, commits, added)?;
+    let (five, six) = (value(alloc, "5")?, value(alloc, "6")?);
+    let refs = (
+        shared.make_ref(rt, alloc, funs, five, None, false),
+        shared.make_ref(rt, alloc, funs, six, None, true),
+    );
+    let (seven, eight) = (value(alloc, "7")?, value(alloc, "8")?);
+    let atoms = (
+        shared.make_atom(rt, alloc, funs, seven, None),
+        shared.make_atom(rt, alloc, funs, eight, None),
+    );
+    let (nine, ten) = (value(alloc, "9")?, value(alloc, "10")?);
+    let agents = (
+        shared.make_agent(rt, alloc, funs, nine, None, ErrorMode::Fail),
+        shared.make_agent(rt, alloc, funs, ten, None, ErrorMode::Continue),
+    );
+    let (five, six) = (at_least(alloc, "5")?, at_least(alloc, "6")?);
+    let rules = (
+        shared.set_validator(rt, funs, Who::Ref(0), Some(six)),
+        shared.set_validator(rt, funs, Who::Ref(0), Some(five)),
+    );
+    let (five, six) = (value(alloc, "5")?, at_least(alloc, "6")?);
+    let unmade = shared.make_atom(rt, alloc, funs, five, Some(six));
+    let key = value(alloc, ":k")?;
+    let (first, again) = (key.share()?, key.share()?);
+    let watches = (
+        done(shared.add_watch(rt, alloc, Who::Ref(0), first))?,
+        done(shared.add_watch(rt, alloc, Who::Ref(0), again))?,
+        shared.remove_watch(rt, Who::Ref(0), &key),
+        shared.remove_watch(rt, Who::Ref(0), &key),
+    );
+    let values = (
+        int_at(rt, &shared, Who::Ref(1)),
+        int_at(rt, &shared, Who::Atom(1)),
+        int_at(rt, &shared, Who::Agent(1)),
+    );
+    let (_, totals) = closed(alloc, shared, share)?;
+    Ok(Made {
+        refs,
+        atoms,
+        agents,
+        rules,
+        unmade,
+        watches,
+        values,
+        commits: totals.commits,
+    })
+}
+
+#[test]
+fn references_are_made_and_get_rules_and_watches(rt: HostRuntime) -> Result<(), Fail> {
+    let alloc = rt.alloc();
+    let funs = table(alloc)?;
+    let by = By { alloc, funs: &funs };
+    let (commits, added) = (Blank::new(ALL_PARTS), Blank::new(ALL_PARTS));
+    let made = try_makings::<Brand, Brand, _>(&rt, by, commits, added)?;
+    let wanted = Made {
+        refs: (Ok(0), Ok(1)),
+        atoms: (Ok(0), Ok(1)),
+        agents: (Ok(0), Ok(1)),
+        rules: (Err(RuleFault::Invalid), Ok(())),
+        unmade: Err(MakeFault::Invalid),
+        watches: (true, false, true, false),
+        values: (Some(6), Some(8), Some(10)),
+        commits: 0,
+    };
+    assert_eq!(rt; made, wanted);
+    Ok(())
+}

@@ -1,0 +1,224 @@
+//! Making shared worlds and values, and what is read of them.
+ghost use Rattle.std.specs.Prelude.{◌≡◌, ◌≤◌, length};
+ghost use Rattle.ref_fun.specs.Core.{core_accepts, core_means};
+ghost use Rattle.ref_fun.specs.Meaning.{Answers};
+ghost use Rattle.ref_world.specs.Shares.{all_parts};
+
+use ref_edn::{Node, Value, read_all, read_one};
+use ref_fun::{
+    Action, Args, Core, Fun, FunFault, FunTable, Pred, Rule, StoredFun, StoredPred, core_fun,
+    core_test,
+};
+use ref_log::{Notice, Stamp, Who};
+use ref_shared::Shared;
+use ref_tx::Tx;
+use ref_world::{AtomStart, RefStart, Share, Start, Totals, World};
+use std::alloc::{AllocError, AllocFailed, Global};
+use std::sync::Wait;
+use std::sync::ledger::{Blank, Ledger};
+
+/// The codes of `+`, `-` and `>=`.
+pub(crate) const PLUS: u32 = 1;
+
+pub(crate) const MINUS: u32 = 2;
+
+pub(crate) const AT_LEAST: u32 = 101;
+
+/// The stamp of a commit where nothing hangs on it.
+pub(crate) const STAMP: Stamp = Stamp { worker: 0, step: 0 };
+
+/// By what a call is made.
+#[derive(Clone, Copy, Drop)]
+pub(crate) struct By<'a> {
+    pub(crate) alloc: Global,
+    pub(crate) funs: &'a FunTable,
+}
+
+/// Why a test can't go on.
+#[derive(Clone, Copy, Debug, Drop, PartialEq)]
+pub(crate) enum Stop {
+    Memory,
+    /// A call that is to be Ok was refused.
+    Refused,
+    /// Somebody wasn't there in time.
+    Late,
+}
+
+impl From<AllocError> for Stop {
+    fn from(_e: AllocError) -> Stop {
+        Stop::Memory
+    }
+}
+
+impl<T: Drop> From<AllocFailed<T>> for Stop {
+    fn from(_e: AllocFailed<T>) -> Stop {
+        Stop::Memory
+    }
+}
+
+/// What a call answers that isn't to be refused.
+pub(crate) fn done<T, E: Drop>(answer: Result<T, E>) -> Result<T, Stop> {
+    match answer {
+        Ok(answer) => Ok(answer),
+        Err(_) => Err(Stop::Refused),
+    }
+}
+
+/// The value of a text.
+pub(crate) fn value(alloc: Global, text: &str) -> Result<Value, AllocError> {
+    read_one(alloc, text.as_bytes()).map_err(|_| AllocError)
+}
+
+/// One argument.
+pub(crate) fn one_arg(alloc: Global, text: &str) -> Result<Args, AllocError> {
+    Args::of(alloc, vec![in alloc; value(alloc, text)?]?)
+}
+
+pub(crate) fn action(alloc: Global, code: u32, text: &str) -> Result<Action, AllocError> {
+    Ok(Action {
+        code,
+        args: one_arg(alloc, text)?,
+    })
+}
+
+/// `[>= BOUND]`.
+pub(crate) fn at_least(alloc: Global, bound: &str) -> Result<Rule, AllocError> {
+    Ok(Rule {
+        code: AT_LEAST,
+        args: one_arg(alloc, bound)?,
+    })
+}
+
+fn add_fun(alloc: Global, table: &mut FunTable, code: u32) -> Result<(), AllocError> {
+    let run: Fun = Box::new(
+        alloc,
+        move |a: Global, state: &Value, args: &[Value]| -> Result<Value, FunFault>
+            requires { length args.now ≤ 8 }
+            ensures { Answers (core_means code args.now state.now) result }
+        { core_fun(a, code, state, args) },
+    )?;
+    table
+        .add_fun(StoredFun::new(code, run))
+        .map_err(|_| AllocError)
+}
+
+fn add_pred(alloc: Global, table: &mut FunTable, code: u32) -> Result<(), AllocError> {
+    let run: Pred = Box::new(
+        alloc,
+        move |state: &Value, args: &[Value]| -> bool
+            requires { length args.now ≤ 8 }
+            ensures { result ≡ core_accepts code args.now state.now }
+        { core_test(code, state, args) },
+    )?;
+    table
+        .add_pred(StoredPred::new(code, run))
+        .map_err(|_| AllocError)
+}
+
+/// The table of `+`, `-` and `>=`.
+pub(crate) fn table(alloc: Global) -> Result<FunTable, AllocError> {
+    let mut table = FunTable::empty(alloc);
+    add_fun(alloc, &mut table, PLUS)?;
+    add_fun(alloc, &mut table, MINUS)?;
+    add_pred(alloc, &mut table, AT_LEAST)?;
+    Ok(table)
+}
+
+pub(crate) fn plain_ref(value: Value) -> RefStart {
+    RefStart {
+        value,
+        rule: None,
+        tally: false,
+    }
+}
+
+/// The refs and the atoms of two texts, without rules, and no agent.
+pub(crate) fn plain_start(alloc: Global, refs: &str, atoms: &str) -> Result<Start, AllocError> {
+    let mut start = Start {
+        refs: Vec::new(alloc),
+        atoms: Vec::new(alloc),
+        agents: Vec::new(alloc),
+    };
+    for value in read_all(alloc, refs.as_bytes()).map_err(|_| AllocError)? {
+        start.refs.push(plain_ref(value))?;
+    }
+    for value in read_all(alloc, atoms.as_bytes()).map_err(|_| AllocError)? {
+        start.atoms.push(AtomStart { value, rule: None })?;
+    }
+    Ok(start)
+}
+
+/// A shared world of these references, and its whole share.
+pub(crate) fn opened<C: Ledger, A: Ledger>(
+    by: By,
+    start: Start,
+    commits: Blank,
+    added: Blank,
+) -> Result<(Shared<Core, C, A>, Share<C, A>), Stop>
+    requires commits { (commits.name ≡ C.name) × (commits.parts ≡ C.parts) × (commits.parts ≡ all_parts) }
+    requires added { (added.name ≡ A.name) × (added.parts ≡ A.parts) × (added.parts ≡ all_parts) }
+{
+    let By { alloc, funs } = by;
+    let (world, share) = done(World::<Core, C, A>::new(alloc, funs, start, commits, added))?;
+    Ok((Shared::new(world), share))
+}
+
+/// The world that a shared world ends with, and its totals, where the share is whole and log and receipts fit.
+pub(crate) fn closed<C: Ledger, A: Ledger>(
+    alloc: Global,
+    shared: Shared<Core, C, A>,
+    share: Share<C, A>,
+) -> Result<(World<Core, C, A>, Totals), Stop> {
+    if !share.is_whole() {
+        return Err(Stop::Refused);
+    }
+    done(shared.finish(alloc, share))
+}
+
+/// The number that a value is, if it is one.
+pub(crate) fn int_of(value: &Value) -> Option<i64> {
+    match value.node() {
+        Node::Int(n) => Some(*n),
+        _ => None,
+    }
+}
+
+/// The number that a reference holds now, if it is there and holds one.
+pub(crate) fn int_at<C: Ledger, A: Ledger, R: Wait>(
+    rt: &R,
+    shared: &Shared<Core, C, A>,
+    who: Who,
+) -> Option<i64> {
+    int_of(&shared.value_of(rt, who).ok()??)
+}
+
+/// Whom a notice is of, whether its key is `:k`, and the numbers before and after.
+pub(crate) type Told = (Who, bool, Option<i64>, Option<i64>);
+
+pub(crate) fn told_of(notice: &Notice) -> Told {
+    let is_k = match notice.key.node() {
+        Node::Keyword(name) => name.as_str() == "k",
+        _ => false,
+    };
+    (
+        notice.who,
+        is_k,
+        int_of(&notice.before),
+        int_of(&notice.after),
+    )
+}
+
+pub(crate) fn all_told(alloc: Global, notices: &[Notice]) -> Result<Vec<Told>, AllocError> {
+    let mut all = Vec::new(alloc);
+    for notice in notices {
+        all.push(told_of(notice))?;
+    }
+    Ok(all)
+}
+
+/// `alter r + n`.
+pub(crate) fn add(by: By, tx: &mut Tx<Core>, r: u32, n: &str) -> Result<(), Stop> {
+    let args = one_arg(by.alloc, n)?;
+    let _ = done(tx.alter(by.alloc, by.funs, r, PLUS, args))?;
+    Ok(())
+}
