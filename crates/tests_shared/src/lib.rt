@@ -14,4 +14,8 @@
 #[cfg(test)]
 mod calls;
 #[cfg(test)]
+mod conflicts;
+#[cfg(test)]
+mod finishing;
+#[cfg(test)]
 mod worlds;

@@ -9,7 +9,7 @@ use ref_fun::{
     Action, Args, Core, Fun, FunFault, FunTable, Pred, Rule, StoredFun, StoredPred, core_fun,
     core_test,
 };
-use ref_log::{Notice, Stamp, Who};
+use ref_log::{Entry, Notice, Stamp, Who};
 use ref_shared::Shared;
 use ref_tx::Tx;
 use ref_world::{AtomStart, RefStart, Share, Start, Totals, World};
@@ -212,6 +212,17 @@ pub(crate) fn all_told(alloc: Global, notices: &[Notice]) -> Result<Vec<Told>, A
     let mut all = Vec::new(alloc);
     for notice in notices {
         all.push(told_of(notice))?;
+    }
+    Ok(all)
+}
+
+/// The stamp and the read point of each transaction of a log.
+pub(crate) fn all_commits(alloc: Global, log: &[Entry]) -> Result<Vec<(Stamp, u64)>, AllocError> {
+    let mut all = Vec::new(alloc);
+    for entry in log {
+        if let Entry::Trans(transaction) = entry {
+            all.push((transaction.stamp, transaction.read_point))?;
+        }
     }
     Ok(all)
 }
