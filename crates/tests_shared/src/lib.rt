@@ -18,4 +18,6 @@ mod conflicts;
 #[cfg(test)]
 mod finishing;
 #[cfg(test)]
+mod threads;
+#[cfg(test)]
 mod worlds;
