@@ -18,6 +18,10 @@ mod conflicts;
 #[cfg(test)]
 mod finishing;
 #[cfg(test)]
+mod stress;
+#[cfg(test)]
 mod threads;
+#[cfg(test)]
+mod work;
 #[cfg(test)]
 mod worlds;

@@ -4,6 +4,7 @@ ghost use Rattle.ref_fun.specs.Core.{core_accepts, core_means};
 ghost use Rattle.ref_fun.specs.Meaning.{Answers};
 ghost use Rattle.ref_world.specs.Shares.{all_parts};
 
+use ref_agents::ErrorMode;
 use ref_edn::{Node, Value, read_all, read_one};
 use ref_fun::{
     Action, Args, Core, Fun, FunFault, FunTable, Pred, Rule, StoredFun, StoredPred, core_fun,
@@ -12,7 +13,7 @@ use ref_fun::{
 use ref_log::{Entry, Notice, Stamp, Who};
 use ref_shared::Shared;
 use ref_tx::Tx;
-use ref_world::{AtomStart, RefStart, Share, Start, Totals, World};
+use ref_world::{AgentStart, AtomStart, RefStart, Share, Start, Totals, World};
 use std::alloc::{AllocError, AllocFailed, Global};
 use std::sync::Wait;
 use std::sync::atomic::{AtomicBool, Ordering};
@@ -149,6 +150,15 @@ pub(crate) fn plain_start(alloc: Global, refs: &str, atoms: &str) -> Result<Star
         start.atoms.push(AtomStart { value, rule: None })?;
     }
     Ok(start)
+}
+
+/// An agent that fails where an action does.
+pub(crate) fn agent(value: Value, rule: Option<Rule>) -> AgentStart {
+    AgentStart {
+        value,
+        rule,
+        mode: ErrorMode::Fail,
+    }
 }
 
 /// A shared world of these references, and its whole share.
