@@ -18,6 +18,7 @@
 //! | [`Who`], [`Notice`], [`Sent`] | a reference, what a watch is told, what a transaction sends |
 //! | [`MakeFault`], [`RuleFault`], [`WatchFault`], [`AuditFault`] | why a call that all kinds have is refused, and why entries have no replay |
 //! | [`SharedVec`], [`Share`] | a list with several owners, and what can have one more owner |
+//! | [`Same`] | what can be compared whole, as two entries |
 //!
 //! A replay costs time and memory linear in the references and operations. It promises nothing about how fast: it is what
 //! faster code is held against.
@@ -31,6 +32,7 @@ pub mod making;
 pub mod notices;
 pub mod operations;
 pub mod replay;
+pub mod same;
 pub mod sends;
 pub mod states;
 pub mod watches;
@@ -44,6 +46,7 @@ pub use notices::{Notice, Who};
 pub use operations::{Done, Op, protected_refs};
 pub use ref_fun::Args;
 pub use replay::replay_plain;
+pub use same::Same;
 pub use sends::Sent;
 pub use states::{Base, PlainState};
 pub use watches::Watches;
