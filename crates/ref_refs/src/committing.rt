@@ -8,6 +8,7 @@ ghost use Rattle.ref_log.specs.Replay.{after_dones, is_protected, step};
 ghost use Rattle.ref_log.specs.Tally.{added_by_dones, fit_tally, tally_value};
 ghost use Rattle.ref_tx.specs.Inner.{inner_value};
 ghost use Rattle.ref_refs.specs.Commit.{alien, alien_ref, alien_value, changed_by, commit_refusal, conflict, early_refusal, entry_of, first_invalid, lacking, lacking_rule};
+ghost use Rattle.ref_refs.specs.Conflicts.{ConflictFits};
 ghost use Rattle.ref_refs.specs.Seen.{changed_at, are_unchanged_since};
 ghost use Rattle.ref_refs.specs.Watches.{notices, touched_refs};
 ghost use Rattle.ref_refs.specs.declared.faults.CommitFault.TheVariants as commits;
@@ -85,6 +86,8 @@ impl<M: Meaning> RefStore<M> {
         // The tally goes up by what was commuted, and by nothing else.
         ensures tally { OnOk result (tally_value self.new.tally self.new.values
             ≡ tally_value self.old.tally self.old.values + added_by_dones self.old.tally tx.dones) }
+        // A conflict is told with a ref that the transaction protects, its read point and a later point.
+        ensures conflict { IfErr result (λ e. ConflictFits tx e.1) }
         ensures back { IfErr result (λ e. e.0 ≡ tx) }
         ensures err { OnErr result (self.new ≡ self.old) }
     {

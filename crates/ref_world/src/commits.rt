@@ -3,6 +3,7 @@ ghost use Rattle.ref_log.specs.Told.{TellsBack};
 ghost use Rattle.std.specs.Prelude.{◌≡◌, ◌+◌, ℕ, [], true, Ok, IfOk, IfErr, OnErr, OnOk, length, slice_get};
 ghost use Rattle.ref_log.specs.Replay.{is_protected, step};
 ghost use Rattle.ref_refs.specs.Commit.{changed_by, commit_refusal, early_refusal, entry_of};
+ghost use Rattle.ref_refs.specs.Conflicts.{ConflictFits};
 ghost use Rattle.ref_refs.specs.Seen.{changed_at};
 ghost use Rattle.ref_refs.specs.Watches.{notices, touched_refs};
 ghost use Rattle.ref_refs.specs.declared.faults.CommitFault.TheVariants as commits;
@@ -82,6 +83,8 @@ impl<M: Meaning, C: Ledger, A: Ledger> World<M, C, A> {
             ≡ notices self.old.refs.guards self.old.refs.values self.new.refs.values (touched_refs tx.dones)) }
         ensures share { OnOk result (share.new ≡ shares.with_commit share.old (point_of self.old + 1) (entry_of stamp tx)
             (added_by_dones self.old.refs.tally tx.dones)) }
+        // A conflict is told with a ref that the transaction protects, its read point and a later point.
+        ensures conflict { IfErr result (λ e. ConflictFits tx e.1) }
         ensures back { IfErr result (λ e. e.0 ≡ tx) }
         ensures err { OnErr result (self.new ≡ self.old) }
         ensures same { OnErr result (share.new ≡ share.old) }

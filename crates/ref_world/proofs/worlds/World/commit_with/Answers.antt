@@ -1,6 +1,7 @@
 use Rattle.std.proofs.Common.{rules, ◌≡◌, ◌∙◌, ℕ, ◌≤◌, ◌^◌, ◌+◌, ◌++◌, ◌∷◌, [], true, Option, None, Some, Ok, length, ap, refl, subst, sym}
 use Rattle.ref_log.specs.Replay.{point_after, step}
 use Rattle.ref_log.specs.Tally.{added_by_dones, tally_value}
+use Rattle.ref_refs.specs.Conflicts.{refusal-fits, told-fits}
 use Rattle.ref_refs.specs.Commit.{changed_by, commit_refusal, early_refusal, entry_of, or_fault}
 use Rattle.ref_refs.specs.declared.faults.CommitFault.{CommitFault}
 use Rattle.ref_refs.specs.Seen.{are_unchanged_since, changed_at}
@@ -64,3 +65,6 @@ returns-then-is_err-3-clause-refused g c =
     let none : refusal c.point-at.result c.len-agents.result ≡ None = c.in-Ok.ensures.refused in
     let before = first_none (early c.point-at.result c.len-agents.result) _ none in
     (λ other. absurd (other refl), λ memory. rw (← c.self.view_is) (ap (early (point_after w.base w.log.items)) (sym agents) ∙ (ap (λ p. early p c.len-agents.result) (sym point) ∙ before)))
+
+pub returns-in-Err-clause-conflict : goal.returns-in-Err-clause-conflict
+returns-in-Err-clause-conflict g c = told-fits c.args.tx _ _ c.in-Err.fault c.in-Err.ensures.refused (refusal-fits c.args.tx g.M.Meaning.means g.M.Meaning.accepts (g.F.Functions.knows c.args.funs.now) c.self.inside.refs (c.point-at.result + 1) c.len-agents.result)
