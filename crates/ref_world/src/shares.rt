@@ -1,5 +1,5 @@
 //! Shares of what is done to a world.
-ghost use Rattle.std.specs.Prelude.{◌≡◌, ◌+◌, ◌<◌, ◌==◌, ◌↔◌, [], IsSome, IfSome, IfNone, OnOk, OnErr, IfErr};
+ghost use Rattle.std.specs.Prelude.{◌≡◌, ◌≢◌, ◌+◌, ◌<◌, ◌≤◌, ◌==◌, ◌↔◌, [], IsSome, IfSome, IfNone, OnOk, OnErr, IfErr};
 ghost use Rattle.ref_world.specs.Shares.{all_parts, joined, whole};
 
 use ref_log::Entry;
@@ -17,7 +17,7 @@ pub struct LogReceipt {
 }
 
 /// Some of the 2^32 parts of a world, and what was done with them: how many commits, how much they added to the tally, and the
-/// receipt of each entry that a commit or a change of an atom added, in the order of the calls.
+/// receipt of each entry that a commit or a change of an atom added, in the order of the calls, as long as no share was joined.
 ///
 /// A world comes with one share, which has all parts. Whoever is to change it gets some of them by [`Share::split`]; the calls
 /// that add such an entry take the share and count in it. C and A name the world's books, so that a share fits no other
@@ -32,7 +32,7 @@ pub struct Share<C: Ledger, A: Ledger> {
 }
 
 impl<C: Ledger, A: Ledger> Model for Share<C, A> {
-    ghost use Rattle.std.specs.Prelude.{◌≡◌, ◌<◌};
+    ghost use Rattle.std.specs.Prelude.{◌≡◌, ◌<◌, ◌≤◌};
     ghost use Rattle.std.specs.Coded.{codes};
     ghost use Rattle.ref_edn.specs.Code.{edn_code};
     ghost use Rattle.ref_world.specs.Seen.{ShareSeen};
@@ -50,7 +50,7 @@ impl<C: Ledger, A: Ledger> Model for Share<C, A> {
     } };
 
     ghost invariant = { λ s. (s.commits.parts ≡ s.parts) × (s.added.parts ≡ s.parts) × (0 < s.parts)
-        × (C.parts ≡ all_parts) × (A.parts ≡ all_parts) };
+        × (s.parts ≤ all_parts) × (C.parts ≡ all_parts) × (A.parts ≡ all_parts) };
 }
 
 impl<C: Ledger, A: Ledger> Share<C, A> {
@@ -70,10 +70,11 @@ impl<C: Ledger, A: Ledger> Share<C, A> {
         }
     }
 
-    /// How many of the 2^32 parts it has: at least one.
+    /// How many of the 2^32 parts it has: at least one, and at most all.
     pub fn parts(&self) -> u64
         ensures value { result ≡ self.now.parts }
         ensures some { 0 < result }
+        ensures most { result ≤ all_parts }
     {
         self.parts
     }
@@ -85,7 +86,8 @@ impl<C: Ledger, A: Ledger> Share<C, A> {
         self.parts == ALL_PARTS
     }
 
-    /// The receipts, in the order in which the calls were made.
+    /// The receipts, in the order in which the calls were made; those of a share that was joined stand where [`Share::join`] put
+    /// them.
     pub fn receipts(&self) -> &[LogReceipt]
         ensures { result.now ≡ self.now.receipts }
     {
@@ -116,14 +118,18 @@ impl<C: Ledger, A: Ledger> Share<C, A> {
         })
     }
 
-    /// Takes all of another share in, its receipts behind the others. Linear in the number of those. Where there is no memory
-    /// for them it changes nothing and hands the other share back.
+    /// Takes all of another share in. The receipts that were here stand first, in their order, and then the other's, in theirs;
+    /// so where both shares were used side by side, the receipts of the joined one needn't stand in the order of their points.
+    /// Linear in the number of the other's receipts. Where there is no memory for these it changes nothing and hands the other
+    /// share back; one without receipts takes no memory.
     pub fn join(&mut self, other: Share<C, A>) -> Result<(), Share<C, A>>
         ensures ok { OnOk result (self.new ≡ joined self.old other) }
         ensures back { IfErr result (λ s. s ≡ other) }
         ensures err { OnErr result (self.new ≡ self.old) }
+        ensures memory { OnErr result (other.receipts ≢ []) }
     {
-        if self.receipts.reserve(other.receipts.len()).is_err() {
+        let more = other.receipts.len();
+        if more > 0 && self.receipts.reserve(more).is_err() {
             return Err(other);
         }
         let Share {
