@@ -89,14 +89,14 @@ fn open_hours<C: Ledger + Send + Sync, A: Ledger + Send + Sync, R: Threads + Wai
     market: &Market<C, A>,
     share: Share<C, A>,
 ) -> Result<(Custom<C, A>, Board), Trouble> {
-    let (custom, told) = thread::join(
+    let (told, custom) = thread::join(
         rt,
+        move || help_both(rt, market),
         move || {
             let custom = serve_all(rt, market, share);
             market.shared.close(rt);
             custom
         },
-        move || help_both(rt, market),
     );
     Ok((custom?, told?))
 }
