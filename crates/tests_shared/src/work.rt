@@ -396,7 +396,7 @@ fn who_waits_for_an_agent_is_woken(rt: HostRuntime) -> Result<(), Fail> {
     Ok(())
 }
 
-// A gate that holds an action until the action of another thread has come so far.
+// A gate that holds an action until another thread has come so far, and some time more.
 #[derive(Drop)]
 struct Meet<'a, 'b, 'c, R: Clock> {
     rt: &'a R,
@@ -409,7 +409,7 @@ impl<'a, 'b, 'c, R: Clock> Gate for Meet<'a, 'b, 'c, R> {
     fn pass(&mut self, spot: Spot) {
         if spot == Spot::BeforeAction {
             self.here.store(true, Ordering::SeqCst);
-            self.met = wait_for(self.rt, self.there);
+            self.met = wait_past(self.rt, self.there);
         }
     }
 }
@@ -483,5 +483,97 @@ fn actions_of_two_agents_run_side_by_side(rt: HostRuntime) -> Result<(), Fail> {
         values: (Some(1), Some(2)),
     };
     assert_eq!(rt; met, wanted);
+    Ok(())
+}
+
+// Runs one action, which is held until the other waits for the next one, and closes once that one was run.
+fn work_first<R: Wait + Clock, C: Ledger, A: Ledger>(
+    rt: &R,
+    by: By,
+    shared: &Shared<Core, C, A>,
+    here: &AtomicBool,
+    waits: &AtomicBool,
+    did: &AtomicBool,
+) -> (Work, bool) {
+    let mut gate = Meet {
+        rt,
+        here,
+        there: waits,
+        met: false,
+    };
+    let worked = shared.work_once(rt, by.alloc, by.funs, &mut gate, &mut Quiet);
+    let in_time = gate.met && wait_for(rt, did);
+    shared.close(rt);
+    (worked, in_time)
+}
+
+// Waits for the next action while the first is on its way, and runs it.
+fn work_next<R: Wait + Clock, C: Ledger, A: Ledger>(
+    rt: &R,
+    by: By,
+    shared: &Shared<Core, C, A>,
+    here: &AtomicBool,
+    waits: &AtomicBool,
+    did: &AtomicBool,
+) -> (Work, bool) {
+    let in_time = wait_for(rt, here);
+    waits.store(true, Ordering::SeqCst);
+    let worked = work(rt, by, shared);
+    did.store(true, Ordering::SeqCst);
+    (worked, in_time)
+}
+
+// What each thread did and whether the other was there in time, and what the agent is then.
+#[derive(Debug, Drop, PartialEq)]
+struct InTurn {
+    first: (Work, bool),
+    next: (Work, bool),
+    value: Option<i64>,
+}
+
+fn try_turns<C: Ledger + Send + Sync, A: Ledger + Send + Sync, R: Threads + Wait + Clock + Sync>(
+    rt: &R,
+    by: By,
+    commits: Blank,
+    added: Blank,
+) -> Result<InTurn, Stop>
+    requires commits { (commits.name ≡ C.name) × (commits.parts ≡ C.parts) × (commits.parts ≡ all_parts) }
+    requires added { (added.name ≡ A.name) × (added.parts ≡ A.parts) × (added.parts ≡ all_parts) }
+{
+    let alloc = by.alloc;
+    let (shared, _share) = opened::<C, A>(by, two_agents(alloc)?, commits, added)?;
+    done(shared.send(rt, alloc, 0, action(alloc, PLUS, "1")?))?;
+    done(shared.send(rt, alloc, 0, action(alloc, PLUS, "2")?))?;
+    let (here, waits, did) = (
+        AtomicBool::new(false),
+        AtomicBool::new(false),
+        AtomicBool::new(false),
+    );
+    let (lent, here, waits, did) = (&shared, &here, &waits, &did);
+    let (next, first) = thread::join(
+        rt,
+        move || work_next(rt, by, lent, here, waits, did),
+        move || work_first(rt, by, lent, here, waits, did),
+    );
+    Ok(InTurn {
+        first,
+        next,
+        value: int_at(rt, &shared, Who::Agent(0)),
+    })
+}
+
+#[test]
+fn an_agents_next_action_waits_for_the_first(rt: HostRuntime) -> Result<(), Fail> {
+    let alloc = rt.alloc();
+    let funs = table(alloc)?;
+    let by = By { alloc, funs: &funs };
+    let (commits, added) = (Blank::new(ALL_PARTS), Blank::new(ALL_PARTS));
+    let turns = try_turns::<Brand, Brand, _>(&rt, by, commits, added)?;
+    let wanted = InTurn {
+        first: (Ok(Worked::Did(0)), true),
+        next: (Ok(Worked::Did(0)), true),
+        value: Some(3),
+    };
+    assert_eq!(rt; turns, wanted);
     Ok(())
 }
