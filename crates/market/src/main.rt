@@ -92,13 +92,20 @@ fn open_hours<C: Ledger + Send + Sync, A: Ledger + Send + Sync, R: Threads + Wai
     let (told, custom) = thread::join(
         rt,
         move || help_both(rt, market),
-        move || {
-            let custom = serve_all(rt, market, share);
-            market.shared.close(rt);
-            custom
-        },
+        move || serve_until_close(rt, market, share),
     );
     Ok((custom?, told?))
+}
+
+// Serves all customers, and closes the market, also where serving them failed.
+fn serve_until_close<C: Ledger + Send + Sync, A: Ledger + Send + Sync, R: Threads + Wait + Sync>(
+    rt: &R,
+    market: &Market<C, A>,
+    share: Share<C, A>,
+) -> Result<Custom<C, A>, Trouble> {
+    let custom = serve_all(rt, market, share);
+    market.shared.close(rt);
+    custom
 }
 
 // Takes the world out, and says what is in it.

@@ -1,5 +1,5 @@
 //! Functions of this program's own: what they mean, and the table that runs them.
-ghost use Rattle.std.specs.Prelude.{◌≡◌, ◌≤◌, Some, length};
+ghost use Rattle.std.specs.Prelude.{◌≡◌, ◌≤◌, length, pos};
 ghost use Rattle.market.specs.Acts.{act_accepts, act_adds, act_means, act_of, all_acts, closed, done, is_group, is_left};
 ghost use Rattle.ref_edn.specs.Edn.{int};
 ghost use Rattle.ref_fun.specs.Meaning.{Answers};
@@ -89,7 +89,7 @@ fn close(state: &Value, args: &[Value]) -> Result<Value, Cause>
 }
 
 fn none_left() -> Value
-    ensures { result ≡ int 0 }
+    ensures { result ≡ int (pos 0) }
 {
     match Value::of(Node::Int(0)) {
         Ok(value) => value,
