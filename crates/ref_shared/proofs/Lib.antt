@@ -1,3 +1,4 @@
 pub mod Chains
+pub mod Fitting
 pub mod Marking
 pub mod Turns
