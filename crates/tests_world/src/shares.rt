@@ -7,6 +7,7 @@ use crate::subjects::{By, STAMP};
 use crate::tables::table_of;
 use ref_fun::Core;
 use ref_log::{Entry, Who};
+use ref_tx::Tx;
 use ref_world::{ALL_PARTS, AtomStart, LogReceipt, RefStart, Share, Start, Totals, World};
 use std::alloc::{AllocError, Global};
 use std::marker::Brand;
@@ -39,26 +40,43 @@ fn add_seven<C: Ledger, A: Ledger>(
     share: &mut Share<C, A>,
 ) -> Result<bool, AllocError> {
     let By { alloc, funs } = by;
-    let mut tx = world.begin(alloc)?;
-    let seven = args_from(alloc, &read(alloc, "7")?, 0)?;
-    let added = tx.commute(alloc, funs, 0, 1, seven);
-    let committed = world.commit_with(alloc, funs, share, STAMP, tx);
-    Ok(added.is_ok() && committed.is_ok())
+    let tx = adding_seven(by, world.begin(alloc)?)?;
+    Ok(world.commit_with(alloc, funs, share, STAMP, tx).is_ok())
 }
 
-// `swap x + 1`, and a comparison that answers false.
-fn change_atom<C: Ledger, A: Ledger>(
+fn adding_seven(by: By, mut tx: Tx<Core>) -> Result<Tx<Core>, AllocError> {
+    let By { alloc, funs } = by;
+    let seven = args_from(alloc, &read(alloc, "7")?, 0)?;
+    match tx.commute(alloc, funs, 0, 1, seven) {
+        Ok(_) => Ok(tx),
+        Err(_) => Err(AllocError),
+    }
+}
+
+// Whether `swap x + 1` is taken.
+fn swaps<C: Ledger, A: Ledger>(
+    by: By,
+    world: &mut World<Core, C, A>,
+    share: &mut Share<C, A>,
+) -> Result<bool, AllocError> {
+    let By { alloc, funs } = by;
+    let one = args_from(alloc, &read(alloc, "1")?, 0)?;
+    Ok(world.swap(alloc, funs, share, 0, 1, one).is_ok())
+}
+
+// Whether x, which isn't 1 any more, stays.
+fn stays<C: Ledger, A: Ledger>(
     by: By,
     world: &mut World<Core, C, A>,
     share: &mut Share<C, A>,
 ) -> Result<bool, AllocError> {
     let By { alloc, funs } = by;
     let values = read(alloc, "1 9")?;
-    let one = args_from(alloc, &values, 1)?;
-    let swapped = world.swap(alloc, funs, share, 0, 1, one);
     let (old, new) = (value_at(&values, 0)?, value_at(&values, 1)?);
-    let compared = world.compare_and_set(alloc, funs, share, 0, &old, new);
-    Ok(swapped.is_ok() && matches!(compared, Ok(cas) if !cas.done))
+    match world.compare_and_set(alloc, funs, share, 0, &old, new) {
+        Ok(cas) => Ok(!cas.done),
+        Err(_) => Ok(false),
+    }
 }
 
 // The points of receipts, and whether each is a commit's.
@@ -74,15 +92,78 @@ fn points(alloc: Global, receipts: &[LogReceipt]) -> Result<Vec<(u64, bool)>, Al
 // What came of a world whose share was split, used and joined again.
 #[derive(Debug, Drop, PartialEq)]
 struct Seen {
-    split: bool,
+    split: (bool, bool),
     whole_between: (bool, bool),
     done: bool,
     joined: bool,
+    ended: Ended,
+}
+
+// What share and world say at the end.
+#[derive(Debug, Drop, PartialEq)]
+struct Ended {
     whole: bool,
     points: Vec<(u64, bool)>,
     totals: Totals,
     books: (u64, u64),
     tally: bool,
+}
+
+fn end_of<C: Ledger, A: Ledger>(
+    alloc: Global,
+    world: &mut World<Core, C, A>,
+    share: &mut Share<C, A>,
+) -> Result<Ended, AllocError> {
+    let nineteen = read(alloc, "19")?;
+    Ok(Ended {
+        whole: share.is_whole(),
+        points: points(alloc, share.receipts())?,
+        totals: world.totals(share),
+        books: (world.commits(), world.added()),
+        tally: world.value_of(Who::Ref(0)) == nineteen.first(),
+    })
+}
+
+// An atom is changed by the second share, and the tally by each.
+fn change<C: Ledger, A: Ledger>(
+    by: By,
+    world: &mut World<Core, C, A>,
+    first: &mut Share<C, A>,
+    second: &mut Share<C, A>,
+) -> Result<bool, AllocError> {
+    Ok(
+        swaps(by, world, second)?
+            && stays(by, world, second)?
+            && add_seven(by, world, first)?
+            && add_seven(by, world, second)?,
+    )
+}
+
+// Whether none is split off, of no part and of all.
+fn splits_none<C: Ledger, A: Ledger>(share: &mut Share<C, A>) -> (bool, bool) {
+    (share.split(0).is_none(), share.split(ALL_PARTS).is_none())
+}
+
+fn used<C: Ledger, A: Ledger>(
+    by: By,
+    world: &mut World<Core, C, A>,
+    first: &mut Share<C, A>,
+) -> Result<Option<Seen>, AllocError> {
+    let split = splits_none(first);
+    let Some(mut second) = first.split(ALL_PARTS / 2) else {
+        return Ok(None);
+    };
+    let whole_between = (first.is_whole(), second.is_whole());
+    let done = change(by, world, first, &mut second)?;
+    let joined = first.join(second).is_ok();
+    let ended = end_of(by.alloc, world, first)?;
+    Ok(Some(Seen {
+        split,
+        whole_between,
+        done,
+        joined,
+        ended,
+    }))
 }
 
 fn tried<C: Ledger, A: Ledger>(
@@ -94,31 +175,10 @@ fn tried<C: Ledger, A: Ledger>(
     requires added { (added.name ≡ A.name) × (added.parts ≡ A.parts) × (added.parts ≡ all_parts) }
 {
     let By { alloc, funs } = by;
-    let made = World::<Core, C, A>::new(alloc, funs, start(alloc)?, commits, added);
-    let Ok((mut world, mut first)) = made else {
-        return Ok(None);
-    };
-    let split = first.split(0).is_none() && first.split(ALL_PARTS).is_none();
-    let Some(mut second) = first.split(ALL_PARTS / 2) else {
-        return Ok(None);
-    };
-    let whole_between = (first.is_whole(), second.is_whole());
-    let done = change_atom(by, &mut world, &mut second)?
-        && add_seven(by, &mut world, &mut first)?
-        && add_seven(by, &mut world, &mut second)?;
-    let joined = first.join(second).is_ok();
-    let nineteen = read(alloc, "19")?;
-    Ok(Some(Seen {
-        split,
-        whole_between,
-        done,
-        joined,
-        whole: first.is_whole(),
-        points: points(alloc, first.receipts())?,
-        totals: world.totals(&mut first),
-        books: (world.commits(), world.added()),
-        tally: world.value_of(Who::Ref(0)) == nineteen.first(),
-    }))
+    match World::<Core, C, A>::new(alloc, funs, start(alloc)?, commits, added) {
+        Ok((mut world, mut share)) => used(by, &mut world, &mut share),
+        Err(_) => Ok(None),
+    }
 }
 
 fn try_shares(alloc: Global) -> Result<Option<Seen>, AllocError> {
@@ -131,18 +191,20 @@ fn try_shares(alloc: Global) -> Result<Option<Seen>, AllocError> {
 fn shares_are_split_and_joined(rt: HostRuntime) -> Result<(), Fail> {
     let alloc = rt.alloc();
     let wanted = Seen {
-        split: true,
+        split: (true, true),
         whole_between: (false, false),
         done: true,
         joined: true,
-        whole: true,
-        points: vec![in alloc; (2, true), (1, false), (3, true)]?,
-        totals: Totals {
-            commits: 2,
-            added: 14,
+        ended: Ended {
+            whole: true,
+            points: vec![in alloc; (2, true), (1, false), (3, true)]?,
+            totals: Totals {
+                commits: 2,
+                added: 14,
+            },
+            books: (2, 14),
+            tally: true,
         },
-        books: (2, 14),
-        tally: true,
     };
     assert_eq!(rt; try_shares(alloc)?, Some(wanted));
     Ok(())
