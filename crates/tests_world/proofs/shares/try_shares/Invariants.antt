@@ -1,7 +1,7 @@
 use Rattle.tests_world.proofs.shares.try_shares.Given as goal
 
 abbrev pub ghosts-tried-C-Ledger : goal.ghosts-tried-C-Ledger
-ghosts-tried-C-Ledger g a = record { name = a.commits.name; parts = a.commits.parts }
+ghosts-tried-C-Ledger a = record { name = a.commits.name; parts = a.commits.parts }
 
 abbrev pub ghosts-tried-A-Ledger : goal.ghosts-tried-A-Ledger
-ghosts-tried-A-Ledger g a = record { name = a.added.name; parts = a.added.parts }
+ghosts-tried-A-Ledger a = record { name = a.added.name; parts = a.added.parts }
