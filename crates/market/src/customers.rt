@@ -4,6 +4,7 @@ use crate::board::Board;
 use crate::stalls::{Good, Market, Outcome};
 use ref_log::Stamp;
 use ref_world::{ALL_PARTS, Share};
+use std::alloc::Global;
 use std::sync::Wait;
 use std::sync::ledger::Ledger;
 use std::thread;
@@ -21,27 +22,15 @@ struct Visit<C: Ledger, A: Ledger> {
     share: Share<C, A>,
 }
 
-/// What came of customers: the share that was used for them, how their wishes ended, and what the board was told.
-#[derive(Drop)]
-pub(crate) struct Custom<C: Ledger, A: Ledger> {
-    pub(crate) share: Share<C, A>,
+/// How the wishes of customers ended.
+#[derive(Clone, Copy, Debug, Default, Drop)]
+pub(crate) struct Wishes {
     pub(crate) sold: u64,
     pub(crate) sold_out: u64,
     pub(crate) without_bread: u64,
-    pub(crate) board: Board,
 }
 
-impl<C: Ledger, A: Ledger> Custom<C, A> {
-    fn of(share: Share<C, A>) -> Custom<C, A> {
-        Custom {
-            share,
-            sold: 0,
-            sold_out: 0,
-            without_bread: 0,
-            board: Board::default(),
-        }
-    }
-
+impl Wishes {
     fn count(&mut self, outcome: Outcome) {
         let count = match outcome {
             Outcome::Sold => &mut self.sold,
@@ -51,13 +40,38 @@ impl<C: Ledger, A: Ledger> Custom<C, A> {
         *count = count.saturating_add(1);
     }
 
+    // These and others.
+    fn with(self, other: Wishes) -> Wishes {
+        Wishes {
+            sold: self.sold.saturating_add(other.sold),
+            sold_out: self.sold_out.saturating_add(other.sold_out),
+            without_bread: self.without_bread.saturating_add(other.without_bread),
+        }
+    }
+}
+
+/// What came of customers: the share that was used for them, how their wishes ended, and what the board was told.
+#[derive(Drop)]
+pub(crate) struct Custom<C: Ledger, A: Ledger> {
+    pub(crate) share: Share<C, A>,
+    pub(crate) wishes: Wishes,
+    pub(crate) board: Board,
+}
+
+impl<C: Ledger, A: Ledger> Custom<C, A> {
+    fn of(share: Share<C, A>) -> Custom<C, A> {
+        Custom {
+            share,
+            wishes: Wishes::default(),
+            board: Board::default(),
+        }
+    }
+
     fn join(&mut self, other: Custom<C, A>) -> Result<(), Trouble> {
         if self.share.join(other.share).is_err() {
             return Err(Trouble);
         }
-        self.sold = self.sold.saturating_add(other.sold);
-        self.sold_out = self.sold_out.saturating_add(other.sold_out);
-        self.without_bread = self.without_bread.saturating_add(other.without_bread);
+        self.wishes = self.wishes.with(other.wishes);
         self.board = self.board.with(other.board);
         Ok(())
     }
@@ -69,8 +83,17 @@ pub(crate) fn serve_all<C: Ledger + Send + Sync, A: Ledger + Send + Sync, R: Thr
     market: &Market<C, A>,
     share: Share<C, A>,
 ) -> Result<Custom<C, A>, Trouble> {
+    let visits = visits(market.alloc, share)?;
+    joined(thread::map_vec(rt, visits, &|visit| serve(rt, market, visit))?)
+}
+
+// A visit for each thread, and for each a share.
+fn visits<C: Ledger, A: Ledger>(
+    alloc: Global,
+    share: Share<C, A>,
+) -> Result<Vec<Visit<C, A>>, Trouble> {
     let mut rest = share;
-    let mut visits = Vec::new(market.alloc);
+    let mut visits = Vec::new(alloc);
     for worker in 1..THREADS {
         let Some(share) = rest.split(ALL_PARTS / THREADS as u64) else {
             return Err(Trouble);
@@ -81,8 +104,15 @@ pub(crate) fn serve_all<C: Ledger + Send + Sync, A: Ledger + Send + Sync, R: Thr
         worker: 0,
         share: rest,
     })?;
+    Ok(visits)
+}
+
+// All customs as one.
+fn joined<C: Ledger, A: Ledger>(
+    customs: Vec<Result<Custom<C, A>, Trouble>>,
+) -> Result<Custom<C, A>, Trouble> {
     let mut all = None;
-    for custom in thread::map_vec(rt, visits, &|visit| serve(rt, market, visit))? {
+    for custom in customs {
         match &mut all {
             None => all = Some(custom?),
             Some(all) => all.join(custom?)?,
@@ -108,7 +138,7 @@ fn serve<C: Ledger, A: Ledger, R: Wait>(
         market.come(rt, &mut custom.share, &mut custom.board)?;
         let stamp = Stamp { worker, step };
         let outcome = market.sell(rt, &mut custom.share, stamp, good, &mut custom.board)?;
-        custom.count(outcome);
+        custom.wishes.count(outcome);
     }
     Ok(custom)
 }

@@ -20,12 +20,12 @@ mod tickets;
 mod values;
 
 use board::Board;
-use customers::{Custom, serve_all};
+use customers::{Custom, Wishes, serve_all};
 use helpers::help_both;
 use ref_edn::Value;
 use ref_fun::{Core, FunTable};
 use ref_log::Who;
-use ref_world::{Share, World};
+use ref_world::{Share, Totals, World};
 use stalls::{CAME, Good, JOURNAL, Market, TAKINGS, TILL, start};
 use std::alloc::{AllocError, AllocFailed};
 use std::process::ExitCode;
@@ -115,20 +115,35 @@ fn close_up<C: Ledger, A: Ledger, R: AllocGlobal + Print>(
     custom: Custom<C, A>,
     helped: Board,
 ) -> Result<(), Trouble> {
-    let Market { alloc, shared, .. } = market;
     let Custom {
         share,
-        sold,
-        sold_out,
-        without_bread,
+        wishes,
         board,
     } = custom;
+    let (world, totals) = take_out(market, share)?;
+    say_values(rt, &world)?;
+    say_counts(rt, wishes, board.with(helped), totals)
+}
+
+// Takes the world out, with its totals.
+fn take_out<C: Ledger, A: Ledger>(
+    market: Market<C, A>,
+    share: Share<C, A>,
+) -> Result<(World<Core, C, A>, Totals), Trouble> {
+    let Market { alloc, shared, .. } = market;
     if !share.is_whole() {
         return Err(Trouble);
     }
     let Ok((world, totals)) = shared.finish(alloc, share) else {
         return Err(Trouble);
     };
+    Ok((world, totals))
+}
+
+fn say_values<C: Ledger, A: Ledger, R: AllocGlobal + Print>(
+    rt: &R,
+    world: &World<Core, C, A>,
+) -> Result<(), Trouble> {
     say(rt, "customers", world.value_of(Who::Atom(CAME)))?;
     for good in [Good::Apple, Good::Bread, Good::Cheese] {
         say(rt, good.name(), world.value_of(Who::Ref(good.stock())))?;
@@ -136,11 +151,23 @@ fn close_up<C: Ledger, A: Ledger, R: AllocGlobal + Print>(
     say(rt, "takings", world.value_of(Who::Ref(TAKINGS)))?;
     say(rt, "till", world.value_of(Who::Agent(TILL)))?;
     let lines = length(world.value_of(Who::Agent(JOURNAL)).ok_or(Trouble)?);
-    println!(rt; "lines of the journal {lines}").map_err(|_| Trouble)?;
+    println!(rt; "lines of the journal {lines}").map_err(|_| Trouble)
+}
+
+fn say_counts<R: AllocGlobal + Print>(
+    rt: &R,
+    wishes: Wishes,
+    told: Board,
+    totals: Totals,
+) -> Result<(), Trouble> {
+    let Wishes {
+        sold,
+        sold_out,
+        without_bread,
+    } = wishes;
     println!(rt; "sold {sold}, sold out {sold_out}, without bread {without_bread}").map_err(
         |_| Trouble,
     )?;
-    let told = board.with(helped);
     println!(rt;
         "told of refs {}, of atoms {}, of agents {}",
         told.refs, told.atoms, told.agents

@@ -110,21 +110,35 @@ fn agent(alloc: Global, state: &str) -> Result<AgentStart, AllocError> {
     })
 }
 
-/// What the world begins with.
-pub(crate) fn start(alloc: Global) -> Result<Start, AllocError> {
-    let (apples, bread, cheese) = (
-        stock(alloc, "50")?,
-        stock(alloc, "100")?,
-        stock(alloc, "70")?,
-    );
-    let came = AtomStart {
+// Stocks of apples, bread and cheese, and the takings.
+fn refs(alloc: Global) -> Result<Vec<RefStart>, AllocError> {
+    let mut refs = Vec::new(alloc);
+    for pieces in ["50", "100", "70"] {
+        refs.push(stock(alloc, pieces)?)?;
+    }
+    refs.push(takings(alloc)?)?;
+    Ok(refs)
+}
+
+// How many customers came.
+fn came(alloc: Global) -> Result<AtomStart, AllocError> {
+    Ok(AtomStart {
         value: value(alloc, "0")?,
         rule: None,
-    };
+    })
+}
+
+// The journal, and the till.
+fn agents(alloc: Global) -> Result<Vec<AgentStart>, AllocError> {
+    Ok(vec![in alloc; agent(alloc, "[]")?, agent(alloc, "0")?]?)
+}
+
+/// What the world begins with.
+pub(crate) fn start(alloc: Global) -> Result<Start, AllocError> {
     Ok(Start {
-        refs: vec![in alloc; apples, bread, cheese, takings(alloc)?]?,
-        atoms: vec![in alloc; came]?,
-        agents: vec![in alloc; agent(alloc, "[]")?, agent(alloc, "0")?]?,
+        refs: refs(alloc)?,
+        atoms: vec![in alloc; came(alloc)?]?,
+        agents: agents(alloc)?,
     })
 }
 
@@ -136,25 +150,30 @@ impl<'a, C: Ledger, A: Ledger> Market<'a, C, A> {
         funs: &'a FunTable,
         world: World<Core, C, A>,
     ) -> Result<Market<'a, C, A>, Trouble> {
-        let shared = Shared::new(world);
-        for who in [
-            Who::Ref(0),
-            Who::Ref(1),
-            Who::Ref(2),
-            Who::Atom(CAME),
-            Who::Agent(JOURNAL),
-            Who::Agent(TILL),
-        ] {
-            let key = value(alloc, ":board")?;
-            let Ok(_) = shared.add_watch(rt, alloc, who, key) else {
-                return Err(Trouble);
-            };
-        }
-        Ok(Market {
+        let market = Market {
             alloc,
             funs,
-            shared,
-        })
+            shared: Shared::new(world),
+        };
+        market.watch_all(rt)?;
+        Ok(market)
+    }
+
+    fn watch_all<R: Wait>(&self, rt: &R) -> Result<(), Trouble> {
+        for r in 0..TAKINGS {
+            self.watch(rt, Who::Ref(r))?;
+        }
+        self.watch(rt, Who::Atom(CAME))?;
+        self.watch(rt, Who::Agent(JOURNAL))?;
+        self.watch(rt, Who::Agent(TILL))
+    }
+
+    fn watch<R: Wait>(&self, rt: &R, who: Who) -> Result<(), Trouble> {
+        let key = value(self.alloc, ":board")?;
+        match self.shared.add_watch(rt, self.alloc, who, key) {
+            Ok(_) => Ok(()),
+            Err(_) => Err(Trouble),
+        }
     }
 
     /// Counts a customer. A call on an atom answers what its watches are to be told, and the caller tells them.

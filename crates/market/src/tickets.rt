@@ -9,7 +9,7 @@ use crate::{Trouble, say};
 use acts::{Acts, BoxOffice};
 use office::{FIRST, Office, SECOND, SOLD, Sale, start};
 use ref_log::{Stamp, Who};
-use ref_world::{ALL_PARTS, Share, World};
+use ref_world::{ALL_PARTS, Share, Totals, World};
 use std::marker::Brand;
 use std::sync::Wait;
 use std::sync::ledger::{Blank, Ledger};
@@ -43,13 +43,39 @@ fn open_office<
     close_up(rt, office, sold)
 }
 
+// How many groups were served, and how many weren't.
+#[derive(Clone, Copy, Debug, Default, Drop)]
+struct Groups {
+    made: u64,
+    too_late: u64,
+    too_large: u64,
+}
+
+impl Groups {
+    fn count(&mut self, sale: Sale) {
+        let count = match sale {
+            Sale::Made => &mut self.made,
+            Sale::TooLate => &mut self.too_late,
+            Sale::TooLarge => &mut self.too_large,
+        };
+        *count = count.saturating_add(1);
+    }
+
+    // These and others.
+    fn with(self, other: Groups) -> Groups {
+        Groups {
+            made: self.made.saturating_add(other.made),
+            too_late: self.too_late.saturating_add(other.too_late),
+            too_large: self.too_large.saturating_add(other.too_large),
+        }
+    }
+}
+
 // What a clerk did, and the share that it was done with.
 #[derive(Drop)]
 struct Sold<C: Ledger, A: Ledger> {
     share: Share<C, A>,
-    made: u64,
-    too_late: u64,
-    too_large: u64,
+    groups: Groups,
 }
 
 fn sell_both<C: Ledger + Send + Sync, A: Ledger + Send + Sync, R: Threads + Wait + Sync>(
@@ -71,9 +97,7 @@ fn sell_both<C: Ledger + Send + Sync, A: Ledger + Send + Sync, R: Threads + Wait
     if sold.share.join(other.share).is_err() {
         return Err(Trouble);
     }
-    sold.made = sold.made.saturating_add(other.made);
-    sold.too_late = sold.too_late.saturating_add(other.too_late);
-    sold.too_large = sold.too_large.saturating_add(other.too_large);
+    sold.groups = sold.groups.with(other.groups);
     Ok(sold)
 }
 
@@ -86,20 +110,14 @@ fn sell_all<C: Ledger, A: Ledger, R: Wait>(
 ) -> Result<Sold<C, A>, Trouble> {
     let mut sold = Sold {
         share,
-        made: 0,
-        too_late: 0,
-        too_large: 0,
+        groups: Groups::default(),
     };
     for step in 0..21u32 {
         let evening = if step % 2 == 0 { FIRST } else { SECOND };
         let group = if step < 20 { "2" } else { "5" };
         let stamp = Stamp { worker, step };
-        let count = match office.sell(rt, &mut sold.share, stamp, evening, group)? {
-            Sale::Made => &mut sold.made,
-            Sale::TooLate => &mut sold.too_late,
-            Sale::TooLarge => &mut sold.too_large,
-        };
-        *count = count.saturating_add(1);
+        let sale = office.sell(rt, &mut sold.share, stamp, evening, group)?;
+        sold.groups.count(sale);
     }
     Ok(sold)
 }
@@ -121,22 +139,38 @@ fn close_up<C: Ledger, A: Ledger, R: AllocGlobal + Print + Wait>(
     office: Office<C, A>,
     sold: Sold<C, A>,
 ) -> Result<(), Trouble> {
-    let Sold {
-        mut share,
-        made,
-        too_late,
-        too_large,
-    } = sold;
+    let Sold { mut share, groups } = sold;
     office.close(rt, &mut share, Stamp { worker: 2, step: 0 }, SECOND)?;
+    let (world, totals) = take_out(office, share)?;
+    say(rt, "closed, it has", world.value_of(Who::Ref(SECOND)))?;
+    say(rt, "tickets sold", world.value_of(Who::Ref(SOLD)))?;
+    say_counts(rt, groups, totals)
+}
+
+fn take_out<C: Ledger, A: Ledger>(
+    office: Office<C, A>,
+    share: Share<C, A>,
+) -> Result<(World<BoxOffice, C, A>, Totals), Trouble> {
+    let Office { alloc, shared } = office;
     if !share.is_whole() {
         return Err(Trouble);
     }
-    let Office { alloc, shared } = office;
     let Ok((world, totals)) = shared.finish(alloc, share) else {
         return Err(Trouble);
     };
-    say(rt, "closed, it has", world.value_of(Who::Ref(SECOND)))?;
-    say(rt, "tickets sold", world.value_of(Who::Ref(SOLD)))?;
+    Ok((world, totals))
+}
+
+fn say_counts<R: AllocGlobal + Print>(
+    rt: &R,
+    groups: Groups,
+    totals: Totals,
+) -> Result<(), Trouble> {
+    let Groups {
+        made,
+        too_late,
+        too_large,
+    } = groups;
     println!(rt; "groups served {made}, too late {too_late}, too large {too_large}").map_err(
         |_| Trouble,
     )?;
