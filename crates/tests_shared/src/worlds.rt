@@ -16,10 +16,7 @@ use ref_tx::Tx;
 use ref_world::{AgentStart, AtomStart, RefStart, Share, Start, Totals, World};
 use std::alloc::{AllocError, AllocFailed, Global};
 use std::sync::Wait;
-use std::sync::atomic::{AtomicBool, Ordering};
 use std::sync::ledger::{Blank, Ledger};
-use std::thread;
-use std::time::{Clock, Duration};
 
 /// The codes of `+`, `-` and `>=`.
 pub(crate) const PLUS: u32 = 1;
@@ -245,15 +242,4 @@ pub(crate) fn add(by: By, tx: &mut Tx<Core>, r: u32, n: &str) -> Result<(), Stop
     let args = one_arg(by.alloc, n)?;
     let _ = done(tx.alter(by.alloc, by.funs, r, PLUS, args))?;
     Ok(())
-}
-
-/// Waits until somebody has set a flag, for some seconds at most, and answers whether it was set.
-pub(crate) fn wait_for<R: Clock>(rt: &R, flag: &AtomicBool) -> bool {
-    for _ in 0..200_000u32 {
-        if flag.load(Ordering::SeqCst) {
-            return true;
-        }
-        thread::sleep(rt, Duration::from_micros(1));
-    }
-    false
 }

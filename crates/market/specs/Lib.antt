@@ -1,2 +1,0 @@
--- To be read and believed: Acts.
-pub mod Acts
