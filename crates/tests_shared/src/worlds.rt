@@ -10,9 +10,8 @@ use ref_fun::{
     Action, Args, Core, Fun, FunFault, FunTable, Pred, Rule, StoredFun, StoredPred, core_fun,
     core_test,
 };
-use ref_log::{Entry, Notice, Stamp, Who};
+use ref_log::{Notice, Stamp, Who};
 use ref_shared::Shared;
-use ref_tx::Tx;
 use ref_world::{AgentStart, AtomStart, RefStart, Share, Start, Totals, World};
 use std::alloc::{AllocError, AllocFailed, Global};
 use std::sync::Wait;
@@ -41,8 +40,6 @@ pub(crate) enum Stop {
     Memory,
     /// A call that is to be Ok was refused.
     Refused,
-    /// Somebody wasn't there in time.
-    Late,
 }
 
 impl From<AllocError> for Stop {
@@ -224,22 +221,4 @@ pub(crate) fn all_told(alloc: Global, notices: &[Notice]) -> Result<Vec<Told>, A
         all.push(told_of(notice))?;
     }
     Ok(all)
-}
-
-/// The stamp and the read point of each transaction of a log.
-pub(crate) fn all_commits(alloc: Global, log: &[Entry]) -> Result<Vec<(Stamp, u64)>, AllocError> {
-    let mut all = Vec::new(alloc);
-    for entry in log {
-        if let Entry::Trans(transaction) = entry {
-            all.push((transaction.stamp, transaction.read_point))?;
-        }
-    }
-    Ok(all)
-}
-
-/// `alter r + n`.
-pub(crate) fn add(by: By, tx: &mut Tx<Core>, r: u32, n: &str) -> Result<(), Stop> {
-    let args = one_arg(by.alloc, n)?;
-    let _ = done(tx.alter(by.alloc, by.funs, r, PLUS, args))?;
-    Ok(())
 }
