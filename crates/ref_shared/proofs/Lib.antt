@@ -2,3 +2,4 @@ pub mod Chains
 pub mod Fitting
 pub mod Marking
 pub mod Turns
+pub mod Crossing

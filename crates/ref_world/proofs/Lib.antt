@@ -1,3 +1,4 @@
 pub mod Entered
 pub mod Booked
 pub mod Starting
+pub mod Crossing

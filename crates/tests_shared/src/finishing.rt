@@ -1,16 +1,161 @@
-//! The check of receipts against a log.
-use crate::worlds::value;
+//! The end of a shared world: its log against the receipts.
+ghost use Rattle.std.specs.Prelude.{◌≡◌};
+ghost use Rattle.ref_world.specs.Shares.{all_parts};
+
+use crate::worlds::{By, Stop, done, opened, plain_start, table, value};
+use ref_fun::Core;
 use ref_log::{Done, Entry, Op, SharedVec, Stamp, Transaction};
-use ref_shared::{GatherFault, match_receipts};
-use ref_world::LogReceipt;
+use ref_shared::{GatherFault, Shared, match_receipts};
+use ref_world::{ALL_PARTS, LogReceipt, Share};
 use std::alloc::{AllocError, Global};
+use std::marker::Brand;
+use std::sync::Wait;
+use std::sync::ledger::{Blank, Ledger};
 use std::test::Fail;
+
+// What came of a shared world that ended.
+#[derive(Debug, Drop, PartialEq)]
+struct End {
+    fault: Option<GatherFault>,
+    // How many commits there are by the totals, or by the world that came back.
+    commits: u64,
+    // Whether the share that came back is whole, and how many receipts it has.
+    back: Option<(bool, usize)>,
+}
+
+// Two commits of empty transactions, the second begun after the first.
+fn commit_in_turn<C: Ledger, A: Ledger, R: Wait>(
+    rt: &R,
+    by: By,
+    shared: &Shared<Core, C, A>,
+    share: &mut Share<C, A>,
+    stamps: (Stamp, Stamp),
+) -> Result<(), Stop> {
+    let By { alloc, funs } = by;
+    let first = shared.begin(rt, alloc)?;
+    let _ = done(shared.commit(rt, alloc, funs, share, stamps.0, first))?;
+    let second = shared.begin(rt, alloc)?;
+    let _ = done(shared.commit(rt, alloc, funs, share, stamps.1, second))?;
+    Ok(())
+}
+
+// Two commits of empty transactions, both begun before the first.
+fn commit_together<C: Ledger, A: Ledger, R: Wait>(
+    rt: &R,
+    by: By,
+    shared: &Shared<Core, C, A>,
+    share: &mut Share<C, A>,
+    stamps: (Stamp, Stamp),
+) -> Result<(), Stop> {
+    let By { alloc, funs } = by;
+    let first = shared.begin(rt, alloc)?;
+    let second = shared.begin(rt, alloc)?;
+    let _ = done(shared.commit(rt, alloc, funs, share, stamps.0, first))?;
+    let _ = done(shared.commit(rt, alloc, funs, share, stamps.1, second))?;
+    Ok(())
+}
+
+// Ends a shared world, and says how.
+fn ended<C: Ledger, A: Ledger>(
+    alloc: Global,
+    shared: Shared<Core, C, A>,
+    share: Share<C, A>,
+) -> Result<End, Stop> {
+    if !share.is_whole() {
+        return Err(Stop::Refused);
+    }
+    match shared.finish(alloc, share) {
+        Ok((_world, totals)) => Ok(End {
+            fault: None,
+            commits: totals.commits,
+            back: None,
+        }),
+        Err((world, share, fault)) => Ok(End {
+            fault: Some(fault),
+            commits: world.commits(),
+            back: Some((share.is_whole(), share.receipts().len())),
+        }),
+    }
+}
+
+// How a shared world ends after two commits with these stamps, begun in turn or together.
+fn try_stamps<C: Ledger, A: Ledger, R: Wait>(
+    rt: &R,
+    by: By,
+    stamps: (Stamp, Stamp),
+    together: bool,
+    commits: Blank,
+    added: Blank,
+) -> Result<End, Stop>
+    requires commits { (commits.name ≡ C.name) × (commits.parts ≡ C.parts) × (commits.parts ≡ all_parts) }
+    requires added { (added.name ≡ A.name) × (added.parts ≡ A.parts) × (added.parts ≡ all_parts) }
+{
+    let start = plain_start(by.alloc, "0", "")?;
+    let (shared, mut share) = opened::<C, A>(by, start, commits, added)?;
+    if together {
+        commit_together(rt, by, &shared, &mut share, stamps)?;
+    } else {
+        commit_in_turn(rt, by, &shared, &mut share, stamps)?;
+    }
+    ended(by.alloc, shared, share)
+}
 
 const STEP_0: Stamp = Stamp { worker: 0, step: 0 };
 
 const STEP_1: Stamp = Stamp { worker: 0, step: 1 };
 
 const OTHER: Stamp = Stamp { worker: 1, step: 0 };
+
+#[test]
+fn steps_that_rise_are_in_order(rt: HostRuntime) -> Result<(), Fail> {
+    let alloc = rt.alloc();
+    let funs = table(alloc)?;
+    let by = By { alloc, funs: &funs };
+    let stamps = (STEP_0, STEP_1);
+    let (commits, added) = (Blank::new(ALL_PARTS), Blank::new(ALL_PARTS));
+    let ended = try_stamps::<Brand, Brand, _>(&rt, by, stamps, false, commits, added)?;
+    let wanted = End {
+        fault: None,
+        commits: 2,
+        back: None,
+    };
+    assert_eq!(rt; ended, wanted);
+    Ok(())
+}
+
+#[test]
+fn steps_that_fall_are_out_of_order(rt: HostRuntime) -> Result<(), Fail> {
+    let alloc = rt.alloc();
+    let funs = table(alloc)?;
+    let by = By { alloc, funs: &funs };
+    let stamps = (STEP_1, STEP_0);
+    let (commits, added) = (Blank::new(ALL_PARTS), Blank::new(ALL_PARTS));
+    let ended = try_stamps::<Brand, Brand, _>(&rt, by, stamps, false, commits, added)?;
+    let wanted = End {
+        fault: Some(GatherFault::OutOfOrder),
+        commits: 2,
+        back: Some((true, 2)),
+    };
+    assert_eq!(rt; ended, wanted);
+    Ok(())
+}
+
+#[test]
+fn a_step_begun_before_the_last_one_ended_is_out_of_order(rt: HostRuntime) -> Result<(), Fail> {
+    let alloc = rt.alloc();
+    let funs = table(alloc)?;
+    let by = By { alloc, funs: &funs };
+    let stamps = (STEP_0, STEP_1);
+    let (commits, added) = (Blank::new(ALL_PARTS), Blank::new(ALL_PARTS));
+    let ended = try_stamps::<Brand, Brand, _>(&rt, by, stamps, true, commits, added)?;
+    let wanted = End {
+        fault: Some(GatherFault::OutOfOrder),
+        commits: 2,
+        back: Some((true, 2)),
+    };
+    assert_eq!(rt; ended, wanted);
+    Ok(())
+}
 
 // A transaction of `ref-set` of ref 0, begun at point 0.
 fn set(alloc: Global, stamp: Stamp, text: &str) -> Result<Entry, AllocError> {

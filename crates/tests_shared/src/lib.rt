@@ -1,15 +1,26 @@
-//! Tests of shared worlds by one thread: of each call, and of the check of receipts against the log. There is nothing else here.
+//! Tests of shared worlds: of each call, of threads side by side, and of the check of receipts against the log. There is nothing
+//! else here.
+//!
+//! No clause says what another thread does between two calls, so this is tested. Where the order of two threads matters, gates
+//! and sinks hold one until the other has come so far. Each wait of a test ends by itself.
 //!
 //! | Modules | |
 //! |---|---|
-//! | `calls`, `work`, `finishing` | each call, agents, the check of receipts against the log |
+//! | `calls`, `conflicts`, `finishing` | by one thread: each call, transactions that are tried again, the end |
+//! | `threads`, `work`, `stress` | by several: transactions, agents, all together |
 //! | `worlds` | making worlds and values, and what is read of them |
 #![tactic(auto)]
 
 #[cfg(test)]
 mod calls;
 #[cfg(test)]
+mod conflicts;
+#[cfg(test)]
 mod finishing;
+#[cfg(test)]
+mod stress;
+#[cfg(test)]
+mod threads;
 #[cfg(test)]
 mod work;
 #[cfg(test)]

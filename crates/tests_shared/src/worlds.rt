@@ -7,15 +7,19 @@ ghost use Rattle.ref_world.specs.Shares.{all_parts};
 use ref_agents::ErrorMode;
 use ref_edn::{Node, Value, read_all, read_one};
 use ref_fun::{
-    Action, Args, Core, Fun, FunFault, FunTable, Pred, Rule, StoredFun, StoredPred, core_fun,
-    core_test,
+    Action, Args, Core, Fun, FunFault, FunTable, Functions, Pred, Rule, StoredFun, StoredPred,
+    core_fun, core_test,
 };
-use ref_log::{Notice, Stamp, Who};
+use ref_log::{Entry, Notice, Stamp, Who};
 use ref_shared::Shared;
+use ref_tx::Tx;
 use ref_world::{AgentStart, AtomStart, RefStart, Share, Start, Totals, World};
 use std::alloc::{AllocError, AllocFailed, Global};
 use std::sync::Wait;
+use std::sync::atomic::{AtomicBool, Ordering};
 use std::sync::ledger::{Blank, Ledger};
+use std::thread;
+use std::time::{Clock, Duration};
 
 /// The codes of `+`, `-` and `>=`.
 pub(crate) const PLUS: u32 = 1;
@@ -40,6 +44,8 @@ pub(crate) enum Stop {
     Memory,
     /// A call that is to be Ok was refused.
     Refused,
+    /// Somebody wasn't there in time.
+    Late,
 }
 
 impl From<AllocError> for Stop {
@@ -221,4 +227,57 @@ pub(crate) fn all_told(alloc: Global, notices: &[Notice]) -> Result<Vec<Told>, A
         all.push(told_of(notice))?;
     }
     Ok(all)
+}
+
+/// The stamp and the read point of each transaction of a log.
+pub(crate) fn all_commits(alloc: Global, log: &[Entry]) -> Result<Vec<(Stamp, u64)>, AllocError> {
+    let mut all = Vec::new(alloc);
+    for entry in log {
+        if let Entry::Trans(transaction) = entry {
+            all.push((transaction.stamp, transaction.read_point))?;
+        }
+    }
+    Ok(all)
+}
+
+/// `alter r + n`.
+pub(crate) fn add<F: Functions<Core>>(
+    alloc: Global,
+    funs: &F,
+    tx: &mut Tx<Core>,
+    r: u32,
+    n: &str,
+) -> Result<(), Stop> {
+    let args = one_arg(alloc, n)?;
+    let _ = done(tx.alter(alloc, funs, r, PLUS, args))?;
+    Ok(())
+}
+
+/// How far threads have come, each of which sets some of these for the others.
+#[derive(Drop)]
+pub(crate) struct Flags {
+    pub(crate) first: AtomicBool,
+    pub(crate) second: AtomicBool,
+    pub(crate) third: AtomicBool,
+}
+
+impl Flags {
+    pub(crate) fn new() -> Flags {
+        Flags {
+            first: AtomicBool::new(false),
+            second: AtomicBool::new(false),
+            third: AtomicBool::new(false),
+        }
+    }
+}
+
+/// Waits until somebody has set a flag, for some seconds at most, and answers whether it was set.
+pub(crate) fn wait_for<R: Clock>(rt: &R, flag: &AtomicBool) -> bool {
+    for _ in 0..200_000u32 {
+        if flag.load(Ordering::SeqCst) {
+            return true;
+        }
+        thread::sleep(rt, Duration::from_micros(1));
+    }
+    false
 }

@@ -1,0 +1,29 @@
+-- What of the market crosses threads, as a set for `search`.
+use denote.RattleType.{RattleType}
+use denote.Ref.{NamedLft}
+use denote.Param.Send.{IsSend, IsSync, sendable}
+use denote.Param.SendFields.{declared_send, declared_sync}
+use Rattle.std.proofs.Crossing as std
+use Rattle.std.specs.declared.sync.ledger.Ledger as Ledger
+use Rattle.ref_shared.proofs.Crossing.{crosses as shared_crosses}
+use Rattle.market.specs.contracts.stalls.Market as Market
+use Rattle.market.specs.contracts.tickets.office.Office as Office
+use Rattle.market.specs.contracts.customers.Visit as Visit
+use Rattle.market.specs.contracts.customers.Custom as Custom
+
+module _ (κ : NamedLft) (F C A : RattleType) (gC : Ledger.Ghosts C.Denot) (gA : Ledger.Ghosts A.Denot) where
+  pub market_sync : IsSync F → IsSync (Market.the_row κ F C A gC gA)
+  market_sync y = declared_sync (Market.the_type κ F C A gC gA)
+      (search (std.crosses, sendable) depth 60, (search (y, std.crosses, sendable) depth 60, (search (shared_crosses, std.crosses, sendable) depth 60, tt)))
+
+module _ (C A : RattleType) (gC : Ledger.Ghosts C.Denot) (gA : Ledger.Ghosts A.Denot) where
+  pub visit_send : IsSend (Visit.the_row C A gC gA)
+  visit_send = declared_send (Visit.the_type C A gC gA) (search (std.crosses, sendable) depth 60, (search (shared_crosses, std.crosses, sendable) depth 60, tt))
+
+  pub custom_send : IsSend (Custom.the_row C A gC gA)
+  custom_send = declared_send (Custom.the_type C A gC gA) (search (shared_crosses, std.crosses, sendable) depth 60, (search (std.crosses, sendable) depth 60, (search (std.crosses, sendable) depth 60, tt)))
+
+  pub office_sync : IsSync (Office.the_row C A gC gA)
+  office_sync = declared_sync (Office.the_type C A gC gA) (search (std.crosses, sendable) depth 60, (search (shared_crosses, std.crosses, sendable) depth 60, tt))
+
+pub ruleset crosses = (shared_crosses, market_sync, visit_send, custom_send, office_sync)

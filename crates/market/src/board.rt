@@ -1,0 +1,33 @@
+//! The board at the market's gate: who is told what the watches are to be told.
+use ref_log::{Notice, Who};
+use ref_shared::WatchSink;
+
+/// How often it was told of a ref, an atom and an agent. Each thread has one of its own.
+#[derive(Clone, Copy, Debug, Drop, Default)]
+pub(crate) struct Board {
+    pub(crate) refs: u64,
+    pub(crate) atoms: u64,
+    pub(crate) agents: u64,
+}
+
+impl WatchSink for Board {
+    fn told(&mut self, notice: &Notice) {
+        let count = match notice.who {
+            Who::Ref(_) => &mut self.refs,
+            Who::Atom(_) => &mut self.atoms,
+            Who::Agent(_) => &mut self.agents,
+        };
+        *count = count.saturating_add(1);
+    }
+}
+
+impl Board {
+    /// What two boards were told.
+    pub(crate) fn with(self, other: Board) -> Board {
+        Board {
+            refs: self.refs.saturating_add(other.refs),
+            atoms: self.atoms.saturating_add(other.atoms),
+            agents: self.agents.saturating_add(other.agents),
+        }
+    }
+}

@@ -1,0 +1,184 @@
+//! A market in threads: stalls that sell, customers who come in four threads, and two helpers.
+//!
+//! Three goods have a stock each, a ref whose rule is that it isn't below 0. A sale is a transaction: it takes a piece from the
+//! stock, adds the price to the takings, and sends a line to the journal and the price to the till, which are agents. The four
+//! threads of customers have a share of the world each; the two helpers run what was sent. At the end the shares are joined and
+//! the world is taken out, with its totals. What is printed is the same in whatever order the threads get on.
+//!
+//! The box office ([`tickets`]) sells by functions of its own.
+#![tactic(auto)]
+
+ghost use Rattle.std.specs.Prelude.{◌≡◌};
+ghost use Rattle.ref_world.specs.Shares.{all_parts};
+
+mod board;
+mod customers;
+mod helpers;
+mod stalls;
+mod table;
+mod tickets;
+mod values;
+
+use board::Board;
+use customers::{Custom, Wishes, serve_all};
+use helpers::help_both;
+use ref_edn::Value;
+use ref_fun::{Core, FunTable, Functions};
+use ref_log::Who;
+use ref_world::{Share, Totals, World};
+use stalls::{CAME, Good, JOURNAL, Market, TAKINGS, TILL, start};
+use std::alloc::{AllocError, AllocFailed};
+use std::process::ExitCode;
+use std::sync::Wait;
+use std::sync::ledger::{Blank, Ledger};
+use std::thread;
+use std::thread::Threads;
+use table::run_by_core;
+use tickets::sell_tickets;
+use values::{length, text};
+
+/// What ends the program early: there is no memory, or standard output can't be written.
+#[derive(Debug, Drop)]
+struct Trouble;
+
+impl From<AllocError> for Trouble {
+    fn from(_e: AllocError) -> Trouble {
+        Trouble
+    }
+}
+
+impl<T: Drop> From<AllocFailed<T>> for Trouble {
+    fn from(_e: AllocFailed<T>) -> Trouble {
+        Trouble
+    }
+}
+
+fn main(rt: HostRuntime) -> ExitCode {
+    let done = match run_by_core(&rt) {
+        Ok(()) => sell_tickets(&rt),
+        Err(Trouble) => Err(Trouble),
+    };
+    match done {
+        Ok(()) => ExitCode::SUCCESS,
+        Err(Trouble) => ExitCode::FAILURE,
+    }
+}
+
+// A day at the market. C and A name the books of its world, which are told from those of another world by their types alone.
+fn day<
+    C: Ledger + Send + Sync,
+    A: Ledger + Send + Sync,
+    R: AllocGlobal + Print + Threads + Wait + Sync,
+>(rt: &R, funs: &FunTable, commits: Blank, added: Blank) -> Result<(), Trouble>
+    requires commits { (commits.name ≡ C.name) × (commits.parts ≡ C.parts) × (commits.parts ≡ all_parts) }
+    requires added { (added.name ≡ A.name) × (added.parts ≡ A.parts) × (added.parts ≡ all_parts) }
+{
+    let alloc = rt.alloc();
+    let made = World::<Core, C, A>::new(alloc, funs, start(alloc)?, commits, added);
+    let Ok((world, share)) = made else {
+        return Err(Trouble);
+    };
+    let market = Market::open(rt, alloc, funs, world)?;
+    let (custom, told) = open_hours(rt, &market, share)?;
+    close_up(rt, market, custom, told)
+}
+
+// Lets the customers come while the helpers help. Once the last customer has gone the helpers do what is left, and go too.
+fn open_hours<
+    C: Ledger + Send + Sync,
+    A: Ledger + Send + Sync,
+    R: Threads + Wait + Sync,
+    F: Functions<Core> + Sync,
+>(rt: &R, market: &Market<F, C, A>, share: Share<C, A>) -> Result<(Custom<C, A>, Board), Trouble> {
+    let (told, custom) = thread::join(
+        rt,
+        move || help_both(rt, market),
+        move || serve_until_close(rt, market, share),
+    );
+    Ok((custom?, told?))
+}
+
+// Serves all customers, and closes the market, also where serving them failed.
+fn serve_until_close<
+    C: Ledger + Send + Sync,
+    A: Ledger + Send + Sync,
+    R: Threads + Wait + Sync,
+    F: Functions<Core> + Sync,
+>(rt: &R, market: &Market<F, C, A>, share: Share<C, A>) -> Result<Custom<C, A>, Trouble> {
+    let custom = serve_all(rt, market, share);
+    market.shared.close(rt);
+    custom
+}
+
+// Takes the world out, and says what is in it.
+fn close_up<C: Ledger, A: Ledger, R: AllocGlobal + Print, F: Functions<Core>>(
+    rt: &R,
+    market: Market<F, C, A>,
+    custom: Custom<C, A>,
+    helped: Board,
+) -> Result<(), Trouble> {
+    let Custom {
+        share,
+        wishes,
+        board,
+    } = custom;
+    let (world, totals) = take_out(market, share)?;
+    say_values(rt, &world)?;
+    say_counts(rt, wishes, board.with(helped), totals)
+}
+
+// Takes the world out, with its totals.
+fn take_out<C: Ledger, A: Ledger, F: Functions<Core>>(
+    market: Market<F, C, A>,
+    share: Share<C, A>,
+) -> Result<(World<Core, C, A>, Totals), Trouble> {
+    let Market { alloc, shared, .. } = market;
+    if !share.is_whole() {
+        return Err(Trouble);
+    }
+    let Ok((world, totals)) = shared.finish(alloc, share) else {
+        return Err(Trouble);
+    };
+    Ok((world, totals))
+}
+
+fn say_values<C: Ledger, A: Ledger, R: AllocGlobal + Print>(
+    rt: &R,
+    world: &World<Core, C, A>,
+) -> Result<(), Trouble> {
+    say(rt, "customers", world.value_of(Who::Atom(CAME)))?;
+    for good in [Good::Apple, Good::Bread, Good::Cheese] {
+        say(rt, good.name(), world.value_of(Who::Ref(good.stock())))?;
+    }
+    say(rt, "takings", world.value_of(Who::Ref(TAKINGS)))?;
+    say(rt, "till", world.value_of(Who::Agent(TILL)))?;
+    let lines = length(world.value_of(Who::Agent(JOURNAL)).ok_or(Trouble)?);
+    println!(rt; "lines of the journal {lines}").map_err(|_| Trouble)
+}
+
+fn say_counts<R: AllocGlobal + Print>(
+    rt: &R,
+    wishes: Wishes,
+    told: Board,
+    totals: Totals,
+) -> Result<(), Trouble> {
+    let Wishes {
+        sold,
+        sold_out,
+        without_bread,
+    } = wishes;
+    println!(rt; "sold {sold}, sold out {sold_out}, without bread {without_bread}").map_err(
+        |_| Trouble,
+    )?;
+    println!(rt;
+        "told of refs {}, of atoms {}, of agents {}",
+        told.refs, told.atoms, told.agents
+    )
+    .map_err(|_| Trouble)?;
+    println!(rt; "commits {}, which added {}", totals.commits, totals.added).map_err(|_| Trouble)
+}
+
+fn say<R: AllocGlobal + Print>(rt: &R, words: &str, value: Option<&Value>) -> Result<(), Trouble> {
+    let value = text(rt.alloc(), value.ok_or(Trouble)?)?;
+    println!(rt; "{words} {value}").map_err(|_| Trouble)
+}

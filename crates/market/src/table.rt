@@ -1,0 +1,61 @@
+//! The table of functions that the market runs by: all of Core.
+//!
+//! A closure may not leave the function that makes it but by a loan, so what makes the table also runs the day.
+ghost use Rattle.std.specs.Prelude.{◌≤◌, length};
+
+use crate::{Trouble, day};
+use ref_edn::Value;
+use ref_fun::{Fun, FunFault, FunTable, Pred, StoredFun, StoredPred, core_fun, core_test};
+use ref_world::ALL_PARTS;
+use std::alloc::Global;
+use std::marker::Brand;
+use std::sync::Wait;
+use std::sync::ledger::Blank;
+use std::thread::Threads;
+
+// The codes that are used here. `ref_fun::code_of` tells them by name too.
+pub(crate) const PLUS: u32 = 1;
+
+pub(crate) const MINUS: u32 = 2;
+
+pub(crate) const INC: u32 = 3;
+
+pub(crate) const CONJ: u32 = 7;
+
+pub(crate) const AT_LEAST: u32 = 101;
+
+/// Makes the table, and runs the day by it. A closure is stored with a proof that it answers what Core means by its code; here
+/// that is what `core_fun` and `core_test` promise.
+pub(crate) fn run_by_core<R: AllocGlobal + Print + Threads + Wait + Sync>(
+    rt: &R,
+) -> Result<(), Trouble> {
+    let alloc = rt.alloc();
+    let mut table = FunTable::empty(alloc);
+    for code in 1..11u32 {
+        let run: Fun = match Box::new(
+            alloc,
+            move |alloc: Global, state: &Value, args: &[Value]| -> Result<Value, FunFault>
+                requires { length args.now ≤ 8 }
+            { core_fun(alloc, code, state, args) },
+        ) {
+            Ok(run) => run,
+            Err(_) => return Err(Trouble),
+        };
+        let Ok(()) = table.add_fun(StoredFun::new(code, run)) else {
+            return Err(Trouble);
+        };
+    }
+    for code in 101..110u32 {
+        let run: Pred = match Box::new(alloc, move |state: &Value, args: &[Value]| {
+            core_test(code, state, args)
+        }) {
+            Ok(run) => run,
+            Err(_) => return Err(Trouble),
+        };
+        let Ok(()) = table.add_pred(StoredPred::new(code, run)) else {
+            return Err(Trouble);
+        };
+    }
+    // The books of a world begin as blanks, each of which is named as it is made.
+    day::<Brand, Brand, R>(rt, &table, Blank::new(ALL_PARTS), Blank::new(ALL_PARTS))
+}

@@ -1,0 +1,256 @@
+-- A world may go to another thread, and so may a share.
+--
+-- `search` alone finds no proof of it: an enum of four variants and a struct of some fields are beyond its steps. So each type's fact
+-- stands on those of its fields, in the order of the crates below.
+use denote.RattleType.{RattleType}
+use denote.Param.Send.{IsSend, IsSync, sendable, view_send}
+use denote.Param.SendFields.{declared_send, declared_sync, variants_send, variants_sync}
+use Rattle.std.proofs.Crossing.{crosses}
+use Rattle.std.proofs.MapsCrossingOver as over
+use Rattle.std.specs.declared.sync.ledger.Ledger as Ledger
+use Rattle.ref_edn.proofs.data.Value.TheLaws.TheKnot as knot
+use Rattle.ref_log.proofs.lists.SharedVec.TheSendSync as lists
+use Rattle.ref_edn.specs.contracts.data.Value as Value
+use Rattle.ref_fun.specs.contracts.arguments.Args as Args
+use Rattle.ref_fun.specs.declared.meanings.Meaning as Meaning
+use Rattle.ref_log.specs.contracts.operations.Op as Op
+use Rattle.ref_log.specs.contracts.operations.Done as Done
+use Rattle.ref_log.specs.contracts.sends.Sent as Sent
+use Rattle.ref_log.specs.contracts.entries.Stamp as Stamp
+use Rattle.ref_log.specs.contracts.entries.Transaction as Transaction
+use Rattle.ref_log.specs.contracts.entries.Entry as Entry
+use Rattle.ref_log.specs.contracts.guards.Guards as Guards
+use Rattle.ref_log.specs.contracts.guards.Guards.TheInside as InGuards
+use Rattle.ref_log.specs.contracts.guards.Guard as Guard
+use Rattle.ref_log.specs.contracts.watches.Watches as Watches
+use Rattle.ref_log.specs.contracts.watches.Watches.TheInside as InWatches
+use Rattle.ref_fun.specs.contracts.rules.Rule as Rule
+use Rattle.ref_log.specs.contracts.states.Base as Base
+use Rattle.ref_refs.specs.contracts.store.RefStore as RefStore
+use Rattle.ref_refs.specs.contracts.store.RefStore.TheInside as InRefStore
+use Rattle.ref_atoms.specs.contracts.atoms.AtomStore as AtomStore
+use Rattle.ref_atoms.specs.contracts.atoms.AtomStore.TheInside as InAtomStore
+use Rattle.ref_agents.specs.contracts.agents.AgentStore as AgentStore
+use Rattle.ref_agents.specs.contracts.agents.AgentStore.TheInside as InAgentStore
+use Rattle.ref_agents.specs.contracts.agents.Agent as Agent
+use Rattle.ref_agents.specs.contracts.accounts.Account as Account
+use Rattle.ref_agents.specs.contracts.accounts.Queued as Queued
+use Rattle.ref_agents.specs.contracts.accounts.Handled as Handled
+use Rattle.std.proofs.sync.ledger.Book.TheSendSync as book
+use Rattle.std.proofs.sync.ledger.Share.TheSendSync as part
+use Rattle.ref_world.specs.contracts.books.Books as Books
+use Rattle.ref_world.specs.contracts.books.Books.TheInside as InBooks
+use Rattle.ref_world.specs.contracts.shares.LogReceipt as LogReceipt
+use Rattle.ref_world.specs.contracts.shares.Share as Share
+use Rattle.ref_world.specs.contracts.shares.Share.TheInside as InShare
+use Rattle.ref_world.specs.contracts.worlds.World as World
+use Rattle.ref_world.specs.contracts.worlds.World.TheInside as InWorld
+
+ruleset plain = (crosses, knot.crosses, sendable)
+
+value_send : IsSend Value.the_row
+value_send = search plain depth 60
+
+value_sync : IsSync Value.the_row
+value_sync = search plain depth 60
+
+args_send : IsSend Args.the_row
+args_send = search (value_send, plain) depth 60
+
+args_sync : IsSync Args.the_row
+args_sync = search (value_sync, value_send, plain) depth 60
+
+op_send : IsSend Op.the_row
+op_send = variants_send Op.enum (
+  (value_send, tt),
+  (
+    (search plain depth 60, (args_send, tt)),
+    (
+      (
+        search plain depth 60,
+        (args_send, tt),
+      ),
+      (tt, tt),
+    ),
+  ),
+)
+
+op_sync : IsSync Op.the_row
+op_sync = variants_sync Op.enum (
+  (value_sync, tt),
+  (
+    (search plain depth 60, (args_sync, tt)),
+    (
+      (
+        search plain depth 60,
+        (args_sync, tt),
+      ),
+      (tt, tt),
+    ),
+  ),
+)
+
+done_send : IsSend Done.the_row
+done_send = declared_send Done.the_type (search plain depth 60, (op_send, (value_send, tt)))
+
+done_sync : IsSync Done.the_row
+done_sync = declared_sync Done.the_type (search plain depth 60, (op_sync, (value_sync, tt)))
+
+sent_send : IsSend Sent.the_row
+sent_send = search plain depth 60
+
+sent_sync : IsSync Sent.the_row
+sent_sync = search plain depth 60
+
+stamp_send : IsSend Stamp.the_row
+stamp_send = search plain depth 60
+
+trans_send : IsSend Transaction.the_row
+trans_send = declared_send Transaction.the_type (
+  stamp_send,
+  (
+    search plain depth 60,
+    (
+      search (done_send, done_sync, lists.the_send, plain) depth 60,
+      (search (sent_send, sent_sync, lists.the_send, plain) depth 60, tt),
+    ),
+  ),
+)
+
+entry_send : IsSend Entry.the_row
+entry_send = variants_send Entry.enum (
+  (trans_send, tt),
+  (
+    (search plain depth 60, (op_send, (value_send, tt))),
+    (
+      (value_send, tt),
+      ((value_send, tt), tt),
+    ),
+  ),
+)
+
+receipt_send : IsSend LogReceipt.the_row
+receipt_send = declared_send LogReceipt.the_type (search plain depth 60, (entry_send, tt))
+
+rule_send : IsSend Rule.the_row
+rule_send = declared_send Rule.the_type (search plain depth 60, (args_send, tt))
+
+watches_send : IsSend Watches.the_row
+watches_send = view_send _ _ _ _ _ (declared_send InWatches.the_type (search (value_send, plain) depth 60, tt))
+
+guard_send : IsSend Guard.the_row
+guard_send = declared_send Guard.the_type (search (rule_send, plain) depth 60, (watches_send, tt))
+
+guards_send : IsSend Guards.the_row
+guards_send = view_send _ _ _ _ _ (declared_send InGuards.the_type (search (guard_send, plain) depth 60, tt))
+
+base_send : IsSend Base.the_row
+base_send = declared_send Base.the_type (
+  search plain depth 60,
+  (
+    search (value_send, value_sync, lists.the_send, plain) depth 60,
+    (
+      search (lists.the_send, plain) depth 60,
+      (
+        search (value_send, value_sync, lists.the_send, plain) depth 60,
+        (search plain depth 60, (search plain depth 60, (search plain depth 60, tt))),
+      ),
+    ),
+  ),
+)
+
+queued_send : IsSend Queued.the_row
+queued_send = search plain depth 60
+
+handled_send : IsSend Handled.the_row
+handled_send = search (value_send, plain) depth 60
+
+account_send : IsSend Account.the_row
+account_send = search (value_send, handled_send, queued_send, plain) depth 60
+
+agent_send : IsSend Agent.the_row
+agent_send = search (value_send, account_send, plain) depth 60
+
+module _ (M : RattleType) (g : Meaning.Ghosts M.Denot) where
+  refs_send : IsSend (RefStore.the_row M g)
+  refs_send = view_send _ _ _ _ _ (declared_send (InRefStore.the_type M g) (
+    search (value_send, plain) depth 60,
+    (
+      search plain depth 60,
+      (
+        search plain depth 60,
+        (
+          guards_send,
+          (search plain depth 60, tt),
+        ),
+      ),
+    ),
+  ))
+
+  atoms_send : IsSend (AtomStore.the_row M g)
+  atoms_send = view_send _ _ _ _ _ (declared_send (InAtomStore.the_type M g) (
+    search (value_send, plain) depth 60,
+    (
+      guards_send,
+      (search plain depth 60, tt),
+    ),
+  ))
+
+  agents_send : IsSend (AgentStore.the_row M g)
+  agents_send = view_send _ _ _ _ _ (declared_send (InAgentStore.the_type M g) (
+    search (agent_send, plain) depth 60,
+    (
+      guards_send,
+      (
+        search (over.crosses, plain) depth 60,
+        (search (over.crosses, plain) depth 60, (search plain depth 60, (search plain depth 60, tt))),
+      ),
+    ),
+  ))
+
+module _ (C A : RattleType) (gC : Ledger.Ghosts C.Denot) (gA : Ledger.Ghosts A.Denot) where
+  pub share_send : IsSend (Share.the_row C A gC gA)
+  share_send = view_send _ _ _ _ _ (declared_send (InShare.the_type C A gC gA) (
+    search plain depth 60,
+    (
+      search (part.the_send, plain) depth 60,
+      (
+        search (part.the_send, plain) depth 60,
+        (search (receipt_send, plain) depth 60, tt),
+      ),
+    ),
+  ))
+
+  books_send : IsSend (Books.the_row C A gC gA)
+  books_send = view_send _ _ _ _ _ (declared_send (InBooks.the_type C A gC gA) (
+    search plain depth 60,
+    (
+      search plain depth 60,
+      (
+        search plain depth 60,
+        (
+          search (book.the_send, plain) depth 60,
+          (search (book.the_send, plain) depth 60, tt),
+        ),
+      ),
+    ),
+  ))
+
+  module _ (M : RattleType) (gM : Meaning.Ghosts M.Denot) where
+    pub world_send : IsSend (World.the_row M C A gM gC gA)
+    world_send = view_send _ _ _ _ _ (declared_send (InWorld.the_type M C A gM gC gA) (
+      base_send,
+      (
+        search (entry_send, plain) depth 60,
+        (
+          refs_send M gM,
+          (
+            atoms_send M gM,
+            (
+              agents_send M gM,
+              (books_send, tt),
+            ),
+          ),
+        ),
+      ),
+    ))

@@ -1,0 +1,290 @@
+//! Four threads that change everything, and two that run actions.
+ghost use Rattle.std.specs.Prelude.{◌≡◌};
+ghost use Rattle.ref_world.specs.Shares.{all_parts};
+
+use crate::worlds::{
+    By, PLUS, Stop, add, agent, closed, done, int_of, one_arg, opened, plain_start, table, value,
+};
+use ref_fun::{Core, Functions};
+use ref_log::{Stamp, Who};
+use ref_shared::{Open, Quiet, Shared, Worked};
+use ref_tx::Tx;
+use ref_world::{ALL_PARTS, RefStart, Share, Start, World};
+use std::alloc::{AllocError, Global};
+use std::marker::Brand;
+use std::sync::Wait;
+use std::sync::ledger::{Blank, Ledger};
+use std::test::Fail;
+use std::thread;
+use std::thread::Threads;
+
+const REFS: u32 = 3;
+
+/// The number of the tally, which comes after the refs.
+const TALLY: u32 = 3;
+
+// Three refs, a tally, an atom and two agents, which are all 0.
+fn start(alloc: Global) -> Result<Start, AllocError> {
+    let mut start = plain_start(alloc, "0 0 0", "0")?;
+    start.refs.push(RefStart {
+        value: value(alloc, "0")?,
+        rule: None,
+        tally: true,
+    })?;
+    start.agents.push(agent(value(alloc, "0")?, None))?;
+    start.agents.push(agent(value(alloc, "0")?, None))?;
+    Ok(start)
+}
+
+// Adds 1 to two of the refs and to the tally, and sends `+ 1` to an agent.
+fn change<F: Functions<Core>>(
+    alloc: Global,
+    funs: &F,
+    tx: &mut Tx<Core>,
+    n: u32,
+) -> Result<(), Stop> {
+    add(alloc, funs, tx, n % REFS, "1")?;
+    add(alloc, funs, tx, n.saturating_add(1) % REFS, "1")?;
+    let _ = done(tx.commute(alloc, funs, TALLY, PLUS, one_arg(alloc, "1")?))?;
+    done(tx.send(alloc, funs, n % 2, PLUS, one_arg(alloc, "1")?))
+}
+
+// Fifty rounds of a transaction and a change of the atom. It answers the share, and whether none was refused.
+fn fifty<R: Wait, C: Ledger, A: Ledger, F: Functions<Core>>(
+    rt: &R,
+    alloc: Global,
+    funs: &F,
+    shared: &Shared<Core, C, A>,
+    mut share: Share<C, A>,
+    worker: u32,
+) -> (Share<C, A>, Result<(), Stop>) {
+    for step in 0..50u32 {
+        if let Err(stop) = round(rt, alloc, funs, shared, &mut share, Stamp { worker, step }) {
+            return (share, Err(stop));
+        }
+    }
+    (share, Ok(()))
+}
+
+fn round<R: Wait, C: Ledger, A: Ledger, F: Functions<Core>>(
+    rt: &R,
+    alloc: Global,
+    funs: &F,
+    shared: &Shared<Core, C, A>,
+    share: &mut Share<C, A>,
+    stamp: Stamp,
+) -> Result<(), Stop> {
+    let n = stamp.worker.saturating_add(stamp.step);
+    let _ = done(shared.transact(
+        rt,
+        alloc,
+        funs,
+        share,
+        stamp,
+        10_000,
+        &mut Open,
+        &mut Quiet,
+        |tx: &mut Tx<Core>| change(alloc, funs, tx, n),
+    ))?;
+    let one = one_arg(alloc, "1")?;
+    let _ = done(shared.swap(rt, alloc, funs, share, 0, PLUS, one))?;
+    Ok(())
+}
+
+// Two threads' rounds, each with a part of the share. It answers the parts joined, and whether none was refused.
+fn two_by_fifty<
+    C: Ledger + Send + Sync,
+    A: Ledger + Send + Sync,
+    R: Threads + Wait + Sync,
+    F: Functions<Core> + Sync,
+>(
+    rt: &R,
+    alloc: Global,
+    funs: &F,
+    shared: &Shared<Core, C, A>,
+    mut share: Share<C, A>,
+    worker: u32,
+) -> (Share<C, A>, Result<(), Stop>) {
+    let Some(other) = share.split(1) else {
+        return (share, Err(Stop::Refused));
+    };
+    let next = worker.saturating_add(1);
+    let (mine, theirs) = thread::join(
+        rt,
+        move || fifty(rt, alloc, funs, shared, share, worker),
+        move || fifty(rt, alloc, funs, shared, other, next),
+    );
+    together(mine, theirs)
+}
+
+// Two shares joined, and what came of both.
+fn together<C: Ledger, A: Ledger>(
+    mine: (Share<C, A>, Result<(), Stop>),
+    theirs: (Share<C, A>, Result<(), Stop>),
+) -> (Share<C, A>, Result<(), Stop>) {
+    let (mut share, mine) = mine;
+    let (other, theirs) = theirs;
+    let joined = match share.join(other) {
+        Ok(()) => mine.and(theirs),
+        Err(_) => Err(Stop::Memory),
+    };
+    (share, joined)
+}
+
+// Four threads' rounds; then the shared world is closed.
+fn four_by_fifty<
+    C: Ledger + Send + Sync,
+    A: Ledger + Send + Sync,
+    R: Threads + Wait + Sync,
+    F: Functions<Core> + Sync,
+>(
+    rt: &R,
+    alloc: Global,
+    funs: &F,
+    shared: &Shared<Core, C, A>,
+    mut share: Share<C, A>,
+) -> (Share<C, A>, Result<(), Stop>) {
+    let Some(other) = share.split(2) else {
+        return (share, Err(Stop::Refused));
+    };
+    let (mine, theirs) = thread::join(
+        rt,
+        move || two_by_fifty(rt, alloc, funs, shared, share, 0),
+        move || two_by_fifty(rt, alloc, funs, shared, other, 2),
+    );
+    shared.close(rt);
+    together(mine, theirs)
+}
+
+// Runs actions until the shared world is closed and no agent is ready, and answers how many.
+fn pool<R: Wait, C: Ledger, A: Ledger, F: Functions<Core>>(
+    rt: &R,
+    alloc: Global,
+    funs: &F,
+    shared: &Shared<Core, C, A>,
+) -> Result<u32, Stop> {
+    for did in 0..1_000u32 {
+        match done(shared.work_once(rt, alloc, funs, &mut Open, &mut Quiet))? {
+            Worked::Did(_) => {}
+            Worked::Closed => return Ok(did),
+        }
+    }
+    Err(Stop::Late)
+}
+
+// How many actions two threads ran.
+fn two_pools<
+    C: Ledger + Send + Sync,
+    A: Ledger + Send + Sync,
+    R: Threads + Wait + Sync,
+    F: Functions<Core> + Sync,
+>(rt: &R, alloc: Global, funs: &F, shared: &Shared<Core, C, A>) -> Result<u32, Stop> {
+    let (one, two) = thread::join(
+        rt,
+        move || pool(rt, alloc, funs, shared),
+        move || pool(rt, alloc, funs, shared),
+    );
+    Ok(one?.saturating_add(two?))
+}
+
+fn held<C: Ledger, A: Ledger>(world: &World<Core, C, A>, who: Who) -> Option<i64> {
+    int_of(world.value_of(who)?)
+}
+
+// How many actions of an agent wait.
+fn waiting<C: Ledger, A: Ledger>(world: &World<Core, C, A>, g: u32) -> Option<usize> {
+    Some(world.account(g)?.waiting())
+}
+
+// What there is at the end.
+#[derive(Debug, Drop, PartialEq)]
+struct Sums {
+    // How many actions were run.
+    actions: u32,
+    refs: i64,
+    tally: Option<i64>,
+    atom: Option<i64>,
+    agents: (Option<i64>, Option<i64>),
+    waiting: (Option<usize>, Option<usize>),
+    receipts: usize,
+    // The totals.
+    commits: u64,
+    added: u64,
+}
+
+// Two threads that run actions, and four threads' rounds.
+fn six<
+    C: Ledger + Send + Sync,
+    A: Ledger + Send + Sync,
+    R: Threads + Wait + Sync,
+    F: Functions<Core> + Sync,
+>(
+    rt: &R,
+    alloc: Global,
+    funs: &F,
+    shared: &Shared<Core, C, A>,
+    share: Share<C, A>,
+) -> (Result<u32, Stop>, (Share<C, A>, Result<(), Stop>)) {
+    let (actions, all) = thread::join(
+        rt,
+        move || two_pools(rt, alloc, funs, shared),
+        move || four_by_fifty(rt, alloc, funs, shared, share),
+    );
+    (actions, all)
+}
+
+fn try_all<C: Ledger + Send + Sync, A: Ledger + Send + Sync, R: Threads + Wait + Sync>(
+    rt: &R,
+    by: By,
+    commits: Blank,
+    added: Blank,
+) -> Result<Sums, Stop>
+    requires commits { (commits.name ≡ C.name) × (commits.parts ≡ C.parts) × (commits.parts ≡ all_parts) }
+    requires added { (added.name ≡ A.name) × (added.parts ≡ A.parts) × (added.parts ≡ all_parts) }
+{
+    let alloc = by.alloc;
+    let (shared, share) = opened::<C, A>(by, start(alloc)?, commits, added)?;
+    let (actions, all) = six(rt, alloc, by.funs, &shared, share);
+    let (share, went) = all;
+    went?;
+    let actions = actions?;
+    let receipts = share.receipts().len();
+    let (world, totals) = closed(alloc, shared, share)?;
+    let mut refs = 0i64;
+    for r in 0..REFS {
+        refs = refs.saturating_add(held(&world, Who::Ref(r)).unwrap_or(0));
+    }
+    Ok(Sums {
+        actions,
+        refs,
+        tally: held(&world, Who::Ref(TALLY)),
+        atom: held(&world, Who::Atom(0)),
+        agents: (held(&world, Who::Agent(0)), held(&world, Who::Agent(1))),
+        waiting: (waiting(&world, 0), waiting(&world, 1)),
+        receipts,
+        commits: totals.commits,
+        added: totals.added,
+    })
+}
+
+#[test]
+fn the_sums_of_six_threads_are_right(rt: HostRuntime) -> Result<(), Fail> {
+    let alloc = rt.alloc();
+    let funs = table(alloc)?;
+    let by = By { alloc, funs: &funs };
+    let (commits, added) = (Blank::new(ALL_PARTS), Blank::new(ALL_PARTS));
+    let sums = try_all::<Brand, Brand, _>(&rt, by, commits, added)?;
+    let wanted = Sums {
+        actions: 200,
+        refs: 400,
+        tally: Some(200),
+        atom: Some(200),
+        agents: (Some(100), Some(100)),
+        waiting: (Some(0), Some(0)),
+        receipts: 400,
+        commits: 200,
+        added: 200,
+    };
+    assert_eq!(rt; sums, wanted);
+    Ok(())
+}
