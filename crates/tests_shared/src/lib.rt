@@ -9,6 +9,7 @@
 //! | `calls`, `conflicts`, `finishing` | by one thread: each call, transactions that are tried again, the end |
 //! | `threads`, `work`, `stress` | by several: transactions, agents, all together |
 //! | `worlds` | making worlds and values, and what is read of them |
+//! | [`flags`] | how far threads have come. It stands outside of the tests, since the proof of what crosses threads names it |
 #![tactic(auto)]
 
 #[cfg(test)]
@@ -17,6 +18,7 @@ mod calls;
 mod conflicts;
 #[cfg(test)]
 mod finishing;
+pub mod flags;
 #[cfg(test)]
 mod stress;
 #[cfg(test)]
