@@ -8,6 +8,7 @@
 //! |---|---|
 //! | `calls`, `conflicts`, `finishing` | by one thread: each call, transactions that are tried again, the end |
 //! | `threads`, `work`, `stress` | by several: transactions, agents, all together |
+//! | `faults` | what faults say |
 //! | `worlds` | making worlds and values, and what is read of them |
 //! | [`flags`] | how far threads have come. It stands outside of the tests, since the proof of what crosses threads names it |
 #![tactic(auto)]
@@ -16,6 +17,8 @@
 mod calls;
 #[cfg(test)]
 mod conflicts;
+#[cfg(test)]
+mod faults;
 #[cfg(test)]
 mod finishing;
 pub mod flags;
