@@ -4,9 +4,9 @@ ghost use Rattle.ref_workload.specs.Plan.{PlanSeen};
 ghost use Rattle.ref_workload.specs.Workload.{IsWorkload};
 
 use crate::plan_faults::PlanFault;
+use crate::planning::declarations::declarations;
 use crate::planning::forms::map_in;
 use crate::planning::parts::parts_of;
-use crate::planning::references::declarations;
 use crate::planning::steps::workers;
 use crate::plans::Plan;
 use ref_edn::{Items, Value};

@@ -1,6 +1,7 @@
 //! How a workload is read.
 
 pub mod calls;
+pub mod declarations;
 pub mod forms;
 pub mod kinds;
 pub mod names;

@@ -9,8 +9,8 @@ ghost use Rattle.ref_workload.specs.Workload.{AreFew, HasParts, HasVectors, IsPo
 ghost use Rattle.ref_workload.specs.Words.{pool_word, version_word};
 
 use crate::plan_faults::PlanFault;
+use crate::planning::declarations::MOST_REFERENCES;
 use crate::planning::forms::{int_in, is_word, vector_in};
-use crate::planning::references::MOST_REFERENCES;
 use crate::planning::steps::MOST_STEPS;
 use ref_edn::{Entries, Items, Value};
 

@@ -2,7 +2,7 @@ use Rattle.ref_workload.specs.Declarations.{IsAtom, IsRef}
 use Rattle.ref_workload.proofs.Collected.{same_names}
 use Rattle.ref_workload.proofs.References.{one_atom, one_ref}
 use Rattle.ref_workload.proofs.Tables.{with_both, with_refs}
-use Rattle.ref_workload.proofs.planning.references.declarations.Goals as goal
+use Rattle.ref_workload.proofs.planning.declarations.declarations.Goals as goal
 
 pub returns-in-Err-atoms-clause-none : goal.returns-in-Err-atoms-clause-none
 returns-in-Err-atoms-clause-none c = λ other names refs atoms agents all.

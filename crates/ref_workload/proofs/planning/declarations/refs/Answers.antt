@@ -2,7 +2,7 @@ use Rattle.std.proofs.Common.{◌<◌, length}
 use Rattle.ref_workload.specs.Declarations.{IsRef}
 use Rattle.ref_workload.proofs.Collected.{collects_end}
 use Rattle.ref_workload.proofs.Loops.{at_most_one, refs_fail, refs_more}
-use Rattle.ref_workload.proofs.planning.references.refs.Goals as goal
+use Rattle.ref_workload.proofs.planning.declarations.refs.Goals as goal
 
 pub returns-in-Err-clause-none : goal.returns-in-Err-clause-none
 returns-in-Err-clause-none c =
