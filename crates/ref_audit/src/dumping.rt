@@ -7,6 +7,7 @@ ghost use Rattle.ref_audit.specs.declared.faults.DumpMakeFault.TheVariants as fa
 
 pub mod agents;
 pub mod entries;
+pub mod few;
 pub mod forms;
 pub mod maps;
 pub mod references;
@@ -27,6 +28,7 @@ use worlds::unnamed_in;
 ///
 /// Where an action in the log's sends or in an agent's account names a function that Core doesn't have, the least such code is
 /// told, and else that the dump would nest deeper than 64. The time is linear in what is dumped; values are shared, not copied.
+/// [`are_few`](crate::are_few) is the test for what is required.
 #[tactic(auto, using(crate::proofs::Dumps::dump_told))]
 pub fn dump<C: Ledger, A: Ledger>(
     alloc: Global,

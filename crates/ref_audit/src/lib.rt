@@ -9,6 +9,7 @@ pub mod reports;
 pub mod words;
 
 pub use dumping::dump;
+pub use dumping::few::are_few;
 pub use faults::DumpMakeFault;
 pub use reporting::{line_of, report, word_of};
 pub use reports::{Names, Reason, Refusal, Verdict};
