@@ -17,7 +17,7 @@ use Rattle.ref_log.specs.declared.operations.Op.TheVariants as ops
 use Rattle.ref_log.specs.declared.sends.Sent.{Sent}
 use Rattle.ref_agents.specs.declared.accounts.Handled.{Handled}
 use Rattle.ref_agents.specs.declared.accounts.Mark.{Mark}
-use Rattle.ref_audit.specs.DumpForm.{action_of, agent_of, agent_said, agent_with, all_said, alter_said, and_entry, and_said, args_said, both, code_named, code_of, commute_said, done_of, done_said, elements_of, elements_within, ensure_said, entries_from, entry_of, entry_said, handled_of, handled_said, is_predicate, kept_of, kept_said, list_said, made_atom_said, made_ref_said, mark_of, number_of, only_if, part_said, queued_of, reference_of, reset_said, rule_of, rule_said, sent_of, set_said, stamp_of, status_of, swap_said, tagged_of, transaction_of, tx_said, under, key_word, values_said}
+use Rattle.ref_audit.specs.DumpForm.{action_of, agent_of, agent_said, agent_with, all_said, alter_said, and_entry, and_said, args_said, both, call_said, code_named, code_of, commute_said, done_of, done_said, elements_of, elements_within, ensure_said, entries_from, entry_of, entry_said, handled_of, handled_said, is_predicate, kept_of, kept_said, list_said, made_atom_said, made_ref_said, mark_of, number_of, only_if, part_said, queued_of, reference_of, reset_said, rule_of, rule_said, sent_of, set_said, stamp_of, status_of, swap_said, tagged_of, transaction_of, tx_said, under, key_word, values_said}
 use Rattle.ref_audit.specs.OfCore.{is_account_of_core, is_agent_rule_of_core, is_entry_of_core, is_handled_of_core, is_kept_of_core, is_op_of_core, is_rule_of_core}
 use Rattle.ref_audit.specs.Words.{alter_tag, commute_tag, ensure_tag, is_function, made_atom_tag, made_ref_tag, reset_tag, set_tag, swap_tag, tx_tag}
 use Rattle.ref_audit.specs.declared.reading.dumps.Kept.{Kept}
@@ -182,27 +182,28 @@ ensure_passes (r ∷ answer ∷ x ∷ xs) d e = absurd cc
 called : (code : ℕ) → is_function code ≡ true → list_all is_function (code ∷ []) ≡ true
 called code e = ap (λ b. b && true) e
 
+call_passes : (xs : List Edn) (c : ℕ × Action × Edn) → call_said xs ≡ Some c → is_function c.1.code ≡ true
+call_passes [] c e = absurd cc
+call_passes (r ∷ []) c e = absurd cc
+call_passes (r ∷ f ∷ []) c e = absurd cc
+call_passes (r ∷ f ∷ args ∷ []) c e = absurd cc
+call_passes (r ∷ f ∷ args ∷ answer ∷ []) c e =
+    let join : ℕ → Action → ℕ × Action × Edn = λ n action. (n, action, answer) in
+    let p = both-Some join (reference_of r) (action_of f args) c e in
+    ap (λ (x : ℕ × Action × Edn). is_function x.1.code) (sym p.4) ∙ action_passes f args p.1 p.3
+call_passes (r ∷ f ∷ args ∷ answer ∷ x ∷ xs) c e = absurd cc
+
 alter_passes : (xs : List Edn) (d : Done) → alter_said xs ≡ Some d → is_op_of_core d.op ≡ true
-alter_passes [] d e = absurd cc
-alter_passes (r ∷ []) d e = absurd cc
-alter_passes (r ∷ f ∷ []) d e = absurd cc
-alter_passes (r ∷ f ∷ args ∷ []) d e = absurd cc
-alter_passes (r ∷ f ∷ args ∷ answer ∷ []) d e =
-    let join : ℕ → Action → Done = λ n action. record { r = n; op = ops.Alter action.code action.args; answer = answer } in
-    let p = both-Some join (reference_of r) (action_of f args) d e in
-    ap (λ (x : Done). is_op_of_core x.op) (sym p.4) ∙ called p.1.code (action_passes f args p.1 p.3)
-alter_passes (r ∷ f ∷ args ∷ answer ∷ x ∷ xs) d e = absurd cc
+alter_passes xs d e =
+    let join : ℕ × Action × Edn → Done = λ c. record { r = c.0; op = ops.Alter c.1.code c.1.args; answer = c.2 } in
+    let p = map-Some join (call_said xs) d e in
+    ap (λ (x : Done). is_op_of_core x.op) (sym p.2) ∙ called p.0.1.code (call_passes xs p.0 p.1)
 
 commute_passes : (xs : List Edn) (d : Done) → commute_said xs ≡ Some d → is_op_of_core d.op ≡ true
-commute_passes [] d e = absurd cc
-commute_passes (r ∷ []) d e = absurd cc
-commute_passes (r ∷ f ∷ []) d e = absurd cc
-commute_passes (r ∷ f ∷ args ∷ []) d e = absurd cc
-commute_passes (r ∷ f ∷ args ∷ answer ∷ []) d e =
-    let join : ℕ → Action → Done = λ n action. record { r = n; op = ops.Commute action.code action.args; answer = answer } in
-    let p = both-Some join (reference_of r) (action_of f args) d e in
-    ap (λ (x : Done). is_op_of_core x.op) (sym p.4) ∙ called p.1.code (action_passes f args p.1 p.3)
-commute_passes (r ∷ f ∷ args ∷ answer ∷ x ∷ xs) d e = absurd cc
+commute_passes xs d e =
+    let join : ℕ × Action × Edn → Done = λ c. record { r = c.0; op = ops.Commute c.1.code c.1.args; answer = c.2 } in
+    let p = map-Some join (call_said xs) d e in
+    ap (λ (x : Done). is_op_of_core x.op) (sym p.2) ∙ called p.0.1.code (call_passes xs p.0 p.1)
 
 -- one of two forms
 one_of : {A : Type 0} (P : A → Type 0) (b : Bool) (x y : Option A) (z : A) → (x ≡ Some z → P z) → (y ≡ Some z → P z) → cond b x y ≡ Some z → P z
@@ -253,15 +254,10 @@ reset_passes (a ∷ v ∷ []) entry e =
 reset_passes (a ∷ v ∷ x ∷ xs) entry e = absurd cc
 
 swap_passes : (xs : List Edn) (entry : Entry) → swap_said xs ≡ Some entry → is_entry_of_core entry ≡ true
-swap_passes [] entry e = absurd cc
-swap_passes (a ∷ []) entry e = absurd cc
-swap_passes (a ∷ f ∷ []) entry e = absurd cc
-swap_passes (a ∷ f ∷ args ∷ []) entry e = absurd cc
-swap_passes (a ∷ f ∷ args ∷ answer ∷ []) entry e =
-    let join : ℕ → Action → Entry = λ n action. Atom n (ops.Alter action.code action.args) answer in
-    let p = both-Some join (reference_of a) (action_of f args) entry e in
-    ap is_entry_of_core (sym p.4) ∙ called p.1.code (action_passes f args p.1 p.3)
-swap_passes (a ∷ f ∷ args ∷ answer ∷ x ∷ xs) entry e = absurd cc
+swap_passes xs entry e =
+    let join : ℕ × Action × Edn → Entry = λ c. Atom c.0 (ops.Alter c.1.code c.1.args) c.2 in
+    let p = map-Some join (call_said xs) entry e in
+    ap is_entry_of_core (sym p.2) ∙ called p.0.1.code (call_passes xs p.0 p.1)
 
 made_ref_passes : (xs : List Edn) (entry : Entry) → made_ref_said xs ≡ Some entry → is_entry_of_core entry ≡ true
 made_ref_passes [] entry e = absurd cc

@@ -133,13 +133,16 @@ abbrev pub set_said : List Edn → Option Done
 set_said (r ∷ v ∷ answer ∷ []) = option_map (λ n. record { r = n; op = Set v; answer = answer }) (reference_of r)
 set_said xs = None
 
+-- N F [ARG ..] ANSWER: a function that was called for the reference of a number, and what it answered
+abbrev pub call_said : List Edn → Option (ℕ × Action × Edn)
+call_said (r ∷ f ∷ args ∷ answer ∷ []) = both (λ n action. (n, action, answer)) (reference_of r) (action_of f args)
+call_said xs = None
+
 abbrev pub alter_said : List Edn → Option Done
-alter_said (r ∷ f ∷ args ∷ answer ∷ []) = both (λ n action. record { r = n; op = Alter action.code action.args; answer = answer }) (reference_of r) (action_of f args)
-alter_said xs = None
+alter_said xs = option_map (λ c. record { r = c.0; op = Alter c.1.code c.1.args; answer = c.2 }) (call_said xs)
 
 abbrev pub commute_said : List Edn → Option Done
-commute_said (r ∷ f ∷ args ∷ answer ∷ []) = both (λ n action. record { r = n; op = Commute action.code action.args; answer = answer }) (reference_of r) (action_of f args)
-commute_said xs = None
+commute_said xs = option_map (λ c. record { r = c.0; op = Commute c.1.code c.1.args; answer = c.2 }) (call_said xs)
 
 abbrev pub ensure_said : List Edn → Option Done
 ensure_said (r ∷ answer ∷ []) = option_map (λ n. record { r = n; op = Ensure; answer = answer }) (reference_of r)
@@ -193,8 +196,7 @@ reset_said (a ∷ v ∷ []) = option_map (λ n. Atom n (Set v) v) (reference_of 
 reset_said xs = None
 
 abbrev pub swap_said : List Edn → Option Entry
-swap_said (a ∷ f ∷ args ∷ answer ∷ []) = both (λ n action. Atom n (Alter action.code action.args) answer) (reference_of a) (action_of f args)
-swap_said xs = None
+swap_said xs = option_map (λ c. Atom c.0 (Alter c.1.code c.1.args) c.2) (call_said xs)
 
 abbrev pub made_ref_said : List Edn → Option Entry
 made_ref_said (v ∷ []) = Some (MadeRef v)

@@ -1,6 +1,6 @@
 //! Entries and what they are made of.
 ghost use Rattle.std.specs.Prelude.{◌≡◌, ◌≢◌, ◌∷◌, [], None, Some, Ok, IfErr, IfOk, IfNone, IfSome};
-ghost use Rattle.ref_audit.specs.DumpForm.{alter_said, commute_said, done_of, done_said, ensure_said, entries_from, entry_of, entry_said, made_atom_said, made_ref_said, reset_said, sent_of, sent_said, set_said, stamp_of, swap_said, tagged_of, tx_said};
+ghost use Rattle.ref_audit.specs.DumpForm.{alter_said, call_said, commute_said, done_of, done_said, ensure_said, entries_from, entry_of, entry_said, made_atom_said, made_ref_said, reset_said, sent_of, sent_said, set_said, stamp_of, swap_said, tagged_of, tx_said};
 ghost use Rattle.ref_audit.specs.Reading.{Reads, Told};
 
 use crate::reading::actions::action_in;
@@ -11,6 +11,7 @@ use crate::reading::plain::{
 use crate::reading::wrongs::Wrong;
 use ref_edn::vectors::Iter;
 use ref_edn::{Text, Value};
+use ref_fun::Action;
 use ref_log::{Done, Entry, Op, Sent, Stamp, Transaction};
 use std::alloc::Global;
 
@@ -46,11 +47,11 @@ fn set_in(mut parts: Iter<'_>) -> Result<Done, Wrong>
     })
 }
 
-// `R F [ARG ..] ANSWER`
-fn alter_in(alloc: Global, mut parts: Iter<'_>) -> Result<Done, Wrong>
-    ensures { Reads (alter_said parts.entry) result }
+// `N F [ARG ..] ANSWER`
+fn call_in(alloc: Global, mut parts: Iter<'_>) -> Result<(u32, Action, Value), Wrong>
+    ensures { Reads (call_said parts.entry) result }
 {
-    let (Some(r), Some(f), Some(args), Some(answer), None) = (
+    let (Some(n), Some(f), Some(args), Some(answer), None) = (
         parts.next(),
         parts.next(),
         parts.next(),
@@ -59,40 +60,36 @@ fn alter_in(alloc: Global, mut parts: Iter<'_>) -> Result<Done, Wrong>
     ) else {
         return Err(Wrong::Form);
     };
-    let Some(r) = reference_in(r) else {
+    let Some(n) = reference_in(n) else {
         return Err(Wrong::Form);
     };
     match action_in(alloc, f, args) {
-        Ok(action) => Ok(Done {
+        Ok(action) => Ok((n, action, answer.share()?)),
+        Err(wrong) => Err(wrong),
+    }
+}
+
+fn alter_in(alloc: Global, parts: Iter<'_>) -> Result<Done, Wrong>
+    ensures { Reads (alter_said parts.entry) result }
+{
+    match call_in(alloc, parts) {
+        Ok((r, action, answer)) => Ok(Done {
             r,
             op: Op::Alter(action.code, action.args),
-            answer: answer.share()?,
+            answer,
         }),
         Err(wrong) => Err(wrong),
     }
 }
 
-// `R F [ARG ..] ANSWER`
-fn commute_in(alloc: Global, mut parts: Iter<'_>) -> Result<Done, Wrong>
+fn commute_in(alloc: Global, parts: Iter<'_>) -> Result<Done, Wrong>
     ensures { Reads (commute_said parts.entry) result }
 {
-    let (Some(r), Some(f), Some(args), Some(answer), None) = (
-        parts.next(),
-        parts.next(),
-        parts.next(),
-        parts.next(),
-        parts.next(),
-    ) else {
-        return Err(Wrong::Form);
-    };
-    let Some(r) = reference_in(r) else {
-        return Err(Wrong::Form);
-    };
-    match action_in(alloc, f, args) {
-        Ok(action) => Ok(Done {
+    match call_in(alloc, parts) {
+        Ok((r, action, answer)) => Ok(Done {
             r,
             op: Op::Commute(action.code, action.args),
-            answer: answer.share()?,
+            answer,
         }),
         Err(wrong) => Err(wrong),
     }
@@ -220,24 +217,11 @@ fn reset_in(mut parts: Iter<'_>) -> Result<Entry, Wrong>
     Ok(Entry::Atom(a, Op::Set(v.share()?), v.share()?))
 }
 
-// `A F [ARG ..] ANSWER`
-fn swap_in(alloc: Global, mut parts: Iter<'_>) -> Result<Entry, Wrong>
+fn swap_in(alloc: Global, parts: Iter<'_>) -> Result<Entry, Wrong>
     ensures { Reads (swap_said parts.entry) result }
 {
-    let (Some(a), Some(f), Some(args), Some(answer), None) = (
-        parts.next(),
-        parts.next(),
-        parts.next(),
-        parts.next(),
-        parts.next(),
-    ) else {
-        return Err(Wrong::Form);
-    };
-    let Some(a) = reference_in(a) else {
-        return Err(Wrong::Form);
-    };
-    match action_in(alloc, f, args) {
-        Ok(action) => Ok(Entry::Atom(a, Op::Alter(action.code, action.args), answer.share()?)),
+    match call_in(alloc, parts) {
+        Ok((a, action, answer)) => Ok(Entry::Atom(a, Op::Alter(action.code, action.args), answer)),
         Err(wrong) => Err(wrong),
     }
 }
