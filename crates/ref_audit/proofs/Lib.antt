@@ -1,3 +1,12 @@
+pub mod Depths
+pub mod Dumps
+pub mod Leasts
+pub mod Left
+pub mod Numbered
+pub mod References
+pub mod ReportLines
+pub mod ReportTurns
+pub mod WordNames
 pub mod Lists
 pub mod OfCore
 pub mod Differences
