@@ -14,3 +14,10 @@ pub mod Folds
 pub mod Maps
 pub mod Read
 pub mod Needed
+pub mod FormsBack
+pub mod WorldBack
+pub mod VerdictBack
+pub mod LegalBack
+pub mod ToldBack
+pub mod OwnFacts
+pub mod OwnVerdict

@@ -86,14 +86,14 @@ all_said said (x ∷ xs) = and_said (said x) (all_said said xs)
 abbrev pub list_said : {A : Type 0} → (Edn → Option A) → Edn → Option (List A)
 list_said said x = option_and_then (all_said said) (elements_of x)
 
--- The same of the values of references of a kind: there are fewer than 2^32 - 1 of them.
+-- The same of the values of references of a kind: a dump has fewer than 2^32 - 1 of them.
 abbrev pub values_said : {A : Type 0} → (Edn → Option A) → Edn → Option (List A)
 values_said said x = option_and_then (all_said said) (elements_within (2 ^ 32 - 2) x)
 
 -- ---- numbers of references, names of functions
 
--- Every number of 0 or more is the number of a reference. Those from 2^32 - 1 on are taken as one: there is no reference of any of
--- them, since there are fewer.
+-- Every integer of 0 or more is the number of a reference. Those from 2^32 - 1 on are taken as one: no reference now has one of them,
+-- since a dump has fewer, and so none that is replayed has one where the verdict is ok.
 abbrev pub reference_of : Edn → Option ℕ
 reference_of x = option_map (λ n. min n (2 ^ 32 - 1)) (number_of x)
 
