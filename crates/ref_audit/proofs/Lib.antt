@@ -7,3 +7,17 @@ pub mod References
 pub mod ReportLines
 pub mod ReportTurns
 pub mod WordNames
+pub mod Lists
+pub mod OfCore
+pub mod Differences
+pub mod Folds
+pub mod Maps
+pub mod Read
+pub mod Needed
+pub mod FormsBack
+pub mod WorldBack
+pub mod VerdictBack
+pub mod LegalBack
+pub mod ToldBack
+pub mod OwnFacts
+pub mod OwnVerdict
