@@ -1,10 +1,9 @@
 -- What is dumped says what it was made of: each form is read back.
-use Rattle.std.proofs.Common.{◌≡◌, ℕ, zero, suc, ◌+◌, ◌-◌, ◌^◌, ◌<◌, ◌≤◌, min, ◌&&◌, Bool, true, false, cond, nat_le, nat_lt, List, [], ◌∷◌, length, map, Option, None, Some, Ok, refl, sym, ap, subst, ◌∙◌, arith}
+use Rattle.std.proofs.Common.{◌≡◌, ℕ, zero, suc, ◌+◌, ◌-◌, ◌^◌, ◌<◌, ◌≤◌, min, ◌&&◌, Bool, true, false, nat_le, List, [], ◌∷◌, length, map, Option, None, Some, Ok, refl, sym, ap, subst, ◌∙◌, arith}
 use Rattle.std.proofs.lemmas.Bool.Decides.{nat_tests}
-use Rattle.std.specs.Prelude.{option_map, option_and_then}
+use Rattle.std.specs.Prelude.{option_and_then}
 use Rattle.std.specs.List.{list_all}
 use Rattle.ref_edn.specs.Edn.{Edn}
-use Rattle.ref_edn.specs.Edn as edn
 use Rattle.ref_fun.specs.Names.{core_names}
 use Rattle.ref_fun.specs.declared.actions.Action.{Action}
 use Rattle.ref_fun.specs.declared.rules.Rule.{Rule}
@@ -20,7 +19,7 @@ use Rattle.ref_agents.specs.declared.accounts.Mark.TheVariants as marks
 use Rattle.ref_agents.specs.declared.accounts.Queued.{Queued}
 use Rattle.ref_edn.specs.OrderLaws.{edn_eq}
 use Rattle.ref_log.specs.Replay.{is_set}
-use Rattle.ref_audit.specs.Dumped.{atom_form, done_form, entry_form, handled_form, mark_word, op_form, queued_form, sent_form}
+use Rattle.ref_audit.specs.Dumped.{atom_form, done_form, entry_form, handled_form, op_form, queued_form, sent_form}
 use Rattle.ref_audit.specs.DumpForm.{action_of, all_said, args_said, code_of, done_of, elements_of, entries_from, entry_of, handled_of, is_predicate, list_said, only_if, queued_of, reference_of, rule_of, sent_of, stamp_number}
 use Rattle.ref_audit.specs.OwnDump.{is_typed_action, is_typed_args, is_typed_entry, is_typed_handled, is_typed_number, is_typed_op, is_typed_queued, is_typed_sent, is_typed_done, is_typed_rule, is_typed_stamp, is_reset}
 use Rattle.ref_audit.specs.Words.{is_function, name_form, number_form, rule_form, vector_form}

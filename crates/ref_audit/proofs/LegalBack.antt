@@ -1,5 +1,5 @@
 -- What a replay says of its entries: their functions are Core's, and what an atom was set to was answered.
-use Rattle.std.proofs.Common.{◌≡◌, ℕ, ◌+◌, ◌≤◌, ◌==◌, ◌&&◌, ◌||◌, Bool, true, false, not, cond, nat_le, List, [], ◌∷◌, ◌++◌, length, Option, None, Some, Result, Ok, Err, refl, sym, ap, subst, ◌∙◌, arith}
+use Rattle.std.proofs.Common.{◌≡◌, ℕ, ◌+◌, ◌==◌, ◌&&◌, Bool, true, false, not, cond, List, [], ◌∷◌, Option, None, Some, Result, Ok, Err, refl, sym, ap, ◌∙◌, arith}
 use Rattle.std.proofs.lemmas.Bool.Decides.{nat_tests}
 use Rattle.std.specs.List.{list_all}
 use Rattle.std.specs.Prelude.{slice_get}
@@ -7,12 +7,9 @@ use Rattle.std.specs.Ordering.{eq_by_cmp}
 use Rattle.ref_edn.specs.Edn.{Edn}
 use Rattle.ref_edn.specs.Order.{edn_cmp}
 use Rattle.ref_fun.specs.Core.{core_means}
-use Rattle.ref_fun.specs.Collections as collections
-use Rattle.ref_fun.specs.Integers as integers
-use Rattle.ref_fun.specs.declared.faults.Cause.{Cause}
 use Rattle.ref_fun.specs.declared.faults.Cause.TheVariants.{WrongArity}
 use Rattle.ref_log.specs.Laws.{after_dones-Ok, after_found-Ok, refs_of, replay_from-Ok}
-use Rattle.ref_log.specs.Replay.{after_done, after_dones, after_found, after_one, after_place, and_done, and_step, codes_of, done_of, is_kept, is_protected, place, replay_from, step, with_atoms, with_refs}
+use Rattle.ref_log.specs.Replay.{after_done, after_dones, after_found, after_one, done_of, is_protected, place, replay_from, step, with_atoms}
 use Rattle.ref_log.specs.declared.entries.Entry.{Entry}
 use Rattle.ref_log.specs.declared.entries.Entry.TheVariants.{Trans, Atom, MadeRef, MadeAtom}
 use Rattle.ref_log.specs.declared.faults.AuditFault.{AuditFault}

@@ -1,5 +1,5 @@
 -- A map's entries as a list.
-use Rattle.std.proofs.Common.{◌≡◌, ◌≢◌, Bool, true, false, not, cond, List, Option, None, Some, ap, ◌∙◌}
+use Rattle.std.proofs.Common.{◌≡◌, ◌≢◌, Bool, true, false, not, cond, List, None, Some, ap}
 use Rattle.ref_edn.specs.Edn.{Edn, entries_of, pairs_of-entries_of}
 use Rattle.ref_edn.specs.Edn as edn
 use Rattle.ref_audit.specs.DumpForm.{dump_of, early_fault, has_keys, is_version, misfit, parts_unless, under}

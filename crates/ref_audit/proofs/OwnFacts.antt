@@ -1,16 +1,15 @@
 -- What is told of the references of a world up to a number, it is told of all.
-use Rattle.std.proofs.Common.{◌≡◌, ℕ, ◌+◌, ◌<◌, ◌≤◌, ◌&&◌, ◌⊎◌, ⊎_elim, Bool, true, false, List, [], ◌∷◌, length, get_or, take, map, Option, None, Some, refl, sym, ap, ◌∙◌, arith, is_some, zero, suc}
+use Rattle.std.proofs.Common.{◌≡◌, ℕ, ◌+◌, ◌<◌, ◌≤◌, ◌&&◌, ◌⊎◌, ⊎_elim, true, false, List, [], ◌∷◌, length, get_or, take, Option, None, Some, refl, ap, ◌∙◌, arith, is_some, zero, suc}
 use Rattle.std.proofs.lemmas.Bool.{cases_lt}
 use Rattle.std.proofs.lemmas.Option.{get_or_from_slice_get, slice_get_past, slice_get_within}
 use Rattle.std.proofs.lemmas.List.Folds.{list_all_more}
 use Rattle.std.specs.List.{list_all}
 use Rattle.std.specs.Prelude.{slice_get}
-use Rattle.ref_edn.specs.Edn.{Edn, nil}
+use Rattle.ref_edn.specs.Edn.{Edn}
 use Rattle.ref_fun.specs.Core.{core_accepts}
-use Rattle.ref_fun.specs.Rule.{passes}
 use Rattle.ref_fun.specs.declared.rules.Rule.{Rule}
 use Rattle.ref_log.specs.Guards.{passes_if_here}
-use Rattle.ref_agents.specs.Agents.{account_at, account_if_here, values_of}
+use Rattle.ref_agents.specs.Agents.{account_at, account_if_here}
 use Rattle.ref_agents.specs.declared.accounts.Queued.{Queued}
 use Rattle.ref_agents.specs.declared.agents.Agent.{Agent}
 use Rattle.ref_audit.specs.OwnDump.{account_fact, is_small_queued, is_small_rule, rule_fact}

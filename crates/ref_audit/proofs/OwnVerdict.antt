@@ -1,17 +1,15 @@
 -- The audit of a world's own dump.
-use Rattle.std.proofs.Common.{◌≡◌, ◌≢◌, ℕ, refl, Option, None, Some, Result, Ok, Err, sym, ◌∙◌, ap, true}
+use Rattle.std.proofs.Common.{◌≡◌, ℕ, refl, Option, None, Some, Result, Ok, ◌∙◌, ap}
 use Rattle.std.specs.Option.{option_map, option_or}
-use Rattle.ref_log.specs.Told.{AnswersOrMemory, TellsOrMemory}
 use Rattle.ref_edn.specs.Edn.{Edn}
 use Rattle.ref_world.specs.Seen.{WorldSeen}
 use Rattle.ref_audit.specs.Dumped.{depth_refusal, dump_refusal, dumped, unnamed, unnamed_refusal}
-use Rattle.ref_audit.specs.DumpForm.{dump_of, early_fault}
+use Rattle.ref_audit.specs.DumpForm.{dump_of}
 use Rattle.ref_audit.specs.OwnDump.{IsTold}
 use Rattle.ref_audit.specs.Verdict.{verdict_on}
 use Rattle.ref_audit.specs.declared.faults.DumpMakeFault.{DumpMakeFault}
 use Rattle.ref_audit.specs.declared.faults.DumpMakeFault.TheVariants as makes
 use Rattle.ref_audit.specs.declared.reading.faults.DumpFault.{DumpFault}
-use Rattle.ref_audit.specs.declared.reading.faults.DumpFault.TheVariants.{Memory}
 use Rattle.ref_audit.specs.declared.reports.Verdict.{Verdict}
 use Rattle.ref_audit.specs.declared.reports.Verdict.TheVariants as verdicts
 use Rattle.ref_audit.proofs.ToldBack.{own_verdict}

@@ -1,19 +1,17 @@
 -- What the calls of a world tell of it is enough for its dump to be read back and to be right.
-use Rattle.std.proofs.Common.{◌≡◌, ℕ, zero, suc, ◌+◌, ◌^◌, ◌<◌, ◌≤◌, ◌==◌, min, ◌&&◌, Bool, true, false, not, cond, nat_le, nat_lt, List, [], ◌∷◌, ◌++◌, length, length-append, get_or, map, Option, None, Some, Result, Ok, Err, refl, sym, ap, subst, ◌∙◌, arith, is_some}
+use Rattle.std.proofs.Common.{◌≡◌, ℕ, suc, ◌+◌, ◌^◌, ◌<◌, ◌≤◌, ◌==◌, ◌&&◌, Bool, true, false, cond, List, [], ◌∷◌, length, length-append, get_or, map, Option, None, Some, Result, Ok, Err, refl, sym, ap, ◌∙◌, arith}
 use Rattle.std.proofs.lemmas.Bool.Decides.{nat_tests}
 use Rattle.std.proofs.lemmas.Option.{slice_get-get_or, slice_get_within}
-use Rattle.std.specs.Prelude.{slice_get, slice_set}
+use Rattle.std.specs.Prelude.{slice_get}
 use Rattle.std.specs.List.{list_all}
-use Rattle.std.specs.Option.{option_map, option_or}
-use Rattle.ref_edn.specs.Edn.{Edn, int, nil}
+use Rattle.ref_edn.specs.Edn.{Edn, nil}
 use Rattle.ref_fun.specs.Core.{core_accepts, core_means}
-use Rattle.ref_fun.specs.Predicates as predicates
 use Rattle.ref_fun.specs.Rule.{passes}
 use Rattle.ref_fun.specs.declared.rules.Rule.{Rule}
 use Rattle.ref_log.specs.Guards.{AreAccepted, passes_if_here, rule_at}
 use Rattle.std.proofs.Math.ListN.{length-set}
 use Rattle.ref_log.specs.Laws.{after_found-Ok, replay-refs, replay_from-Ok}
-use Rattle.ref_log.specs.Replay.{after_dones, after_one, done_of, is_set, refs_after, refs_after_one, replay, replay_from, sets_atom, state_of, step, with_atoms, with_refs}
+use Rattle.ref_log.specs.Replay.{after_dones, after_one, done_of, is_set, refs_after, replay_from, sets_atom, state_of, step, with_atoms, with_refs}
 use Rattle.ref_log.specs.Tally.{IsTally, added_of, fits_entry}
 use Rattle.ref_log.specs.declared.entries.Entry.{Entry}
 use Rattle.ref_log.specs.declared.entries.Entry.TheVariants.{Trans, Atom, MadeRef, MadeAtom}
@@ -24,18 +22,17 @@ use Rattle.ref_log.specs.declared.operations.Op.{Op}
 use Rattle.ref_log.specs.declared.operations.Op.TheVariants as ops
 use Rattle.ref_log.specs.declared.sends.Sent.{Sent}
 use Rattle.ref_log.specs.declared.states.PlainState.{PlainState}
-use Rattle.ref_agents.specs.Account.{AccountSeen}
 use Rattle.ref_agents.specs.Agents.{account_at, values_of}
 use Rattle.ref_agents.specs.declared.accounts.Handled.{Handled}
 use Rattle.ref_agents.specs.declared.accounts.Queued.{Queued}
 use Rattle.ref_agents.specs.declared.agents.Agent.{Agent}
 use Rattle.ref_world.specs.Seen.{WorldSeen}
 use Rattle.ref_world.specs.World.{values_now}
-use Rattle.ref_audit.specs.Dumped.{dumped, least, lesser, unnamed, unnamed_code, unnamed_in_account, unnamed_in_agent, unnamed_in_entry, unnamed_in_handled, unnamed_in_queued, unnamed_in_sent}
+use Rattle.ref_audit.specs.Dumped.{dumped, least, lesser, unnamed, unnamed_code, unnamed_in_agent, unnamed_in_entry, unnamed_in_handled, unnamed_in_queued, unnamed_in_sent}
 use Rattle.ref_audit.specs.DumpForm.{dump_of, is_predicate}
 use Rattle.ref_audit.specs.OfCore.{is_entry_of_core, is_op_of_core}
-use Rattle.ref_audit.specs.OwnDump.{IsSound, IsTold, IsTyped, account_fact, dump_seen, is_reset, is_reset_entry, is_small_account, is_small_args, is_small_done, is_small_entry, is_small_handled, is_small_op, is_small_queued, is_small_rule, is_small_sent, is_small_transaction, is_typed_action, is_typed_agent, is_typed_done, is_typed_entry, is_typed_handled, is_typed_number, is_typed_op, is_typed_queued, is_typed_rule, is_typed_sent, is_typed_stamp, is_typed_tally, rule_fact}
-use Rattle.ref_audit.specs.Verdict.{verdict, verdict_on}
+use Rattle.ref_audit.specs.OwnDump.{IsSound, IsTold, IsTyped, account_fact, is_reset, is_reset_entry, is_small_account, is_small_args, is_small_done, is_small_entry, is_small_handled, is_small_op, is_small_queued, is_small_rule, is_small_sent, is_typed_action, is_typed_agent, is_typed_done, is_typed_entry, is_typed_handled, is_typed_number, is_typed_op, is_typed_queued, is_typed_rule, is_typed_sent, is_typed_stamp, is_typed_tally, rule_fact}
+use Rattle.ref_audit.specs.Verdict.{verdict_on}
 use Rattle.ref_audit.specs.Words.{is_function}
 use Rattle.ref_audit.specs.declared.reports.Verdict.TheVariants as verdicts
 use Rattle.ref_audit.proofs.LegalBack.{log_called}

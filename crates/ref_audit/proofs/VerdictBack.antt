@@ -1,8 +1,8 @@
 -- The verdict on a world's dump.
-use Rattle.std.proofs.Common.{◌≡◌, ℕ, zero, suc, ◌+◌, ◌≤◌, ◌==◌, ◌&&◌, Bool, true, false, not, cond, List, [], ◌∷◌, length, map, Option, None, Some, Result, Ok, Err, refl, sym, ap, subst, ◌∙◌, arith, is_some}
+use Rattle.std.proofs.Common.{◌≡◌, ℕ, suc, ◌+◌, ◌==◌, true, List, [], ◌∷◌, map, None, refl, ap, subst, ◌∙◌, arith}
 use Rattle.std.proofs.lemmas.Bool.Decides.{nat_tests}
 use Rattle.std.specs.Prelude.{slice_get}
-use Rattle.std.specs.List.{enumerate_from, list_all, position_from}
+use Rattle.std.specs.List.{enumerate_from, position_from}
 use Rattle.std.specs.Ordering.{eq_by_cmp}
 use Rattle.ref_edn.specs.Edn.{Edn}
 use Rattle.ref_edn.specs.Order.{edn_cmp}
@@ -10,19 +10,14 @@ use Rattle.ref_edn.specs.OrderLaws.{edn_eq}
 use Rattle.ref_fun.specs.Core.{core_accepts, core_means}
 use Rattle.ref_fun.specs.Rule.{passes}
 use Rattle.ref_log.specs.Guards.{AreAccepted, passes_if_here, rule_at}
-use Rattle.ref_log.specs.Replay.{replay}
-use Rattle.ref_log.specs.Tally.{added_of, commits_of, fits_entry}
+use Rattle.ref_log.specs.Tally.{added_of, commits_of}
 use Rattle.ref_log.specs.declared.guards.Guard.{Guard}
-use Rattle.ref_agents.specs.Account.{after_handled}
-use Rattle.ref_agents.specs.Agents.{AreAgents, IsAgent, IsAgentIfHere, values_of}
+use Rattle.ref_agents.specs.Agents.{AreAgents, IsAgent, values_of}
 use Rattle.ref_agents.specs.declared.agents.Agent.{Agent}
 use Rattle.ref_world.specs.Seen.{WorldSeen}
-use Rattle.ref_world.specs.World.{AreBooks, IsReplayed}
 use Rattle.ref_audit.specs.OwnDump.{IsSound, agent_seen, agents_seen, dump_seen, kept_seen, kepts_seen}
 use Rattle.ref_audit.specs.Verdict.{agent_breaks_rule, are_counts, breaks_fold, breaks_rule, first_difference, is_value, replay_line, verdict}
 use Rattle.ref_audit.specs.Verdict as audits
-use Rattle.ref_audit.specs.declared.reading.dumps.Kept.{Kept}
-use Rattle.ref_audit.specs.declared.reading.dumps.KeptAgent.{KeptAgent}
 use Rattle.ref_audit.specs.declared.reports.Verdict.TheVariants as verdicts
 
 equal_itself : (x : Edn) → eq_by_cmp edn_cmp x x ≡ true

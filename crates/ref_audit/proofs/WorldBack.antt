@@ -1,11 +1,9 @@
 -- What a world's dump says is what was dumped.
-use Rattle.std.proofs.Common.{◌≡◌, ℕ, suc, ◌+◌, ◌-◌, ◌^◌, ◌<◌, ◌≤◌, ◌&&◌, Bool, true, false, nat_le, List, [], ◌∷◌, length, map, Option, None, Some, Result, Ok, refl, sym, ap, ◌∙◌, arith, is_some}
+use Rattle.std.proofs.Common.{◌≡◌, ℕ, suc, ◌+◌, ◌-◌, ◌^◌, ◌<◌, ◌≤◌, ◌&&◌, Bool, true, false, nat_le, List, [], ◌∷◌, length, map, Option, None, Some, Ok, refl, ap, ◌∙◌, arith, is_some}
 use Rattle.std.proofs.lemmas.Bool.Decides.{nat_tests}
-use Rattle.std.specs.Prelude.{option_map, option_and_then}
+use Rattle.std.specs.Prelude.{option_and_then}
 use Rattle.std.specs.List.{enumerate_from, list_all, zip}
 use Rattle.ref_edn.specs.Edn.{Edn, keyword}
-use Rattle.ref_fun.specs.declared.actions.Action.{Action}
-use Rattle.ref_fun.specs.declared.rules.Rule.{Rule}
 use Rattle.ref_log.specs.Guards.{rule_at}
 use Rattle.ref_log.specs.declared.entries.Entry.{Entry}
 use Rattle.ref_log.specs.declared.guards.Guard.{Guard}
@@ -15,12 +13,10 @@ use Rattle.ref_agents.specs.declared.accounts.Queued.{Queued}
 use Rattle.ref_agents.specs.declared.agents.Agent.{Agent}
 use Rattle.ref_world.specs.Seen.{WorldSeen}
 use Rattle.ref_audit.specs.Dumped.{agent_form, agents_form, base_ref_form, base_refs_form, dumped, entry_form, handled_form, queued_form, status_word, tally_form, value_form, values_form}
-use Rattle.ref_audit.specs.DumpForm.{agent_of, changed_of, dump_of, elements_within, handled_of, kept_of, list_said, only_if, queued_of, status_of, tally_of, values_said, entries_from, all_said}
+use Rattle.ref_audit.specs.DumpForm.{agent_of, changed_of, dump_of, elements_within, handled_of, kept_of, list_said, only_if, queued_of, status_of, tally_of, values_said, all_said}
 use Rattle.ref_audit.specs.OwnDump.{IsTyped, agent_seen, agents_seen, dump_seen, is_typed_agent, is_typed_handled, is_typed_queued, is_typed_rule, is_typed_tally, kept_seen, kepts_seen}
 use Rattle.ref_audit.specs.Words.{vector_form}
 use Rattle.ref_audit.specs.declared.reading.dumps.Changed.{Changed}
-use Rattle.ref_audit.specs.declared.reading.dumps.Dump.{Dump}
-use Rattle.ref_audit.specs.declared.reading.faults.DumpFault.{DumpFault}
 use Rattle.ref_audit.proofs.FormsBack.{all_back, entries_back, handled_back, list_back, queued_back, clamp_back, rule_back, same_list}
 use Rattle.ref_audit.proofs.Lists.{elements_of_vector}
 

@@ -1,7 +1,6 @@
 -- Which dumps name functions and predicates of Core alone, as all do that are read.
-use Rattle.std.specs.Prelude.{◌≡◌, ℕ, Bool, true, List, [], ◌∷◌, Option, None, Some}
+use Rattle.std.specs.Prelude.{◌≡◌, Bool, true, Option, None, Some}
 use Rattle.std.specs.List.{list_all}
-use Rattle.ref_fun.specs.declared.actions.Action.{Action}
 use Rattle.ref_fun.specs.declared.rules.Rule.{Rule}
 use Rattle.ref_log.specs.Replay.{codes_of}
 use Rattle.ref_log.specs.declared.entries.Entry.{Entry}

@@ -1,5 +1,5 @@
 -- How the parts of a dump are read. These words are for private functions.
-use Rattle.std.specs.Prelude.{◌≡◌, ◌≢◌, ◌++◌, ◌+◌, Option, None, Some, List, option_map, Result, Ok, Err}
+use Rattle.std.specs.Prelude.{◌≡◌, ◌≢◌, Option, None, Some, Result, Ok, Err}
 use Rattle.ref_audit.specs.declared.reading.faults.DumpFault.{DumpFault}
 use Rattle.ref_audit.specs.declared.reading.faults.DumpFault.TheVariants.{BadPart, Memory}
 use Rattle.ref_audit.specs.declared.reading.faults.Key.{Key}

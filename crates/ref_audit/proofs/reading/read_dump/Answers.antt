@@ -1,4 +1,4 @@
-use Rattle.std.proofs.Common.{◌≡◌, sym, ap, ◌∙◌, Some, rules}
+use Rattle.std.proofs.Common.{◌≡◌, ap, ◌∙◌, Some, rules}
 use Rattle.ref_edn.specs.Edn as edn
 use Rattle.ref_edn.specs.Edn.{entries_of}
 use Rattle.ref_audit.specs.DumpForm.{dump_of, misfit, parts_unless}

@@ -1,4 +1,4 @@
-use Rattle.std.proofs.Common.{◌≡◌, ◌≤◌, ℕ, false, true, is_some, length, below_more, arith, rules}
+use Rattle.std.proofs.Common.{◌≡◌, false, is_some, below_more, arith, rules}
 use Rattle.ref_agents.specs.Agents.{account_at}
 use Rattle.ref_audit.proofs.OwnFacts.{accounts_here, accounts_past}
 use Rattle.ref_audit.proofs.own_audit.references.tell_accounts.Goals as goal

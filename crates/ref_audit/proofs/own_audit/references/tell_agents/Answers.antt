@@ -1,9 +1,8 @@
-use Rattle.std.proofs.Common.{◌≡◌, ◌≤◌, ℕ, false, true, is_some, length, map, suc, below_more, sym, ◌∙◌, arith, rules, List, [], ◌∷◌, refl, ap}
+use Rattle.std.proofs.Common.{◌≡◌, false, is_some, length, suc, below_more, arith, rules, List, [], ◌∷◌, refl, ap}
 use Rattle.std.specs.Prelude.{slice_get}
 use Rattle.ref_agents.specs.Agents.{values_of}
 use Rattle.ref_agents.specs.declared.agents.Agent.{Agent}
 use Rattle.ref_log.specs.Guards.{rule_at}
-use Rattle.ref_audit.specs.OwnDump.{rule_fact}
 use Rattle.ref_audit.proofs.OwnFacts.{all_here, all_past}
 use Rattle.ref_audit.proofs.own_audit.references.tell_agents.Goals as goal
 

@@ -1,7 +1,6 @@
-use Rattle.std.proofs.Common.{◌≡◌, ◌≤◌, ℕ, false, true, is_some, length, below_more, sym, ◌∙◌, arith, rules}
+use Rattle.std.proofs.Common.{◌≡◌, false, is_some, below_more, arith, rules}
 use Rattle.std.specs.Prelude.{slice_get}
 use Rattle.ref_log.specs.Guards.{rule_at}
-use Rattle.ref_audit.specs.OwnDump.{rule_fact}
 use Rattle.ref_audit.proofs.OwnFacts.{all_here, all_past}
 use Rattle.ref_audit.proofs.own_audit.references.tell_atoms.Goals as goal
 

@@ -1,5 +1,5 @@
-use Rattle.std.proofs.Common.{◌≡◌, ◌<◌, sym, ◌∙◌, length, length-append, arith, rules}
-use Rattle.ref_audit.proofs.Lists.{entries_more, entries_wrong}
+use Rattle.std.proofs.Common.{◌<◌, sym, ◌∙◌, length, length-append, arith}
+use Rattle.ref_audit.proofs.Lists.{entries_more}
 use Rattle.ref_audit.proofs.reading.parts.entries_in.Goals as goal
 
 pub loop-i-preserved : goal.loop-i-preserved
