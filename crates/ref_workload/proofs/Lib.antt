@@ -1,0 +1,4 @@
+pub mod Bases
+pub mod Cells
+pub mod Marking
+pub mod Naming
