@@ -11,3 +11,8 @@ pub mod Tables
 pub mod Loops
 pub mod Parts
 pub mod Workloads
+pub mod Bases
+pub mod Cells
+pub mod Marking
+pub mod Naming
+pub mod Crossing

@@ -1,5 +1,5 @@
--- To be read and believed: Plan, Workload with what it cites (Declarations, Steps, Operations, Calls, Named, Words), and PlanFaults, which has
--- numbers. Kinds and Tables are for private functions.
+-- To be read and believed: Plan, Workload with what it cites (Declarations, Steps, Operations, Calls, Named, Words), Orderly, Streams,
+-- and PlanFaults and RunFaults, which have numbers. Kinds, Tables and Marks are for private functions.
 pub mod Plan
 pub mod PlanFaults
 pub mod Words
@@ -9,5 +9,9 @@ pub mod Operations
 pub mod Steps
 pub mod Declarations
 pub mod Workload
+pub mod Orderly
+pub mod RunFaults
+pub mod Streams
 pub mod Kinds
 pub mod Tables
+pub mod Marks
