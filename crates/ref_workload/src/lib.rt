@@ -1,8 +1,11 @@
 //! Workloads: what their text says must be run, and their run by threads on a shared world.
 #![tactic(auto)]
 
+pub mod faults;
 pub mod order;
 pub mod plans;
+pub mod streams;
 
+pub use faults::{RunFault, Stop};
 pub use order::is_orderly;
 pub use plans::{Plan, PlannedOp, Step};
