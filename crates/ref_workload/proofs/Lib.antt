@@ -1,4 +1,5 @@
 pub mod Bases
 pub mod Cells
+pub mod Crossing
 pub mod Marking
 pub mod Naming

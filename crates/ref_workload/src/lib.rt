@@ -4,8 +4,11 @@
 pub mod faults;
 pub mod order;
 pub mod plans;
+pub mod run;
+mod running;
 pub mod streams;
 
 pub use faults::{RunFault, Stop};
 pub use order::is_orderly;
 pub use plans::{Plan, PlannedOp, Step};
+pub use run::{RunOut, run_plan};
