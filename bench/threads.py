@@ -106,7 +106,7 @@ def arguments():
     said.add_argument("shapes", nargs="*", metavar="SHAPE", help="of those above; all where none is named")
     said.add_argument("--plain", help="the plain Rust program")
     said.add_argument("--seconds", type=float, default=2, help="that each measurement takes")
-    said.add_argument("--warm-up", type=float, default=4, help="seconds that Clojure gets before")
+    said.add_argument("--warm-up", type=float, default=10, help="seconds that Clojure gets before, and 50 rounds at least")
     said.add_argument("--acts", type=int, default=20_000, help="that all threads make in one round")
     said.add_argument("--threads", default="1,2,4", help="how many, with commas between; at most 64")
     given = said.parse_intermixed_args()

@@ -1,5 +1,5 @@
 ;; The same measurement in Clojure: clojure threads.clj SHAPE THREADS ACTS MILLIS WARM-UP
-;; In each round each of so many threads makes so many acts. The milliseconds of the warm-up come first and do not count.
+;; In each round each of so many threads makes so many acts. The warm-up takes so many milliseconds and does not count.
 ;; Prints `round NANOS ACTS TRIES` of each round after it; TRIES is how often a transaction's body was run.
 (import '(java.util SplittableRandom) '(java.util.concurrent Callable Executors ExecutorService))
 
@@ -47,6 +47,9 @@
     (when agents (apply await agents))
     [(- (System/nanoTime) start) (reduce + (map #(aget ^longs % 0) tries))]))
 
+;; The warm-up is at least of so many rounds: where others keep the processors busy, its seconds alone may be too few.
+(def least-rounds 50)
+
 (defn millis-since [start] (/ (- (System/nanoTime) start) 1e6))
 
 (let [[shape & numbers] *command-line-args*
@@ -60,12 +63,16 @@
                            acts (object-array (repeatedly each make))]
                        ^Callable #(run-all acts))))
       pool (Executors/newFixedThreadPool threads)
-      start (System/nanoTime)]
+      play #(round pool workers agents tries)]
   (set-agent-send-executor! (Executors/newFixedThreadPool 2))
-  (loop []
-    (let [[nanos tried] (round pool workers agents tries)
-          took (millis-since start)]
-      (when (> took warm-up) (println "round" nanos (* threads each) tried))
-      (when (< took (+ warm-up millis)) (recur))))
+  (let [start (System/nanoTime)]
+    (loop [rounds 1]
+      (play)
+      (when (or (< rounds least-rounds) (< (millis-since start) warm-up)) (recur (inc rounds)))))
+  (let [start (System/nanoTime)]
+    (loop []
+      (let [[nanos tried] (play)]
+        (println "round" nanos (* threads each) tried)
+        (when (< (millis-since start) millis) (recur)))))
   (flush)
   (System/exit 0))
