@@ -140,18 +140,13 @@ fn open_gates(alloc: Global, plan: &Plan) -> Result<Vec<Open>, RunFault>
     ensures gates { IfOk result (λ gates. vec_len gates ≡ length plan.now.workers + plan.now.pool) }
     ensures inner { IfErr result IsOfPlan }
 {
-    let mut gates = Vec::new(alloc);
-    for _ in 0..plan.workers().len() {
-        if gates.push(Open).is_err() {
-            return Err(RunFault::Memory);
-        }
+    let Some(count) = plan.workers().len().checked_add(plan.pool() as usize) else {
+        return Err(RunFault::Memory);
+    };
+    match vec![in alloc; Open; count] {
+        Ok(gates) => Ok(gates),
+        Err(_) => Err(RunFault::Memory),
     }
-    for _ in 0..plan.pool() {
-        if gates.push(Open).is_err() {
-            return Err(RunFault::Memory);
-        }
-    }
-    Ok(gates)
 }
 
 // The dump of a world, which was audited and is ok. A world that a plan was run in has one.
