@@ -6,17 +6,23 @@ ghost use Rattle.ref_shared.specs.declared.faults.GatherFault.TheVariants as gat
 use ref_agents::JobFault;
 use ref_refs::{CommitFault, Conflict};
 use std::alloc::{AllocError, AllocFailed};
+use std::fmt::Display;
 use thiserror::Error;
 
 /// Why a transaction came to no commit. World and share are as they were. E is what the body may answer.
-#[derive(Clone, Copy, Debug, Drop, PartialEq, Eq)]
+#[derive(Clone, Copy, Debug, Drop, PartialEq, Eq, Error)]
+#[error_bound(E: Display)]
 pub enum TransactFault<E> {
     /// Each of so many tries was in conflict, the last of them so.
+    #[error("given up after {tries} tries: ref {} has changed", .conflict.r)]
     GaveUp { tries: u32, conflict: Conflict },
     /// The body ended the transaction.
+    #[error("the body ended it: {0}")]
     Body(E),
     /// The commit was refused, and another try would be too.
+    #[error("the commit was refused: {0}")]
     Commit(CommitFault),
+    #[error("out of memory")]
     Memory,
 }
 

@@ -3,7 +3,7 @@ use denote.Param.Send.{IsSync, sendable}
 use denote.Param.SendFields.{declared_sync}
 use Rattle.std.proofs.Crossing as std
 use Rattle.ref_shared.proofs.Crossing as shared
-use Rattle.tests_shared.specs.contracts.worlds.Flags as Flags
+use Rattle.tests_shared.specs.contracts.flags.Flags as Flags
 
 pub flags_sync : IsSync Flags.the_row
 flags_sync = declared_sync Flags.the_type

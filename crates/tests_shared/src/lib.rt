@@ -8,7 +8,9 @@
 //! |---|---|
 //! | `calls`, `conflicts`, `finishing` | by one thread: each call, transactions that are tried again, the end |
 //! | `threads`, `work`, `stress` | by several: transactions, agents, all together |
+//! | `faults` | what faults say |
 //! | `worlds` | making worlds and values, and what is read of them |
+//! | [`flags`] | how far threads have come. It stands outside of the tests, since the proof of what crosses threads names it |
 #![tactic(auto)]
 
 #[cfg(test)]
@@ -16,7 +18,10 @@ mod calls;
 #[cfg(test)]
 mod conflicts;
 #[cfg(test)]
+mod faults;
+#[cfg(test)]
 mod finishing;
+pub mod flags;
 #[cfg(test)]
 mod stress;
 #[cfg(test)]

@@ -2,9 +2,10 @@
 ghost use Rattle.std.specs.Prelude.{◌≡◌};
 ghost use Rattle.ref_world.specs.Shares.{all_parts};
 
+use crate::flags::Flags;
 use crate::worlds::{
-    By, Flags, STAMP, Stop, Told, add, all_commits, all_told, closed, done, int_at, opened,
-    plain_start, table, told_of, value, wait_for,
+    By, STAMP, Stop, Told, add, all_commits, all_told, closed, done, int_at, opened, plain_start,
+    table, told_of, value, wait_for,
 };
 use ref_fun::{Core, Functions};
 use ref_log::{Notice, Stamp, Who};

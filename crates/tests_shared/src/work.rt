@@ -2,8 +2,9 @@
 ghost use Rattle.std.specs.Prelude.{◌≡◌};
 ghost use Rattle.ref_world.specs.Shares.{all_parts};
 
+use crate::flags::Flags;
 use crate::worlds::{
-    By, Flags, MINUS, PLUS, STAMP, Stop, action, agent, at_least, done, int_at, one_arg, opened,
+    By, MINUS, PLUS, STAMP, Stop, action, agent, at_least, done, int_at, one_arg, opened,
     plain_start, table, value, wait_for,
 };
 use ref_agents::{AgentError, RestartFault, SendFault};

@@ -253,24 +253,6 @@ pub(crate) fn add<F: Functions<Core>>(
     Ok(())
 }
 
-/// How far threads have come, each of which sets some of these for the others.
-#[derive(Drop)]
-pub(crate) struct Flags {
-    pub(crate) first: AtomicBool,
-    pub(crate) second: AtomicBool,
-    pub(crate) third: AtomicBool,
-}
-
-impl Flags {
-    pub(crate) fn new() -> Flags {
-        Flags {
-            first: AtomicBool::new(false),
-            second: AtomicBool::new(false),
-            third: AtomicBool::new(false),
-        }
-    }
-}
-
 /// Waits until somebody has set a flag, for some seconds at most, and answers whether it was set.
 pub(crate) fn wait_for<R: Clock>(rt: &R, flag: &AtomicBool) -> bool {
     for _ in 0..200_000u32 {

@@ -1,0 +1,79 @@
+//! What the faults of shared worlds say.
+use ref_refs::{CommitFault, Conflict};
+use ref_shared::{GatherFault, TransactFault, WorkFault};
+use ref_tx::TxFault;
+use std::fmt::Display;
+use std::process::Abort;
+use std::test::Fail;
+
+// A fault whose number was told has this one, and says this.
+fn check<F: Display>(
+    rt: &(impl Abort + AllocGlobal),
+    fault: &F,
+    told: u8,
+    number: u8,
+    words: &str,
+) -> Result<(), Fail> {
+    let said = format!(in rt.alloc(); "{told} {fault}")?;
+    let wanted = format!(in rt.alloc(); "{number} {words}")?;
+    assert_eq!(rt; said, wanted);
+    Ok(())
+}
+
+const CONFLICT: Conflict = Conflict {
+    r: 4,
+    read_point: 1,
+    changed_at: 2,
+};
+
+const TRANSACT_FAULTS: &[(TransactFault<TxFault>, u8, &str)] = &[
+    (
+        TransactFault::GaveUp {
+            tries: 3,
+            conflict: CONFLICT,
+        },
+        1,
+        "given up after 3 tries: ref 4 has changed",
+    ),
+    (
+        TransactFault::Body(TxFault::NoSuchRef),
+        2,
+        "the body ended it: no such ref",
+    ),
+    (
+        TransactFault::Commit(CommitFault::Invalid(4)),
+        3,
+        "the commit was refused: the rule of ref 4 doesn't accept its value",
+    ),
+    (TransactFault::Memory, 4, "out of memory"),
+];
+
+const WORK_FAULTS: &[(WorkFault, u8, &str)] = &[
+    (WorkFault::NoSuchFun(7), 1, "the table lacks code 7"),
+    (WorkFault::Memory, 2, "out of memory"),
+    (WorkFault::Foreign, 3, "the job isn't on its way here"),
+];
+
+const GATHER_FAULTS: &[(GatherFault, u8, &str)] = &[
+    (GatherFault::ReceiptMissing, 1, "log and receipts differ"),
+    (
+        GatherFault::OutOfOrder,
+        2,
+        "the steps of a worker are out of order",
+    ),
+    (GatherFault::Memory, 3, "out of memory"),
+];
+
+#[test]
+fn faults_of_shared_worlds_say_what_they_are(rt: HostRuntime) -> Result<(), Fail> {
+    for (fault, number, words) in TRANSACT_FAULTS {
+        check(&rt, fault, fault.number(), *number, words)?;
+    }
+    for (fault, number, words) in WORK_FAULTS {
+        check(&rt, fault, fault.number(), *number, words)?;
+    }
+    for (fault, number, words) in GATHER_FAULTS {
+        check(&rt, fault, fault.number(), *number, words)?;
+    }
+    Ok(())
+}

@@ -1,0 +1,20 @@
+//! How far threads have come.
+use std::sync::atomic::AtomicBool;
+
+/// How far threads have come, each of which sets some of these for the others.
+#[derive(Drop)]
+pub struct Flags {
+    pub first: AtomicBool,
+    pub second: AtomicBool,
+    pub third: AtomicBool,
+}
+
+impl Flags {
+    pub fn new() -> Flags {
+        Flags {
+            first: AtomicBool::new(false),
+            second: AtomicBool::new(false),
+            third: AtomicBool::new(false),
+        }
+    }
+}
