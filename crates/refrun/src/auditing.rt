@@ -1,5 +1,5 @@
 //! The audit of a dump's text.
-ghost use Rattle.std.specs.Prelude.{◌≡◌, ◌≢◌, ◌≤◌, IfOk, IfErr, IfSome, OnOk, OnErr, length, vec_len};
+ghost use Rattle.std.specs.Prelude.{◌≡◌, ◌≢◌, ◌<◌, ◌≤◌, IfOk, IfErr, IfSome, OnOk, OnErr, length, vec_len};
 ghost use Rattle.std.specs.Io.KnownBytes.{Appends, IsAtEnd};
 ghost use Rattle.ref_edn.specs.Streams.{AppendsPart, ConsumesUpTo, Counts};
 ghost use Rattle.ref_fun.specs.Calls.{HasCore};
@@ -8,7 +8,7 @@ ghost use Rattle.refrun.specs.Auditing.{CountsReads, CountsWrites, IsAtFault, Is
 
 use crate::faults::AuditRunFault;
 use ref_audit::{Verdict, audit, line_of};
-use ref_edn::{InputFault, Sink, Source, Value, read_one, read_to_end, write_all};
+use ref_edn::{Failed, InputFault, Sink, Source, read_one, read_to_end, write_all};
 use ref_fun::{Core, Functions};
 use ref_workload::streams::MOST_INPUT;
 use std::alloc::Global;
@@ -37,7 +37,58 @@ pub fn audit_text<F: Functions<Core>, R: Source, W: Sink>(
     ensures writes { CountsWrites (W.failures writer.old) (W.failures writer.new) result }
 {
     let input = read_dump(alloc, reader)?;
-    let verdict = verdict_of(alloc, funs, &input)?;
-    write_line(writer, line_of_verdict)?;
+    let (line, verdict) = audit_of(alloc, funs, &input)?;
+    write_line(writer, &line)?;
     Ok(verdict)
+}
+
+// The verdict on the dump that a text writes, and its line.
+fn audit_of<F: Functions<Core>>(
+    alloc: Global,
+    funs: &F,
+    text: &[u8],
+) -> Result<(Vec<u8>, Verdict), AuditRunFault>
+    requires { HasCore (F.knows funs.now) }
+    ensures ok { IfOk result (λ r. IsAuditOf r.1 text.now r.0.items) }
+    ensures fault { IfErr result (λ f. IsAtFault text.now f) }
+    ensures inner { IfErr result IsOfText }
+{
+    let value = read_one(alloc, text)?;
+    let verdict = audit(alloc, funs, &value)?;
+    match line_of(alloc, &verdict) {
+        Ok(line) => Ok((line, verdict)),
+        Err(_) => Err(AuditRunFault::Memory),
+    }
+}
+
+// Reads a dump to its end, or to one byte more than it may have.
+fn read_dump<R: Source>(alloc: Global, reader: &mut R) -> Result<Vec<u8>, AuditRunFault>
+    ensures all { IfOk result (λ text. IfSome (R.left reader.old) (λ all. text.items ≡ all)) }
+    ensures end { OnOk result (IsAtEnd (R.left reader.new)) }
+    ensures short { IfOk result (λ text. vec_len text ≤ 16777216) }
+    ensures kinds { IfErr result IsOfInput }
+    ensures too_long { IfErr result (λ f. f ≡ AuditRunFault.InputTooLong
+        → IfSome (R.left reader.old) (λ all. 16777216 < length all)) }
+    ensures taken { ConsumesUpTo (R.left reader.old) (R.left reader.new) 16777217 }
+    ensures reads { CountsReads (R.failures reader.old) (R.failures reader.new) result }
+{
+    match read_to_end(alloc, reader, MOST_INPUT) {
+        Ok(input) => Ok(input),
+        Err(InputFault::Read) => Err(AuditRunFault::Read),
+        Err(InputFault::TooLong) => Err(AuditRunFault::InputTooLong),
+        Err(InputFault::Memory) => Err(AuditRunFault::Memory),
+    }
+}
+
+// Writes all of a line, and stops at the first write that fails.
+fn write_line<W: Sink>(writer: &mut W, line: &[u8]) -> Result<(), AuditRunFault>
+    ensures ok { OnOk result (Appends (W.written writer.old) (W.written writer.new) line.now) }
+    ensures err { OnErr result (AppendsPart (W.written writer.old) (W.written writer.new) line.now) }
+    ensures fault { IfErr result (λ f. f ≡ AuditRunFault.Write) }
+    ensures writes { Counts (W.failures writer.old) (W.failures writer.new) result }
+{
+    match write_all(writer, line) {
+        Ok(()) => Ok(()),
+        Err(Failed) => Err(AuditRunFault::Write),
+    }
 }

@@ -1,11 +1,10 @@
 //! The command line.
+use crate::table::Task;
 use clap::{Arg, ArgAction, ArgMatches, Command, Error, value_parser};
 use ref_workload::Options;
 use std::alloc::{AllocError, Global};
 use std::env::Env;
 use std::io;
-
-use crate::table::Task;
 
 /// What the words ask for.
 #[derive(Clone, Copy, Drop)]
@@ -19,7 +18,8 @@ pub(crate) enum Act {
 // How often a transaction is tried where nothing is said.
 const TRIES: u32 = 1_000;
 
-const ABOUT: &str = "Runs EDN workloads on refs, atoms and agents with a thread for each worker, and reports, dumps and audits what came of them";
+const ABOUT: &str =
+    "Runs EDN workloads on refs, atoms and agents with a thread for each worker, and reports, dumps and audits what came of them";
 
 const RUN: &str = "Reads a workload from standard input, runs it, audits it, and prints a report";
 
@@ -33,14 +33,16 @@ prints
   commits 1
   audit ok";
 
-const CHECK: &str = "Reads a workload from standard input, and says whether it is one, without running it";
+const CHECK: &str =
+    "Reads a workload from standard input, and says whether it is one, without running it";
 
 const CHECK_MORE: &str = "Example:
   echo '{:version 1 :refs [[a 0]] :atoms [[a 1]]}' | refrun check
 says on standard error
   refrun: NameTwice atom 0";
 
-const AUDIT: &str = "Reads a dump from standard input, replays its log, and prints whether it is right";
+const AUDIT: &str =
+    "Reads a dump from standard input, replays its log, and prints whether it is right";
 
 const AUDIT_MORE: &str = "The status is 5 where the audit says no.
 
@@ -90,7 +92,9 @@ fn run<'a>(alloc: Global) -> Result<Command<'a>, AllocError> {
         .value_name("N")
         .action(ArgAction::Set)
         .value_parser(value_parser!(u32).range(1..=1_000_000))
-        .help("How often a transaction is tried that is in conflict, 1,000 times where nothing is said");
+        .help(
+            "How often a transaction is tried that is in conflict, 1,000 times where nothing is said",
+        );
     let dump = Arg::new(alloc, "dump")
         .long("dump")
         .action(ArgAction::SetTrue)
