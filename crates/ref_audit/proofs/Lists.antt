@@ -1,0 +1,72 @@
+-- Lists of forms: what a loop over them has read, and what is left.
+use Rattle.std.proofs.Common.{◌≡◌, ℕ, ◌+◌, ◌<◌, ◌≤◌, List, [], ◌∷◌, ◌++◌, drop, length, get_or, refl, sym, ◌∙◌, ap, suc, add-one, append_assoc, drop-cons, arith, Option, None, Some, Result, Ok, Err, Bool, true, false, nat_le}
+use Rattle.std.proofs.lemmas.Bool.Decides.{nat_tests}
+use Rattle.std.specs.Prelude.{option_map}
+use Rattle.ref_edn.specs.Edn.{Edn, vector, items_of, list_of-items_of}
+use Rattle.ref_log.specs.declared.entries.Entry.{Entry}
+use Rattle.ref_audit.specs.DumpForm.{and_entry, and_said, args_said, elements_of, entries_from, entry_of, only_if, rule_of, rule_said}
+use Rattle.ref_audit.specs.declared.reading.faults.DumpFault.{DumpFault}
+use Rattle.ref_audit.specs.declared.reading.faults.DumpFault.TheVariants.{BadEntry}
+
+pub elements_of_vector : (xs : List Edn) → elements_of (vector (items_of xs)) ≡ Some xs
+elements_of_vector xs = ap Some (list_of-items_of xs)
+
+pub rule_of_vector : (xs : List Edn) → rule_of (vector (items_of xs)) ≡ option_map Some (rule_said xs)
+rule_of_vector xs = ap (λ ys. option_map Some (rule_said ys)) (list_of-items_of xs)
+
+-- ---- forms that are read one after another
+
+-- these, and behind them what is left, if that says something
+abbrev pub in_front : {A : Type 0} → List A → Option (List A) → Option (List A)
+in_front ys rest = option_map (λ zs. ys ++ zs) rest
+
+pub in_front_and_said : {A : Type 0} (ys : List A) (y : A) (rest : Option (List A)) → in_front ys (and_said (Some y) rest) ≡ in_front (ys ++ y ∷ []) rest
+in_front_and_said ys y None = refl
+in_front_and_said ys y (Some zs) = ap Some (sym (append_assoc ys (y ∷ []) zs))
+
+-- ---- arguments
+
+only_false : (b : Bool) (xs : List Edn) → b ≡ false → only_if b xs ≡ None
+only_false true xs e = absurd cc
+only_false false xs e = refl
+
+pub args_said_many : (xs : List Edn) → 8 < length xs → args_said xs ≡ None
+args_said_many xs many =
+    let b : nat_le (length xs) 8 ≡ false = grind (arith, nat_tests) in
+    only_false (nat_le (length xs) 8) xs b
+
+only_true : (b : Bool) (xs : List Edn) → b ≡ true → only_if b xs ≡ Some xs
+only_true false xs e = absurd cc
+only_true true xs e = refl
+
+pub args_said_few : (xs : List Edn) → length xs ≤ 8 → args_said xs ≡ Some xs
+args_said_few xs few =
+    let b : nat_le (length xs) 8 ≡ true = grind (arith, nat_tests) in
+    only_true (nat_le (length xs) 8) xs b
+
+-- ---- entries
+
+-- these entries, and behind them those that are left, or the fault there
+abbrev pub entries_in_front : List Entry → Result (List Entry) DumpFault → Result (List Entry) DumpFault
+entries_in_front es (Ok more) = Ok (es ++ more)
+entries_in_front es (Err fault) = Err fault
+
+pub entries_in_front_and_entry : (es : List Entry) (n : ℕ) (e : Entry) (rest : Result (List Entry) DumpFault) → entries_in_front es (and_entry n (Some e) rest) ≡ entries_in_front (es ++ e ∷ []) rest
+entries_in_front_and_entry es n e (Ok more) = ap Ok (sym (append_assoc es (e ∷ []) more))
+entries_in_front_and_entry es n e (Err fault) = refl
+
+-- what there is at a place, and behind it
+pub next_form : (xs : List Edn) (i : ℕ) (x : Edn) → i < length xs → x ≡ get_or xs i x → drop i xs ≡ x ∷ drop (i + 1) xs
+next_form xs i x h is = rw (add-one) (drop-cons xs i x h ∙ ap (λ y. y ∷ drop (suc i) xs) (sym is))
+
+-- one more entry is read
+pub entries_more : (forms : List Edn) (i : ℕ) (x : Edn) (e : Entry) (before : List Entry) → i < length forms → x ≡ get_or forms i x → entry_of x ≡ Some e → entries_in_front before (entries_from (i + 1) (drop i forms)) ≡ entries_in_front (before ++ e ∷ []) (entries_from (i + 1 + 1) (drop (i + 1) forms))
+entries_more forms i x e before h is says =
+    let rest = entries_from (i + 1 + 1) (drop (i + 1) forms) in
+    let here : entries_from (i + 1) (drop i forms) ≡ and_entry (i + 1) (Some e) rest = ap (entries_from (i + 1)) (next_form forms i x h is) ∙ ap (λ o. and_entry (i + 1) o rest) says in
+    ap (entries_in_front before) here ∙ entries_in_front_and_entry before (i + 1) e rest
+
+-- one that is none
+pub entries_wrong : (forms : List Edn) (i : ℕ) (x : Edn) (before : List Entry) → i < length forms → x ≡ get_or forms i x → entry_of x ≡ None → entries_in_front before (entries_from (i + 1) (drop i forms)) ≡ Err (BadEntry (i + 1))
+entries_wrong forms i x before h is says =
+    ap (λ l. entries_in_front before (entries_from (i + 1) l)) (next_form forms i x h is) ∙ ap (λ o. entries_in_front before (and_entry (i + 1) o (entries_from (i + 1 + 1) (drop (i + 1) forms)))) says

@@ -1,0 +1,9 @@
+use Rattle.std.proofs.Common.{◌≡◌, ◌≤◌, ◌+◌, drop}
+use Rattle.ref_log.specs.Tally.{commits_of}
+use Rattle.ref_audit.proofs.verdicts.counts.commits_of.Given as goal
+
+abbrev pub invariant-loop-entry : goal.invariant-loop-entry
+invariant-loop-entry l = record {
+  sum : l.count + commits_of (drop l.entry-index l.entries) ≡ commits_of l.entries;
+  bound : l.count ≤ l.entry-index;
+}

@@ -1,0 +1,67 @@
+//! The audit of a world's own dump.
+ghost use Rattle.std.specs.Prelude.{◌≡◌, IfOk};
+ghost use Rattle.ref_fun.specs.Calls.{HasCore};
+ghost use Rattle.ref_log.specs.Told.{TellsOrMemory};
+ghost use Rattle.ref_audit.specs.Dumped.{dump_refusal, unnamed_refusal};
+ghost use Rattle.ref_audit.specs.Made.{AreFew};
+ghost use Rattle.ref_audit.specs.OwnDump.{IsTold};
+ghost use Rattle.ref_audit.specs.declared.faults.DumpMakeFault.TheVariants as faults;
+ghost use Rattle.ref_audit.specs.declared.reports.Verdict.TheVariants as verdicts;
+
+pub(crate) mod parts;
+pub(crate) mod references;
+
+use crate::auditor::audit;
+use crate::dumping::dump;
+use crate::faults::DumpMakeFault;
+use crate::own_audit::parts::tell_entries;
+use crate::own_audit::references::{tell_accounts, tell_agents, tell_atoms, tell_refs};
+use crate::reports::Verdict;
+use ref_fun::{Core, Functions};
+use ref_log::Who;
+use ref_world::World;
+use std::alloc::Global;
+use std::sync::ledger::Ledger;
+
+/// Dumps a world, and audits the dump: where that is done, the verdict is ok, whatever the world went through. It is refused where
+/// [`dump`] is.
+pub fn audit_own_dump<F: Functions<Core>, C: Ledger, A: Ledger>(
+    alloc: Global,
+    funs: &F,
+    world: &World<Core, C, A>,
+) -> Result<Verdict, DumpMakeFault>
+    requires core { HasCore (F.knows funs.now) }
+    requires few { AreFew world.now }
+    ensures ok { IfOk result (λ verdict. verdict ≡ verdicts.Ok) }
+    ensures refused { TellsOrMemory faults.Memory (unnamed_refusal world.now) (dump_refusal world.now) result }
+{
+    tell(world);
+    let value = match dump(alloc, world) {
+        Ok(value) => value,
+        Err(fault) => return Err(fault),
+    };
+    match audit(alloc, funs, &value) {
+        Ok(verdict) => Ok(verdict),
+        // The value is a dump, so that only memory was refused.
+        Err(_) => Err(DumpMakeFault::Memory),
+    }
+}
+
+// What is always so in a world, and what the types of its parts say, told of the whole. It changes nothing, and costs a look at each
+// part.
+fn tell<C: Ledger, A: Ledger>(world: &World<Core, C, A>)
+    requires { AreFew world.now }
+    ensures { IsTold world.now }
+{
+    tell_entries(world.log());
+    tell_accounts(world);
+    tell_refs(world);
+    tell_atoms(world);
+    tell_agents(world);
+    let _value = world.value_of(Who::Ref(0));
+    let _account = world.account(0);
+    let _base = world.base();
+    let _point = world.point();
+    let _commits = world.commits();
+    let _added = world.added();
+}

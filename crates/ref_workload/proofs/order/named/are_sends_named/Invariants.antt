@@ -1,0 +1,10 @@
+use Rattle.std.proofs.Common.{◌≡◌, ◌≤◌, length, take}
+use Rattle.std.specs.List.{filter_map}
+use Rattle.ref_workload.specs.Orderly.{send_named}
+use Rattle.ref_workload.proofs.order.named.are_sends_named.Given as goal
+
+abbrev pub invariant-loop-op : goal.invariant-loop-op
+invariant-loop-op l = record {
+  within : l.at ≤ length l.sends;
+  named : take l.at l.sends ≡ filter_map send_named (take l.op-index l.ops);
+}

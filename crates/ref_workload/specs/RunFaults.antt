@@ -1,0 +1,25 @@
+-- The numbers of the faults of a run, and the faults that others are told as.
+use Rattle.std.specs.Prelude.{ℕ}
+use Rattle.ref_edn.specs.declared.faults.ReadFault.{ReadFault}
+use Rattle.ref_edn.specs.declared.faults.ReadFault.TheVariants as reads
+use Rattle.ref_workload.specs.declared.faults.RunFault.{RunFault}
+use Rattle.ref_workload.specs.declared.faults.RunFault.TheVariants as faults
+use Rattle.ref_workload.specs.declared.faults.Stop.{Stop}
+use Rattle.ref_workload.specs.declared.faults.Stop.TheVariants as stops
+
+abbrev pub run_fault_number : RunFault → ℕ
+run_fault_number faults.Read = 1
+run_fault_number faults.InputTooLong = 2
+run_fault_number (faults.NotEdn fault) = 3
+run_fault_number faults.Write = 5
+run_fault_number faults.Memory = 6
+run_fault_number faults.Internal = 7
+
+abbrev pub stop_fault_of : Stop → RunFault
+stop_fault_of stops.Memory = faults.Memory
+stop_fault_of stops.Internal = faults.Internal
+
+-- the fault of a run for a fault of its text
+abbrev pub edn_fault_of : ReadFault → RunFault
+edn_fault_of reads.Memory = faults.Memory
+edn_fault_of fault = faults.NotEdn fault

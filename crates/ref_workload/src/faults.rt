@@ -1,0 +1,75 @@
+//! Why a workload isn't run to its end.
+ghost use Rattle.std.specs.Prelude.{◌≡◌};
+ghost use Rattle.ref_workload.specs.RunFaults.{edn_fault_of, run_fault_number, stop_fault_of};
+
+use ref_edn::ReadFault;
+use std::alloc::AllocError;
+
+/// Why a workload wasn't run to its end.
+#[derive(Clone, Copy, Debug, Drop, PartialEq, Eq)]
+pub enum RunFault {
+    /// The reader failed.
+    Read,
+    /// The input has more than 16,777,216 bytes.
+    InputTooLong,
+    NotEdn(ReadFault),
+    /// The writer failed, or took nothing. A part of the output may be written.
+    Write,
+    /// There is no memory, or a thread can't be made.
+    Memory,
+    /// What a right program never meets.
+    Internal,
+}
+
+/// What ends the work of one thread of a run, and the run with it.
+#[derive(Clone, Copy, Debug, Drop, PartialEq, Eq)]
+pub enum Stop {
+    /// There is no memory, or a thread can't be made.
+    Memory,
+    /// What a right program never meets.
+    Internal,
+}
+
+impl RunFault {
+    /// The number of the fault, from 1 to 7; 4 is that of a fault of planning.
+    pub fn number(&self) -> u8
+        ensures { result ≡ run_fault_number self.now }
+    {
+        match self {
+            RunFault::Read => 1,
+            RunFault::InputTooLong => 2,
+            RunFault::NotEdn(_) => 3,
+            RunFault::Write => 5,
+            RunFault::Memory => 6,
+            RunFault::Internal => 7,
+        }
+    }
+}
+
+impl From<Stop> for RunFault {
+    ghost from_gives = { λ s f. f ≡ stop_fault_of s };
+
+    fn from(stop: Stop) -> RunFault {
+        match stop {
+            Stop::Memory => RunFault::Memory,
+            Stop::Internal => RunFault::Internal,
+        }
+    }
+}
+
+impl From<ReadFault> for RunFault {
+    ghost from_gives = { λ e f. f ≡ edn_fault_of e };
+
+    fn from(fault: ReadFault) -> RunFault {
+        match fault {
+            ReadFault::Memory => RunFault::Memory,
+            fault => RunFault::NotEdn(fault),
+        }
+    }
+}
+
+impl From<AllocError> for Stop {
+    fn from(_e: AllocError) -> Stop {
+        Stop::Memory
+    }
+}

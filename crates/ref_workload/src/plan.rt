@@ -1,0 +1,40 @@
+//! Workloads as plans.
+ghost use Rattle.std.specs.Prelude.{◌≢◌, IfOk, IfErr};
+ghost use Rattle.ref_workload.specs.Plan.{PlanSeen};
+ghost use Rattle.ref_workload.specs.Workload.{IsWorkload};
+
+use crate::plan_faults::PlanFault;
+use crate::planning::declarations::declarations;
+use crate::planning::forms::map_in;
+use crate::planning::parts::parts_of;
+use crate::planning::steps::workers;
+use crate::plans::Plan;
+use ref_edn::{Items, Value};
+use std::alloc::Global;
+
+/// The plan that a value says, where it is a workload: docs/WORKLOADS.md has the form. It takes time in proportion to the value; a
+/// name is looked up by its hash. The plan shares values with the value that it is made of, and copies none.
+///
+/// Of what is wrong the first is told, in the order that [`PlanFault`] names; which one it is, no contract says.
+pub fn plan(alloc: Global, value: &Value) -> Result<Plan, PlanFault>
+    ensures ok { IfOk result (λ p. IsWorkload value.now p) }
+    // What is refused, for another reason than memory, is no workload.
+    ensures none { IfErr result (λ f. f ≢ PlanFault.Memory → (p : PlanSeen) → IsWorkload value.now p → ⊥) }
+{
+    let Some(entries) = map_in(value) else {
+        return Err(PlanFault::NotWorkload);
+    };
+    let empty = Items::of(alloc, Vec::new(alloc))?;
+    let parts = match parts_of(entries, &empty) {
+        Ok(parts) => parts,
+        Err(fault) => return Err(fault),
+    };
+    let (declared, start) = match declarations(alloc, parts.refs, parts.atoms, parts.agents) {
+        Ok(found) => found,
+        Err(fault) => return Err(fault),
+    };
+    match workers(alloc, &declared, parts.workers) {
+        Ok(workers) => Ok(Plan::of(declared.into_names(), start, workers, parts.pool)),
+        Err(fault) => Err(fault),
+    }
+}

@@ -1,0 +1,120 @@
+//! A plan, run by threads.
+ghost use Rattle.std.specs.Prelude.{◌≡◌, ◌+◌, IfOk, length, vec_len};
+ghost use Rattle.ref_workload.specs.Orderly.{IsOrderly};
+ghost use Rattle.ref_world.specs.Shares.{all_parts};
+
+use crate::faults::{RunFault, Stop};
+use crate::order::is_orderly;
+use crate::plans::Plan;
+use crate::running::{Run, run_threads, share_start};
+use ref_audit::Refusal;
+use ref_fun::{Core, Functions};
+use ref_log::MakeFault;
+use ref_shared::{Gate, GatherFault, Shared};
+use ref_world::{Share, Totals, World};
+use std::alloc::Global;
+use std::sync::Wait;
+use std::sync::ledger::{Blank, Ledger};
+use std::thread::Threads;
+
+/// What comes of a run: the world that is taken out, its totals, and the refused steps, by worker, then step.
+#[derive(Drop)]
+pub struct RunOut<C: Ledger, A: Ledger> {
+    pub world: World<Core, C, A>,
+    pub totals: Totals,
+    pub refused: Vec<Refusal>,
+}
+
+/// Runs a plan in a world of its own: each worker's steps in order, in a thread of its own, beside a pool of threads that run
+/// the actions of agents. A transaction is tried so often, and once where that is 0. Each thread gets a gate, the workers the
+/// first ones, by number. The blanks become the books.
+///
+/// When all workers have ended the shared world is closed, and the pool does what is left. Where a thread can't be made, or one
+/// meets a fault, the others run to their end before the fault is told, the first of the workers by number and then of the
+/// pool. A table that lacks a function or a predicate that the plan names ends the run with [`RunFault::Internal`]. What comes
+/// out is compared with the plan, in time linear in both.
+pub fn run_plan<F, C, A, R, G>(
+    rt: &R,
+    alloc: Global,
+    funs: &F,
+    plan: &Plan,
+    tries: u32,
+    gates: Vec<G>,
+    commits: Blank,
+    added: Blank,
+) -> Result<RunOut<C, A>, RunFault>
+where
+    F: Functions<Core> + Sync,
+    C: Ledger + Send + Sync,
+    A: Ledger + Send + Sync,
+    R: Threads + Wait + Sync,
+    G: Gate + Send + Drop,
+    requires gates { vec_len gates ≡ length plan.now.workers + plan.now.pool }
+    requires commits { (commits.name ≡ C.name) × (commits.parts ≡ C.parts) × (commits.parts ≡ all_parts) }
+    requires added { (added.name ≡ A.name) × (added.parts ≡ A.parts) × (added.parts ≡ all_parts) }
+    ensures orderly { IfOk result (λ out. IsOrderly plan.now out.world out.refused.items) }
+    ensures totals { IfOk result (λ out. (out.totals.commits ≡ out.world.books.commits)
+        × (out.totals.added ≡ out.world.books.added)) }
+{
+    let (world, mut share) = open_world::<F, C, A>(alloc, funs, plan, commits, added)?;
+    let run = Run {
+        alloc,
+        funs,
+        shared: Shared::new(world),
+        workers: plan.workers(),
+        tries,
+    };
+    let refused = run_threads(rt, &run, &mut share, gates)?;
+    let Run { shared, .. } = run;
+    take_out(alloc, plan, shared, share, refused)
+}
+
+// The world that a plan declares, with its whole share.
+fn open_world<F: Functions<Core>, C: Ledger, A: Ledger>(
+    alloc: Global,
+    funs: &F,
+    plan: &Plan,
+    commits: Blank,
+    added: Blank,
+) -> Result<(World<Core, C, A>, Share<C, A>), Stop>
+    requires commits { (commits.name ≡ C.name) × (commits.parts ≡ C.parts) × (commits.parts ≡ all_parts) }
+    requires added { (added.name ≡ A.name) × (added.parts ≡ A.parts) × (added.parts ≡ all_parts) }
+{
+    let start = share_start(alloc, plan.start())?;
+    match World::new(alloc, funs, start, commits, added) {
+        Ok(opened) => Ok(opened),
+        Err((_, MakeFault::Memory)) => Err(Stop::Memory),
+        Err((_, _)) => Err(Stop::Internal),
+    }
+}
+
+// Takes the world out of a shared one, and compares it with the plan.
+fn take_out<C: Ledger, A: Ledger>(
+    alloc: Global,
+    plan: &Plan,
+    shared: Shared<Core, C, A>,
+    share: Share<C, A>,
+    refused: Vec<Refusal>,
+) -> Result<RunOut<C, A>, RunFault>
+    ensures orderly { IfOk result (λ out. IsOrderly plan.now out.world out.refused.items) }
+    ensures totals { IfOk result (λ out. (out.totals.commits ≡ out.world.books.commits)
+        × (out.totals.added ≡ out.world.books.added)) }
+{
+    if !share.is_whole() {
+        return Err(RunFault::Internal);
+    }
+    let (world, totals) = match shared.finish(alloc, share) {
+        Ok(taken) => taken,
+        Err((_, _, GatherFault::Memory)) => return Err(RunFault::Memory),
+        Err((_, _, _)) => return Err(RunFault::Internal),
+    };
+    match is_orderly(alloc, plan, &world, refused.as_slice()) {
+        Ok(true) => Ok(RunOut {
+            world,
+            totals,
+            refused,
+        }),
+        Ok(false) => Err(RunFault::Internal),
+        Err(_) => Err(RunFault::Memory),
+    }
+}

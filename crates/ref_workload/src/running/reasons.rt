@@ -1,0 +1,92 @@
+//! Which answers of a step are refusals, and for which reason. The others end the run: a reference or a function that isn't
+//! there, which no plan names, and want of memory.
+use crate::faults::Stop;
+use ref_agents::{ModeFault, RestartFault, SendFault};
+use ref_atoms::AtomFault;
+use ref_audit::Reason;
+use ref_log::RuleFault;
+use ref_refs::CommitFault;
+use ref_shared::TransactFault;
+use ref_tx::TxFault;
+
+/// Why a step was refused, if it was, or what ends the run.
+pub(crate) type Outcome = Result<Option<Reason>, Stop>;
+
+pub(crate) fn of_transaction<T: Drop>(answer: Result<T, TransactFault<TxFault>>) -> Outcome {
+    match answer {
+        Ok(_) => Ok(None),
+        Err(TransactFault::GaveUp { .. }) => Ok(Some(Reason::GaveUp)),
+        Err(TransactFault::Body(fault)) => of_body(fault),
+        Err(TransactFault::Commit(fault)) => of_commit(fault),
+        Err(TransactFault::Memory) => Err(Stop::Memory),
+    }
+}
+
+fn of_body(fault: TxFault) -> Outcome {
+    match fault {
+        TxFault::SetAfterCommute => Ok(Some(Reason::SetAfterCommute)),
+        TxFault::TallyOnly => Ok(Some(Reason::TallyOnly)),
+        TxFault::Refused(cause) => Ok(Some(Reason::Refused(cause))),
+        TxFault::NotMet => Ok(Some(Reason::NotMet)),
+        TxFault::NoSuchRef | TxFault::NoSuchFun(_) | TxFault::NoSuchAgent => Err(Stop::Internal),
+        TxFault::Memory => Err(Stop::Memory),
+    }
+}
+
+fn of_commit(fault: CommitFault) -> Outcome {
+    match fault {
+        CommitFault::Refused(_, cause) => Ok(Some(Reason::Refused(cause))),
+        CommitFault::Invalid(_) => Ok(Some(Reason::Invalid)),
+        CommitFault::PointLimit => Ok(Some(Reason::PointLimit)),
+        CommitFault::Foreign(_) | CommitFault::Conflict(_) | CommitFault::NoSuchFun(_) => {
+            Err(Stop::Internal)
+        }
+        CommitFault::Memory => Err(Stop::Memory),
+    }
+}
+
+pub(crate) fn of_atom<T: Drop>(answer: Result<T, AtomFault>) -> Outcome {
+    match answer {
+        Ok(_) => Ok(None),
+        Err(AtomFault::Refused(cause)) => Ok(Some(Reason::Refused(cause))),
+        Err(AtomFault::Invalid) => Ok(Some(Reason::Invalid)),
+        Err(AtomFault::PointLimit) => Ok(Some(Reason::PointLimit)),
+        Err(AtomFault::NoSuchAtom | AtomFault::NoSuchFun(_)) => Err(Stop::Internal),
+        Err(AtomFault::Memory) => Err(Stop::Memory),
+    }
+}
+
+pub(crate) fn of_send(answer: Result<(), SendFault>) -> Outcome {
+    match answer {
+        Ok(()) => Ok(None),
+        Err(SendFault::Failed) => Ok(Some(Reason::AgentFailed)),
+        Err(SendFault::NoSuchAgent) => Err(Stop::Internal),
+        Err(SendFault::Memory) => Err(Stop::Memory),
+    }
+}
+
+pub(crate) fn of_restart(answer: Result<(), RestartFault>) -> Outcome {
+    match answer {
+        Ok(()) => Ok(None),
+        Err(RestartFault::NotFailed) => Ok(Some(Reason::NotFailed)),
+        Err(RestartFault::Invalid) => Ok(Some(Reason::Invalid)),
+        Err(RestartFault::NoSuchAgent | RestartFault::NoSuchFun(_)) => Err(Stop::Internal),
+        Err(RestartFault::Memory) => Err(Stop::Memory),
+    }
+}
+
+pub(crate) fn of_mode(answer: Result<(), ModeFault>) -> Outcome {
+    match answer {
+        Ok(()) => Ok(None),
+        Err(ModeFault::NoSuchAgent) => Err(Stop::Internal),
+    }
+}
+
+pub(crate) fn of_rule(answer: Result<(), RuleFault>) -> Outcome {
+    match answer {
+        Ok(()) => Ok(None),
+        Err(RuleFault::Invalid) => Ok(Some(Reason::Invalid)),
+        Err(RuleFault::NoSuch | RuleFault::NoSuchFun(_)) => Err(Stop::Internal),
+        Err(RuleFault::Memory) => Err(Stop::Memory),
+    }
+}

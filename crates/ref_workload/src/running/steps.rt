@@ -1,0 +1,118 @@
+//! One step of a worker.
+use crate::plans::{PlannedOp, Step};
+use crate::running::reasons::{
+    Outcome, of_atom, of_mode, of_restart, of_rule, of_send, of_transaction,
+};
+use crate::running::starts::share_rule;
+use crate::running::workers::Run;
+use ref_fun::{Core, Functions};
+use ref_log::{Op, Share as _, Stamp};
+use ref_shared::{Gate, Quiet};
+use ref_tx::{Tx, TxFault};
+use ref_world::Share;
+use std::alloc::Global;
+use std::sync::Wait;
+use std::sync::ledger::Ledger;
+
+/// Runs a step, and answers why it was refused, if it was. Nobody is told what the watches of atoms are to be told: a workload
+/// has none. A compare that finds another value isn't refused.
+pub(crate) fn run_step<F: Functions<Core>, C: Ledger, A: Ledger, R: Wait, G: Gate>(
+    rt: &R,
+    run: &Run<'_, F, C, A>,
+    share: &mut Share<C, A>,
+    gate: &mut G,
+    stamp: Stamp,
+    step: &Step,
+) -> Outcome {
+    let (alloc, funs, shared) = (run.alloc, run.funs, &run.shared);
+    match step {
+        Step::Tx(ops) => run_transaction(rt, run, share, gate, stamp, ops.as_slice()),
+        Step::Swap(a, action) => {
+            let args = action.args.share()?;
+            of_atom(shared.swap(rt, alloc, funs, share, *a, action.code, args))
+        }
+        Step::Reset(a, value) => {
+            of_atom(shared.reset(rt, alloc, funs, share, *a, value.share()?))
+        }
+        Step::CompareAndSet(a, old, new) => {
+            of_atom(shared.compare_and_set(rt, alloc, funs, share, *a, old, new.share()?))
+        }
+        Step::Send(sent) => of_send(shared.send(rt, alloc, sent.agent, sent.action.share()?)),
+        Step::Restart(g, state, clear) => {
+            of_restart(shared.restart(rt, alloc, funs, *g, state.share()?, *clear))
+        }
+        Step::Mode(g, mode) => of_mode(shared.set_error_mode(rt, *g, *mode)),
+        Step::Validator(who, rule) => {
+            of_rule(shared.set_validator(rt, funs, *who, share_rule(rule)?))
+        }
+    }
+}
+
+fn run_transaction<F: Functions<Core>, C: Ledger, A: Ledger, R: Wait, G: Gate>(
+    rt: &R,
+    run: &Run<'_, F, C, A>,
+    share: &mut Share<C, A>,
+    gate: &mut G,
+    stamp: Stamp,
+    ops: &[PlannedOp],
+) -> Outcome {
+    let (alloc, funs) = (run.alloc, run.funs);
+    of_transaction(
+        run.shared.transact(
+            rt,
+            alloc,
+            funs,
+            share,
+            stamp,
+            run.tries.max(1),
+            gate,
+            &mut Quiet,
+            |tx: &mut Tx<Core>| run_ops(alloc, funs, tx, ops),
+        ),
+    )
+}
+
+// The body of a transaction: its operations in order, up to the first that is refused.
+fn run_ops<F: Functions<Core>>(
+    alloc: Global,
+    funs: &F,
+    tx: &mut Tx<Core>,
+    ops: &[PlannedOp],
+) -> Result<(), TxFault> {
+    for op in ops {
+        run_op(alloc, funs, tx, op)?;
+    }
+    Ok(())
+}
+
+fn run_op<F: Functions<Core>>(
+    alloc: Global,
+    funs: &F,
+    tx: &mut Tx<Core>,
+    op: &PlannedOp,
+) -> Result<(), TxFault> {
+    match op {
+        PlannedOp::On(r, op) => run_on_ref(alloc, funs, tx, *r, op),
+        PlannedOp::Require(r, rule) => tx.require(funs, *r, rule),
+        PlannedOp::Send(sent) => {
+            let action = sent.action.share()?;
+            tx.send(alloc, funs, sent.agent, action.code, action.args)
+        }
+    }
+}
+
+fn run_on_ref<F: Functions<Core>>(
+    alloc: Global,
+    funs: &F,
+    tx: &mut Tx<Core>,
+    r: u32,
+    op: &Op,
+) -> Result<(), TxFault> {
+    let _answer = match op {
+        Op::Set(value) => tx.ref_set(alloc, r, value.share()?)?,
+        Op::Alter(code, args) => tx.alter(alloc, funs, r, *code, args.share()?)?,
+        Op::Commute(code, args) => tx.commute(alloc, funs, r, *code, args.share()?)?,
+        Op::Ensure => tx.ensure(alloc, r)?,
+    };
+    Ok(())
+}
