@@ -2,6 +2,8 @@
 use Rattle.std.specs.Prelude.{ℕ}
 use Rattle.ref_edn.specs.declared.faults.ReadFault.{ReadFault}
 use Rattle.ref_edn.specs.declared.faults.ReadFault.TheVariants as reads
+use Rattle.ref_workload.specs.declared.plan_faults.PlanFault.{PlanFault}
+use Rattle.ref_workload.specs.declared.plan_faults.PlanFault.TheVariants as plans
 use Rattle.ref_workload.specs.declared.faults.RunFault.{RunFault}
 use Rattle.ref_workload.specs.declared.faults.RunFault.TheVariants as faults
 use Rattle.ref_workload.specs.declared.faults.Stop.{Stop}
@@ -11,6 +13,7 @@ abbrev pub run_fault_number : RunFault → ℕ
 run_fault_number faults.Read = 1
 run_fault_number faults.InputTooLong = 2
 run_fault_number (faults.NotEdn fault) = 3
+run_fault_number (faults.Plan fault) = 4
 run_fault_number faults.Write = 5
 run_fault_number faults.Memory = 6
 run_fault_number faults.Internal = 7
@@ -23,3 +26,8 @@ stop_fault_of stops.Internal = faults.Internal
 abbrev pub edn_fault_of : ReadFault → RunFault
 edn_fault_of reads.Memory = faults.Memory
 edn_fault_of fault = faults.NotEdn fault
+
+-- and of its value
+abbrev pub plan_fault_of : PlanFault → RunFault
+plan_fault_of plans.Memory = faults.Memory
+plan_fault_of fault = faults.Plan fault

@@ -1,7 +1,8 @@
 //! Why a workload isn't run to its end.
 ghost use Rattle.std.specs.Prelude.{◌≡◌};
-ghost use Rattle.ref_workload.specs.RunFaults.{edn_fault_of, run_fault_number, stop_fault_of};
+ghost use Rattle.ref_workload.specs.RunFaults.{edn_fault_of, plan_fault_of, run_fault_number, stop_fault_of};
 
+use crate::plan_faults::PlanFault;
 use ref_edn::ReadFault;
 use std::alloc::AllocError;
 
@@ -13,6 +14,8 @@ pub enum RunFault {
     /// The input has more than 16,777,216 bytes.
     InputTooLong,
     NotEdn(ReadFault),
+    /// The value is no workload.
+    Plan(PlanFault),
     /// The writer failed, or took nothing. A part of the output may be written.
     Write,
     /// There is no memory, or a thread can't be made.
@@ -31,7 +34,7 @@ pub enum Stop {
 }
 
 impl RunFault {
-    /// The number of the fault, from 1 to 7; 4 is that of a fault of planning.
+    /// The number of the fault, from 1 to 7 in the order of the variants.
     pub fn number(&self) -> u8
         ensures { result ≡ run_fault_number self.now }
     {
@@ -39,6 +42,7 @@ impl RunFault {
             RunFault::Read => 1,
             RunFault::InputTooLong => 2,
             RunFault::NotEdn(_) => 3,
+            RunFault::Plan(_) => 4,
             RunFault::Write => 5,
             RunFault::Memory => 6,
             RunFault::Internal => 7,
@@ -71,5 +75,16 @@ impl From<ReadFault> for RunFault {
 impl From<AllocError> for Stop {
     fn from(_e: AllocError) -> Stop {
         Stop::Memory
+    }
+}
+
+impl From<PlanFault> for RunFault {
+    ghost from_gives = { λ e f. f ≡ plan_fault_of e };
+
+    fn from(fault: PlanFault) -> RunFault {
+        match fault {
+            PlanFault::Memory => RunFault::Memory,
+            fault => RunFault::Plan(fault),
+        }
     }
 }

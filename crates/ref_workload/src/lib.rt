@@ -10,9 +10,11 @@ pub mod plans;
 pub mod run;
 mod running;
 pub mod streams;
+pub mod texts;
 
 pub use faults::{RunFault, Stop};
 pub use order::is_orderly;
 pub use plan_faults::PlanFault;
 pub use plans::{Plan, PlannedOp, Step};
 pub use run::{RunOut, run_plan};
+pub use texts::{Options, run_workload};

@@ -1,0 +1,58 @@
+-- What a run of a workload reads, writes and answers.
+use Rattle.std.specs.Prelude.{◌≡◌, ◌≢◌, ℕ, Bool, true, false, List, [], ◌∷◌, ◌++◌, Ok}
+use Rattle.ref_edn.specs.Edn.{Edn}
+use Rattle.ref_edn.specs.Grammar.{IsText}
+use Rattle.ref_edn.specs.Printed.{printed}
+use Rattle.ref_audit.specs.DumpForm.{dump_of}
+use Rattle.ref_audit.specs.Dumped.{dumped}
+use Rattle.ref_audit.specs.Report.{reported}
+use Rattle.ref_audit.specs.Verdict.{verdict_on}
+use Rattle.ref_audit.specs.declared.reports.Refusal.{Refusal}
+use Rattle.ref_audit.specs.declared.reports.Verdict.TheVariants as verdicts
+use Rattle.ref_world.specs.Seen.{WorldSeen}
+use Rattle.ref_workload.specs.Orderly.{IsOrderly}
+use Rattle.ref_workload.specs.Plan.{PlanSeen}
+use Rattle.ref_workload.specs.Streams.{IsInputAtFault}
+use Rattle.ref_workload.specs.Workload.{IsWorkload}
+use Rattle.ref_workload.specs.declared.faults.RunFault.{RunFault}
+use Rattle.ref_workload.specs.declared.faults.RunFault.TheVariants as faults
+use Rattle.ref_workload.specs.declared.plan_faults.PlanFault.TheVariants as plans
+
+-- the printed dump of a world and a newline, or else the report of a run that ended well
+abbrev pub told : Bool → PlanSeen → WorldSeen → List Refusal → List ℕ
+told true plan world refused = printed (dumped world) ++ 10 ∷ []
+told false plan world refused = reported plan.names world refused verdicts.Ok
+
+-- The output is what is told of a world in which the plan was run, each worker's steps in order, and nothing else was. The audit of
+-- that world's dump says ok.
+pub record IsPlanRun (dump : Bool) (plan : PlanSeen) (output : List ℕ) : Type 0 where
+  pub world : WorldSeen
+  pub refused : List Refusal
+  pub orderly : IsOrderly plan world refused
+  pub audited : verdict_on (dump_of (dumped world)) ≡ Ok verdicts.Ok
+  pub output_is : output ≡ told dump plan world refused
+
+-- The text is a workload, and the output is that of a run of its plan.
+pub record IsRun (dump : Bool) (text output : List ℕ) : Type 0 where
+  pub value : Edn
+  pub plan : PlanSeen
+  pub belongs : IsText text value
+  pub lawful : IsWorkload value plan
+  pub run : IsPlanRun dump plan output
+
+-- faults that come from a plan or for want of memory alone, and those of a text besides
+abbrev pub IsOfPlan : RunFault → Type 0
+IsOfPlan faults.Memory = Unit {0}
+IsOfPlan faults.Internal = Unit {0}
+IsOfPlan fault = ⊥
+
+abbrev pub IsOfText : RunFault → Type 0
+IsOfText faults.Read = ⊥
+IsOfText faults.Write = ⊥
+IsOfText faults.InputTooLong = ⊥
+IsOfText fault = Unit {0}
+
+-- what a fault says of the text that was there to read
+abbrev pub IsAtFault : List ℕ → RunFault → Type 0
+IsAtFault text (faults.Plan fault) = (fault ≢ plans.Memory) × ((value : Edn) × IsText text value × ((plan : PlanSeen) → IsWorkload value plan → ⊥))
+IsAtFault text fault = IsInputAtFault IsText text fault
