@@ -6,8 +6,9 @@ ghost use Rattle.ref_workload.specs.Streams.{CountsReads, CountsWrites, HasBroke
 ghost use Rattle.refrun.specs.Checking.{IsCheckOf, IsOfChecking, writes_workload};
 
 use ref_edn::{Sink, Source, read_one};
+use ref_workload::RunFault;
+use ref_workload::plan::plan;
 use ref_workload::streams::{read_input, write_output};
-use ref_workload::{RunFault, plan};
 use std::alloc::Global;
 
 // What is written of a workload.
