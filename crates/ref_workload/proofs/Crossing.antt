@@ -177,6 +177,6 @@ module _ (C A : RattleType) (gC : Ledger.Ghosts C.Denot) (gA : Ledger.Ghosts A.D
 
   pub job_send : (G : RattleType) → IsSend G → IsSend (Job.the_row C A G gC gA)
   job_send G y = declared_send (Job.the_type C A G gC gA)
-      (search plain depth 60, (search (shared_crosses, plain) depth 60, (y, tt)))
+      (search plain depth 60, (search (shared_crosses, plain) depth 60, (search (y, plain) depth 60, tt)))
 
 pub ruleset crosses = (shared_crosses, run_sync, ended_send, job_send)

@@ -13,6 +13,6 @@ pub mod Parts
 pub mod Workloads
 pub mod Bases
 pub mod Cells
+pub mod Crossing
 pub mod Marking
 pub mod Naming
-pub mod Crossing

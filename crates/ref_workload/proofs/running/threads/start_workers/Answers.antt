@@ -5,3 +5,6 @@ use Rattle.ref_workload.proofs.running.threads.start_workers.Goals as goal
 
 pub spawn-requires-send-F : goal.spawn-requires-send-F
 spawn-requires-send-F g c κs within = search (crosses, std.crosses, sendable) depth 60
+
+pub spawn-requires-send-T : goal.spawn-requires-send-T
+spawn-requires-send-T g c κs within = search (crosses, std.crosses, sendable) depth 60
