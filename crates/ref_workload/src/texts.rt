@@ -117,7 +117,7 @@ where
     ensures inner { IfErr result IsOfPlan }
 {
     let gates = open_gates(alloc, plan)?;
-    let out = run_plan::<F, C, A, R, Open>(
+    let ran = run_plan::<F, C, A, R, Open>(
         rt,
         alloc,
         funs,
@@ -126,7 +126,13 @@ where
         gates,
         commits,
         added,
-    )?;
+    );
+    let out = match ran {
+        Ok(out) => out,
+        Err(RunFault::Memory) => return Err(RunFault::Memory),
+        // A plan that is run reads and writes nothing.
+        Err(_) => return Err(RunFault::Internal),
+    };
     let dumped = audited(alloc, funs, &out.world)?;
     if options.dump {
         line_of(alloc, &dumped)
