@@ -16,3 +16,4 @@ pub mod Cells
 pub mod Crossing
 pub mod Marking
 pub mod Naming
+pub mod TextFaults

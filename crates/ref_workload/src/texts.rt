@@ -92,7 +92,10 @@ fn output_of<F: Functions<Core> + Sync, R: Threads + Wait + Sync>(
     let value = read_one(alloc, text)?;
     let plan = plan(alloc, &value)?;
     let (commits, added) = (Blank::new(4_294_967_296), Blank::new(4_294_967_296));
-    output_of_plan::<F, Brand, Brand, R>(rt, alloc, funs, &plan, options, commits, added)
+    match output_of_plan::<F, Brand, Brand, R>(rt, alloc, funs, &plan, options, commits, added) {
+        Ok(output) => Ok(output),
+        Err(fault) => Err(fault),
+    }
 }
 
 // What is written of a plan that is run.
