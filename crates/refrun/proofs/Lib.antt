@@ -1,2 +1,16 @@
-pub mod Known
+pub mod NamesFound
+pub mod InTurn
+pub mod Landed
+pub mod ReportLines
 pub mod PrintedLines
+pub mod OrderlyRun
+pub mod Forms
+pub mod References
+pub mod SameValues
+pub mod RunFaults
+pub mod Words
+pub mod Steps
+pub mod Parts
+pub mod Workloads
+pub mod Served
+pub mod Known

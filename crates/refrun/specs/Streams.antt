@@ -1,0 +1,57 @@
+-- What a command reads and writes, whatever it does between: it reads its input whole, and then writes one output.
+use Rattle.std.specs.Prelude.{◌≡◌, ◌≢◌, ◌<◌, ◌≤◌, ℕ, List, length, Option, IfSome, Result, Ok, Err}
+use Rattle.std.specs.Io.KnownBytes.{Appends, IsAtEnd}
+use Rattle.ref_edn.specs.declared.faults.ReadFault.{ReadFault}
+use Rattle.ref_edn.specs.declared.faults.ReadFault.TheVariants as reads
+use Rattle.ref_edn.specs.Streams.{AppendsPart, counted}
+use Rattle.refrun.specs.declared.faults.RunFault.{RunFault}
+use Rattle.refrun.specs.declared.faults.RunFault.TheVariants as faults
+
+-- What was left to read is all of a text, and nothing is left any more; and an output that this text gives was written
+-- in this way.
+pub record Wrote (Writes : Option (List ℕ) → Option (List ℕ) → List ℕ → Type 0) (Gives : List ℕ → List ℕ → Type 0) (before after old new : Option (List ℕ)) : Type 0 where
+  pub text : List ℕ
+  pub output : List ℕ
+  pub whole : IfSome before (λ all. text ≡ all)
+  pub at_end : IsAtEnd after
+  pub short : length text ≤ 16777216
+  pub gives : Gives text output
+  pub written : Writes old new output
+
+-- The whole output was written.
+abbrev pub HasWritten : (List ℕ → List ℕ → Type 0) → Option (List ℕ) → Option (List ℕ) → Option (List ℕ) → Option (List ℕ) → Type 0
+HasWritten Gives before after old new = Wrote Appends Gives before after old new
+
+-- The writer failed, and a part of the output was written, from its start on.
+abbrev pub HasBrokenOff : (List ℕ → List ℕ → Type 0) → Option (List ℕ) → Option (List ℕ) → Option (List ℕ) → Option (List ℕ) → Type 0
+HasBrokenOff Gives before after old new = Wrote AppendsPart Gives before after old new
+
+-- what a fault of reading says of the text that was there to read, where `Belongs` says which texts belong to a value
+abbrev pub IsInputAtFault : {T : Type 0} → (List ℕ → T → Type 0) → List ℕ → RunFault → Type 0
+IsInputAtFault Belongs text faults.InputTooLong = 16777216 < length text
+IsInputAtFault {T = T} Belongs text (faults.NotEdn fault) = (fault ≢ reads.Memory) × ((value : T) → Belongs text value → ⊥)
+IsInputAtFault Belongs text fault = Unit {0}
+
+-- faults that come from the input before anything is asked of its text
+abbrev pub IsOfInput : RunFault → Type 0
+IsOfInput faults.Read = Unit {0}
+IsOfInput faults.InputTooLong = Unit {0}
+IsOfInput faults.Memory = Unit {0}
+IsOfInput fault = ⊥
+
+-- the fault of a command for a fault of its text
+abbrev pub edn_fault_of : ReadFault → RunFault
+edn_fault_of reads.Memory = faults.Memory
+edn_fault_of fault = faults.NotEdn fault
+
+-- A read that fails is told by Read and by nothing else.
+abbrev pub CountsReads : {T : Type 0} → ℕ → ℕ → Result T RunFault → Type 0
+CountsReads old new (Ok x) = new ≡ old
+CountsReads old new (Err faults.Read) = new ≡ counted old
+CountsReads old new (Err fault) = new ≡ old
+
+-- A write that fails is told by Write and by nothing else.
+abbrev pub CountsWrites : {T : Type 0} → ℕ → ℕ → Result T RunFault → Type 0
+CountsWrites old new (Ok x) = new ≡ old
+CountsWrites old new (Err faults.Write) = new ≡ counted old
+CountsWrites old new (Err fault) = new ≡ old
