@@ -3,8 +3,8 @@ use Rattle.std.specs.Prelude.{◌≡◌, List, ℕ, [], ◌∷◌, ◌++◌}
 use Rattle.ref_edn.specs.Edn.{Edn}
 use Rattle.ref_edn.specs.Grammar.{AreTexts}
 use Rattle.ref_edn.specs.Printed.{printed}
-use Rattle.refrun.specs.declared.faults.RunFault.{RunFault}
-use Rattle.refrun.specs.declared.faults.RunFault.TheVariants as faults
+use Rattle.ref_workload.specs.declared.faults.RunFault.{RunFault}
+use Rattle.ref_workload.specs.declared.faults.RunFault.TheVariants as faults
 
 abbrev pub newline : List ℕ
 newline = 10 ∷ []

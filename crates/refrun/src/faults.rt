@@ -1,51 +1,67 @@
 //! Why a command wasn't carried out.
 ghost use Rattle.std.specs.Prelude.{◌≡◌};
-ghost use Rattle.refrun.specs.Lines.{run_number_of};
-ghost use Rattle.refrun.specs.Streams.{edn_fault_of};
+ghost use Rattle.refrun.specs.Lines.{audit_run_number_of};
+ghost use Rattle.refrun.specs.Auditing.{dump_fault_of, edn_fault_of};
 
-use crate::path::faults::PlanFault;
+use ref_audit::DumpFault;
 use ref_edn::ReadFault;
+use ref_workload::RunFault;
 
-/// Why a workload wasn't run to its end, or a text not printed.
+/// Why a dump wasn't audited.
 #[derive(Clone, Copy, Debug, Drop, PartialEq, Eq)]
-pub enum RunFault {
+pub enum AuditRunFault {
     /// The reader failed.
     Read,
     /// The input has more than 16,777,216 bytes.
     InputTooLong,
     NotEdn(ReadFault),
-    Plan(PlanFault),
+    Dump(DumpFault),
     /// The writer failed, or took nothing. A part of the output may be written.
     Write,
     Memory,
-    /// What a right program never meets.
-    Internal,
 }
 
-impl RunFault {
-    /// The number of the fault, from 1 to 7 in the order of the variants.
+impl AuditRunFault {
+    /// The number of the fault, from 1 to 6 in the order of the variants.
     pub fn number(&self) -> u8
-        ensures { result ≡ run_number_of self.now }
+        ensures { result ≡ audit_run_number_of self.now }
     {
         match self {
-            RunFault::Read => 1,
-            RunFault::InputTooLong => 2,
-            RunFault::NotEdn(_) => 3,
-            RunFault::Plan(_) => 4,
-            RunFault::Write => 5,
-            RunFault::Memory => 6,
-            RunFault::Internal => 7,
+            AuditRunFault::Read => 1,
+            AuditRunFault::InputTooLong => 2,
+            AuditRunFault::NotEdn(_) => 3,
+            AuditRunFault::Dump(_) => 4,
+            AuditRunFault::Write => 5,
+            AuditRunFault::Memory => 6,
         }
     }
 }
 
-impl From<ReadFault> for RunFault {
+impl From<ReadFault> for AuditRunFault {
     ghost from_gives = { λ e f. f ≡ edn_fault_of e };
 
-    fn from(fault: ReadFault) -> RunFault {
+    fn from(fault: ReadFault) -> AuditRunFault {
         match fault {
-            ReadFault::Memory => RunFault::Memory,
-            fault => RunFault::NotEdn(fault),
+            ReadFault::Memory => AuditRunFault::Memory,
+            fault => AuditRunFault::NotEdn(fault),
         }
     }
+}
+
+impl From<DumpFault> for AuditRunFault {
+    ghost from_gives = { λ e f. f ≡ dump_fault_of e };
+
+    fn from(fault: DumpFault) -> AuditRunFault {
+        match fault {
+            DumpFault::Memory => AuditRunFault::Memory,
+            fault => AuditRunFault::Dump(fault),
+        }
+    }
+}
+
+/// Why a command ended early: one that reads a workload or EDN, or one that audits.
+#[derive(Clone, Copy, Debug, Drop, PartialEq, Eq)]
+pub enum Fault {
+    Run(RunFault),
+    Audit(AuditRunFault),
 }

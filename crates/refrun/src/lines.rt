@@ -1,27 +1,50 @@
 //! What the program says of a fault, and the status that it ends with.
 ghost use Rattle.std.specs.Prelude.{◌≡◌};
-ghost use Rattle.refrun.specs.Lines.{status_of};
+ghost use Rattle.refrun.specs.Lines.{audit_status_of, run_status_of, status_of};
 
-use crate::faults::RunFault;
-use crate::path::faults::PlanFault;
+use crate::faults::{AuditRunFault, Fault};
+use ref_audit::DumpFault;
 use ref_edn::ReadFault;
+use ref_log::Who;
+use ref_workload::{PlanFault, RunFault};
 use std::fmt;
 
 /// The line of a fault, without what begins each line of the program and without the newline.
 #[derive(Drop)]
-pub struct Line(pub RunFault);
+pub struct Line(pub Fault);
 
 impl fmt::Display for Line {
     fn fmt<W: fmt::Write>(&self, f: &mut fmt::Formatter<W>) -> fmt::Result {
         match self.0 {
-            RunFault::Read => f.write_str("read fault"),
-            RunFault::InputTooLong => f.write_str("InputTooLong"),
-            RunFault::NotEdn(fault) => write_read_fault(fault, f),
-            RunFault::Plan(fault) => write_plan_fault(fault, f),
-            RunFault::Write => f.write_str("write fault"),
-            RunFault::Memory => f.write_str("out of memory"),
-            RunFault::Internal => f.write_str("internal"),
+            Fault::Run(fault) => write_run_fault(fault, f),
+            Fault::Audit(fault) => write_audit_fault(fault, f),
         }
+    }
+}
+
+fn write_run_fault<W: fmt::Write>(fault: RunFault, f: &mut fmt::Formatter<W>) -> fmt::Result {
+    match fault {
+        RunFault::Read => f.write_str("read fault"),
+        RunFault::InputTooLong => f.write_str("InputTooLong"),
+        RunFault::NotEdn(fault) => write_read_fault(fault, f),
+        RunFault::Plan(fault) => write_plan_fault(fault, f),
+        RunFault::Write => f.write_str("write fault"),
+        RunFault::Memory => f.write_str("out of memory"),
+        RunFault::Internal => f.write_str("internal"),
+    }
+}
+
+fn write_audit_fault<W: fmt::Write>(
+    fault: AuditRunFault,
+    f: &mut fmt::Formatter<W>,
+) -> fmt::Result {
+    match fault {
+        AuditRunFault::Read => f.write_str("read fault"),
+        AuditRunFault::InputTooLong => f.write_str("InputTooLong"),
+        AuditRunFault::NotEdn(fault) => write_read_fault(fault, f),
+        AuditRunFault::Dump(fault) => write_dump_fault(fault, f),
+        AuditRunFault::Write => f.write_str("write fault"),
+        AuditRunFault::Memory => f.write_str("out of memory"),
     }
 }
 
@@ -37,8 +60,10 @@ fn write_plan_fault<W: fmt::Write>(fault: PlanFault, f: &mut fmt::Formatter<W>) 
         PlanFault::NotWorkload => f.write_str("NotWorkload"),
         PlanFault::BadVersion => f.write_str("BadVersion"),
         PlanFault::TooMany => f.write_str("TooMany"),
-        PlanFault::BadReference(n) => write!(f, "BadReference ref {n}"),
-        PlanFault::NameTwice(n) => write!(f, "NameTwice ref {n}"),
+        PlanFault::BadReference(who) => write_of("BadReference", who, f),
+        PlanFault::NameTwice(who) => write_of("NameTwice", who, f),
+        PlanFault::BadTally(who) => write_of("BadTally", who, f),
+        PlanFault::StartInvalid(who) => write_of("StartInvalid", who, f),
         PlanFault::BadStep { worker, step } => write!(f, "BadStep {worker} {step}"),
         PlanFault::UnknownName { worker, step } => write!(f, "UnknownName {worker} {step}"),
         PlanFault::UnknownFun { worker, step } => write!(f, "UnknownFun {worker} {step}"),
@@ -46,14 +71,52 @@ fn write_plan_fault<W: fmt::Write>(fault: PlanFault, f: &mut fmt::Formatter<W>) 
     }
 }
 
+// The fault of a reference that is declared.
+fn write_of<W: fmt::Write>(name: &str, who: Who, f: &mut fmt::Formatter<W>) -> fmt::Result {
+    match who {
+        Who::Ref(n) => write!(f, "{name} ref {n}"),
+        Who::Atom(n) => write!(f, "{name} atom {n}"),
+        Who::Agent(n) => write!(f, "{name} agent {n}"),
+    }
+}
+
+fn write_dump_fault<W: fmt::Write>(fault: DumpFault, f: &mut fmt::Formatter<W>) -> fmt::Result {
+    match fault {
+        DumpFault::NotDump => f.write_str("NotDump"),
+        DumpFault::BadVersion => f.write_str("BadVersion"),
+        DumpFault::BadPart(key) => write!(f, "BadPart :{}", key.name()),
+        DumpFault::BadEntry(n) => write!(f, "BadEntry {n}"),
+        DumpFault::Memory => f.write_str("out of memory"),
+    }
+}
+
 /// The status that the program ends with after a fault.
-pub fn status(fault: RunFault) -> u8
+pub fn status(fault: Fault) -> u8
     ensures { result ≡ status_of fault }
+{
+    match fault {
+        Fault::Run(fault) => run_status(fault),
+        Fault::Audit(fault) => audit_status(fault),
+    }
+}
+
+fn run_status(fault: RunFault) -> u8
+    ensures { result ≡ run_status_of fault }
 {
     match fault {
         RunFault::InputTooLong | RunFault::NotEdn(_) | RunFault::Plan(_) => 3,
         RunFault::Read | RunFault::Write => 4,
         RunFault::Internal => 5,
         RunFault::Memory => 6,
+    }
+}
+
+fn audit_status(fault: AuditRunFault) -> u8
+    ensures { result ≡ audit_status_of fault }
+{
+    match fault {
+        AuditRunFault::InputTooLong | AuditRunFault::NotEdn(_) | AuditRunFault::Dump(_) => 3,
+        AuditRunFault::Read | AuditRunFault::Write => 4,
+        AuditRunFault::Memory => 6,
     }
 }

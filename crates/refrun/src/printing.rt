@@ -3,11 +3,11 @@ ghost use Rattle.std.specs.Prelude.{◌≡◌, ◌≢◌, IfOk, IfErr, IfSome, O
 ghost use Rattle.ref_edn.specs.Grammar.{AreTexts};
 ghost use Rattle.ref_edn.specs.Streams.{ConsumesUpTo};
 ghost use Rattle.refrun.specs.Printing.{IsOfElements, IsOfPrinting, IsPrintOf, printed_lines};
-ghost use Rattle.refrun.specs.Streams.{CountsReads, CountsWrites, HasBrokenOff, HasWritten, IsInputAtFault};
+ghost use Rattle.ref_workload.specs.Streams.{CountsReads, CountsWrites, HasBrokenOff, HasWritten, IsInputAtFault};
 
-use crate::faults::RunFault;
-use crate::streams::{read_input, write_output};
 use ref_edn::{Sink, Source, Value, print, read_all};
+use ref_workload::RunFault;
+use ref_workload::streams::{read_input, write_output};
 use std::alloc::{AllocError, Global};
 
 /// Reads a text of any number of EDN elements to its end, and writes each element on a line: the one text that is

@@ -1,19 +1,31 @@
 //! The table of all functions and predicates of Core, and what runs by it.
 ghost use Rattle.std.specs.Prelude.{◌≤◌, length};
 
-use crate::faults::RunFault;
-use crate::path::report::Verdict;
-use crate::path::run::run_workload;
+use crate::auditing::audit_text;
+use crate::faults::Fault;
+use ref_audit::Verdict;
 use ref_edn::{Sink, Source, Value};
 use ref_fun::{Fun, FunFault, FunTable, Pred, StoredFun, StoredPred, core_fun, core_test};
+use ref_workload::{Options, RunFault, run_workload};
 use std::alloc::Global;
+use std::sync::Wait;
+use std::thread::Threads;
 
-/// Makes the table of Core, and runs a workload by it, as [`run_workload`] says.
-pub(crate) fn run_by_core<R: Source, W: Sink>(
+/// What is done by the table.
+#[derive(Clone, Copy, Drop)]
+pub(crate) enum Task {
+    Run(Options),
+    Audit,
+}
+
+/// Makes the table of Core, and runs a workload or audits a dump by it, as [`run_workload`] and [`audit_text`] say.
+pub(crate) fn by_core<R: Threads + Wait + Sync, I: Source, O: Sink>(
+    rt: &R,
     alloc: Global,
-    reader: &mut R,
-    writer: &mut W,
-) -> Result<Verdict, RunFault> {
+    task: Task,
+    reader: &mut I,
+    writer: &mut O,
+) -> Result<Verdict, Fault> {
     let mut table = FunTable::empty(alloc);
     for code in 1..11u32 {
         let run: Fun = match Box::new(
@@ -23,11 +35,11 @@ pub(crate) fn run_by_core<R: Source, W: Sink>(
             { core_fun(alloc, code, state, args) },
         ) {
             Ok(run) => run,
-            Err(_) => return Err(RunFault::Memory),
+            Err(_) => return Err(Fault::Run(RunFault::Memory)),
         };
         // The codes differ and there are few, so that nothing but memory can be wanting.
         let Ok(()) = table.add_fun(StoredFun::new(code, run)) else {
-            return Err(RunFault::Memory);
+            return Err(Fault::Run(RunFault::Memory));
         };
     }
     for code in 101..110u32 {
@@ -35,11 +47,20 @@ pub(crate) fn run_by_core<R: Source, W: Sink>(
             core_test(code, state, args)
         }) {
             Ok(run) => run,
-            Err(_) => return Err(RunFault::Memory),
+            Err(_) => return Err(Fault::Run(RunFault::Memory)),
         };
         let Ok(()) = table.add_pred(StoredPred::new(code, run)) else {
-            return Err(RunFault::Memory);
+            return Err(Fault::Run(RunFault::Memory));
         };
     }
-    run_workload(alloc, &table, reader, writer)
+    match task {
+        Task::Run(options) => match run_workload(rt, alloc, &table, reader, writer, options) {
+            Ok(verdict) => Ok(verdict),
+            Err(fault) => Err(Fault::Run(fault)),
+        },
+        Task::Audit => match audit_text(alloc, &table, reader, writer) {
+            Ok(verdict) => Ok(verdict),
+            Err(fault) => Err(Fault::Audit(fault)),
+        },
+    }
 }

@@ -1,0 +1,45 @@
+-- What the verdict on a text's value and the faults of an audit say.
+use Rattle.std.proofs.Common.{◌≡◌, ℕ, List, refl, sym, ap, arith}
+use Rattle.std.specs.Prelude.{◌≢◌, Result, Ok, Err, IfErr, IsErrAnd}
+use Rattle.ref_edn.specs.Edn.{Edn}
+use Rattle.ref_edn.specs.Grammar.{IsText}
+use Rattle.ref_edn.specs.declared.faults.ReadFault.{ReadFault}
+use Rattle.ref_edn.specs.declared.faults.ReadFault.TheVariants as reads
+use Rattle.ref_audit.specs.DumpForm.{dump_of}
+use Rattle.ref_audit.specs.Report.{verdict_line}
+use Rattle.ref_audit.specs.Verdict.{verdict, verdict_on}
+use Rattle.ref_audit.specs.declared.reading.dumps.Dump.{Dump}
+use Rattle.ref_audit.specs.declared.reading.faults.DumpFault.{DumpFault}
+use Rattle.ref_audit.specs.declared.reading.faults.DumpFault.TheVariants as dumps
+use Rattle.ref_audit.specs.declared.reports.Verdict.{Verdict}
+use Rattle.refrun.specs.Auditing.{IsAtFault, IsAuditOf, dump_fault_of, edn_fault_of}
+use Rattle.refrun.specs.declared.faults.AuditRunFault.{AuditRunFault}
+
+-- what is no dump has no verdict
+no_dump : (d : Result Dump DumpFault) (f : DumpFault) → verdict_on d ≡ Err f → d ≡ Err f
+no_dump (Ok dump) f e = absurd (grind (arith, e))
+no_dump (Err g) f e = let same : g ≡ f = cc in ap Err same
+
+-- a verdict is that on a dump
+pub audit_told : (text : List ℕ) (v : Edn) (line : List ℕ) (w : Verdict) (d : Result Dump DumpFault) → d ≡ dump_of v → verdict_on d ≡ Ok w → IsText text v → line ≡ verdict_line w → IsAuditOf w text line
+audit_told text v line w (Ok dump) is e belongs line_is =
+    let same : verdict dump ≡ w = cc in
+    record { value = v; dump = dump; belongs = belongs; says = sym is; verdict_is = sym same; output_is = line_is }
+audit_told text v line w (Err f) is e belongs line_is = absurd (grind (arith, e))
+
+not_edn : (text : List ℕ) (f : ReadFault) → (f ≢ reads.Memory → (v : Edn) → IsText text v → ⊥) → IsAtFault text (edn_fault_of f)
+not_edn text reads.Memory none = tt
+not_edn text f none = (λ e. cc, none (λ e. cc))
+
+not_dump : (text : List ℕ) (v : Edn) (f : DumpFault) → IsText text v → (f ≢ dumps.Memory → verdict_on (dump_of v) ≡ Err f) → IsAtFault text (dump_fault_of f)
+not_dump text v dumps.Memory is none = tt
+not_dump text v f is none = (λ e. cc, (v, is, no_dump (dump_of v) f (none (λ e. cc))))
+
+-- what a call that hands on such a fault answers
+pub edn_told : {T : Type 0} (r : Result T AuditRunFault) (text : List ℕ) (f : ReadFault) → IsErrAnd r (λ g. g ≡ edn_fault_of f) → (f ≢ reads.Memory → (v : Edn) → IsText text v → ⊥) → IfErr r (λ g. IsAtFault text g)
+edn_told (Ok x) text f told none = tt
+edn_told (Err g) text f told none = rw told (not_edn text f none)
+
+pub dump_told : {T : Type 0} (r : Result T AuditRunFault) (text : List ℕ) (v : Edn) (f : DumpFault) → IsErrAnd r (λ g. g ≡ dump_fault_of f) → IsText text v → (f ≢ dumps.Memory → verdict_on (dump_of v) ≡ Err f) → IfErr r (λ g. IsAtFault text g)
+dump_told (Ok x) text v f told is none = tt
+dump_told (Err g) text v f told is none = rw told (not_dump text v f is none)

@@ -1,0 +1,69 @@
+-- What the audit of a dump's text reads, writes and answers.
+use Rattle.std.specs.Prelude.{◌≡◌, ◌≢◌, ◌<◌, ℕ, List, length, Result, Ok, Err}
+use Rattle.ref_edn.specs.Edn.{Edn}
+use Rattle.ref_edn.specs.Grammar.{IsText}
+use Rattle.ref_edn.specs.Streams.{counted}
+use Rattle.ref_edn.specs.declared.faults.ReadFault.{ReadFault}
+use Rattle.ref_edn.specs.declared.faults.ReadFault.TheVariants as reads
+use Rattle.ref_audit.specs.DumpForm.{dump_of}
+use Rattle.ref_audit.specs.Report.{verdict_line}
+use Rattle.ref_audit.specs.Verdict as verdicts
+use Rattle.ref_audit.specs.declared.reading.dumps.Dump.{Dump}
+use Rattle.ref_audit.specs.declared.reading.faults.DumpFault.{DumpFault}
+use Rattle.ref_audit.specs.declared.reading.faults.DumpFault.TheVariants as dumps
+use Rattle.ref_audit.specs.declared.reports.Verdict.{Verdict}
+use Rattle.refrun.specs.declared.faults.AuditRunFault.{AuditRunFault}
+use Rattle.refrun.specs.declared.faults.AuditRunFault.TheVariants as faults
+
+-- The text is a dump, this is the verdict on it, and the output is the verdict's line.
+pub record IsAuditOf (verdict : Verdict) (text output : List ℕ) : Type 0 where
+  pub value : Edn
+  pub dump : Dump
+  pub belongs : IsText text value
+  pub says : dump_of value ≡ Ok dump
+  pub verdict_is : verdict ≡ verdicts.verdict dump
+  pub output_is : output ≡ verdict_line verdict
+
+-- It is such an audit with some verdict.
+abbrev pub IsAudit : List ℕ → List ℕ → Type 0
+IsAudit text output = (verdict : Verdict) × IsAuditOf verdict text output
+
+-- what a fault says of the text that was there to read
+abbrev pub IsAtFault : List ℕ → AuditRunFault → Type 0
+IsAtFault text faults.InputTooLong = 16777216 < length text
+IsAtFault text (faults.NotEdn fault) = (fault ≢ reads.Memory) × ((value : Edn) → IsText text value → ⊥)
+IsAtFault text (faults.Dump fault) = (fault ≢ dumps.Memory) × ((value : Edn) × IsText text value × (dump_of value ≡ Err fault))
+IsAtFault text fault = Unit {0}
+
+-- faults that come from the input before anything is asked of its text, and those of a text
+abbrev pub IsOfInput : AuditRunFault → Type 0
+IsOfInput faults.Read = Unit {0}
+IsOfInput faults.InputTooLong = Unit {0}
+IsOfInput faults.Memory = Unit {0}
+IsOfInput fault = ⊥
+
+abbrev pub IsOfText : AuditRunFault → Type 0
+IsOfText (faults.NotEdn fault) = Unit {0}
+IsOfText (faults.Dump fault) = Unit {0}
+IsOfText faults.Memory = Unit {0}
+IsOfText fault = ⊥
+
+-- the fault of the command for a fault of its text, and of its value
+abbrev pub edn_fault_of : ReadFault → AuditRunFault
+edn_fault_of reads.Memory = faults.Memory
+edn_fault_of fault = faults.NotEdn fault
+
+abbrev pub dump_fault_of : DumpFault → AuditRunFault
+dump_fault_of dumps.Memory = faults.Memory
+dump_fault_of fault = faults.Dump fault
+
+-- A read that fails is told by Read and by nothing else, and a write by Write.
+abbrev pub CountsReads : {T : Type 0} → ℕ → ℕ → Result T AuditRunFault → Type 0
+CountsReads old new (Ok x) = new ≡ old
+CountsReads old new (Err faults.Read) = new ≡ counted old
+CountsReads old new (Err fault) = new ≡ old
+
+abbrev pub CountsWrites : {T : Type 0} → ℕ → ℕ → Result T AuditRunFault → Type 0
+CountsWrites old new (Ok x) = new ≡ old
+CountsWrites old new (Err faults.Write) = new ≡ counted old
+CountsWrites old new (Err fault) = new ≡ old

@@ -1,0 +1,126 @@
+//! The command line.
+use crate::table::Task;
+use clap::{Arg, ArgAction, ArgMatches, Command, Error, value_parser};
+use ref_workload::Options;
+use std::alloc::{AllocError, Global};
+use std::env::Env;
+use std::io;
+
+/// What the words ask for.
+#[derive(Clone, Copy, Drop)]
+pub(crate) enum Act {
+    /// What runs by Core's functions.
+    ByCore(Task),
+    Check,
+    Print,
+}
+
+// How often a transaction is tried where nothing is said.
+const TRIES: u32 = 1_000;
+
+const ABOUT: &str =
+    "Runs EDN workloads on refs, atoms and agents with a thread for each worker, and reports, dumps and audits what came of them";
+
+const RUN: &str = "Reads a workload from standard input, runs it, audits it, and prints a report";
+
+const RUN_MORE: &str = "Functions of a workload: + - inc dec max min conj assoc dissoc disj
+Predicates of its rules: >= <= = int? string? vector? map? set? some?
+
+Example:
+  echo '{:version 1 :refs [[a 0]] :workers [[[:tx [:alter a + 5]]]]}' | refrun run
+prints
+  ref a 5
+  commits 1
+  audit ok";
+
+const CHECK: &str =
+    "Reads a workload from standard input, and says whether it is one, without running it";
+
+const CHECK_MORE: &str = "Example:
+  echo '{:version 1 :refs [[a 0]] :atoms [[a 1]]}' | refrun check
+says on standard error
+  refrun: NameTwice atom 0";
+
+const AUDIT: &str =
+    "Reads a dump from standard input, replays its log, and prints whether it is right";
+
+const AUDIT_MORE: &str = "The status is 5 where the audit says no.
+
+Example:
+  refrun run --dump < workload.edn | refrun audit
+prints
+  audit ok";
+
+const PRINT: &str = "Reads EDN from standard input, and prints each element on a line";
+
+const PRINT_MORE: &str = "Example:
+  echo '{:b 1 :a [2 (3)]} ; c' | refrun print
+prints
+  {:a [2 [3]], :b 1}";
+
+pub(crate) fn arguments<R: AllocGlobal + Env>(rt: &R) -> io::Result<Vec<String>> {
+    Ok(std::env::args(rt)?.collect(rt.alloc())?)
+}
+
+pub(crate) fn matches_of<'a>(alloc: Global, words: &'a [String]) -> Result<ArgMatches<'a>, Error> {
+    command(alloc)?.try_get_matches_from(words)
+}
+
+// What the program takes.
+fn command<'a>(alloc: Global) -> Result<Command<'a>, AllocError> {
+    let check = Command::new(alloc, "check")
+        .about(CHECK)
+        .after_help(CHECK_MORE);
+    let audit = Command::new(alloc, "audit")
+        .about(AUDIT)
+        .after_help(AUDIT_MORE);
+    let print = Command::new(alloc, "print")
+        .about(PRINT)
+        .after_help(PRINT_MORE);
+    Command::new(alloc, "refrun")
+        .about(ABOUT)
+        .subcommand_required(true)
+        .subcommand(run(alloc)?)?
+        .subcommand(check)?
+        .subcommand(audit)?
+        .subcommand(print)
+}
+
+fn run<'a>(alloc: Global) -> Result<Command<'a>, AllocError> {
+    let tries = Arg::new(alloc, "tries")
+        .long("tries")
+        .value_name("N")
+        .action(ArgAction::Set)
+        .value_parser(value_parser!(u32).range(1..=1_000_000))
+        .help(
+            "How often a transaction is tried that is in conflict, 1,000 times where nothing is said",
+        );
+    let dump = Arg::new(alloc, "dump")
+        .long("dump")
+        .action(ArgAction::SetTrue)
+        .help("Prints the dump of the run in the place of its report");
+    Command::new(alloc, "run")
+        .about(RUN)
+        .after_help(RUN_MORE)
+        .arg(tries)?
+        .arg(dump)
+}
+
+/// What the command says.
+pub(crate) fn act_of(matches: &ArgMatches) -> Option<Act> {
+    let (name, inner) = matches.subcommand()?;
+    match name {
+        "run" => Some(Act::ByCore(Task::Run(options(inner)))),
+        "check" => Some(Act::Check),
+        "audit" => Some(Act::ByCore(Task::Audit)),
+        "print" => Some(Act::Print),
+        _ => None,
+    }
+}
+
+fn options(matches: &ArgMatches) -> Options {
+    Options {
+        tries: matches.get_one::<u32>("tries").unwrap_or(TRIES),
+        dump: matches.get_flag("dump"),
+    }
+}

@@ -1,0 +1,319 @@
+//! Worlds that are declared, and steps that are run on them.
+ghost use Rattle.std.specs.Prelude.{◌≡◌};
+ghost use Rattle.ref_world.specs.Shares.{all_parts};
+
+use crate::tables::core_table;
+use ref_agents::ErrorMode;
+use ref_audit::{DumpMakeFault, Names, Refusal, Verdict, are_few, dump, report};
+use ref_edn::{Node, Text, Value, print, read_one};
+use ref_fun::{Action, Args, Core, FunTable, Rule};
+use ref_log::Stamp;
+use ref_tx::Tx;
+use ref_world::{ALL_PARTS, AgentStart, AtomStart, RefStart, Share, Start, World};
+use std::alloc::Global;
+use std::marker::Brand;
+use std::sync::ledger::{Blank, Ledger};
+use std::test::Fail;
+
+/// A reference that is declared: its name, its value, and the code of its rule with the arguments, if it has one.
+#[derive(Clone, Copy, Drop)]
+pub(crate) struct Given<'a> {
+    pub(crate) name: &'a str,
+    pub(crate) value: &'a str,
+    pub(crate) rule: Option<(u32, &'a str)>,
+}
+
+/// The references that are declared, and which ref is the tally.
+#[derive(Clone, Copy, Drop)]
+pub(crate) struct Declared<'a> {
+    pub(crate) refs: &'a [Given<'a>],
+    pub(crate) tally: usize,
+    pub(crate) atoms: &'a [Given<'a>],
+    pub(crate) agents: &'a [Given<'a>],
+}
+
+/// No ref is the tally.
+pub(crate) const NO_TALLY: usize = usize::MAX;
+
+/// A call in a transaction: the reference's number, and what the call is given, functions by their codes.
+#[derive(Clone, Copy, Drop)]
+pub(crate) enum Call<'a> {
+    Set(u32, &'a str),
+    Alter(u32, u32, &'a str),
+    Commute(u32, u32, &'a str),
+    Ensure(u32),
+    Send(u32, u32, &'a str),
+}
+
+#[derive(Clone, Copy, Drop)]
+pub(crate) enum Step<'a> {
+    /// A transaction, by worker 0.
+    Commit(&'a [Call<'a>]),
+    Swap(u32, u32, &'a str),
+    Reset(u32, &'a str),
+    Send(u32, u32, &'a str),
+    /// The commit at this point is released.
+    Release(u64),
+    /// The action of some agent is taken, run and finished.
+    Act,
+}
+
+/// What is seen of a world at the end.
+#[derive(Drop)]
+pub(crate) struct Seen {
+    pub(crate) dumped: Result<Vec<u8>, DumpMakeFault>,
+    pub(crate) report: Vec<u8>,
+}
+
+#[derive(Drop)]
+struct Whole<C: Ledger, A: Ledger> {
+    world: World<Core, C, A>,
+    share: Share<C, A>,
+}
+
+/// What is seen of the world that is declared, after these steps.
+pub(crate) fn run(
+    alloc: Global,
+    declared: &Declared,
+    steps: &[Step],
+    refused: &[Refusal],
+    verdict: Verdict,
+) -> Result<Seen, Fail> {
+    let funs = core_table(alloc)?;
+    let start = start_of(alloc, declared)?;
+    let names = names_of(alloc, declared)?;
+    let (commits, added) = (Blank::new(ALL_PARTS), Blank::new(ALL_PARTS));
+    run_in::<Brand, Brand>(
+        alloc, &funs, start, steps, &names, refused, verdict, commits, added,
+    )
+}
+
+fn run_in<C: Ledger, A: Ledger>(
+    alloc: Global,
+    funs: &FunTable,
+    start: Start,
+    steps: &[Step],
+    names: &Names,
+    refused: &[Refusal],
+    verdict: Verdict,
+    commits: Blank,
+    added: Blank,
+) -> Result<Seen, Fail>
+    requires commits { (commits.name ≡ C.name) × (commits.parts ≡ C.parts) × (commits.parts ≡ all_parts) }
+    requires added { (added.name ≡ A.name) × (added.parts ≡ A.parts) × (added.parts ≡ all_parts) }
+{
+    let (mut world, mut share) = World::<Core, C, A>::new(alloc, funs, start, commits, added)?;
+    let mut number = 0;
+    for step in steps {
+        take_step(alloc, funs, &mut world, &mut share, number, step)?;
+        number = number.saturating_add(1);
+    }
+    let mut text = Vec::new(alloc);
+    report(alloc, names, &world, refused, &verdict, &mut text)?;
+    Ok(Seen {
+        dumped: dumped(alloc, &world)?,
+        report: text,
+    })
+}
+
+fn dumped<C: Ledger, A: Ledger>(
+    alloc: Global,
+    world: &World<Core, C, A>,
+) -> Result<Result<Vec<u8>, DumpMakeFault>, Fail> {
+    if !are_few(world) {
+        return Err(Fail::new("a world has too many references"));
+    }
+    match dump(alloc, world) {
+        Ok(value) => {
+            let mut text = Vec::new(alloc);
+            print(alloc, &value, &mut text)?;
+            Ok(Ok(text))
+        }
+        Err(fault) => Ok(Err(fault)),
+    }
+}
+
+fn take_step<C: Ledger, A: Ledger>(
+    alloc: Global,
+    funs: &FunTable,
+    world: &mut World<Core, C, A>,
+    share: &mut Share<C, A>,
+    number: u32,
+    step: &Step,
+) -> Result<(), Fail> {
+    match step {
+        Step::Commit(calls) => commit(alloc, funs, world, share, number, calls),
+        Step::Swap(a, code, args) => {
+            let args = args_of(alloc, args)?;
+            world.swap(alloc, funs, share, *a, *code, args)?;
+            Ok(())
+        }
+        Step::Reset(a, value) => {
+            let value = value_of(alloc, value)?;
+            world.reset(alloc, funs, share, *a, value)?;
+            Ok(())
+        }
+        Step::Send(g, code, args) => {
+            let action = action_of(alloc, *code, args)?;
+            world.send(alloc, *g, action)?;
+            Ok(())
+        }
+        Step::Release(point) => {
+            if world.release(*point) {
+                Ok(())
+            } else {
+                Err(Fail::new("nothing is released"))
+            }
+        }
+        Step::Act => act(alloc, funs, world),
+    }
+}
+
+fn commit<C: Ledger, A: Ledger>(
+    alloc: Global,
+    funs: &FunTable,
+    world: &mut World<Core, C, A>,
+    share: &mut Share<C, A>,
+    step: u32,
+    calls: &[Call],
+) -> Result<(), Fail> {
+    let mut tx = world.begin(alloc)?;
+    for call in calls {
+        make_call(alloc, funs, &mut tx, call)?;
+    }
+    let stamp = Stamp { worker: 0, step };
+    match world.commit_with(alloc, funs, share, stamp, tx) {
+        Ok(_receipt) => Ok(()),
+        Err((_tx, fault)) => Err(Fail::from(fault)),
+    }
+}
+
+fn make_call(alloc: Global, funs: &FunTable, tx: &mut Tx<Core>, call: &Call) -> Result<(), Fail> {
+    match call {
+        Call::Set(r, value) => {
+            tx.ref_set(alloc, *r, value_of(alloc, value)?)?;
+        }
+        Call::Alter(r, code, args) => {
+            tx.alter(alloc, funs, *r, *code, args_of(alloc, args)?)?;
+        }
+        Call::Commute(r, code, args) => {
+            tx.commute(alloc, funs, *r, *code, args_of(alloc, args)?)?;
+        }
+        Call::Ensure(r) => {
+            tx.ensure(alloc, *r)?;
+        }
+        Call::Send(g, code, args) => {
+            tx.send(alloc, funs, *g, *code, args_of(alloc, args)?)?;
+        }
+    }
+    Ok(())
+}
+
+fn act<C: Ledger, A: Ledger>(
+    alloc: Global,
+    funs: &FunTable,
+    world: &mut World<Core, C, A>,
+) -> Result<(), Fail> {
+    let Some(job) = world.take()? else {
+        return Err(Fail::new("no agent is ready"));
+    };
+    let ran = match job.run(alloc, funs) {
+        Ok(ran) => ran,
+        Err((job, fault)) => {
+            job.forsake();
+            return Err(Fail::from(fault));
+        }
+    };
+    match world.finish(alloc, funs, ran) {
+        Ok(_finished) => Ok(()),
+        Err((ran, fault)) => {
+            ran.into_job().forsake();
+            Err(Fail::from(fault))
+        }
+    }
+}
+
+// ---- what is declared
+
+pub(crate) fn value_of(alloc: Global, text: &str) -> Result<Value, Fail> {
+    Ok(read_one(alloc, text.as_bytes())?)
+}
+
+fn args_of(alloc: Global, text: &str) -> Result<Args, Fail> {
+    let value = value_of(alloc, text)?;
+    let Node::Vector(items) = value.node() else {
+        return Err(Fail::new("arguments are a vector"));
+    };
+    let mut args = Vec::new(alloc);
+    for arg in items {
+        args.push(arg.share()?)?;
+    }
+    if args.len() > 8 {
+        return Err(Fail::new("at most 8 arguments"));
+    }
+    Ok(Args::of(alloc, args)?)
+}
+
+fn action_of(alloc: Global, code: u32, args: &str) -> Result<Action, Fail> {
+    Ok(Action {
+        code,
+        args: args_of(alloc, args)?,
+    })
+}
+
+fn rule_of(alloc: Global, given: &Given) -> Result<Option<Rule>, Fail> {
+    match given.rule {
+        None => Ok(None),
+        Some((code, args)) => Ok(Some(Rule {
+            code,
+            args: args_of(alloc, args)?,
+        })),
+    }
+}
+
+fn start_of(alloc: Global, declared: &Declared) -> Result<Start, Fail> {
+    let mut refs = Vec::new(alloc);
+    for (r, given) in declared.refs.iter().enumerate() {
+        refs.push(RefStart {
+            value: value_of(alloc, given.value)?,
+            rule: rule_of(alloc, given)?,
+            tally: r == declared.tally,
+        })?;
+    }
+    let mut atoms = Vec::new(alloc);
+    for given in declared.atoms {
+        atoms.push(AtomStart {
+            value: value_of(alloc, given.value)?,
+            rule: rule_of(alloc, given)?,
+        })?;
+    }
+    let mut agents = Vec::new(alloc);
+    for given in declared.agents {
+        agents.push(AgentStart {
+            value: value_of(alloc, given.value)?,
+            rule: rule_of(alloc, given)?,
+            mode: ErrorMode::Fail,
+        })?;
+    }
+    Ok(Start {
+        refs,
+        atoms,
+        agents,
+    })
+}
+
+fn names_of(alloc: Global, declared: &Declared) -> Result<Names, Fail> {
+    Ok(Names::of(
+        texts_of(alloc, declared.refs)?,
+        texts_of(alloc, declared.atoms)?,
+        texts_of(alloc, declared.agents)?,
+    ))
+}
+
+fn texts_of(alloc: Global, given: &[Given]) -> Result<Vec<Text>, Fail> {
+    let mut names = Vec::new(alloc);
+    for one in given {
+        names.push(Text::copy_of(alloc, one.name)?)?;
+    }
+    Ok(names)
+}
