@@ -17,7 +17,7 @@ use crate::plan::plan;
 use crate::plans::Plan;
 use crate::run::{RunOut, run_plan};
 use crate::streams::{read_input, write_output};
-use ref_audit::{DumpFault, DumpMakeFault, Verdict, are_few, audit, dump, report};
+use ref_audit::{DumpFault, DumpMakeFault, Verdict, audit, dump, report};
 use ref_edn::{Sink, Source, Value, print, read_one};
 use ref_fun::{Core, Functions};
 use ref_shared::Open;
@@ -169,9 +169,6 @@ fn audited<F: Functions<Core>, C: Ledger, A: Ledger>(
     ensures audited { OnOk result (verdict_on (dump_of (dumped world.now)) ≡ Ok verdicts.Ok) }
     ensures inner { IfErr result IsOfPlan }
 {
-    if !are_few(world) {
-        return Err(RunFault::Internal);
-    }
     let value = match dump(alloc, world) {
         Ok(value) => value,
         Err(DumpMakeFault::Memory) => return Err(RunFault::Memory),
