@@ -4,7 +4,7 @@ use ref_audit::Verdict;
 use ref_edn::{Counted, ReadFault, Sink, Source};
 use ref_fun::has_core;
 use ref_log::Who;
-use ref_workload::{Options, PlanFault, RunFault, run_workload};
+use ref_workload::{Options, PlanFault, Progress, RunFault, run_workload, run_workload_with};
 use std::alloc::Global;
 use std::io;
 use std::io::{Cursor, ErrorKind, Read, Write};
@@ -92,6 +92,44 @@ fn writes_a_report_or_a_dump(rt: HostRuntime) -> Result<(), Fail> {
     for (text, options, wanted) in WRITTEN {
         check_written(&rt, text, *options, wanted)?;
     }
+    Ok(())
+}
+
+// ---- how far a run is
+
+// The steps of the plan, those that have ended, the refused ones, and the commits.
+fn counts(progress: &Progress) -> (u64, u64, u64, u64) {
+    (
+        progress.steps(),
+        progress.ended(),
+        progress.refused(),
+        progress.commits(),
+    )
+}
+
+const FIVE_STEPS: &str =
+    "{:version 1 :refs [[a 0]] :atoms [[x 0]] :workers [[[:tx [:alter a + 1]] [:tx [:alter a + :k]] [:swap x inc]] [[:tx] [:swap x conj 1]] []]}";
+
+#[test]
+fn a_run_tells_how_far_it_is(rt: HostRuntime) -> Result<(), Fail> {
+    let alloc = rt.alloc();
+    let funs = core_table(alloc)?;
+    assert!(rt; has_core(&funs));
+    let mut reader = Counted::new(FIVE_STEPS.as_bytes());
+    let mut writer = Counted::new(Vec::new(alloc));
+    let progress = Progress::new();
+    assert_eq!(rt; counts(&progress), (0, 0, 0, 0));
+    let answer = run_workload_with(
+        &rt,
+        alloc,
+        &funs,
+        &mut reader,
+        &mut writer,
+        REPORT,
+        &progress,
+    );
+    assert_eq!(rt; answer, Ok(Verdict::Ok));
+    assert_eq!(rt; counts(&progress), (5, 5, 2, 2));
     Ok(())
 }
 
