@@ -6,19 +6,19 @@ use std::time::{Clock, Duration};
 
 /// How far the threads of a run have come.
 #[derive(Drop)]
-pub struct Board {
+pub(crate) struct Board {
     /// How many bodies of the one who is overtaken have ended.
-    pub bodies: AtomicU32,
+    pub(crate) bodies: AtomicU32,
     /// How many commits the overtaker has made.
-    pub commits: AtomicU32,
+    pub(crate) commits: AtomicU32,
     /// How many actions have begun.
-    pub actions: AtomicU32,
+    pub(crate) actions: AtomicU32,
     /// Whether somebody has waited in vain.
-    pub late: AtomicBool,
+    pub(crate) late: AtomicBool,
 }
 
 impl Board {
-    pub fn new() -> Board {
+    pub(crate) fn new() -> Board {
         Board {
             bodies: AtomicU32::new(0),
             commits: AtomicU32::new(0),
@@ -29,8 +29,8 @@ impl Board {
 }
 
 /// What a gate does.
-#[derive(Clone, Copy, Debug, Drop, PartialEq, Eq)]
-pub enum Role {
+#[derive(Clone, Copy, Drop)]
+pub(crate) enum Role {
     /// It lets all pass.
     Open,
     /// It holds so many bodies at their end, the first ones, each until the overtaker has made one more commit.
@@ -47,12 +47,12 @@ pub enum Role {
 
 /// A gate of one thread, which tells the others on the board how far it has come.
 #[derive(Drop)]
-pub struct Turn<'a, 'b, R: Clock> {
-    pub rt: &'a R,
-    pub board: &'b Board,
-    pub role: Role,
+pub(crate) struct Turn<'a, 'b, R: Clock> {
+    pub(crate) rt: &'a R,
+    pub(crate) board: &'b Board,
+    pub(crate) role: Role,
     /// How many times it stood where its role holds it.
-    pub times: u32,
+    pub(crate) times: u32,
 }
 
 impl<'a, 'b, R: Clock> Gate for Turn<'a, 'b, R> {

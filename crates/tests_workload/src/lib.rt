@@ -10,15 +10,15 @@
 //! | `sums` | four workers beside a pool, and what holds whatever the order |
 //! | `streams` | `run_workload`, from a reader to a writer, some of which fail |
 //! | `faults` | what `plan` refuses, and what faults say |
-//! | `runs`, `tables` | running a text, and the tables of functions |
-//! | [`gates`] | the gates. They stand outside of the tests, since the proof of what crosses threads names them |
+//! | `runs`, `gates`, `tables` | running a text, with gates; the tables of functions |
 #![tactic(auto)]
 
 #[cfg(test)]
 mod faults;
 #[cfg(test)]
 mod gated;
-pub mod gates;
+#[cfg(test)]
+mod gates;
 #[cfg(test)]
 mod runs;
 #[cfg(test)]
