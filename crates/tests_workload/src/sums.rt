@@ -69,7 +69,7 @@ fn the_sums_of_four_workers_are_right(rt: HostRuntime) -> Result<(), Fail> {
 fn sends_of(alloc: Global, worker: usize) -> Result<String, AllocError> {
     let mut steps = String::new(alloc);
     for n in 0..ROUNDS {
-        let number = 100 * worker + n;
+        let number = worker.saturating_mul(100).saturating_add(n);
         let step = if n % 2 == 0 {
             format!(in alloc; "[:send g conj {number}] ")?
         } else {
