@@ -1,0 +1,55 @@
+//! Tables of Core's functions and predicates.
+ghost use Rattle.std.specs.Prelude.{◌≡◌, ◌≤◌, length};
+ghost use Rattle.ref_fun.specs.Core.{core_accepts, core_means};
+ghost use Rattle.ref_fun.specs.Meaning.{Answers};
+
+use ref_edn::Value;
+use ref_fun::{Fun, FunFault, FunTable, Pred, StoredFun, StoredPred, core_fun, core_test};
+use std::alloc::{AllocError, Global};
+
+fn add_fun(alloc: Global, table: &mut FunTable, code: u32) -> Result<(), AllocError> {
+    let run: Fun = Box::new(
+        alloc,
+        move |a: Global, state: &Value, args: &[Value]| -> Result<Value, FunFault>
+            requires { length args.now ≤ 8 }
+            ensures { Answers (core_means code args.now state.now) result }
+        { core_fun(a, code, state, args) },
+    )?;
+    table
+        .add_fun(StoredFun::new(code, run))
+        .map_err(|_| AllocError)
+}
+
+fn add_pred(alloc: Global, table: &mut FunTable, code: u32) -> Result<(), AllocError> {
+    let run: Pred = Box::new(
+        alloc,
+        move |state: &Value, args: &[Value]| -> bool
+            requires { length args.now ≤ 8 }
+            ensures { result ≡ core_accepts code args.now state.now }
+        { core_test(code, state, args) },
+    )?;
+    table
+        .add_pred(StoredPred::new(code, run))
+        .map_err(|_| AllocError)
+}
+
+/// All functions and predicates but that of this code.
+pub(crate) fn table_without(alloc: Global, left_out: u32) -> Result<FunTable, AllocError> {
+    let mut table = FunTable::empty(alloc);
+    for code in 1..11u32 {
+        if code != left_out {
+            add_fun(alloc, &mut table, code)?;
+        }
+    }
+    for code in 101..110u32 {
+        if code != left_out {
+            add_pred(alloc, &mut table, code)?;
+        }
+    }
+    Ok(table)
+}
+
+/// All functions and predicates.
+pub(crate) fn core_table(alloc: Global) -> Result<FunTable, AllocError> {
+    table_without(alloc, 0)
+}
