@@ -1,5 +1,5 @@
 -- What the verdict on a text's value and the faults of an audit say.
-use Rattle.std.proofs.Common.{◌≡◌, ℕ, List, refl, sym, ap, arith}
+use Rattle.std.proofs.Common.{◌≡◌, ℕ, List, sym, ap, arith}
 use Rattle.std.specs.Prelude.{◌≢◌, Result, Ok, Err, IfErr, IsErrAnd}
 use Rattle.ref_edn.specs.Edn.{Edn}
 use Rattle.ref_edn.specs.Grammar.{IsText}
