@@ -1,18 +1,17 @@
 //! The table of all functions and predicates of Core, and what runs by it.
-ghost use Rattle.std.specs.Prelude.{◌≡◌, ◌≤◌, IfOk, length};
+ghost use Rattle.std.specs.Prelude.{◌≤◌, length};
 ghost use Rattle.ref_fun.specs.Calls.{HasCore};
-ghost use Rattle.ref_fun.specs.Core.{core_accepts, core_means};
-ghost use Rattle.ref_fun.specs.Meaning.{Answers};
-ghost use Rattle.ref_fun.specs.Table.{knows_fun_of, knows_pred_of};
 
 use crate::auditing::audit_text;
 use crate::faults::Fault;
 use crate::telling::run_and_tell;
 use ref_audit::Verdict;
 use ref_edn::{Sink, Source, Value};
-use ref_fun::{Fun, FunFault, FunTable, Pred, StoredFun, StoredPred, core_fun, core_test};
+use ref_fun::{
+    Core, Fun, FunFault, FunTable, Functions, Pred, StoredFun, StoredPred, core_fun, core_test,
+};
 use ref_workload::{Options, RunFault, run_workload};
-use std::alloc::{AllocError, Global};
+use std::alloc::Global;
 use std::sync::Wait;
 use std::thread::Threads;
 use std::time::Clock;
@@ -28,7 +27,8 @@ pub(crate) enum Task {
     Audit,
 }
 
-/// Makes the table of Core, and runs a workload or audits a dump by it, as [`run_workload`] and [`audit_text`] say.
+/// Makes the table of Core, a closure for each of its functions and predicates, and runs a workload or audits a dump by it, as
+/// [`run_workload`] and [`audit_text`] say.
 pub(crate) fn by_core<R: Threads + Wait + Clock + Eprint + Sync, I: Source, O: Sink>(
     rt: &R,
     alloc: Global,
@@ -36,62 +36,67 @@ pub(crate) fn by_core<R: Threads + Wait + Clock + Eprint + Sync, I: Source, O: S
     reader: &mut I,
     writer: &mut O,
 ) -> Result<Verdict, Fault> {
-    let Ok(table) = core_table(alloc) else {
-        return Err(Fault::Run(RunFault::Memory));
-    };
-    match task {
-        Task::Run { options, tells } => {
-            let ran = if tells {
-                run_and_tell(rt, alloc, &table, reader, writer, options)
-            } else {
-                run_workload(rt, alloc, &table, reader, writer, options)
-            };
-            match ran {
-                Ok(verdict) => Ok(verdict),
-                Err(fault) => Err(Fault::Run(fault)),
-            }
-        }
-        Task::Audit => match audit_text(alloc, &table, reader, writer) {
-            Ok(verdict) => Ok(verdict),
-            Err(fault) => Err(Fault::Audit(fault)),
-        },
-    }
-}
-
-// A closure for each function and predicate of Core. The codes differ and there are few, so that nothing but memory can be wanting.
-fn core_table(alloc: Global) -> Result<FunTable, AllocError>
-    ensures core { IfOk result (λ table. HasCore (record { funs = knows_fun_of table; preds = knows_pred_of table })) }
-{
     let mut table = FunTable::empty(alloc);
     for code in 1..11u32 {
         let run: Fun = match Box::new(
             alloc,
             move |alloc: Global, state: &Value, args: &[Value]| -> Result<Value, FunFault>
                 requires { length args.now ≤ 8 }
-                ensures { Answers (core_means code args.now state.now) result }
             { core_fun(alloc, code, state, args) },
         ) {
             Ok(run) => run,
-            Err(_) => return Err(AllocError),
+            Err(_) => return Err(Fault::Run(RunFault::Memory)),
         };
+        // The codes differ and there are few, so that nothing but memory can be wanting.
         let Ok(()) = table.add_fun(StoredFun::new(code, run)) else {
-            return Err(AllocError);
+            return Err(Fault::Run(RunFault::Memory));
         };
     }
     for code in 101..110u32 {
-        let run: Pred = match Box::new(
-            alloc,
-            move |state: &Value, args: &[Value]| -> bool
-                requires { length args.now ≤ 8 }
-                ensures { result ≡ core_accepts code args.now state.now }
-            { core_test(code, state, args) },
-        ) {
+        let run: Pred = match Box::new(alloc, move |state: &Value, args: &[Value]| {
+            core_test(code, state, args)
+        }) {
             Ok(run) => run,
-            Err(_) => return Err(AllocError),
+            Err(_) => return Err(Fault::Run(RunFault::Memory)),
         };
         let Ok(()) = table.add_pred(StoredPred::new(code, run)) else {
-            return Err(AllocError);
+            return Err(Fault::Run(RunFault::Memory));
         };
     }
-    Ok(table)
+    carry_out(rt, alloc, &table, task, reader, writer)
+}
+
+// Does a task by a table.
+fn carry_out<F, R, I, O>(
+    rt: &R,
+    alloc: Global,
+    funs: &F,
+    task: Task,
+    reader: &mut I,
+    writer: &mut O,
+) -> Result<Verdict, Fault>
+where
+    F: Functions<Core> + Sync,
+    R: Threads + Wait + Clock + Eprint + Sync,
+    I: Source,
+    O: Sink,
+    requires { HasCore (F.knows funs.now) }
+{
+    match task {
+        Task::Run { options, tells } => {
+            let ran = if tells {
+                run_and_tell(rt, alloc, funs, reader, writer, options)
+            } else {
+                run_workload(rt, alloc, funs, reader, writer, options)
+            };
+            match ran {
+                Ok(verdict) => Ok(verdict),
+                Err(fault) => Err(Fault::Run(fault)),
+            }
+        }
+        Task::Audit => match audit_text(alloc, funs, reader, writer) {
+            Ok(verdict) => Ok(verdict),
+            Err(fault) => Err(Fault::Audit(fault)),
+        },
+    }
 }

@@ -1,7 +1,7 @@
 use Rattle.std.proofs.Common.{ap, is_some, ◌∙◌}
 use Rattle.ref_fun.specs.Table.{fun_of, pred_of}
 use Rattle.refrun.proofs.Known.{known_up_to}
-use Rattle.refrun.proofs.table.core_table.Goals as goal
+use Rattle.refrun.proofs.table.by_core.Goals as goal
 
 pub loop-code-preserved : goal.loop-code-preserved
 loop-code-preserved g c =

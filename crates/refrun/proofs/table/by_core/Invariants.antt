@@ -1,6 +1,6 @@
 use Rattle.std.proofs.Common.{◌≡◌, ℕ, ◌<◌, ◌≤◌, true}
 use Rattle.ref_fun.specs.Table.{knows_fun_of, knows_pred_of}
-use Rattle.refrun.proofs.table.core_table.Given as goal
+use Rattle.refrun.proofs.table.by_core.Given as goal
 
 abbrev pub invariant-loop-code : goal.invariant-loop-code
 invariant-loop-code g l = (code : ℕ) → 1 ≤ code → code < l.code → knows_fun_of l.table code ≡ true
