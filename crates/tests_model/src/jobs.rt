@@ -1,65 +1,20 @@
 //! The calls of agents, each on a world and on its model.
-use crate::agents::{Ended, PlainFinished, PlainJob, plain_run};
-use crate::model::Kind;
-use crate::outcomes::{Played, Row, Stop};
-use crate::playing::{Player, Side};
-use crate::seen::{Shows, agree, args_from, value_from};
-use ref_agents::{AgentError, FinishFault, Finished, Job, JobFault, Ran};
-use ref_fun::{Action, Cause, Core};
+use crate::sides::Side;
+use ref_agents::{Job, Ran};
+use ref_fun::{Action, Core};
 use std::sync::ledger::Ledger;
+use tests_plain::agents::Ended;
+use tests_plain::held::{
+    Hand, Held, Slip, count_finished, count_foreign, finish_number, forsake, into_job, is_same_end,
+    run,
+};
+use tests_plain::making::{args_from, value_from};
+use tests_plain::model::Kind;
+use tests_plain::outcomes::{Played, Row, Stop};
+use tests_plain::player::Player;
+use tests_plain::shows::Shows;
 
-/// A job, before it ran or afterwards. One that is let go is forsaken.
-pub(crate) enum Hand {
-    Waits(Job),
-    Ran(Ran<Core>),
-}
-
-impl Drop for Hand {
-    fn drop(self) {
-        match self {
-            Hand::Waits(job) => job.forsake(),
-            Hand::Ran(ran) => ran.into_job().forsake(),
-        }
-    }
-}
-
-/// What the model has of a job that is held: the job, what came of it, if it has run, and the number of its world.
-#[derive(Clone, Copy, Drop)]
-pub(crate) struct Slip {
-    job: PlainJob,
-    ended: Option<Ended>,
-    pub(crate) home: usize,
-}
-
-impl Hand {
-    fn open(self) -> Result<Job, Ran<Core>> {
-        match self {
-            Hand::Waits(job) => Ok(job),
-            Hand::Ran(ran) => Err(ran),
-        }
-    }
-}
-
-impl Shows<Slip> for Hand {
-    fn shows(&self, plain: &Slip) -> bool {
-        match (self, plain.ended) {
-            (Hand::Waits(job), None) => job.shows(&plain.job),
-            (Hand::Ran(ran), Some(ended)) => {
-                ran.job().shows(&plain.job) && agree(ran.outcome(), &ended)
-            }
-            _ => false,
-        }
-    }
-}
-
-/// A job that is held.
-#[derive(Drop)]
-pub(crate) struct Held {
-    pub(crate) hand: Hand,
-    pub(crate) slip: Slip,
-}
-
-// ---- Taking
+// ---- Jobs
 
 /// Takes a job, which is that of some agent that is ready.
 pub(crate) fn take<C: Ledger, A: Ledger>(
@@ -85,47 +40,6 @@ pub(crate) fn take<C: Ledger, A: Ledger>(
     Ok(Some(Held { hand, slip }))
 }
 
-// ---- A job that is held
-
-fn run_number(wanted: Result<Ended, JobFault>) -> u8 {
-    match wanted {
-        Ok(Ok(_)) => 0,
-        Ok(Err(_)) => 2,
-        Err(_) => 1,
-    }
-}
-
-fn run_cause(wanted: Result<Ended, JobFault>) -> Option<Cause> {
-    match wanted {
-        Ok(Err(cause)) => Some(cause),
-        _ => None,
-    }
-}
-
-fn run(player: &mut Player, job: Job, mut slip: Slip) -> Result<Held, Stop> {
-    player.calls(Row::Run);
-    let table = player.draws.table();
-    let (hand, fault) = match job.run(player.alloc, player.funs(table)) {
-        Ok(ran) => (Hand::Ran(ran), None),
-        Err((job, fault)) => (Hand::Waits(job), Some(fault)),
-    };
-    let wanted = plain_run(table, slip.job);
-    slip.ended = wanted.ok();
-    player.count_cause(Row::CauseOfJob, run_cause(wanted));
-    player.told(
-        hand.shows(&slip) && fault == wanted.err(),
-        run_number(wanted),
-    )?;
-    Ok(Held { hand, slip })
-}
-
-// Counts why a job isn't out, where only one thing is another.
-fn count_foreign<C: Ledger, A: Ledger>(player: &mut Player, side: &Side<C, A>, job: PlainJob) {
-    if let Some(number) = side.model.foreign_number(job) {
-        player.count(Row::ForeignJob, number);
-    }
-}
-
 fn put_back<C: Ledger, A: Ledger>(
     player: &mut Player,
     side: &mut Side<C, A>,
@@ -133,7 +47,7 @@ fn put_back<C: Ledger, A: Ledger>(
     slip: Slip,
 ) -> Result<Option<Held>, Stop> {
     player.calls(Row::PutBack);
-    count_foreign(player, side, slip.job);
+    count_foreign(player, &side.model, slip.job);
     let left = match side.world.put_back(job) {
         Ok(()) => None,
         Err(job) => Some(Hand::Waits(job)),
@@ -155,44 +69,6 @@ fn put_back<C: Ledger, A: Ledger>(
     }
 }
 
-fn finish_number(wanted: &Result<PlainFinished, FinishFault>) -> u8 {
-    match wanted {
-        Ok(PlainFinished::Changed(_)) => 0,
-        Ok(PlainFinished::Failed(_)) => 3,
-        Ok(PlainFinished::Continued(_)) => 4,
-        Err(fault) => fault.number(),
-    }
-}
-
-// What else there is to say of a job that ended.
-fn count_finished(player: &mut Player, finished: &PlainFinished, is_near: bool) {
-    let number = match finished {
-        PlainFinished::Changed(told) if told.is_empty() => 0,
-        PlainFinished::Changed(_) => 1,
-        PlainFinished::Failed(AgentError::Refused(_)) => 2,
-        PlainFinished::Failed(AgentError::Invalid) => 3,
-        PlainFinished::Continued(AgentError::Refused(_)) => 4,
-        PlainFinished::Continued(AgentError::Invalid) => 5,
-    };
-    player.count(Row::Ended, number);
-    if !is_near {
-        player.count(Row::Ended, 6);
-    }
-}
-
-// Whether an end is answered as in the model, and the job that comes back is the same.
-fn is_same(
-    seen: &Result<Finished, (Hand, FinishFault)>,
-    wanted: &Result<PlainFinished, FinishFault>,
-    slip: Slip,
-) -> bool {
-    match (seen, wanted) {
-        (Ok(finished), Ok(other)) => finished.shows(other),
-        (Err((hand, fault)), Err(other)) => fault == other && hand.shows(&slip),
-        _ => false,
-    }
-}
-
 fn finish<C: Ledger, A: Ledger>(
     player: &mut Player,
     side: &mut Side<C, A>,
@@ -201,7 +77,7 @@ fn finish<C: Ledger, A: Ledger>(
     ended: Ended,
 ) -> Result<Option<Held>, Stop> {
     player.calls(Row::Finish);
-    count_foreign(player, side, slip.job);
+    count_foreign(player, &side.model, slip.job);
     let table = player.draws.table();
     let funs = player.funs(table);
     let seen = match side.world.finish(player.alloc, funs, ran) {
@@ -212,25 +88,11 @@ fn finish<C: Ledger, A: Ledger>(
     if let Ok(finished) = &wanted {
         count_finished(player, finished, side.number == slip.home);
     }
-    player.told(is_same(&seen, &wanted, slip), finish_number(&wanted))?;
+    player.told(is_same_end(&seen, &wanted, slip), finish_number(&wanted))?;
     match seen {
         Ok(_finished) => Ok(None),
         Err((hand, _fault)) => Ok(Some(Held { hand, slip })),
     }
-}
-
-fn into_job(player: &mut Player, ran: Ran<Core>, mut slip: Slip) -> Result<Held, Stop> {
-    player.calls(Row::IntoJob);
-    let hand = Hand::Waits(ran.into_job());
-    slip.ended = None;
-    player.told(hand.shows(&slip), 0)?;
-    Ok(Held { hand, slip })
-}
-
-fn forsake(player: &mut Player, job: Job) -> Played {
-    player.calls(Row::Forsake);
-    job.forsake();
-    player.told(true, 0)
 }
 
 // A call with a job that hasn't run.
@@ -279,19 +141,9 @@ fn send<C: Ledger, A: Ledger>(player: &mut Player, side: &mut Side<C, A>) -> Pla
     player.told(seen == wanted, wanted.err().map_or(0, |f| f.number()))
 }
 
-// Mostly a point that is held, and rather one whose sends were dropped.
-fn drawn_point<C: Ledger, A: Ledger>(player: &mut Player, side: &Side<C, A>) -> u64 {
-    let i = player.draws.below(side.model.held.len());
-    match (side.model.first_dropped(), side.model.held.get(i)) {
-        (Some(point), _) if player.draws.once_in(2) => point,
-        (_, Some(point)) if !player.draws.once_in(4) => *point,
-        _ => player.draws.below(side.model.log.len().saturating_add(2)) as u64,
-    }
-}
-
 fn release<C: Ledger, A: Ledger>(player: &mut Player, side: &mut Side<C, A>) -> Played {
     player.calls(Row::Release);
-    let point = drawn_point(player, side);
+    let point = player.draws.held_point(&side.model);
     let seen = side.world.release(point);
     let waits = side.model.has_queued(point);
     let wanted = side.model.release(point);
@@ -303,17 +155,9 @@ fn release<C: Ledger, A: Ledger>(player: &mut Player, side: &mut Side<C, A>) -> 
     player.told(seen == wanted, number)
 }
 
-// Mostly an agent that is failed.
-fn drawn_failed<C: Ledger, A: Ledger>(player: &mut Player, side: &Side<C, A>) -> u32 {
-    match side.model.first_failed() {
-        Some(g) if !player.draws.once_in(4) => g,
-        _ => player.draws.number(&side.model, Kind::Agent),
-    }
-}
-
 fn restart<C: Ledger, A: Ledger>(player: &mut Player, side: &mut Side<C, A>) -> Played {
     player.calls(Row::Restart);
-    let (g, clear) = (drawn_failed(player, side), !player.draws.once_in(3));
+    let (g, clear) = (player.draws.failed(&side.model), !player.draws.once_in(3));
     let (table, state) = (player.draws.table(), player.draws.value());
     let (alloc, funs) = (player.alloc, player.funs(table));
     let waits = side.model.waits(g);

@@ -1,13 +1,15 @@
 //! Calls on atoms, makings, rules and watches, each on a world and on its model.
-use crate::model::{Kind, PlainStart};
-use crate::outcomes::{Played, Row};
-use crate::plain::{PlainCall, PlainOp, Table};
-use crate::playing::{Player, Side};
-use crate::seen::{agree, any_rule_from, args_from, value_from};
+use crate::sides::Side;
 use ref_atoms::{AtomFault, Swapped};
 use ref_fun::Cause;
 use ref_log::MakeFault;
 use std::sync::ledger::Ledger;
+use tests_plain::making::{any_rule_from, args_from, value_from};
+use tests_plain::model::{Kind, PlainStart};
+use tests_plain::outcomes::{Played, Row};
+use tests_plain::plain::{PlainCall, PlainOp, Table};
+use tests_plain::player::Player;
+use tests_plain::shows::agree;
 
 // ---- Atoms
 

@@ -3,10 +3,10 @@ ghost use Rattle.std.specs.Prelude.{◌≡◌, ◌≤◌, length};
 ghost use Rattle.ref_fun.specs.Core.{core_accepts, core_means};
 ghost use Rattle.ref_fun.specs.Meaning.{Answers};
 
-use crate::plain::Table;
 use ref_edn::Value;
 use ref_fun::{Fun, FunFault, FunTable, Pred, StoredFun, StoredPred, core_fun, core_test};
 use std::alloc::{AllocError, Global};
+use tests_plain::plain::Table;
 
 fn add_fun(alloc: Global, table: &mut FunTable, code: u32) -> Result<(), AllocError> {
     let run: Fun = Box::new(

@@ -1,0 +1,23 @@
+//! A slow model of worlds, of plain lists, and what draws calls on them, for `tests_model`. There is no world here, and no test.
+//!
+//! | Modules | |
+//! |---|---|
+//! | `plain`, `model`, `transactions`, `agents`, `books` | the model: values and functions, references and the log, transactions, agents, the books |
+//! | `making`, `shows` | values made from the model's, and whether what is seen is what the model has |
+//! | `drawing`, `outcomes`, `player` | what is drawn, what came of it, and what does both |
+//! | `starts`, `open`, `held` | what worlds begin with, and the calls that need no world: those of open transactions and of jobs |
+#![tactic(auto)]
+
+pub mod agents;
+pub mod books;
+pub mod drawing;
+pub mod held;
+pub mod making;
+pub mod model;
+pub mod open;
+pub mod outcomes;
+pub mod plain;
+pub mod player;
+pub mod shows;
+pub mod starts;
+pub mod transactions;

@@ -1,0 +1,169 @@
+//! Open transactions: the calls of them, each on one and on its model, and what came of their commits.
+use crate::making::{args_from, rule_from, value_from};
+use crate::model::Model;
+use crate::outcomes::{Played, Row};
+use crate::plain::{PlainCall, PlainOp, Table};
+use crate::player::Player;
+use crate::shows::{Shows, agree};
+use crate::transactions::{PlainReceipt, PlainTx};
+use ref_edn::Value;
+use ref_fun::{Cause, Core};
+use ref_refs::{Alien, CommitFault};
+use ref_tx::{Tx, TxFault};
+
+/// An open transaction, its model, and the number of the world that it was begun in.
+#[derive(Drop)]
+pub struct Open {
+    pub tx: Tx<Core>,
+    pub plain: PlainTx,
+    pub home: usize,
+}
+
+// ---- While it is open
+
+fn drawn_op(player: &mut Player) -> PlainOp {
+    match player.draws.below(12) {
+        0..=2 => {
+            player.calls(Row::RefSet);
+            PlainOp::Set(player.draws.value())
+        }
+        3..=5 => {
+            player.calls(Row::Alter);
+            PlainOp::Alter(player.draws.function())
+        }
+        6..=9 => {
+            player.calls(Row::Commute);
+            PlainOp::Commute(player.draws.function())
+        }
+        _ => {
+            player.calls(Row::Ensure);
+            PlainOp::Ensure
+        }
+    }
+}
+
+fn operated(
+    player: &Player,
+    tx: &mut Tx<Core>,
+    table: Table,
+    r: u32,
+    op: PlainOp,
+) -> Result<Value, TxFault> {
+    let (alloc, funs) = (player.alloc, player.funs(table));
+    match op {
+        PlainOp::Set(value) => tx.ref_set(alloc, r, value_from(value)?),
+        PlainOp::Alter(PlainCall { code, given }) => {
+            tx.alter(alloc, funs, r, code, args_from(alloc, given)?)
+        }
+        PlainOp::Commute(PlainCall { code, given }) => {
+            tx.commute(alloc, funs, r, code, args_from(alloc, given)?)
+        }
+        PlainOp::Ensure => tx.ensure(alloc, r),
+    }
+}
+
+fn cause_of(fault: Option<TxFault>) -> Option<Cause> {
+    match fault {
+        Some(TxFault::Refused(cause)) => Some(cause),
+        _ => None,
+    }
+}
+
+fn operate(player: &mut Player, open: &mut Open, r: u32) -> Played {
+    let op = drawn_op(player);
+    let table = player.draws.table();
+    let seen = operated(player, &mut open.tx, table, r, op);
+    let wanted = open.plain.operate(table, r, op)?;
+    player.count_cause(Row::CauseInside, cause_of(wanted.err()));
+    let is_same = agree(&seen, &wanted) && open.tx.shows(&open.plain);
+    player.told(is_same, wanted.err().map_or(0, |f| f.number()))
+}
+
+fn deref(player: &mut Player, open: &Open, r: u32) -> Played {
+    player.calls(Row::Deref);
+    match (open.tx.deref(r), open.plain.inner(r)) {
+        (Ok(value), Some(plain)) => player.told(value.shows(&plain), 0),
+        (Err(fault), None) => player.told(fault == TxFault::NoSuchRef, 1),
+        _ => player.told(false, 0),
+    }
+}
+
+fn require(player: &mut Player, open: &Open, r: u32) -> Played {
+    player.calls(Row::Require);
+    let (table, rule) = (player.draws.table(), player.draws.rule());
+    let given = rule_from(player.alloc, rule)?;
+    let seen = open.tx.require(player.funs(table), r, &given);
+    let wanted = open.plain.require(table, r, rule);
+    let is_same = seen == wanted && open.tx.shows(&open.plain);
+    player.told(is_same, wanted.err().map_or(0, |f| f.number()))
+}
+
+fn send(player: &mut Player, open: &mut Open) -> Played {
+    player.calls(Row::SendInside);
+    let g = player.draws.near(open.plain.agents);
+    let (table, call) = (player.draws.table(), player.draws.action());
+    let (alloc, funs) = (player.alloc, player.funs(table));
+    let args = args_from(alloc, call.given)?;
+    let seen = open.tx.send(alloc, funs, g, call.code, args);
+    let wanted = open.plain.send(table, g, call)?;
+    let is_same = seen == wanted && open.tx.shows(&open.plain);
+    player.told(is_same, wanted.err().map_or(0, |f| f.number()))
+}
+
+/// Makes a call of an open transaction.
+pub fn call_on_open(player: &mut Player, open: &mut Open) -> Played {
+    if player.of_agents && player.draws.once_in(2) {
+        return send(player, open);
+    }
+    let r = player.draws.near(open.plain.began.len());
+    match player.draws.below(16) {
+        0..=10 => operate(player, open, r),
+        11 => deref(player, open, r),
+        12 => require(player, open, r),
+        _ => send(player, open),
+    }
+}
+
+// ---- Its commit
+
+fn count_fault(player: &mut Player, fault: CommitFault) {
+    let (call, number) = match fault {
+        CommitFault::Foreign(Alien::Ref(_)) => (Row::Alien, 0),
+        CommitFault::Foreign(Alien::Agent(_)) => (Row::Alien, 1),
+        CommitFault::Foreign(Alien::Tally) => (Row::Alien, 2),
+        CommitFault::Foreign(Alien::Point(_)) => (Row::Alien, 3),
+        CommitFault::Foreign(Alien::Value(_)) => (Row::Alien, 4),
+        CommitFault::Refused(_, cause) => (Row::CauseAtCommit, cause.number()),
+        CommitFault::NoSuchFun(code) if code < 100 => (Row::Lacking, 0),
+        CommitFault::NoSuchFun(_) => (Row::Lacking, 1),
+        _ => return,
+    };
+    player.count(call, number);
+}
+
+// What else there is to say of a commit that was made.
+fn count_commit(player: &mut Player, model: &Model, receipt: &PlainReceipt, plain: &PlainTx) {
+    if plain.dones.is_empty() && plain.sends.is_empty() {
+        player.count(Row::Committed, 0);
+    }
+    if !receipt.told.is_empty() {
+        player.count(Row::Committed, 1);
+    }
+    for sent in &plain.sends {
+        let is_failed = model.is_failed(sent.agent);
+        player.count(Row::Committed, if is_failed { 3 } else { 2 });
+    }
+}
+
+/// Counts what came of a commit.
+pub fn count_outcome(
+    player: &mut Player,
+    model: &Model,
+    wanted: &Result<PlainReceipt, CommitFault>,
+    plain: &PlainTx,
+) {
+    match wanted {
+        Ok(receipt) => count_commit(player, model, receipt, plain),
+        Err(fault) => count_fault(player, *fault),
+    }
+}
