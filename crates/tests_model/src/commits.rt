@@ -2,12 +2,14 @@
 use crate::seen::is_receipt;
 use crate::sides::Side;
 use ref_fun::Core;
+use ref_log::Stamp;
 use ref_refs::CommitFault;
 use ref_tx::Tx;
 use ref_world::Receipt;
 use std::sync::ledger::Ledger;
 use tests_plain::open::{Open, count_outcome};
 use tests_plain::outcomes::{Row, Stop};
+use tests_plain::plain::Table;
 use tests_plain::player::Player;
 use tests_plain::shows::Shows;
 use tests_plain::transactions::{PlainReceipt, PlainTx};
@@ -39,6 +41,21 @@ fn is_same(
     }
 }
 
+// Whether a commit of this was answered as in the model. What came of it is counted.
+fn compare<C: Ledger, A: Ledger>(
+    player: &mut Player,
+    side: &mut Side<C, A>,
+    seen: &Result<Receipt, (Tx<Core>, CommitFault)>,
+    with: (Table, Stamp),
+    plain: &PlainTx,
+) -> Result<bool, Stop> {
+    let wanted = side.model.commit(with.0, with.1, plain)?;
+    let number = wanted.as_ref().err().map_or(0, |f| f.number());
+    player.told(is_same(seen, &wanted, plain), number)?;
+    count_outcome(player, &side.model, &wanted, plain);
+    Ok(wanted.is_ok())
+}
+
 /// Commits a transaction. Where that is refused it comes back.
 pub(crate) fn commit<C: Ledger, A: Ledger>(
     player: &mut Player,
@@ -46,17 +63,14 @@ pub(crate) fn commit<C: Ledger, A: Ledger>(
     open: Open,
 ) -> Result<Option<Open>, Stop> {
     player.calls(Row::CommitWith);
-    let Open { tx, plain, home } = open;
+    let (tx, plain, home) = open.parts();
     let (table, stamp) = (player.draws.table(), player.stamp());
     let funs = player.funs(table);
     let seen = side
         .world
         .commit_with(player.alloc, funs, &mut side.share, stamp, tx);
-    let wanted = side.model.commit(table, stamp, &plain)?;
-    let number = wanted.as_ref().err().map_or(0, |f| f.number());
-    player.told(is_same(&seen, &wanted, &plain), number)?;
-    count_outcome(player, &side.model, &wanted, &plain);
-    if wanted.is_ok() && side.number != home {
+    let is_made = compare(player, side, &seen, (table, stamp), &plain)?;
+    if is_made && side.number != home {
         player.count(Row::Committed, 4);
     }
     match seen {

@@ -1,6 +1,6 @@
 //! The calls of agents, each on a world and on its model.
 use crate::sides::Side;
-use ref_agents::{Job, Ran};
+use ref_agents::{FinishFault, Finished, Job, Ran};
 use ref_fun::{Action, Core};
 use std::sync::ledger::Ledger;
 use tests_plain::agents::Ended;
@@ -11,6 +11,7 @@ use tests_plain::held::{
 use tests_plain::making::{args_from, value_from};
 use tests_plain::model::Kind;
 use tests_plain::outcomes::{Played, Row, Stop};
+use tests_plain::plain::Table;
 use tests_plain::player::Player;
 use tests_plain::shows::Shows;
 
@@ -40,20 +41,15 @@ pub(crate) fn take<C: Ledger, A: Ledger>(
     Ok(Some(Held { hand, slip }))
 }
 
-fn put_back<C: Ledger, A: Ledger>(
+// Whether a job was put back as in the model.
+fn compare_put_back<C: Ledger, A: Ledger>(
     player: &mut Player,
     side: &mut Side<C, A>,
-    job: Job,
+    left: Option<&Hand>,
     slip: Slip,
-) -> Result<Option<Held>, Stop> {
-    player.calls(Row::PutBack);
-    count_foreign(player, &side.model, slip.job);
-    let left = match side.world.put_back(job) {
-        Ok(()) => None,
-        Err(job) => Some(Hand::Waits(job)),
-    };
+) -> Played {
     let is_done = side.model.put_back(slip.job);
-    let is_same = match &left {
+    let is_same = match left {
         Some(hand) => !is_done && hand.shows(&slip),
         None => is_done,
     };
@@ -62,11 +58,44 @@ fn put_back<C: Ledger, A: Ledger>(
         (true, true) => 0,
         (true, false) => 2,
     };
-    player.told(is_same, number)?;
-    match left {
-        Some(hand) => Ok(Some(Held { hand, slip })),
-        None => Ok(None),
+    player.told(is_same, number)
+}
+
+fn put_back<C: Ledger, A: Ledger>(
+    player: &mut Player,
+    side: &mut Side<C, A>,
+    job: Job,
+    slip: Slip,
+) -> Result<Option<Held>, Stop> {
+    player.calls(Row::PutBack);
+    count_foreign(player, &side.model, slip.job);
+    match side.world.put_back(job) {
+        Ok(()) => {
+            compare_put_back(player, side, None, slip)?;
+            Ok(None)
+        }
+        Err(job) => {
+            let hand = Hand::Waits(job);
+            compare_put_back(player, side, Some(&hand), slip)?;
+            Ok(Some(Held { hand, slip }))
+        }
     }
+}
+
+// Whether a job ended as in the model.
+fn compare_finish<C: Ledger, A: Ledger>(
+    player: &mut Player,
+    side: &mut Side<C, A>,
+    seen: &Result<Finished, (Hand, FinishFault)>,
+    table: Table,
+    slip: Slip,
+    ended: Ended,
+) -> Played {
+    let wanted = side.model.finish(table, slip.job, ended)?;
+    if let Ok(finished) = &wanted {
+        count_finished(player, finished, side.number == slip.home);
+    }
+    player.told(is_same_end(seen, &wanted, slip), finish_number(&wanted))
 }
 
 fn finish<C: Ledger, A: Ledger>(
@@ -84,11 +113,7 @@ fn finish<C: Ledger, A: Ledger>(
         Ok(finished) => Ok(finished),
         Err((ran, fault)) => Err((Hand::Ran(ran), fault)),
     };
-    let wanted = side.model.finish(table, slip.job, ended)?;
-    if let Ok(finished) = &wanted {
-        count_finished(player, finished, side.number == slip.home);
-    }
-    player.told(is_same_end(&seen, &wanted, slip), finish_number(&wanted))?;
+    compare_finish(player, side, &seen, table, slip, ended)?;
     match seen {
         Ok(_finished) => Ok(None),
         Err((hand, _fault)) => Ok(Some(Held { hand, slip })),

@@ -8,7 +8,7 @@
 //! | Modules | |
 //! |---|---|
 //! | `seen`, `books` | what a world shows, its books and its share, and whether they are as in the model |
-//! | `sides` | a world beside its model, new ones too |
+//! | `sides`, `declared` | a world beside its model; what a new one begins with |
 //! | `references`, `commits`, `jobs` | the calls, each on both: of atoms and references, of transactions, of agents |
 //! | `stages`, `playing`, `tables` | two worlds at once; lists of calls; tables of functions |
 #![tactic(auto)]
@@ -17,6 +17,8 @@
 mod books;
 #[cfg(test)]
 mod commits;
+#[cfg(test)]
+mod declared;
 #[cfg(test)]
 mod jobs;
 #[cfg(test)]

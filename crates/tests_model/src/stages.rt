@@ -3,6 +3,7 @@ use crate::commits::{begin, commit};
 use crate::jobs::{call_on_agents, call_on_job, take};
 use crate::references::call_on_references;
 use crate::sides::{Side, check};
+use std::alloc::Global;
 use std::sync::ledger::Ledger;
 use tests_plain::held::Held;
 use tests_plain::open::{Open, call_on_open};
@@ -10,12 +11,32 @@ use tests_plain::outcomes::{Played, Stop};
 use tests_plain::player::Player;
 
 /// Two worlds, and the open transactions and jobs that may be handed to either.
-#[derive(Drop)]
 pub(crate) struct Stage<C: Ledger, A: Ledger, D: Ledger, B: Ledger> {
     pub(crate) first: Side<C, A>,
     pub(crate) second: Side<D, B>,
     open: Vec<Option<Open>>,
     jobs: Vec<Option<Held>>,
+}
+
+// A function of its own, which whoever lets one go calls; a derived one would be written out there.
+impl<C: Ledger, A: Ledger, D: Ledger, B: Ledger> Drop for Stage<C, A, D, B> {
+    fn drop(self) {
+        let Stage {
+            first: _first,
+            second: _second,
+            open: _open,
+            jobs: _jobs,
+        } = self;
+    }
+}
+
+// Places with nothing in them.
+fn places<T: Drop>(alloc: Global) -> Result<Vec<Option<T>>, Stop> {
+    let mut places = Vec::new(alloc);
+    for _ in 0..3 {
+        places.push(None)?;
+    }
+    Ok(places)
 }
 
 /// Nothing is open on it, and no job is held.
@@ -24,17 +45,12 @@ pub(crate) fn new_stage<C: Ledger, A: Ledger, D: Ledger, B: Ledger>(
     first: Side<C, A>,
     second: Side<D, B>,
 ) -> Result<Stage<C, A, D, B>, Stop> {
-    let mut stage = Stage {
+    Ok(Stage {
         first,
         second,
-        open: Vec::new(player.alloc),
-        jobs: Vec::new(player.alloc),
-    };
-    for _ in 0..3 {
-        stage.open.push(None)?;
-        stage.jobs.push(None)?;
-    }
-    Ok(stage)
+        open: places(player.alloc)?,
+        jobs: places(player.alloc)?,
+    })
 }
 
 fn taken<T: Drop>(places: &mut Vec<Option<T>>, i: usize) -> Option<T> {

@@ -18,7 +18,6 @@ pub struct PlainJob {
 }
 
 /// What an agent has beside its state, its rule and its watches.
-#[derive(Drop)]
 pub struct PlainAccount {
     pub start: Plain,
     pub handled: Vec<(PlainCall, Mark)>,
@@ -29,12 +28,35 @@ pub struct PlainAccount {
     pub out: Option<PlainJob>,
 }
 
+// A function of its own, which whoever lets one go calls; a derived one would be written out there.
+impl Drop for PlainAccount {
+    fn drop(self) {
+        let PlainAccount {
+            start: _,
+            handled: _handled,
+            queue: _queue,
+            mode: _,
+            error: _,
+            out: _,
+        } = self;
+    }
+}
+
 /// How a job ended.
-#[derive(Drop)]
 pub enum PlainFinished {
     Changed(Vec<Told>),
     Failed(AgentError),
     Continued(AgentError),
+}
+
+// A function of its own, which whoever lets one go calls; a derived one would be written out there.
+impl Drop for PlainFinished {
+    fn drop(self) {
+        match self {
+            PlainFinished::Changed(_told) => {}
+            PlainFinished::Failed(_) | PlainFinished::Continued(_) => {}
+        }
+    }
 }
 
 /// What came of an action that ran.

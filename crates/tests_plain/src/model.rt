@@ -41,12 +41,21 @@ pub struct Told {
 }
 
 /// An entry of the log.
-#[derive(Drop)]
 pub enum PlainEntry {
     Trans(Stamp, PlainTx),
     Atom(u32, PlainOp, Plain),
     MadeRef(u32, Plain),
     MadeAtom(Plain),
+}
+
+// A function of its own, which whoever lets one go calls; a derived one would be written out there.
+impl Drop for PlainEntry {
+    fn drop(self) {
+        match self {
+            PlainEntry::Trans(_, _tx) => {}
+            PlainEntry::Atom(_, _, _) | PlainEntry::MadeRef(_, _) | PlainEntry::MadeAtom(_) => {}
+        }
+    }
 }
 
 /// A change of an atom.
@@ -57,7 +66,6 @@ pub struct PlainChange {
     pub told: Vec<Told>,
 }
 
-#[derive(Drop)]
 pub struct Model {
     pub alloc: Global,
     pub refs: Vec<Reference>,
@@ -70,6 +78,24 @@ pub struct Model {
     pub log: Vec<PlainEntry>,
     /// The points of the commits with sends that aren't released.
     pub held: Vec<u64>,
+}
+
+// A function of its own, which whoever lets one go calls; a derived one would be written out there.
+impl Drop for Model {
+    fn drop(self) {
+        let Model {
+            alloc: _,
+            refs: _refs,
+            atoms: _atoms,
+            agents: _agents,
+            accounts: _accounts,
+            tally: _,
+            declared_refs: _declared_refs,
+            declared_atoms: _declared_atoms,
+            log: _log,
+            held: _held,
+        } = self;
+    }
 }
 
 /// An answer of the model, where memory isn't refused.

@@ -12,11 +12,29 @@ use ref_refs::{Alien, CommitFault};
 use ref_tx::{Tx, TxFault};
 
 /// An open transaction, its model, and the number of the world that it was begun in.
-#[derive(Drop)]
 pub struct Open {
     pub tx: Tx<Core>,
     pub plain: PlainTx,
     pub home: usize,
+}
+
+// A function of its own, which whoever lets one go calls; a derived one would be written out there.
+impl Drop for Open {
+    fn drop(self) {
+        let Open {
+            tx: _tx,
+            plain: _plain,
+            home: _,
+        } = self;
+    }
+}
+
+impl Open {
+    /// The transaction, its model, and the number of its world.
+    pub fn parts(self) -> (Tx<Core>, PlainTx, usize) {
+        let Open { tx, plain, home } = self;
+        (tx, plain, home)
+    }
 }
 
 // ---- While it is open

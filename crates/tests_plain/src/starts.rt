@@ -7,11 +7,21 @@ use ref_log::{MakeFault, Who};
 use std::alloc::AllocError;
 
 /// What the references of each kind begin with.
-#[derive(Drop)]
 pub struct Starts {
     pub refs: Vec<PlainStart>,
     pub atoms: Vec<PlainStart>,
     pub agents: Vec<PlainStart>,
+}
+
+// A function of its own, which whoever lets one go calls; a derived one would be written out there.
+impl Drop for Starts {
+    fn drop(self) {
+        let Starts {
+            refs: _refs,
+            atoms: _atoms,
+            agents: _agents,
+        } = self;
+    }
 }
 
 fn drawn(player: &mut Player, most: usize) -> Result<Vec<PlainStart>, AllocError> {

@@ -23,7 +23,6 @@ pub struct PlainSent {
 }
 
 /// A transaction: what it began with, and what it did.
-#[derive(Drop)]
 pub struct PlainTx {
     pub read_point: u64,
     pub began: Vec<Plain>,
@@ -33,12 +32,36 @@ pub struct PlainTx {
     pub sends: Vec<PlainSent>,
 }
 
+// A function of its own, which whoever lets one go calls; a derived one would be written out there.
+impl Drop for PlainTx {
+    fn drop(self) {
+        let PlainTx {
+            read_point: _,
+            began: _began,
+            tally: _,
+            agents: _,
+            dones: _dones,
+            sends: _sends,
+        } = self;
+    }
+}
+
 /// A commit that was made.
-#[derive(Drop)]
 pub struct PlainReceipt {
     pub point: u64,
     pub stamp: Stamp,
     pub told: Vec<Told>,
+}
+
+// A function of its own, which whoever lets one go calls; a derived one would be written out there.
+impl Drop for PlainReceipt {
+    fn drop(self) {
+        let PlainReceipt {
+            point: _,
+            stamp: _,
+            told: _told,
+        } = self;
+    }
 }
 
 // ---- While it is open
