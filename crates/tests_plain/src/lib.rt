@@ -2,7 +2,7 @@
 //!
 //! | Modules | |
 //! |---|---|
-//! | `plain`, `model`, `transactions`, `agents`, `books` | the model: values and functions, references and the log, transactions, agents, the books |
+//! | `plain`, `model`, `transactions`, `agents`, `books` | the model, from its values and functions to the books |
 //! | `making`, `shows` | values made from the model's, and whether what is seen is what the model has |
 //! | `drawing`, `outcomes`, `player` | what is drawn, what came of it, and what does both |
 //! | `starts`, `open`, `held` | what worlds begin with, and the calls that need no world: those of open transactions and of jobs |
