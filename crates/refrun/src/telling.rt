@@ -68,7 +68,8 @@ fn tell<R: Wait + Clock + Eprint>(rt: &R, progress: &Progress, is_over: &AtomicB
             break;
         }
         looks = looks.wrapping_add(1);
-        if looks % LOOKS == 0 {
+        // While the workload is still read, a terminal is for whoever types it.
+        if looks % LOOKS == 0 && progress.steps() > 0 {
             tell_once(rt, progress);
             has_told = true;
         }
