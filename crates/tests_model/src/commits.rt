@@ -41,6 +41,13 @@ fn is_same(
     }
 }
 
+fn commit_number(wanted: &Result<PlainReceipt, CommitFault>) -> u8 {
+    match wanted {
+        Ok(_) => 0,
+        Err(fault) => fault.number(),
+    }
+}
+
 // Whether a commit of this was answered as in the model. What came of it is counted.
 fn compare<C: Ledger, A: Ledger>(
     player: &mut Player,
@@ -50,8 +57,7 @@ fn compare<C: Ledger, A: Ledger>(
     plain: &PlainTx,
 ) -> Result<bool, Stop> {
     let wanted = side.model.commit(with.0, with.1, plain)?;
-    let number = wanted.as_ref().err().map_or(0, |f| f.number());
-    player.told(is_same(seen, &wanted, plain), number)?;
+    player.told(is_same(seen, &wanted, plain), commit_number(&wanted))?;
     count_outcome(player, &side.model, &wanted, plain);
     Ok(wanted.is_ok())
 }
@@ -65,7 +71,7 @@ pub(crate) fn commit<C: Ledger, A: Ledger>(
     player.calls(Row::CommitWith);
     let (tx, plain, home) = open.parts();
     let (table, stamp) = (player.draws.table(), player.stamp());
-    let funs = player.funs(table);
+    let funs = side.tables.of(table);
     let seen = side
         .world
         .commit_with(player.alloc, funs, &mut side.share, stamp, tx);

@@ -2,41 +2,39 @@
 ghost use Rattle.std.specs.Prelude.{◌≡◌};
 ghost use Rattle.ref_world.specs.Shares.{all_parts};
 
-use ref_fun::Core;
+use ref_fun::{Core, FunTable};
 use ref_log::{MakeFault, Who};
 use ref_world::{ALL_PARTS, AgentStart, AtomStart, RefStart, Start, World};
 use std::alloc::{AllocError, Global};
 use std::marker::Brand;
 use std::sync::ledger::{Blank, Ledger};
-use tests_plain::making::{any_rule_from, value_from};
+use tests_plain::making::value_and_rule_from;
 use tests_plain::model::{Model, PlainStart};
 use tests_plain::outcomes::{Played, Stop};
 use tests_plain::plain::Table;
 use tests_plain::player::Player;
 use tests_plain::starts::{Starts, count_refused, declare_all, drawn_starts};
+use tests_plain::tables::Tables;
 
-fn ref_start(alloc: Global, start: &PlainStart) -> Result<RefStart, AllocError> {
-    let value = value_from(start.value)?;
+fn ref_start(alloc: Global, start: PlainStart) -> Result<RefStart, AllocError> {
+    let (value, rule) = value_and_rule_from(alloc, start)?;
     Ok(RefStart {
         value,
-        rule: any_rule_from(alloc, start.rule)?,
+        rule,
         tally: start.tally,
     })
 }
 
-fn atom_start(alloc: Global, start: &PlainStart) -> Result<AtomStart, AllocError> {
-    let value = value_from(start.value)?;
-    Ok(AtomStart {
-        value,
-        rule: any_rule_from(alloc, start.rule)?,
-    })
+fn atom_start(alloc: Global, start: PlainStart) -> Result<AtomStart, AllocError> {
+    let (value, rule) = value_and_rule_from(alloc, start)?;
+    Ok(AtomStart { value, rule })
 }
 
-fn agent_start(alloc: Global, start: &PlainStart) -> Result<AgentStart, AllocError> {
-    let value = value_from(start.value)?;
+fn agent_start(alloc: Global, start: PlainStart) -> Result<AgentStart, AllocError> {
+    let (value, rule) = value_and_rule_from(alloc, start)?;
     Ok(AgentStart {
         value,
-        rule: any_rule_from(alloc, start.rule)?,
+        rule,
         mode: start.mode,
     })
 }
@@ -44,7 +42,7 @@ fn agent_start(alloc: Global, start: &PlainStart) -> Result<AgentStart, AllocErr
 fn declared_refs(alloc: Global, starts: &[PlainStart]) -> Result<Vec<RefStart>, AllocError> {
     let mut refs = Vec::new(alloc);
     for start in starts {
-        refs.push(ref_start(alloc, start)?)?;
+        refs.push(ref_start(alloc, *start)?)?;
     }
     Ok(refs)
 }
@@ -52,7 +50,7 @@ fn declared_refs(alloc: Global, starts: &[PlainStart]) -> Result<Vec<RefStart>, 
 fn declared_atoms(alloc: Global, starts: &[PlainStart]) -> Result<Vec<AtomStart>, AllocError> {
     let mut atoms = Vec::new(alloc);
     for start in starts {
-        atoms.push(atom_start(alloc, start)?)?;
+        atoms.push(atom_start(alloc, *start)?)?;
     }
     Ok(atoms)
 }
@@ -60,7 +58,7 @@ fn declared_atoms(alloc: Global, starts: &[PlainStart]) -> Result<Vec<AtomStart>
 fn declared_agents(alloc: Global, starts: &[PlainStart]) -> Result<Vec<AgentStart>, AllocError> {
     let mut agents = Vec::new(alloc);
     for start in starts {
-        agents.push(agent_start(alloc, start)?)?;
+        agents.push(agent_start(alloc, *start)?)?;
     }
     Ok(agents)
 }
@@ -83,8 +81,8 @@ pub(crate) struct Drawn {
 
 // Whether a world that can't be made is refused so.
 fn is_refused<C: Ledger, A: Ledger>(
-    player: &Player,
-    table: Table,
+    alloc: Global,
+    funs: &FunTable,
     start: Start,
     wanted: (Who, MakeFault),
     commits: Blank,
@@ -93,16 +91,16 @@ fn is_refused<C: Ledger, A: Ledger>(
     requires commits { (commits.name ≡ C.name) × (commits.parts ≡ C.parts) × (commits.parts ≡ all_parts) }
     requires added { (added.name ≡ A.name) × (added.parts ≡ A.parts) × (added.parts ≡ all_parts) }
 {
-    match World::<Core, C, A>::new(player.alloc, player.funs(table), start, commits, added) {
+    match World::<Core, C, A>::new(alloc, funs, start, commits, added) {
         Ok(_made) => false,
         Err(refused) => refused == wanted,
     }
 }
 
 // A world that can't be made.
-fn refuse(player: &mut Player, table: Table, start: Start, wanted: (Who, MakeFault)) -> Played {
+fn refuse(player: &mut Player, funs: &FunTable, start: Start, wanted: (Who, MakeFault)) -> Played {
     let (commits, added) = (Blank::new(ALL_PARTS), Blank::new(ALL_PARTS));
-    if !is_refused::<Brand, Brand>(player, table, start, wanted, commits, added) {
+    if !is_refused::<Brand, Brand>(player.alloc, funs, start, wanted, commits, added) {
         return Err(Stop::Differs("the answer"));
     }
     count_refused(player, wanted.0, wanted.1);
@@ -110,7 +108,7 @@ fn refuse(player: &mut Player, table: Table, start: Start, wanted: (Who, MakeFau
 }
 
 // References that are drawn, or none, where a world with them is refused.
-fn drawn_world(player: &mut Player) -> Result<Option<Drawn>, Stop> {
+fn drawn_world(player: &mut Player, tables: &Tables) -> Result<Option<Drawn>, Stop> {
     let starts = drawn_starts(player)?;
     let (alloc, table) = (player.alloc, player.draws.table());
     let mut model = Model::empty(alloc);
@@ -123,16 +121,16 @@ fn drawn_world(player: &mut Player) -> Result<Option<Drawn>, Stop> {
             table,
         })),
         Err(wanted) => {
-            refuse(player, table, start, wanted)?;
+            refuse(player, tables.of(table), start, wanted)?;
             Ok(None)
         }
     }
 }
 
 /// The first of drawn worlds that can be made.
-pub(crate) fn first_world(player: &mut Player) -> Result<Drawn, Stop> {
+pub(crate) fn first_world(player: &mut Player, tables: &Tables) -> Result<Drawn, Stop> {
     for _ in 0..100 {
-        if let Some(drawn) = drawn_world(player)? {
+        if let Some(drawn) = drawn_world(player, tables)? {
             return Ok(drawn);
         }
     }

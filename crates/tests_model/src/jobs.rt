@@ -1,6 +1,6 @@
 //! The calls of agents, each on a world and on its model.
 use crate::sides::Side;
-use ref_agents::{FinishFault, Finished, Job, Ran};
+use ref_agents::{FinishFault, Finished, Job, ModeFault, Ran, RestartFault, SendFault};
 use ref_fun::{Action, Core};
 use std::sync::ledger::Ledger;
 use tests_plain::agents::Ended;
@@ -9,13 +9,33 @@ use tests_plain::held::{
     run,
 };
 use tests_plain::making::{args_from, value_from};
-use tests_plain::model::Kind;
+use tests_plain::model::{Kind, Model};
 use tests_plain::outcomes::{Played, Row, Stop};
-use tests_plain::plain::Table;
+use tests_plain::plain::{Plain, PlainCall, Table};
 use tests_plain::player::Player;
 use tests_plain::shows::Shows;
 
 // ---- Jobs
+
+// Whether this job is that of an agent that is ready.
+fn taken<C: Ledger, A: Ledger>(
+    player: &mut Player,
+    side: &mut Side<C, A>,
+    agent: u32,
+    hand: &Hand,
+) -> Result<Slip, Stop> {
+    let Some(job) = side.model.ready_job(agent) else {
+        return Err(Stop::Differs("an agent that isn't ready"));
+    };
+    let slip = Slip {
+        job,
+        ended: None,
+        home: side.number,
+    };
+    player.told(hand.shows(&slip), 0)?;
+    side.model.set_out(agent, Some(job));
+    Ok(slip)
+}
 
 /// Takes a job, which is that of some agent that is ready.
 pub(crate) fn take<C: Ledger, A: Ledger>(
@@ -28,17 +48,16 @@ pub(crate) fn take<C: Ledger, A: Ledger>(
         return Ok(None);
     };
     let (agent, hand) = (job.agent(), Hand::Waits(job));
-    let Some(job) = side.model.ready_job(agent) else {
-        return Err(Stop::Differs("an agent that isn't ready"));
-    };
-    let slip = Slip {
-        job,
-        ended: None,
-        home: side.number,
-    };
-    player.told(hand.shows(&slip), 0)?;
-    side.model.set_out(agent, Some(job));
+    let slip = taken(player, side, agent, &hand)?;
     Ok(Some(Held { hand, slip }))
+}
+
+fn put_back_number(is_done: bool, is_near: bool) -> u8 {
+    match (is_done, is_near) {
+        (false, _) => 1,
+        (true, true) => 0,
+        (true, false) => 2,
+    }
 }
 
 // Whether a job was put back as in the model.
@@ -53,12 +72,7 @@ fn compare_put_back<C: Ledger, A: Ledger>(
         Some(hand) => !is_done && hand.shows(&slip),
         None => is_done,
     };
-    let number = match (is_done, side.number == slip.home) {
-        (false, _) => 1,
-        (true, true) => 0,
-        (true, false) => 2,
-    };
-    player.told(is_same, number)
+    player.told(is_same, put_back_number(is_done, side.number == slip.home))
 }
 
 fn put_back<C: Ledger, A: Ledger>(
@@ -86,10 +100,8 @@ fn put_back<C: Ledger, A: Ledger>(
 fn compare_finish<C: Ledger, A: Ledger>(
     player: &mut Player,
     side: &mut Side<C, A>,
-    seen: &Result<Finished, (Hand, FinishFault)>,
-    table: Table,
-    slip: Slip,
-    ended: Ended,
+    seen: Result<&Finished, (&Hand, FinishFault)>,
+    (table, slip, ended): (Table, Slip, Ended),
 ) -> Played {
     let wanted = side.model.finish(table, slip.job, ended)?;
     if let Ok(finished) = &wanted {
@@ -108,15 +120,17 @@ fn finish<C: Ledger, A: Ledger>(
     player.calls(Row::Finish);
     count_foreign(player, &side.model, slip.job);
     let table = player.draws.table();
-    let funs = player.funs(table);
-    let seen = match side.world.finish(player.alloc, funs, ran) {
-        Ok(finished) => Ok(finished),
-        Err((ran, fault)) => Err((Hand::Ran(ran), fault)),
-    };
-    compare_finish(player, side, &seen, table, slip, ended)?;
-    match seen {
-        Ok(_finished) => Ok(None),
-        Err((hand, _fault)) => Ok(Some(Held { hand, slip })),
+    let funs = side.tables.of(table);
+    match side.world.finish(player.alloc, funs, ran) {
+        Ok(finished) => {
+            compare_finish(player, side, Ok(&finished), (table, slip, ended))?;
+            Ok(None)
+        }
+        Err((ran, fault)) => {
+            let hand = Hand::Ran(ran);
+            compare_finish(player, side, Err((&hand, fault)), (table, slip, ended))?;
+            Ok(Some(Held { hand, slip }))
+        }
     }
 }
 
@@ -133,7 +147,7 @@ fn go_on<C: Ledger, A: Ledger>(
             Ok(None)
         }
         1..=3 => put_back(player, side, job, slip),
-        _ => Ok(Some(run(player, job, slip)?)),
+        _ => Ok(Some(run(player, &side.tables, job, slip)?)),
     }
 }
 
@@ -154,16 +168,35 @@ pub(crate) fn call_on_job<C: Ledger, A: Ledger>(
 
 // ---- Sends, releases, restarts
 
+fn sent<C: Ledger, A: Ledger>(
+    player: &Player,
+    side: &mut Side<C, A>,
+    g: u32,
+    call: PlainCall,
+) -> Result<(), SendFault> {
+    let (code, args) = (call.code, args_from(player.alloc, call.given)?);
+    side.world.send(player.alloc, g, Action { code, args })
+}
+
 fn send<C: Ledger, A: Ledger>(player: &mut Player, side: &mut Side<C, A>) -> Played {
     player.calls(Row::Send);
-    let (g, call) = (
-        player.draws.number(&side.model, Kind::Agent),
-        player.draws.action(),
-    );
-    let (code, args) = (call.code, args_from(player.alloc, call.given)?);
-    let seen = side.world.send(player.alloc, g, Action { code, args });
+    let g = player.draws.number(&side.model, Kind::Agent);
+    let call = player.draws.action();
+    let seen = sent(player, side, g, call);
     let wanted = side.model.send(g, call)?;
-    player.told(seen == wanted, wanted.err().map_or(0, |f| f.number()))
+    let number = match wanted {
+        Ok(()) => 0,
+        Err(fault) => fault.number(),
+    };
+    player.told(seen == wanted, number)
+}
+
+fn release_number(is_released: bool, waits: bool) -> u8 {
+    match (is_released, waits) {
+        (true, true) => 0,
+        (false, _) => 1,
+        (true, false) => 2,
+    }
 }
 
 fn release<C: Ledger, A: Ledger>(player: &mut Player, side: &mut Side<C, A>) -> Played {
@@ -172,46 +205,65 @@ fn release<C: Ledger, A: Ledger>(player: &mut Player, side: &mut Side<C, A>) -> 
     let seen = side.world.release(point);
     let waits = side.model.has_queued(point);
     let wanted = side.model.release(point);
-    let number = match (wanted, waits) {
-        (true, true) => 0,
-        (false, _) => 1,
-        (true, false) => 2,
-    };
-    player.told(seen == wanted, number)
+    player.told(seen == wanted, release_number(wanted, waits))
+}
+
+fn restarted<C: Ledger, A: Ledger>(
+    player: &Player,
+    side: &mut Side<C, A>,
+    table: Table,
+    g: u32,
+    (state, clear): (Plain, bool),
+) -> Result<(), RestartFault> {
+    let value = value_from(state)?;
+    let funs = side.tables.of(table);
+    side.world.restart(player.alloc, funs, g, value, clear)
+}
+
+fn restart_number(wanted: Result<(), RestartFault>, waits: bool, clear: bool) -> u8 {
+    match (wanted, waits, clear) {
+        (Err(fault), _, _) => fault.number(),
+        (Ok(()), true, true) => 5,
+        (Ok(()), true, false) => 4,
+        (Ok(()), false, _) => 0,
+    }
 }
 
 fn restart<C: Ledger, A: Ledger>(player: &mut Player, side: &mut Side<C, A>) -> Played {
     player.calls(Row::Restart);
-    let (g, clear) = (player.draws.failed(&side.model), !player.draws.once_in(3));
-    let (table, state) = (player.draws.table(), player.draws.value());
-    let (alloc, funs) = (player.alloc, player.funs(table));
+    let g = player.draws.failed(&side.model);
+    let clear = !player.draws.once_in(3);
+    let table = player.draws.table();
+    let state = player.draws.value();
     let waits = side.model.waits(g);
-    let value = value_from(state)?;
-    let seen = side.world.restart(alloc, funs, g, value, clear);
+    let seen = restarted(player, side, table, g, (state, clear));
     let wanted = side.model.restart(table, g, state, clear);
-    let number = match wanted {
-        Ok(()) if waits && clear => 5,
-        Ok(()) if waits => 4,
-        Ok(()) => 0,
-        Err(fault) => fault.number(),
-    };
-    player.told(seen == wanted, number)
+    player.told(seen == wanted, restart_number(wanted, waits, clear))
+}
+
+fn mode_number(wanted: Result<(), ModeFault>, is_failed: bool) -> u8 {
+    match (wanted, is_failed) {
+        (Err(_), _) => 1,
+        (Ok(()), true) => 2,
+        (Ok(()), false) => 0,
+    }
 }
 
 fn set_error_mode<C: Ledger, A: Ledger>(player: &mut Player, side: &mut Side<C, A>) -> Played {
     player.calls(Row::SetErrorMode);
-    let (g, mode) = (
-        player.draws.number(&side.model, Kind::Agent),
-        player.draws.mode(),
-    );
+    let g = player.draws.number(&side.model, Kind::Agent);
+    let mode = player.draws.mode();
     let seen = side.world.set_error_mode(g, mode);
     let wanted = side.model.set_error_mode(g, mode);
-    let number = match wanted {
-        Err(_) => 1,
-        Ok(()) if side.model.is_failed(g) => 2,
-        Ok(()) => 0,
-    };
-    player.told(seen == wanted, number)
+    player.told(seen == wanted, mode_number(wanted, side.model.is_failed(g)))
+}
+
+fn wants_release(player: &mut Player, model: &Model) -> bool {
+    model.first_dropped().is_some() || player.draws.once_in(4)
+}
+
+fn wants_restart(player: &mut Player, model: &Model) -> bool {
+    model.first_failed().is_some() || player.draws.once_in(6)
 }
 
 /// Makes one of these calls: mostly a send, unless there is something to release or to restart.
@@ -219,8 +271,8 @@ pub(crate) fn call_on_agents<C: Ledger, A: Ledger>(
     player: &mut Player,
     side: &mut Side<C, A>,
 ) -> Played {
-    let releases = side.model.first_dropped().is_some() || player.draws.once_in(4);
-    let restarts = side.model.first_failed().is_some() || player.draws.once_in(6);
+    let releases = wants_release(player, &side.model);
+    let restarts = wants_restart(player, &side.model);
     match player.draws.below(12) {
         0..=3 if releases => release(player, side),
         4..=6 if restarts => restart(player, side),

@@ -13,6 +13,7 @@ use std::test::Fail;
 use tests_plain::outcomes::{Outcomes, Played};
 use tests_plain::plain::Table;
 use tests_plain::player::Player;
+use tests_plain::tables::Tables;
 
 fn play_stage<C: Ledger, A: Ledger, D: Ledger, B: Ledger>(
     player: &mut Player,
@@ -29,6 +30,7 @@ fn play_stage<C: Ledger, A: Ledger, D: Ledger, B: Ledger>(
 // Now and then the second world begins as the first. Each has its own blanks.
 fn play_worlds<C: Ledger, A: Ledger, D: Ledger, B: Ledger>(
     player: &mut Player,
+    tables: Tables,
     commits: Blank,
     added: Blank,
     other_commits: Blank,
@@ -42,19 +44,20 @@ fn play_worlds<C: Ledger, A: Ledger, D: Ledger, B: Ledger>(
         × (other_added.parts ≡ all_parts) }
 {
     let draws = player.draws;
-    let first = new_side::<C, A>(player, 0, commits, added)?;
+    let first = new_side::<C, A>(player, tables, 0, commits, added)?;
     if player.draws.once_in(2) {
         player.draws = draws;
     }
-    let second = new_side::<D, B>(player, 1, other_commits, other_added)?;
+    let second = new_side::<D, B>(player, tables, 1, other_commits, other_added)?;
     let mut stage = new_stage(player, first, second)?;
     play_stage(player, &mut stage)
 }
 
-fn play_list(player: &mut Player, list: u64) -> Played {
+fn play_list(player: &mut Player, tables: Tables, list: u64) -> Played {
     player.begins(list);
     play_worlds::<Brand, Brand, Brand, Brand>(
         player,
+        tables,
         Blank::new(ALL_PARTS),
         Blank::new(ALL_PARTS),
         Blank::new(ALL_PARTS),
@@ -69,9 +72,13 @@ fn play_lists(rt: &(impl Abort + AllocGlobal), first: u64) -> Result<(), Fail> {
         table_of(alloc, Table::Full)?,
         table_of(alloc, Table::Fewer)?,
     );
-    let mut player = Player::new(alloc, &full, &fewer)?;
+    let tables = Tables {
+        full: &full,
+        fewer: &fewer,
+    };
+    let mut player = Player::new(alloc)?;
     for list in first..first.saturating_add(2500) {
-        let played = play_list(&mut player, list);
+        let played = play_list(&mut player, tables, list);
         let (place, call) = (player.place, Outcomes::name(player.call));
         assert!(rt;
             played.is_ok(),

@@ -1,13 +1,13 @@
 //! Whether what a world shows is what the model has.
 use crate::books::are_books;
 use ref_fun::{Core, FunTable};
-use ref_log::{AuditFault, Who, replay_plain};
+use ref_log::{Who, replay_plain};
 use ref_world::{Receipt, World};
 use std::alloc::{AllocError, Global};
 use std::sync::ledger::Ledger;
 use tests_plain::model::{Model, Reference};
 use tests_plain::plain::Table;
-use tests_plain::shows::{Shows, is_base, is_log, is_rule, show};
+use tests_plain::shows::{Shows, is_base, is_lacking, is_log, is_rule, is_state, show};
 use tests_plain::transactions::PlainReceipt;
 
 /// Whether a receipt is that of the model.
@@ -86,14 +86,9 @@ pub(crate) fn is_replayed<C: Ledger, A: Ledger>(
     if base.point > 0 {
         return Ok(false);
     }
-    let replayed = replay_plain(alloc, funs, base, log);
-    match (replayed, model.lacked_in_log(table)) {
-        (Ok(state), None) => {
-            let (refs, atoms) = (model.values(&model.refs)?, model.values(&model.atoms)?);
-            Ok(show(state.refs.as_slice(), &refs) && show(state.atoms.as_slice(), &atoms))
-        }
-        (Err(fault), Some(code)) => Ok(fault == AuditFault::NoSuchFun(code)),
-        _ => Ok(false),
+    match replay_plain(alloc, funs, base, log) {
+        Ok(state) => is_state(&state, model, table),
+        Err(fault) => Ok(is_lacking(fault, model.lacked_in_log(table))),
     }
 }
 

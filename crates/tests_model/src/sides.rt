@@ -13,20 +13,23 @@ use tests_plain::model::Model;
 use tests_plain::outcomes::{Played, Row, Stop};
 use tests_plain::plain::Table;
 use tests_plain::player::Player;
+use tests_plain::tables::Tables;
 
 /// A world with its whole share, and its model, with a number: 0 or 1.
-pub(crate) struct Side<C: Ledger, A: Ledger> {
+pub(crate) struct Side<'a, C: Ledger, A: Ledger> {
     pub(crate) number: usize,
+    pub(crate) tables: Tables<'a>,
     pub(crate) world: World<Core, C, A>,
     pub(crate) share: Share<C, A>,
     pub(crate) model: Model,
 }
 
 // A function of its own, which whoever lets one go calls; a derived one would be written out there.
-impl<C: Ledger, A: Ledger> Drop for Side<C, A> {
+impl<C: Ledger, A: Ledger> Drop for Side<'_, C, A> {
     fn drop(self) {
         let Side {
             number: _,
+            tables: _,
             world: _world,
             share: _share,
             model: _model,
@@ -41,7 +44,7 @@ fn check_served<C: Ledger, A: Ledger>(
     table: Table,
     (yes, no): (u8, u8),
 ) -> Played {
-    let is_served = side.world.served_by(player.funs(table));
+    let is_served = side.world.served_by(side.tables.of(table));
     if is_served != side.model.served_by(table) {
         return Err(Stop::Differs("served_by"));
     }
@@ -65,7 +68,7 @@ fn check_replay<C: Ledger, A: Ledger>(
     table: Table,
 ) -> Played {
     let (world, model) = (&side.world, &side.model);
-    let is_same = is_replayed(player.alloc, world, model, table, player.funs(table))?;
+    let is_same = is_replayed(player.alloc, world, model, table, side.tables.of(table))?;
     let is_lacking = model.lacked_in_log(table).is_some();
     player.told(is_same, if is_lacking { 9 } else { 0 })
 }
@@ -89,13 +92,14 @@ pub(crate) fn check_end<C: Ledger, A: Ledger>(
 // ---- New worlds
 
 // A new world and its model.
-fn made<C: Ledger, A: Ledger>(
+fn made<'a, C: Ledger, A: Ledger>(
     player: &Player,
+    tables: Tables<'a>,
     number: usize,
     drawn: Drawn,
     commits: Blank,
     added: Blank,
-) -> Result<Side<C, A>, Stop>
+) -> Result<Side<'a, C, A>, Stop>
     requires commits { (commits.name ≡ C.name) × (commits.parts ≡ C.parts) × (commits.parts ≡ all_parts) }
     requires added { (added.name ≡ A.name) × (added.parts ≡ A.parts) × (added.parts ≡ all_parts) }
 {
@@ -104,9 +108,10 @@ fn made<C: Ledger, A: Ledger>(
         model,
         table,
     } = drawn;
-    match World::new(player.alloc, player.funs(table), start, commits, added) {
+    match World::new(player.alloc, tables.of(table), start, commits, added) {
         Ok((world, share)) => Ok(Side {
             number,
+            tables,
             world,
             share,
             model,
@@ -123,18 +128,19 @@ fn add_watches<C: Ledger, A: Ledger>(player: &mut Player, side: &mut Side<C, A>)
 }
 
 /// A new world and its model, with some watches.
-pub(crate) fn new_side<C: Ledger, A: Ledger>(
+pub(crate) fn new_side<'a, C: Ledger, A: Ledger>(
     player: &mut Player,
+    tables: Tables<'a>,
     number: usize,
     commits: Blank,
     added: Blank,
-) -> Result<Side<C, A>, Stop>
+) -> Result<Side<'a, C, A>, Stop>
     requires commits { (commits.name ≡ C.name) × (commits.parts ≡ C.parts) × (commits.parts ≡ all_parts) }
     requires added { (added.name ≡ A.name) × (added.parts ≡ A.parts) × (added.parts ≡ all_parts) }
 {
     player.calls(Row::New);
-    let drawn = first_world(player)?;
-    let mut side = made(player, number, drawn, commits, added)?;
+    let drawn = first_world(player, &tables)?;
+    let mut side = made(player, tables, number, drawn, commits, added)?;
     player.count(Row::New, 0);
     check(player, &side)?;
     add_watches(player, &mut side)?;

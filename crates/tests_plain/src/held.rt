@@ -4,6 +4,7 @@ use crate::model::Model;
 use crate::outcomes::{Played, Row, Stop};
 use crate::player::Player;
 use crate::shows::{Shows, agree};
+use crate::tables::Tables;
 use ref_agents::{AgentError, FinishFault, Finished, Job, JobFault, Ran};
 use ref_fun::{Cause, Core};
 
@@ -77,10 +78,10 @@ fn run_cause(wanted: Result<Ended, JobFault>) -> Option<Cause> {
 }
 
 /// Runs a job. Where the table lacks its function it comes back.
-pub fn run(player: &mut Player, job: Job, mut slip: Slip) -> Result<Held, Stop> {
+pub fn run(player: &mut Player, tables: &Tables, job: Job, mut slip: Slip) -> Result<Held, Stop> {
     player.calls(Row::Run);
     let table = player.draws.table();
-    let (hand, fault) = match job.run(player.alloc, player.funs(table)) {
+    let (hand, fault) = match job.run(player.alloc, tables.of(table)) {
         Ok(ran) => (Hand::Ran(ran), None),
         Err((job, fault)) => (Hand::Waits(job), Some(fault)),
     };
@@ -146,13 +147,13 @@ pub fn count_finished(player: &mut Player, finished: &PlainFinished, is_near: bo
 
 /// Whether an end is answered as in the model, and the job that comes back is the same.
 pub fn is_same_end(
-    seen: &Result<Finished, (Hand, FinishFault)>,
+    seen: Result<&Finished, (&Hand, FinishFault)>,
     wanted: &Result<PlainFinished, FinishFault>,
     slip: Slip,
 ) -> bool {
     match (seen, wanted) {
         (Ok(finished), Ok(other)) => finished.shows(other),
-        (Err((hand, fault)), Err(other)) => fault == other && hand.shows(&slip),
+        (Err((hand, fault)), Err(other)) => fault == *other && hand.shows(&slip),
         _ => false,
     }
 }

@@ -4,7 +4,7 @@
 //! |---|---|
 //! | `plain`, `model`, `transactions`, `agents`, `books` | the model, from its values and functions to the books |
 //! | `making`, `shows` | values made from the model's, and whether what is seen is what the model has |
-//! | `drawing`, `outcomes`, `player` | what is drawn, what came of it, and what does both |
+//! | `drawing`, `outcomes`, `player`, `tables` | what is drawn, what came of it, what does both, and with which functions |
 //! | `starts`, `open`, `held` | what worlds begin with, and the calls that need no world: those of open transactions and of jobs |
 #![tactic(auto)]
 
@@ -20,4 +20,5 @@ pub mod plain;
 pub mod player;
 pub mod shows;
 pub mod starts;
+pub mod tables;
 pub mod transactions;

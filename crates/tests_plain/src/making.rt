@@ -1,6 +1,7 @@
 //! Values, arguments and rules as the references have them, made from those of the model.
 ghost use Rattle.std.specs.Prelude.{◌≤◌, length};
 
+use crate::model::PlainStart;
 use crate::plain::{Given, Plain, PlainCall};
 use ref_edn::{Node, Value};
 use ref_fun::{Args, MOST_ARGUMENTS, Rule};
@@ -50,4 +51,14 @@ pub fn any_rule_from(alloc: Global, rule: Option<PlainCall>) -> Result<Option<Ru
         Some(rule) => Ok(Some(rule_from(alloc, rule)?)),
         None => Ok(None),
     }
+}
+
+/// The value and the rule, if any, that a reference begins with.
+pub fn value_and_rule_from(
+    alloc: Global,
+    start: PlainStart,
+) -> Result<(Value, Option<Rule>), AllocError> {
+    let value = value_from(start.value)?;
+    let rule = any_rule_from(alloc, start.rule)?;
+    Ok((value, rule))
 }

@@ -2,14 +2,16 @@
 use crate::making::{args_from, rule_from, value_from};
 use crate::model::Model;
 use crate::outcomes::{Played, Row};
-use crate::plain::{PlainCall, PlainOp, Table};
+use crate::plain::{Plain, PlainCall, PlainOp, Table};
 use crate::player::Player;
 use crate::shows::{Shows, agree};
+use crate::tables::Tables;
 use crate::transactions::{PlainReceipt, PlainTx};
 use ref_edn::Value;
-use ref_fun::{Cause, Core};
+use ref_fun::{Cause, Core, FunTable};
 use ref_refs::{Alien, CommitFault};
 use ref_tx::{Tx, TxFault};
+use std::alloc::Global;
 
 /// An open transaction, its model, and the number of the world that it was begun in.
 pub struct Open {
@@ -60,22 +62,44 @@ fn drawn_op(player: &mut Player) -> PlainOp {
     }
 }
 
-fn operated(
-    player: &Player,
+fn set(alloc: Global, tx: &mut Tx<Core>, r: u32, value: Plain) -> Result<Value, TxFault> {
+    let value = value_from(value)?;
+    tx.ref_set(alloc, r, value)
+}
+
+fn alter(
+    alloc: Global,
+    funs: &FunTable,
     tx: &mut Tx<Core>,
-    table: Table,
+    r: u32,
+    call: PlainCall,
+) -> Result<Value, TxFault> {
+    let args = args_from(alloc, call.given)?;
+    tx.alter(alloc, funs, r, call.code, args)
+}
+
+fn commute(
+    alloc: Global,
+    funs: &FunTable,
+    tx: &mut Tx<Core>,
+    r: u32,
+    call: PlainCall,
+) -> Result<Value, TxFault> {
+    let args = args_from(alloc, call.given)?;
+    tx.commute(alloc, funs, r, call.code, args)
+}
+
+fn operated(
+    alloc: Global,
+    funs: &FunTable,
+    tx: &mut Tx<Core>,
     r: u32,
     op: PlainOp,
 ) -> Result<Value, TxFault> {
-    let (alloc, funs) = (player.alloc, player.funs(table));
     match op {
-        PlainOp::Set(value) => tx.ref_set(alloc, r, value_from(value)?),
-        PlainOp::Alter(PlainCall { code, given }) => {
-            tx.alter(alloc, funs, r, code, args_from(alloc, given)?)
-        }
-        PlainOp::Commute(PlainCall { code, given }) => {
-            tx.commute(alloc, funs, r, code, args_from(alloc, given)?)
-        }
+        PlainOp::Set(value) => set(alloc, tx, r, value),
+        PlainOp::Alter(call) => alter(alloc, funs, tx, r, call),
+        PlainOp::Commute(call) => commute(alloc, funs, tx, r, call),
         PlainOp::Ensure => tx.ensure(alloc, r),
     }
 }
@@ -87,14 +111,32 @@ fn cause_of(fault: Option<TxFault>) -> Option<Cause> {
     }
 }
 
-fn operate(player: &mut Player, open: &mut Open, r: u32) -> Played {
-    let op = drawn_op(player);
-    let table = player.draws.table();
-    let seen = operated(player, &mut open.tx, table, r, op);
+// Ends a call of an open transaction, which shows what the model has.
+fn told(player: &mut Player, open: &Open, is_same: bool, fault: Option<TxFault>) -> Played {
+    let number = match fault {
+        Some(fault) => fault.number(),
+        None => 0,
+    };
+    player.told(is_same && open.tx.shows(&open.plain), number)
+}
+
+// Whether an operation was answered as in the model.
+fn compare(
+    player: &mut Player,
+    open: &mut Open,
+    seen: &Result<Value, TxFault>,
+    (table, r, op): (Table, u32, PlainOp),
+) -> Played {
     let wanted = open.plain.operate(table, r, op)?;
     player.count_cause(Row::CauseInside, cause_of(wanted.err()));
-    let is_same = agree(&seen, &wanted) && open.tx.shows(&open.plain);
-    player.told(is_same, wanted.err().map_or(0, |f| f.number()))
+    told(player, open, agree(seen, &wanted), wanted.err())
+}
+
+fn operate(player: &mut Player, tables: &Tables, open: &mut Open, r: u32) -> Played {
+    let op = drawn_op(player);
+    let table = player.draws.table();
+    let seen = operated(player.alloc, tables.of(table), &mut open.tx, r, op);
+    compare(player, open, &seen, (table, r, op))
 }
 
 fn deref(player: &mut Player, open: &Open, r: u32) -> Played {
@@ -106,39 +148,56 @@ fn deref(player: &mut Player, open: &Open, r: u32) -> Played {
     }
 }
 
-fn require(player: &mut Player, open: &Open, r: u32) -> Played {
-    player.calls(Row::Require);
-    let (table, rule) = (player.draws.table(), player.draws.rule());
-    let given = rule_from(player.alloc, rule)?;
-    let seen = open.tx.require(player.funs(table), r, &given);
-    let wanted = open.plain.require(table, r, rule);
-    let is_same = seen == wanted && open.tx.shows(&open.plain);
-    player.told(is_same, wanted.err().map_or(0, |f| f.number()))
+fn required(
+    alloc: Global,
+    funs: &FunTable,
+    tx: &Tx<Core>,
+    r: u32,
+    rule: PlainCall,
+) -> Result<(), TxFault> {
+    let rule = rule_from(alloc, rule)?;
+    tx.require(funs, r, &rule)
 }
 
-fn send(player: &mut Player, open: &mut Open) -> Played {
+fn require(player: &mut Player, tables: &Tables, open: &Open, r: u32) -> Played {
+    player.calls(Row::Require);
+    let (table, rule) = (player.draws.table(), player.draws.rule());
+    let seen = required(player.alloc, tables.of(table), &open.tx, r, rule);
+    let wanted = open.plain.require(table, r, rule);
+    told(player, open, seen == wanted, wanted.err())
+}
+
+fn sent(
+    alloc: Global,
+    funs: &FunTable,
+    tx: &mut Tx<Core>,
+    g: u32,
+    call: PlainCall,
+) -> Result<(), TxFault> {
+    let args = args_from(alloc, call.given)?;
+    tx.send(alloc, funs, g, call.code, args)
+}
+
+fn send(player: &mut Player, tables: &Tables, open: &mut Open) -> Played {
     player.calls(Row::SendInside);
     let g = player.draws.near(open.plain.agents);
     let (table, call) = (player.draws.table(), player.draws.action());
-    let (alloc, funs) = (player.alloc, player.funs(table));
-    let args = args_from(alloc, call.given)?;
-    let seen = open.tx.send(alloc, funs, g, call.code, args);
+    let seen = sent(player.alloc, tables.of(table), &mut open.tx, g, call);
     let wanted = open.plain.send(table, g, call)?;
-    let is_same = seen == wanted && open.tx.shows(&open.plain);
-    player.told(is_same, wanted.err().map_or(0, |f| f.number()))
+    told(player, open, seen == wanted, wanted.err())
 }
 
 /// Makes a call of an open transaction.
-pub fn call_on_open(player: &mut Player, open: &mut Open) -> Played {
+pub fn call_on_open(player: &mut Player, tables: &Tables, open: &mut Open) -> Played {
     if player.of_agents && player.draws.once_in(2) {
-        return send(player, open);
+        return send(player, tables, open);
     }
     let r = player.draws.near(open.plain.began.len());
     match player.draws.below(16) {
-        0..=10 => operate(player, open, r),
+        0..=10 => operate(player, tables, open, r),
         11 => deref(player, open, r),
-        12 => require(player, open, r),
-        _ => send(player, open),
+        12 => require(player, tables, open, r),
+        _ => send(player, tables, open),
     }
 }
 

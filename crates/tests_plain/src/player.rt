@@ -1,18 +1,15 @@
 //! What makes the calls.
 use crate::drawing::Draws;
 use crate::outcomes::{Outcomes, Played, Row, Stop};
-use crate::plain::Table;
-use ref_fun::{Cause, FunTable};
+use ref_fun::Cause;
 use ref_log::Stamp;
 use std::alloc::{AllocError, Global};
 
-/// It draws the calls, has the tables, and counts what comes of them.
+/// It draws the calls, and counts what comes of them.
 #[derive(Drop)]
-pub struct Player<'a> {
+pub struct Player {
     pub alloc: Global,
     pub draws: Draws,
-    full: &'a FunTable,
-    fewer: &'a FunTable,
     outcomes: Outcomes,
     /// Whether the list is mostly about agents, and else about transactions.
     pub of_agents: bool,
@@ -21,18 +18,12 @@ pub struct Player<'a> {
     pub place: u32,
 }
 
-impl<'a> Player<'a> {
+impl Player {
     /// One that has counted nothing. It has no list yet.
-    pub fn new(
-        alloc: Global,
-        full: &'a FunTable,
-        fewer: &'a FunTable,
-    ) -> Result<Player<'a>, AllocError> {
+    pub fn new(alloc: Global) -> Result<Player, AllocError> {
         Ok(Player {
             alloc,
             draws: Draws::of(0),
-            full,
-            fewer,
             outcomes: Outcomes::none(alloc)?,
             of_agents: false,
             call: Row::New,
@@ -45,13 +36,6 @@ impl<'a> Player<'a> {
         self.draws = Draws::of(list);
         self.place = 0;
         self.of_agents = self.draws.once_in(2);
-    }
-
-    pub fn funs(&self, table: Table) -> &'a FunTable {
-        match table {
-            Table::Full => self.full,
-            Table::Fewer => self.fewer,
-        }
     }
 
     /// Begins with a call.

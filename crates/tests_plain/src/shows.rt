@@ -1,14 +1,15 @@
 //! Whether what is seen is what the model has.
 use crate::agents::{PlainAccount, PlainFinished, PlainJob};
 use crate::model::{Model, PlainChange, PlainEntry, Told};
-use crate::plain::{Given, Plain, PlainCall, PlainOp};
+use crate::plain::{Given, Plain, PlainCall, PlainOp, Table};
 use crate::transactions::{PlainDone, PlainSent, PlainTx};
 use ref_agents::{Account, Finished, Handled, Job, Mark};
 use ref_atoms::{Cas, Swapped};
 use ref_edn::{Node, Value};
 use ref_fun::{Action, Args, Core, Rule};
-use ref_log::{Base, Done, Entry, Notice, Op, Sent, Transaction};
+use ref_log::{AuditFault, Base, Done, Entry, Notice, Op, PlainState, Sent, Transaction};
 use ref_tx::Tx;
+use std::alloc::AllocError;
 
 /// What shows something of the model.
 pub trait Shows<P> {
@@ -237,4 +238,20 @@ pub fn is_base(base: &Base, model: &Model) -> bool {
         && base.last.len() == model.declared_refs.len()
         && show(base.refs.as_slice(), &model.declared_refs)
         && show(base.atoms.as_slice(), &model.declared_atoms)
+}
+
+/// Whether a replay by a table gave these values of refs and atoms, and the table lacks no function of the log.
+pub fn is_state(state: &PlainState, model: &Model, table: Table) -> Result<bool, AllocError> {
+    let refs = model.values(&model.refs)?;
+    let atoms = model.values(&model.atoms)?;
+    let is_same = show(state.refs.as_slice(), &refs) && show(state.atoms.as_slice(), &atoms);
+    Ok(is_same && model.lacked_in_log(table).is_none())
+}
+
+/// Whether a replay lacks this function, which is the first that the table lacks.
+pub fn is_lacking(fault: AuditFault, lacked: Option<u32>) -> bool {
+    match lacked {
+        Some(code) => fault == AuditFault::NoSuchFun(code),
+        None => false,
+    }
 }
