@@ -1,6 +1,7 @@
 //! Where transactions begin and end, each on a world and on its model.
 use crate::seen::is_receipt;
 use crate::sides::Side;
+use crate::tables::funs_of;
 use ref_fun::Core;
 use ref_log::Stamp;
 use ref_refs::CommitFault;
@@ -71,7 +72,7 @@ pub(crate) fn commit<C: Ledger, A: Ledger>(
     player.calls(Row::CommitWith);
     let (tx, plain, home) = open.parts();
     let (table, stamp) = (player.draws.table(), player.stamp());
-    let funs = side.tables.of(table);
+    let funs = funs_of(&side.tables, table);
     let seen = side
         .world
         .commit_with(player.alloc, funs, &mut side.share, stamp, tx);

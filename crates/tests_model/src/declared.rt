@@ -2,6 +2,7 @@
 ghost use Rattle.std.specs.Prelude.{◌≡◌};
 ghost use Rattle.ref_world.specs.Shares.{all_parts};
 
+use crate::tables::funs_of;
 use ref_fun::{Core, FunTable};
 use ref_log::{MakeFault, Who};
 use ref_world::{ALL_PARTS, AgentStart, AtomStart, RefStart, Start, World};
@@ -121,7 +122,7 @@ fn drawn_world(player: &mut Player, tables: &Tables) -> Result<Option<Drawn>, St
             table,
         })),
         Err(wanted) => {
-            refuse(player, tables.of(table), start, wanted)?;
+            refuse(player, funs_of(tables, table), start, wanted)?;
             Ok(None)
         }
     }

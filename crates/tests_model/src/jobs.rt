@@ -1,5 +1,6 @@
 //! The calls of agents, each on a world and on its model.
 use crate::sides::Side;
+use crate::tables::funs_of;
 use ref_agents::{FinishFault, Finished, Job, ModeFault, Ran, RestartFault, SendFault};
 use ref_fun::{Action, Core};
 use std::sync::ledger::Ledger;
@@ -120,7 +121,7 @@ fn finish<C: Ledger, A: Ledger>(
     player.calls(Row::Finish);
     count_foreign(player, &side.model, slip.job);
     let table = player.draws.table();
-    let funs = side.tables.of(table);
+    let funs = funs_of(&side.tables, table);
     match side.world.finish(player.alloc, funs, ran) {
         Ok(finished) => {
             compare_finish(player, side, Ok(&finished), (table, slip, ended))?;
@@ -216,7 +217,7 @@ fn restarted<C: Ledger, A: Ledger>(
     (state, clear): (Plain, bool),
 ) -> Result<(), RestartFault> {
     let value = value_from(state)?;
-    let funs = side.tables.of(table);
+    let funs = funs_of(&side.tables, table);
     side.world.restart(player.alloc, funs, g, value, clear)
 }
 

@@ -1,5 +1,6 @@
 //! Calls on atoms, makings, rules and watches, each on a world and on its model.
 use crate::sides::Side;
+use crate::tables::funs_of;
 use ref_atoms::{AtomFault, Cas, Swapped};
 use ref_fun::Cause;
 use ref_log::{MakeFault, RuleFault, WatchFault};
@@ -30,7 +31,7 @@ fn reset<C: Ledger, A: Ledger>(
     a: u32,
     value: Plain,
 ) -> Result<Swapped, AtomFault> {
-    let (alloc, funs) = (player.alloc, side.tables.of(table));
+    let (alloc, funs) = (player.alloc, funs_of(&side.tables, table));
     let value = value_from(value)?;
     side.world.reset(alloc, funs, &mut side.share, a, value)
 }
@@ -42,7 +43,7 @@ fn swap<C: Ledger, A: Ledger>(
     a: u32,
     call: PlainCall,
 ) -> Result<Swapped, AtomFault> {
-    let (alloc, funs) = (player.alloc, side.tables.of(table));
+    let (alloc, funs) = (player.alloc, funs_of(&side.tables, table));
     let args = args_from(alloc, call.given)?;
     side.world
         .swap(alloc, funs, &mut side.share, a, call.code, args)
@@ -120,7 +121,7 @@ fn compared<C: Ledger, A: Ledger>(
     old: Plain,
     new: Plain,
 ) -> Result<Cas, AtomFault> {
-    let (alloc, funs) = (player.alloc, side.tables.of(table));
+    let (alloc, funs) = (player.alloc, funs_of(&side.tables, table));
     let old = value_from(old)?;
     let new = value_from(new)?;
     side.world
@@ -155,7 +156,7 @@ fn made<C: Ledger, A: Ledger>(
     kind: Kind,
     start: PlainStart,
 ) -> Result<u32, MakeFault> {
-    let (alloc, funs) = (player.alloc, side.tables.of(table));
+    let (alloc, funs) = (player.alloc, funs_of(&side.tables, table));
     let (value, rule) = value_and_rule_from(alloc, start)?;
     match kind {
         Kind::Ref => side.world.make_ref(alloc, funs, value, rule, start.tally),
@@ -212,7 +213,7 @@ fn set_validator<C: Ledger, A: Ledger>(player: &mut Player, side: &mut Side<C, A
     let who = player.draws.who(&side.model);
     let rule = drawn_rule(player);
     let given = any_rule_from(player.alloc, rule)?;
-    let funs = side.tables.of(table);
+    let funs = funs_of(&side.tables, table);
     let seen = side.world.set_validator(funs, who, given);
     let wanted = side.model.set_validator(table, who, rule);
     player.told(seen == wanted, rule_number(wanted))

@@ -6,6 +6,7 @@ use crate::books::is_whole_share;
 use crate::declared::{Drawn, first_world};
 use crate::references::add_watch;
 use crate::seen::{difference, is_replayed, is_whole_log};
+use crate::tables::funs_of;
 use ref_fun::Core;
 use ref_world::{Share, World};
 use std::sync::ledger::{Blank, Ledger};
@@ -44,7 +45,7 @@ fn check_served<C: Ledger, A: Ledger>(
     table: Table,
     (yes, no): (u8, u8),
 ) -> Played {
-    let is_served = side.world.served_by(side.tables.of(table));
+    let is_served = side.world.served_by(funs_of(&side.tables, table));
     if is_served != side.model.served_by(table) {
         return Err(Stop::Differs("served_by"));
     }
@@ -68,7 +69,13 @@ fn check_replay<C: Ledger, A: Ledger>(
     table: Table,
 ) -> Played {
     let (world, model) = (&side.world, &side.model);
-    let is_same = is_replayed(player.alloc, world, model, table, side.tables.of(table))?;
+    let is_same = is_replayed(
+        player.alloc,
+        world,
+        model,
+        table,
+        funs_of(&side.tables, table),
+    )?;
     let is_lacking = model.lacked_in_log(table).is_some();
     player.told(is_same, if is_lacking { 9 } else { 0 })
 }
@@ -108,7 +115,7 @@ fn made<'a, C: Ledger, A: Ledger>(
         model,
         table,
     } = drawn;
-    match World::new(player.alloc, tables.of(table), start, commits, added) {
+    match World::new(player.alloc, funs_of(&tables, table), start, commits, added) {
         Ok((world, share)) => Ok(Side {
             number,
             tables,

@@ -10,7 +10,7 @@ pub struct Tables<'a> {
 }
 
 impl<'a> Tables<'a> {
-    pub fn of(&self, table: Table) -> &'a FunTable {
+    pub(crate) fn of(&self, table: Table) -> &'a FunTable {
         match table {
             Table::Full => self.full,
             Table::Fewer => self.fewer,
