@@ -1,25 +1,19 @@
-//! The calls of transactions, each on one and on its model.
-use crate::model::Kind;
-use crate::outcomes::{Played, Row, Stop};
-use crate::plain::{PlainCall, PlainOp, Table};
-use crate::playing::{Player, Side};
-use crate::seen::{Shows, agree, args_from, rule_from, value_from};
-use crate::transactions::{PlainReceipt, PlainTx};
-use ref_edn::Value;
-use ref_fun::{Cause, Core};
+//! Where transactions begin and end, each on a world and on its model.
+use crate::seen::is_receipt;
+use crate::sides::Side;
+use crate::tables::funs_of;
+use ref_fun::Core;
 use ref_log::Stamp;
-use ref_refs::{Alien, CommitFault};
-use ref_tx::{Tx, TxFault};
+use ref_refs::CommitFault;
+use ref_tx::Tx;
 use ref_world::Receipt;
 use std::sync::ledger::Ledger;
-
-/// An open transaction, its model, and the number of the world that it was begun in.
-#[derive(Drop)]
-pub(crate) struct Open {
-    pub(crate) tx: Tx<Core>,
-    pub(crate) plain: PlainTx,
-    pub(crate) home: usize,
-}
+use tests_plain::open::{Open, count_outcome};
+use tests_plain::outcomes::{Row, Stop};
+use tests_plain::plain::Table;
+use tests_plain::player::Player;
+use tests_plain::shows::Shows;
+use tests_plain::transactions::{PlainReceipt, PlainTx};
 
 pub(crate) fn begin<C: Ledger, A: Ledger>(
     player: &mut Player,
@@ -35,147 +29,6 @@ pub(crate) fn begin<C: Ledger, A: Ledger>(
     Ok(open)
 }
 
-// ---- While it is open
-
-fn drawn_op(player: &mut Player) -> PlainOp {
-    match player.draws.below(12) {
-        0..=2 => {
-            player.calls(Row::RefSet);
-            PlainOp::Set(player.draws.value())
-        }
-        3..=5 => {
-            player.calls(Row::Alter);
-            PlainOp::Alter(player.draws.function())
-        }
-        6..=9 => {
-            player.calls(Row::Commute);
-            PlainOp::Commute(player.draws.function())
-        }
-        _ => {
-            player.calls(Row::Ensure);
-            PlainOp::Ensure
-        }
-    }
-}
-
-fn operated(
-    player: &Player,
-    tx: &mut Tx<Core>,
-    table: Table,
-    r: u32,
-    op: PlainOp,
-) -> Result<Value, TxFault> {
-    let (alloc, funs) = (player.alloc, player.funs(table));
-    match op {
-        PlainOp::Set(value) => tx.ref_set(alloc, r, value_from(value)?),
-        PlainOp::Alter(PlainCall { code, given }) => {
-            tx.alter(alloc, funs, r, code, args_from(alloc, given)?)
-        }
-        PlainOp::Commute(PlainCall { code, given }) => {
-            tx.commute(alloc, funs, r, code, args_from(alloc, given)?)
-        }
-        PlainOp::Ensure => tx.ensure(alloc, r),
-    }
-}
-
-fn cause_of(fault: Option<TxFault>) -> Option<Cause> {
-    match fault {
-        Some(TxFault::Refused(cause)) => Some(cause),
-        _ => None,
-    }
-}
-
-fn operate(player: &mut Player, open: &mut Open, r: u32) -> Played {
-    let op = drawn_op(player);
-    let table = player.draws.table();
-    let seen = operated(player, &mut open.tx, table, r, op);
-    let wanted = open.plain.operate(table, r, op)?;
-    player.count_cause(Row::CauseInside, cause_of(wanted.err()));
-    let is_same = agree(&seen, &wanted) && open.tx.shows(&open.plain);
-    player.told(is_same, wanted.err().map_or(0, |f| f.number()))
-}
-
-fn deref(player: &mut Player, open: &Open, r: u32) -> Played {
-    player.calls(Row::Deref);
-    match (open.tx.deref(r), open.plain.inner(r)) {
-        (Ok(value), Some(plain)) => player.told(value.shows(&plain), 0),
-        (Err(fault), None) => player.told(fault == TxFault::NoSuchRef, 1),
-        _ => player.told(false, 0),
-    }
-}
-
-fn require(player: &mut Player, open: &Open, r: u32) -> Played {
-    player.calls(Row::Require);
-    let (table, rule) = (player.draws.table(), player.draws.rule());
-    let given = rule_from(player.alloc, rule)?;
-    let seen = open.tx.require(player.funs(table), r, &given);
-    let wanted = open.plain.require(table, r, rule);
-    let is_same = seen == wanted && open.tx.shows(&open.plain);
-    player.told(is_same, wanted.err().map_or(0, |f| f.number()))
-}
-
-fn send(player: &mut Player, open: &mut Open) -> Played {
-    player.calls(Row::SendInside);
-    let g = player.draws.near(open.plain.agents);
-    let (table, call) = (player.draws.table(), player.draws.action());
-    let (alloc, funs) = (player.alloc, player.funs(table));
-    let args = args_from(alloc, call.given)?;
-    let seen = open.tx.send(alloc, funs, g, call.code, args);
-    let wanted = open.plain.send(table, g, call)?;
-    let is_same = seen == wanted && open.tx.shows(&open.plain);
-    player.told(is_same, wanted.err().map_or(0, |f| f.number()))
-}
-
-/// Makes a call of an open transaction.
-pub(crate) fn call_on_open(player: &mut Player, open: &mut Open) -> Played {
-    if player.of_agents && player.draws.once_in(2) {
-        return send(player, open);
-    }
-    let r = player.draws.near(open.plain.began.len());
-    match player.draws.below(16) {
-        0..=10 => operate(player, open, r),
-        11 => deref(player, open, r),
-        12 => require(player, open, r),
-        _ => send(player, open),
-    }
-}
-
-// ---- Its commit
-
-fn count_fault(player: &mut Player, fault: CommitFault) {
-    let (call, number) = match fault {
-        CommitFault::Foreign(Alien::Ref(_)) => (Row::Alien, 0),
-        CommitFault::Foreign(Alien::Agent(_)) => (Row::Alien, 1),
-        CommitFault::Foreign(Alien::Tally) => (Row::Alien, 2),
-        CommitFault::Foreign(Alien::Point(_)) => (Row::Alien, 3),
-        CommitFault::Foreign(Alien::Value(_)) => (Row::Alien, 4),
-        CommitFault::Refused(_, cause) => (Row::CauseAtCommit, cause.number()),
-        CommitFault::NoSuchFun(code) if code < 100 => (Row::Lacking, 0),
-        CommitFault::NoSuchFun(_) => (Row::Lacking, 1),
-        _ => return,
-    };
-    player.count(call, number);
-}
-
-// What else there is to say of a commit that was made.
-fn count_commit<C: Ledger, A: Ledger>(
-    player: &mut Player,
-    side: &Side<C, A>,
-    receipt: &PlainReceipt,
-    plain: &PlainTx,
-) {
-    if plain.dones.is_empty() && plain.sends.is_empty() {
-        player.count(Row::Committed, 0);
-    }
-    if !receipt.told.is_empty() {
-        player.count(Row::Committed, 1);
-    }
-    for sent in &plain.sends {
-        let is_failed = side.model.is_failed(sent.agent);
-        player.count(Row::Committed, if is_failed { 3 } else { 2 });
-    }
-}
-
 // Whether a commit is answered as in the model, and the transaction that comes back is the same.
 fn is_same(
     seen: &Result<Receipt, (Tx<Core>, CommitFault)>,
@@ -183,22 +36,31 @@ fn is_same(
     plain: &PlainTx,
 ) -> bool {
     match (seen, wanted) {
-        (Ok(receipt), Ok(landed)) => receipt.shows(landed),
+        (Ok(receipt), Ok(landed)) => is_receipt(receipt, landed),
         (Err((tx, fault)), Err(other)) => fault == other && tx.shows(plain),
         _ => false,
     }
 }
 
-fn count_outcome<C: Ledger, A: Ledger>(
-    player: &mut Player,
-    side: &Side<C, A>,
-    wanted: &Result<PlainReceipt, CommitFault>,
-    plain: &PlainTx,
-) {
+fn commit_number(wanted: &Result<PlainReceipt, CommitFault>) -> u8 {
     match wanted {
-        Ok(receipt) => count_commit(player, side, receipt, plain),
-        Err(fault) => count_fault(player, *fault),
+        Ok(_) => 0,
+        Err(fault) => fault.number(),
     }
+}
+
+// Whether a commit of this was answered as in the model. What came of it is counted.
+fn compare<C: Ledger, A: Ledger>(
+    player: &mut Player,
+    side: &mut Side<C, A>,
+    seen: &Result<Receipt, (Tx<Core>, CommitFault)>,
+    with: (Table, Stamp),
+    plain: &PlainTx,
+) -> Result<bool, Stop> {
+    let wanted = side.model.commit(with.0, with.1, plain)?;
+    player.told(is_same(seen, &wanted, plain), commit_number(&wanted))?;
+    count_outcome(player, &side.model, &wanted, plain);
+    Ok(wanted.is_ok())
 }
 
 /// Commits a transaction. Where that is refused it comes back.
@@ -208,17 +70,14 @@ pub(crate) fn commit<C: Ledger, A: Ledger>(
     open: Open,
 ) -> Result<Option<Open>, Stop> {
     player.calls(Row::CommitWith);
-    let Open { tx, plain, home } = open;
+    let (tx, plain, home) = open.parts();
     let (table, stamp) = (player.draws.table(), player.stamp());
-    let funs = player.funs(table);
+    let funs = funs_of(&side.tables, table);
     let seen = side
         .world
         .commit_with(player.alloc, funs, &mut side.share, stamp, tx);
-    let wanted = side.model.commit(table, stamp, &plain)?;
-    let number = wanted.as_ref().err().map_or(0, |f| f.number());
-    player.told(is_same(&seen, &wanted, &plain), number)?;
-    count_outcome(player, side, &wanted, &plain);
-    if wanted.is_ok() && side.number != home {
+    let is_made = compare(player, side, &seen, (table, stamp), &plain)?;
+    if is_made && side.number != home {
         player.count(Row::Committed, 4);
     }
     match seen {

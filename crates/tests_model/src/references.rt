@@ -1,13 +1,16 @@
 //! Calls on atoms, makings, rules and watches, each on a world and on its model.
-use crate::model::{Kind, PlainStart};
-use crate::outcomes::{Played, Row};
-use crate::plain::{PlainCall, PlainOp, Table};
-use crate::playing::{Player, Side};
-use crate::seen::{agree, any_rule_from, args_from, value_from};
-use ref_atoms::{AtomFault, Swapped};
+use crate::sides::Side;
+use crate::tables::funs_of;
+use ref_atoms::{AtomFault, Cas, Swapped};
 use ref_fun::Cause;
-use ref_log::MakeFault;
+use ref_log::{MakeFault, RuleFault, WatchFault};
 use std::sync::ledger::Ledger;
+use tests_plain::making::{any_rule_from, args_from, value_and_rule_from, value_from};
+use tests_plain::model::{Kind, Model, PlainChange, PlainStart};
+use tests_plain::outcomes::{Played, Row};
+use tests_plain::plain::{Plain, PlainCall, PlainOp, Table};
+use tests_plain::player::Player;
+use tests_plain::shows::agree;
 
 // ---- Atoms
 
@@ -21,6 +24,31 @@ fn drawn_op(player: &mut Player) -> PlainOp {
     }
 }
 
+fn reset<C: Ledger, A: Ledger>(
+    player: &Player,
+    side: &mut Side<C, A>,
+    table: Table,
+    a: u32,
+    value: Plain,
+) -> Result<Swapped, AtomFault> {
+    let (alloc, funs) = (player.alloc, funs_of(&side.tables, table));
+    let value = value_from(value)?;
+    side.world.reset(alloc, funs, &mut side.share, a, value)
+}
+
+fn swap<C: Ledger, A: Ledger>(
+    player: &Player,
+    side: &mut Side<C, A>,
+    table: Table,
+    a: u32,
+    call: PlainCall,
+) -> Result<Swapped, AtomFault> {
+    let (alloc, funs) = (player.alloc, funs_of(&side.tables, table));
+    let args = args_from(alloc, call.given)?;
+    side.world
+        .swap(alloc, funs, &mut side.share, a, call.code, args)
+}
+
 fn changed<C: Ledger, A: Ledger>(
     player: &Player,
     side: &mut Side<C, A>,
@@ -28,69 +56,95 @@ fn changed<C: Ledger, A: Ledger>(
     a: u32,
     op: PlainOp,
 ) -> Result<Swapped, AtomFault> {
-    let (alloc, funs) = (player.alloc, player.funs(table));
     match op {
-        PlainOp::Set(value) => side
-            .world
-            .reset(alloc, funs, &mut side.share, a, value_from(value)?),
-        PlainOp::Alter(call) | PlainOp::Commute(call) => {
-            let PlainCall { code, given } = call;
-            side.world.swap(
-                alloc,
-                funs,
-                &mut side.share,
-                a,
-                code,
-                args_from(alloc, given)?,
-            )
-        }
+        PlainOp::Set(value) => reset(player, side, table, a, value),
+        PlainOp::Alter(call) | PlainOp::Commute(call) => swap(player, side, table, a, call),
         PlainOp::Ensure => Err(AtomFault::Memory),
     }
 }
 
-fn cause_of(fault: Option<&AtomFault>) -> Option<Cause> {
+fn cause_of(fault: Option<AtomFault>) -> Option<Cause> {
     match fault {
-        Some(AtomFault::Refused(cause)) => Some(*cause),
+        Some(AtomFault::Refused(cause)) => Some(cause),
         _ => None,
     }
 }
 
+// The fault of an answer, if it is one.
+fn fault_of<T>(answer: &Result<T, AtomFault>) -> Option<AtomFault> {
+    match answer {
+        Ok(_) => None,
+        Err(fault) => Some(*fault),
+    }
+}
+
+fn number_of(fault: Option<AtomFault>) -> u8 {
+    match fault {
+        Some(fault) => fault.number(),
+        None => 0,
+    }
+}
+
+// Whether an atom was changed as in the model.
+fn compare(
+    player: &mut Player,
+    model: &mut Model,
+    seen: &Result<Swapped, AtomFault>,
+    (table, a, op): (Table, u32, PlainOp),
+) -> Played {
+    let wanted = model.change(table, a, op)?;
+    let fault = fault_of(&wanted);
+    player.count_cause(Row::CauseOfAtom, cause_of(fault));
+    player.told(agree(seen, &wanted), number_of(fault))
+}
+
 fn swap_or_reset<C: Ledger, A: Ledger>(player: &mut Player, side: &mut Side<C, A>) -> Played {
     let op = drawn_op(player);
-    let (table, a) = (
-        player.draws.table(),
-        player.draws.number(&side.model, Kind::Atom),
-    );
+    let table = player.draws.table();
+    let a = player.draws.number(&side.model, Kind::Atom);
     let seen = changed(player, side, table, a, op);
-    let wanted = side.model.change(table, a, op)?;
-    let fault = wanted.as_ref().err();
-    player.count_cause(Row::CauseOfAtom, cause_of(fault));
-    player.told(agree(&seen, &wanted), fault.map_or(0, |f| f.number()))
+    compare(player, &mut side.model, &seen, (table, a, op))
+}
+
+// Now and then the value that the atom has.
+fn drawn_old(player: &mut Player, model: &Model, a: u32) -> Plain {
+    match model.atoms.get(a as usize) {
+        Some(atom) if player.draws.once_in(2) => atom.value,
+        _ => player.draws.value(),
+    }
+}
+
+fn compared<C: Ledger, A: Ledger>(
+    player: &Player,
+    side: &mut Side<C, A>,
+    (table, a): (Table, u32),
+    old: Plain,
+    new: Plain,
+) -> Result<Cas, AtomFault> {
+    let (alloc, funs) = (player.alloc, funs_of(&side.tables, table));
+    let old = value_from(old)?;
+    let new = value_from(new)?;
+    side.world
+        .compare_and_set(alloc, funs, &mut side.share, a, &old, new)
+}
+
+fn compared_number(wanted: &Result<Option<PlainChange>, AtomFault>) -> u8 {
+    match wanted {
+        Ok(Some(_)) => 0,
+        Ok(None) => 7,
+        Err(fault) => fault.number(),
+    }
 }
 
 fn compare_and_set<C: Ledger, A: Ledger>(player: &mut Player, side: &mut Side<C, A>) -> Played {
     player.calls(Row::CompareAndSet);
-    let (table, a) = (
-        player.draws.table(),
-        player.draws.number(&side.model, Kind::Atom),
-    );
-    let old = match side.model.atoms.get(a as usize) {
-        Some(atom) if player.draws.once_in(2) => atom.value,
-        _ => player.draws.value(),
-    };
+    let table = player.draws.table();
+    let a = player.draws.number(&side.model, Kind::Atom);
+    let old = drawn_old(player, &side.model, a);
     let new = player.draws.value();
-    let (given, value) = (value_from(old)?, value_from(new)?);
-    let funs = player.funs(table);
-    let seen = side
-        .world
-        .compare_and_set(player.alloc, funs, &mut side.share, a, &given, value);
+    let seen = compared(player, side, (table, a), old, new);
     let wanted = side.model.compare_and_set(table, a, old, new)?;
-    let number = match &wanted {
-        Ok(Some(_)) => 0,
-        Ok(None) => 7,
-        Err(fault) => fault.number(),
-    };
-    player.told(agree(&seen, &wanted), number)
+    player.told(agree(&seen, &wanted), compared_number(&wanted))
 }
 
 // ---- Makings
@@ -102,8 +156,8 @@ fn made<C: Ledger, A: Ledger>(
     kind: Kind,
     start: PlainStart,
 ) -> Result<u32, MakeFault> {
-    let (alloc, funs) = (player.alloc, player.funs(table));
-    let (value, rule) = (value_from(start.value)?, any_rule_from(alloc, start.rule)?);
+    let (alloc, funs) = (player.alloc, funs_of(&side.tables, table));
+    let (value, rule) = value_and_rule_from(alloc, start)?;
     match kind {
         Kind::Ref => side.world.make_ref(alloc, funs, value, rule, start.tally),
         Kind::Atom => side.world.make_atom(alloc, funs, value, rule),
@@ -111,33 +165,66 @@ fn made<C: Ledger, A: Ledger>(
     }
 }
 
-fn make<C: Ledger, A: Ledger>(player: &mut Player, side: &mut Side<C, A>) -> Played {
-    let kind = player.draws.kind();
-    player.calls(match kind {
+fn make_row(kind: Kind) -> Row {
+    match kind {
         Kind::Ref => Row::MakeRef,
         Kind::Atom => Row::MakeAtom,
         Kind::Agent => Row::MakeAgent,
-    });
-    let (table, start) = (player.draws.table(), player.draws.start());
+    }
+}
+
+fn make_number(wanted: Result<u32, MakeFault>) -> u8 {
+    match wanted {
+        Ok(_) => 0,
+        Err(fault) => fault.number(),
+    }
+}
+
+fn make<C: Ledger, A: Ledger>(player: &mut Player, side: &mut Side<C, A>) -> Played {
+    let kind = player.draws.kind();
+    player.calls(make_row(kind));
+    let table = player.draws.table();
+    let start = player.draws.start();
     let seen = made(player, side, table, kind, start);
     let wanted = side.model.make(table, kind, start)?;
-    player.told(seen == wanted, wanted.err().map_or(0, |f| f.number()))
+    player.told(seen == wanted, make_number(wanted))
 }
 
 // ---- Rules and watches
 
-fn set_validator<C: Ledger, A: Ledger>(player: &mut Player, side: &mut Side<C, A>) -> Played {
-    player.calls(Row::SetValidator);
-    let (table, who) = (player.draws.table(), player.draws.who(&side.model));
-    let rule = if player.draws.once_in(4) {
+fn drawn_rule(player: &mut Player) -> Option<PlainCall> {
+    if player.draws.once_in(4) {
         None
     } else {
         Some(player.draws.rule())
-    };
+    }
+}
+
+fn rule_number(wanted: Result<(), RuleFault>) -> u8 {
+    match wanted {
+        Ok(()) => 0,
+        Err(fault) => fault.number(),
+    }
+}
+
+fn set_validator<C: Ledger, A: Ledger>(player: &mut Player, side: &mut Side<C, A>) -> Played {
+    player.calls(Row::SetValidator);
+    let table = player.draws.table();
+    let who = player.draws.who(&side.model);
+    let rule = drawn_rule(player);
     let given = any_rule_from(player.alloc, rule)?;
-    let seen = side.world.set_validator(player.funs(table), who, given);
+    let funs = funs_of(&side.tables, table);
+    let seen = side.world.set_validator(funs, who, given);
     let wanted = side.model.set_validator(table, who, rule);
-    player.told(seen == wanted, wanted.err().map_or(0, |f| f.number()))
+    player.told(seen == wanted, rule_number(wanted))
+}
+
+fn watch_number(wanted: Result<bool, WatchFault>) -> u8 {
+    match wanted {
+        Ok(true) => 0,
+        Ok(false) => 2,
+        Err(_) => 1,
+    }
 }
 
 pub(crate) fn add_watch<C: Ledger, A: Ledger>(
@@ -145,29 +232,31 @@ pub(crate) fn add_watch<C: Ledger, A: Ledger>(
     side: &mut Side<C, A>,
 ) -> Played {
     player.calls(Row::AddWatch);
-    let (who, key) = (player.draws.who(&side.model), player.draws.key());
-    let seen = side.world.add_watch(player.alloc, who, value_from(key)?);
+    let who = player.draws.who(&side.model);
+    let key = player.draws.key();
+    let value = value_from(key)?;
+    let seen = side.world.add_watch(player.alloc, who, value);
     let wanted = side.model.add_watch(who, key)?;
-    let number = match wanted {
-        Ok(true) => 0,
-        Ok(false) => 2,
-        Err(_) => 1,
-    };
-    player.told(seen == wanted, number)
+    player.told(seen == wanted, watch_number(wanted))
+}
+
+fn remove_number(was: bool, is_here: bool) -> u8 {
+    match (was, is_here) {
+        (true, _) => 0,
+        (false, true) => 1,
+        (false, false) => 2,
+    }
 }
 
 fn remove_watch<C: Ledger, A: Ledger>(player: &mut Player, side: &mut Side<C, A>) -> Played {
     player.calls(Row::RemoveWatch);
-    let (who, key) = (player.draws.who(&side.model), player.draws.key());
+    let who = player.draws.who(&side.model);
+    let key = player.draws.key();
     let is_here = side.model.find(who).is_some();
-    let seen = side.world.remove_watch(who, &value_from(key)?);
+    let value = value_from(key)?;
+    let seen = side.world.remove_watch(who, &value);
     let wanted = side.model.remove_watch(who, key);
-    let number = match (wanted, is_here) {
-        (true, _) => 0,
-        (false, true) => 1,
-        (false, false) => 2,
-    };
-    player.told(seen == wanted, number)
+    player.told(seen == wanted, remove_number(wanted, is_here))
 }
 
 /// Makes one of these calls.

@@ -3,10 +3,11 @@ ghost use Rattle.std.specs.Prelude.{◌≡◌, ◌≤◌, length};
 ghost use Rattle.ref_fun.specs.Core.{core_accepts, core_means};
 ghost use Rattle.ref_fun.specs.Meaning.{Answers};
 
-use crate::plain::Table;
 use ref_edn::Value;
 use ref_fun::{Fun, FunFault, FunTable, Pred, StoredFun, StoredPred, core_fun, core_test};
 use std::alloc::{AllocError, Global};
+use tests_plain::plain::Table;
+use tests_plain::tables::Tables;
 
 fn add_fun(alloc: Global, table: &mut FunTable, code: u32) -> Result<(), AllocError> {
     let run: Fun = Box::new(
@@ -44,4 +45,13 @@ pub(crate) fn table_of(alloc: Global, of: Table) -> Result<FunTable, AllocError>
         add_pred(alloc, &mut table, *code)?;
     }
     Ok(table)
+}
+
+/// One of the tables. The prover takes a function of another crate that hands out a table for one that makes its functions, and
+/// then gives no proof of what calls it, so this is not the one of `tests_plain`.
+pub(crate) fn funs_of<'a>(tables: &Tables<'a>, table: Table) -> &'a FunTable {
+    match table {
+        Table::Full => tables.full,
+        Table::Fewer => tables.fewer,
+    }
 }

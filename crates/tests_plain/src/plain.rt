@@ -3,14 +3,14 @@ use ref_fun::Cause;
 
 /// A value.
 #[derive(Clone, Copy, Drop, PartialEq)]
-pub(crate) enum Plain {
+pub enum Plain {
     Nil,
     Int(i64),
 }
 
 /// The arguments of a function or a predicate.
 #[derive(Clone, Copy, Drop, PartialEq)]
-pub(crate) enum Given {
+pub enum Given {
     Nothing,
     One(Plain),
     Two(Plain, Plain),
@@ -18,14 +18,14 @@ pub(crate) enum Given {
 
 /// A function or a predicate by its code, with its arguments.
 #[derive(Clone, Copy, Drop, PartialEq)]
-pub(crate) struct PlainCall {
-    pub(crate) code: u32,
-    pub(crate) given: Given,
+pub struct PlainCall {
+    pub code: u32,
+    pub given: Given,
 }
 
 /// An operation on a ref or an atom.
 #[derive(Clone, Copy, Drop, PartialEq)]
-pub(crate) enum PlainOp {
+pub enum PlainOp {
     Set(Plain),
     Alter(PlainCall),
     Commute(PlainCall),
@@ -74,7 +74,7 @@ fn inc(state: Plain, given: Given) -> Result<Plain, Cause> {
 }
 
 /// What a function gives, or why it refuses.
-pub(crate) fn means(call: PlainCall, state: Plain) -> Result<Plain, Cause> {
+pub fn means(call: PlainCall, state: Plain) -> Result<Plain, Cause> {
     match call.code {
         1 => plus(state, call.given),
         2 => minus(state, call.given),
@@ -95,7 +95,7 @@ fn accepts(rule: PlainCall, value: Plain) -> bool {
 }
 
 /// Whether a rule, if there is one, accepts a value.
-pub(crate) fn passes(rule: Option<PlainCall>, value: Plain) -> bool {
+pub fn passes(rule: Option<PlainCall>, value: Plain) -> bool {
     match rule {
         Some(rule) => accepts(rule, value),
         None => true,
@@ -103,7 +103,7 @@ pub(crate) fn passes(rule: Option<PlainCall>, value: Plain) -> bool {
 }
 
 /// The value that an operation makes of one, or why its function refuses.
-pub(crate) fn place(op: PlainOp, value: Plain) -> Result<Plain, Cause> {
+pub fn place(op: PlainOp, value: Plain) -> Result<Plain, Cause> {
     match op {
         PlainOp::Set(new) => Ok(new),
         PlainOp::Alter(call) | PlainOp::Commute(call) => means(call, value),
@@ -112,7 +112,7 @@ pub(crate) fn place(op: PlainOp, value: Plain) -> Result<Plain, Cause> {
 }
 
 /// Whether an operation may be made on the tally.
-pub(crate) fn fits_tally(op: PlainOp) -> bool {
+pub fn fits_tally(op: PlainOp) -> bool {
     match op {
         PlainOp::Ensure => true,
         PlainOp::Commute(call) => {
@@ -124,20 +124,20 @@ pub(crate) fn fits_tally(op: PlainOp) -> bool {
 
 /// A table of functions: `+`, `-`, `inc`, `>=` and `<=`, or fewer: `+` and `>=` alone.
 #[derive(Clone, Copy, Drop)]
-pub(crate) enum Table {
+pub enum Table {
     Full,
     Fewer,
 }
 
 impl Table {
-    pub(crate) fn funs(self) -> &'static [u32] {
+    pub fn funs(self) -> &'static [u32] {
         match self {
             Table::Full => &[1, 2, 3],
             Table::Fewer => &[1],
         }
     }
 
-    pub(crate) fn preds(self) -> &'static [u32] {
+    pub fn preds(self) -> &'static [u32] {
         match self {
             Table::Full => &[101, 102],
             Table::Fewer => &[101],
@@ -145,7 +145,7 @@ impl Table {
     }
 
     /// The code, where the table has no function of it.
-    pub(crate) fn lacked_fun(self, code: u32) -> Option<u32> {
+    pub fn lacked_fun(self, code: u32) -> Option<u32> {
         if self.funs().contains(&code) {
             None
         } else {
@@ -154,7 +154,7 @@ impl Table {
     }
 
     /// The code of the function of an operation, where the table lacks it.
-    pub(crate) fn lacked(self, op: PlainOp) -> Option<u32> {
+    pub fn lacked(self, op: PlainOp) -> Option<u32> {
         match op {
             PlainOp::Alter(call) | PlainOp::Commute(call) => self.lacked_fun(call.code),
             PlainOp::Set(_) | PlainOp::Ensure => None,
@@ -162,7 +162,7 @@ impl Table {
     }
 
     /// The code of a rule, if there is one and the table lacks its predicate.
-    pub(crate) fn lacked_pred(self, rule: Option<PlainCall>) -> Option<u32> {
+    pub fn lacked_pred(self, rule: Option<PlainCall>) -> Option<u32> {
         match rule {
             Some(rule) if !self.preds().contains(&rule.code) => Some(rule.code),
             _ => None,

@@ -3,7 +3,7 @@ use std::alloc::{AllocError, AllocFailed, Global};
 
 /// Why a list of calls ends early.
 #[derive(Clone, Copy, Debug, Drop)]
-pub(crate) enum Stop {
+pub enum Stop {
     Memory,
     /// Something isn't as in the model.
     Differs(&'static str),
@@ -21,11 +21,11 @@ impl<T: Drop> From<AllocFailed<T>> for Stop {
     }
 }
 
-pub(crate) type Played = Result<(), Stop>;
+pub type Played = Result<(), Stop>;
 
 /// What is counted: the outcomes of a call, or what else there is to say of it.
 #[derive(Clone, Copy, Drop)]
-pub(crate) enum Row {
+pub enum Row {
     New,
     NewRefuses,
     Begin,
@@ -140,12 +140,12 @@ const ROWS: &[(&str, &str)] = &[
 
 /// How often each outcome came.
 #[derive(Drop)]
-pub(crate) struct Outcomes {
+pub struct Outcomes {
     counts: Vec<[u64; 10]>,
 }
 
 impl Outcomes {
-    pub(crate) fn none(alloc: Global) -> Result<Outcomes, AllocError> {
+    pub fn none(alloc: Global) -> Result<Outcomes, AllocError> {
         let mut counts = Vec::new(alloc);
         for _ in ROWS {
             counts.push([0; 10])?;
@@ -154,7 +154,7 @@ impl Outcomes {
     }
 
     /// Counts one more outcome.
-    pub(crate) fn count(&mut self, row: Row, number: u8) {
+    pub fn count(&mut self, row: Row, number: u8) {
         if let Some(counts) = self.counts.get_mut(row as usize) {
             if let Some(count) = counts.get_mut(number as usize) {
                 *count = count.saturating_add(1);
@@ -191,7 +191,7 @@ impl Outcomes {
     }
 
     /// The name of a row.
-    pub(crate) fn name(row: Row) -> &'static str {
+    pub fn name(row: Row) -> &'static str {
         match ROWS.get(row as usize) {
             Some((name, _)) => name,
             None => "",
@@ -199,7 +199,7 @@ impl Outcomes {
     }
 
     /// The first call and outcome that never came, or that came and shouldn't.
-    pub(crate) fn wrong(&self) -> Option<(&'static str, &'static str)> {
+    pub fn wrong(&self) -> Option<(&'static str, &'static str)> {
         for (row, (name, words)) in ROWS.iter().enumerate() {
             if let Some(word) = self.wrong_in(row, words) {
                 return Some((name, word));

@@ -8,7 +8,7 @@ use ref_log::{MakeFault, RuleFault, Stamp, WatchFault, Who};
 use std::alloc::{AllocError, Global};
 
 #[derive(Clone, Copy, Drop)]
-pub(crate) enum Kind {
+pub enum Kind {
     Ref,
     Atom,
     Agent,
@@ -16,67 +16,93 @@ pub(crate) enum Kind {
 
 /// What a reference begins with.
 #[derive(Clone, Copy, Drop)]
-pub(crate) struct PlainStart {
-    pub(crate) value: Plain,
-    pub(crate) rule: Option<PlainCall>,
-    pub(crate) tally: bool,
-    pub(crate) mode: ErrorMode,
+pub struct PlainStart {
+    pub value: Plain,
+    pub rule: Option<PlainCall>,
+    pub tally: bool,
+    pub mode: ErrorMode,
 }
 
 /// A reference: its value, its rule, if any, and the keys of its watches.
 #[derive(Drop)]
-pub(crate) struct Reference {
-    pub(crate) value: Plain,
-    pub(crate) rule: Option<PlainCall>,
-    pub(crate) keys: Vec<Plain>,
+pub struct Reference {
+    pub value: Plain,
+    pub rule: Option<PlainCall>,
+    pub keys: Vec<Plain>,
 }
 
 /// What a watch is told.
 #[derive(Drop)]
-pub(crate) struct Told {
-    pub(crate) who: Who,
-    pub(crate) key: Plain,
-    pub(crate) before: Plain,
-    pub(crate) after: Plain,
+pub struct Told {
+    pub who: Who,
+    pub key: Plain,
+    pub before: Plain,
+    pub after: Plain,
 }
 
 /// An entry of the log.
-#[derive(Drop)]
-pub(crate) enum PlainEntry {
+pub enum PlainEntry {
     Trans(Stamp, PlainTx),
     Atom(u32, PlainOp, Plain),
     MadeRef(u32, Plain),
     MadeAtom(Plain),
 }
 
-/// A change of an atom.
-#[derive(Drop)]
-pub(crate) struct PlainChange {
-    pub(crate) old: Plain,
-    pub(crate) new: Plain,
-    pub(crate) told: Vec<Told>,
+// A function of its own, which whoever lets one go calls; a derived one would be written out there.
+impl Drop for PlainEntry {
+    fn drop(self) {
+        match self {
+            PlainEntry::Trans(_, _tx) => {}
+            PlainEntry::Atom(_, _, _) | PlainEntry::MadeRef(_, _) | PlainEntry::MadeAtom(_) => {}
+        }
+    }
 }
 
+/// A change of an atom.
 #[derive(Drop)]
-pub(crate) struct Model {
-    pub(crate) alloc: Global,
-    pub(crate) refs: Vec<Reference>,
-    pub(crate) atoms: Vec<Reference>,
-    pub(crate) agents: Vec<Reference>,
-    pub(crate) accounts: Vec<PlainAccount>,
-    pub(crate) tally: Option<u32>,
-    pub(crate) declared_refs: Vec<Plain>,
-    pub(crate) declared_atoms: Vec<Plain>,
-    pub(crate) log: Vec<PlainEntry>,
+pub struct PlainChange {
+    pub old: Plain,
+    pub new: Plain,
+    pub told: Vec<Told>,
+}
+
+pub struct Model {
+    pub alloc: Global,
+    pub refs: Vec<Reference>,
+    pub atoms: Vec<Reference>,
+    pub agents: Vec<Reference>,
+    pub accounts: Vec<PlainAccount>,
+    pub tally: Option<u32>,
+    pub declared_refs: Vec<Plain>,
+    pub declared_atoms: Vec<Plain>,
+    pub log: Vec<PlainEntry>,
     /// The points of the commits with sends that aren't released.
-    pub(crate) held: Vec<u64>,
+    pub held: Vec<u64>,
+}
+
+// A function of its own, which whoever lets one go calls; a derived one would be written out there.
+impl Drop for Model {
+    fn drop(self) {
+        let Model {
+            alloc: _,
+            refs: _refs,
+            atoms: _atoms,
+            agents: _agents,
+            accounts: _accounts,
+            tally: _,
+            declared_refs: _declared_refs,
+            declared_atoms: _declared_atoms,
+            log: _log,
+            held: _held,
+        } = self;
+    }
 }
 
 /// An answer of the model, where memory isn't refused.
-pub(crate) type Answer<T, F> = Result<Result<T, F>, AllocError>;
+pub type Answer<T, F> = Result<Result<T, F>, AllocError>;
 
 impl Model {
-    pub(crate) fn empty(alloc: Global) -> Model {
+    pub fn empty(alloc: Global) -> Model {
         Model {
             alloc,
             refs: Vec::new(alloc),
@@ -92,11 +118,11 @@ impl Model {
     }
 
     /// The present point.
-    pub(crate) fn point(&self) -> u64 {
+    pub fn point(&self) -> u64 {
         self.log.len() as u64
     }
 
-    pub(crate) fn count(&self, kind: Kind) -> usize {
+    pub fn count(&self, kind: Kind) -> usize {
         match kind {
             Kind::Ref => self.refs.len(),
             Kind::Atom => self.atoms.len(),
@@ -104,7 +130,7 @@ impl Model {
         }
     }
 
-    pub(crate) fn find(&self, who: Who) -> Option<&Reference> {
+    pub fn find(&self, who: Who) -> Option<&Reference> {
         match who {
             Who::Ref(r) => self.refs.get(r as usize),
             Who::Atom(a) => self.atoms.get(a as usize),
@@ -173,7 +199,7 @@ impl Model {
         Ok(Ok(number))
     }
 
-    pub(crate) fn declare(
+    pub fn declare(
         &mut self,
         table: Table,
         kind: Kind,
@@ -187,12 +213,7 @@ impl Model {
         self.made(table, kind, start)
     }
 
-    pub(crate) fn make(
-        &mut self,
-        table: Table,
-        kind: Kind,
-        start: PlainStart,
-    ) -> Answer<u32, MakeFault> {
+    pub fn make(&mut self, table: Table, kind: Kind, start: PlainStart) -> Answer<u32, MakeFault> {
         let made = self.made(table, kind, start)?;
         if let Ok(number) = made {
             match kind {
@@ -208,7 +229,7 @@ impl Model {
 // ---- Rules and watches
 
 impl Model {
-    pub(crate) fn set_validator(
+    pub fn set_validator(
         &mut self,
         table: Table,
         who: Who,
@@ -227,7 +248,7 @@ impl Model {
         Ok(())
     }
 
-    pub(crate) fn add_watch(&mut self, who: Who, key: Plain) -> Answer<bool, WatchFault> {
+    pub fn add_watch(&mut self, who: Who, key: Plain) -> Answer<bool, WatchFault> {
         let Some(reference) = self.find_mut(who) else {
             return Ok(Err(WatchFault::NoSuch));
         };
@@ -238,7 +259,7 @@ impl Model {
         Ok(Ok(true))
     }
 
-    pub(crate) fn remove_watch(&mut self, who: Who, key: Plain) -> bool {
+    pub fn remove_watch(&mut self, who: Who, key: Plain) -> bool {
         let Some(reference) = self.find_mut(who) else {
             return false;
         };
@@ -248,7 +269,7 @@ impl Model {
     }
 
     /// Whether a table has the predicate of each rule.
-    pub(crate) fn served_by(&self, table: Table) -> bool {
+    pub fn served_by(&self, table: Table) -> bool {
         are_served(&self.refs, table)
             && are_served(&self.atoms, table)
             && are_served(&self.agents, table)
@@ -266,7 +287,7 @@ fn are_served(references: &[Reference], table: Table) -> bool {
 
 impl Model {
     /// Gives a reference a value, and adds what its watches are told.
-    pub(crate) fn set_value(
+    pub fn set_value(
         &mut self,
         who: Who,
         after: Plain,
@@ -325,12 +346,7 @@ impl Model {
     }
 
     /// `swap!` and `reset!`: an `alter` or a `ref-set` of an atom.
-    pub(crate) fn change(
-        &mut self,
-        table: Table,
-        a: u32,
-        op: PlainOp,
-    ) -> Answer<PlainChange, AtomFault> {
+    pub fn change(&mut self, table: Table, a: u32, op: PlainOp) -> Answer<PlainChange, AtomFault> {
         match self.changed(table, a, op) {
             Ok((old, new)) => Ok(Ok(self.enter(a, op, old, new)?)),
             Err(fault) => Ok(Err(fault)),
@@ -338,7 +354,7 @@ impl Model {
     }
 
     /// `compare-and-set!`, which makes a change or none.
-    pub(crate) fn compare_and_set(
+    pub fn compare_and_set(
         &mut self,
         table: Table,
         a: u32,

@@ -10,38 +10,60 @@ use std::alloc::{AllocError, Global};
 
 /// A job: the agent, the number of the action, the action, and the state that it is for.
 #[derive(Clone, Copy, Drop, PartialEq)]
-pub(crate) struct PlainJob {
-    pub(crate) agent: u32,
-    pub(crate) number: u64,
-    pub(crate) call: PlainCall,
-    pub(crate) state: Plain,
+pub struct PlainJob {
+    pub agent: u32,
+    pub number: u64,
+    pub call: PlainCall,
+    pub state: Plain,
 }
 
 /// What an agent has beside its state, its rule and its watches.
-#[derive(Drop)]
-pub(crate) struct PlainAccount {
-    pub(crate) start: Plain,
-    pub(crate) handled: Vec<(PlainCall, Mark)>,
-    pub(crate) queue: Vec<(PlainCall, SentBy)>,
-    pub(crate) mode: ErrorMode,
-    pub(crate) error: Option<AgentError>,
+pub struct PlainAccount {
+    pub start: Plain,
+    pub handled: Vec<(PlainCall, Mark)>,
+    pub queue: Vec<(PlainCall, SentBy)>,
+    pub mode: ErrorMode,
+    pub error: Option<AgentError>,
     /// The job that is out.
-    pub(crate) out: Option<PlainJob>,
+    pub out: Option<PlainJob>,
+}
+
+// A function of its own, which whoever lets one go calls; a derived one would be written out there.
+impl Drop for PlainAccount {
+    fn drop(self) {
+        let PlainAccount {
+            start: _,
+            handled: _handled,
+            queue: _queue,
+            mode: _,
+            error: _,
+            out: _,
+        } = self;
+    }
 }
 
 /// How a job ended.
-#[derive(Drop)]
-pub(crate) enum PlainFinished {
+pub enum PlainFinished {
     Changed(Vec<Told>),
     Failed(AgentError),
     Continued(AgentError),
 }
 
+// A function of its own, which whoever lets one go calls; a derived one would be written out there.
+impl Drop for PlainFinished {
+    fn drop(self) {
+        match self {
+            PlainFinished::Changed(_told) => {}
+            PlainFinished::Failed(_) | PlainFinished::Continued(_) => {}
+        }
+    }
+}
+
 /// What came of an action that ran.
-pub(crate) type Ended = Result<Plain, Cause>;
+pub type Ended = Result<Plain, Cause>;
 
 impl PlainAccount {
-    pub(crate) fn new(alloc: Global, start: PlainStart) -> PlainAccount {
+    pub fn new(alloc: Global, start: PlainStart) -> PlainAccount {
         PlainAccount {
             start: start.value,
             handled: Vec::new(alloc),
@@ -87,7 +109,7 @@ impl PlainAccount {
 }
 
 /// What comes of the action of a job, by a table.
-pub(crate) fn plain_run(table: Table, job: PlainJob) -> Result<Ended, JobFault> {
+pub fn plain_run(table: Table, job: PlainJob) -> Result<Ended, JobFault> {
     match table.lacked_fun(job.call.code) {
         Some(code) => Err(JobFault::NoSuchFun(code)),
         None => Ok(means(job.call, job.state)),
@@ -97,7 +119,7 @@ pub(crate) fn plain_run(table: Table, job: PlainJob) -> Result<Ended, JobFault> 
 // ---- Sends
 
 impl Model {
-    pub(crate) fn is_failed(&self, g: u32) -> bool {
+    pub fn is_failed(&self, g: u32) -> bool {
         match self.accounts.get(g as usize) {
             Some(account) => account.error.is_some(),
             None => false,
@@ -105,7 +127,7 @@ impl Model {
     }
 
     /// Whether actions wait for an agent that is failed.
-    pub(crate) fn waits(&self, g: u32) -> bool {
+    pub fn waits(&self, g: u32) -> bool {
         match self.accounts.get(g as usize) {
             Some(account) => account.error.is_some() && !account.queue.is_empty(),
             None => false,
@@ -113,7 +135,7 @@ impl Model {
     }
 
     /// The first commit that is held and of whose sends none waits any more.
-    pub(crate) fn first_dropped(&self) -> Option<u64> {
+    pub fn first_dropped(&self) -> Option<u64> {
         self.held
             .iter()
             .copied()
@@ -121,7 +143,7 @@ impl Model {
     }
 
     /// Whether an action waits that the commit at this point sent.
-    pub(crate) fn has_queued(&self, point: u64) -> bool {
+    pub fn has_queued(&self, point: u64) -> bool {
         for account in &self.accounts {
             for (_, by) in &account.queue {
                 if *by == SentBy::Commit(point) {
@@ -132,14 +154,14 @@ impl Model {
         false
     }
 
-    pub(crate) fn queue(&mut self, g: u32, call: PlainCall, by: SentBy) -> Result<(), AllocError> {
+    pub fn queue(&mut self, g: u32, call: PlainCall, by: SentBy) -> Result<(), AllocError> {
         if let Some(account) = self.accounts.get_mut(g as usize) {
             account.queue.push((call, by))?;
         }
         Ok(())
     }
 
-    pub(crate) fn send(&mut self, g: u32, call: PlainCall) -> Answer<(), SendFault> {
+    pub fn send(&mut self, g: u32, call: PlainCall) -> Answer<(), SendFault> {
         if g as usize >= self.accounts.len() {
             return Ok(Err(SendFault::NoSuchAgent));
         }
@@ -150,7 +172,7 @@ impl Model {
         Ok(Ok(()))
     }
 
-    pub(crate) fn release(&mut self, point: u64) -> bool {
+    pub fn release(&mut self, point: u64) -> bool {
         let was = self.held.contains(&point);
         self.held.retain(|p| *p != point);
         was
@@ -168,7 +190,7 @@ impl Model {
     }
 
     /// The job of an agent that is ready.
-    pub(crate) fn ready_job(&self, g: u32) -> Option<PlainJob> {
+    pub fn ready_job(&self, g: u32) -> Option<PlainJob> {
         let account = self.accounts.get(g as usize)?;
         let (call, by) = account.queue.first().copied()?;
         if account.error.is_some() || account.out.is_some() || !self.is_free(by) {
@@ -183,7 +205,7 @@ impl Model {
     }
 
     /// The first agent that is failed.
-    pub(crate) fn first_failed(&self) -> Option<u32> {
+    pub fn first_failed(&self) -> Option<u32> {
         for (g, account) in (0..u32::MAX).zip(&self.accounts) {
             if account.error.is_some() {
                 return Some(g);
@@ -192,7 +214,7 @@ impl Model {
         None
     }
 
-    pub(crate) fn is_one_ready(&self) -> bool {
+    pub fn is_one_ready(&self) -> bool {
         for (g, _) in (0..u32::MAX).zip(&self.accounts) {
             if self.ready_job(g).is_some() {
                 return true;
@@ -202,7 +224,7 @@ impl Model {
     }
 
     /// The job of an agent is out, or none is.
-    pub(crate) fn set_out(&mut self, g: u32, out: Option<PlainJob>) {
+    pub fn set_out(&mut self, g: u32, out: Option<PlainJob>) {
         if let Some(account) = self.accounts.get_mut(g as usize) {
             account.out = out;
         }
@@ -216,7 +238,7 @@ impl Model {
     }
 
     /// Why a job isn't out: none is, or one that differs in one thing alone.
-    pub(crate) fn foreign_number(&self, job: PlainJob) -> Option<u8> {
+    pub fn foreign_number(&self, job: PlainJob) -> Option<u8> {
         let Some(out) = self.accounts.get(job.agent as usize)?.out else {
             return Some(0);
         };
@@ -233,7 +255,7 @@ impl Model {
         }
     }
 
-    pub(crate) fn put_back(&mut self, job: PlainJob) -> bool {
+    pub fn put_back(&mut self, job: PlainJob) -> bool {
         let is_out = self.is_out(job);
         if is_out {
             self.set_out(job.agent, None);
@@ -264,7 +286,7 @@ impl Model {
     }
 
     /// Ends a job that ran.
-    pub(crate) fn finish(
+    pub fn finish(
         &mut self,
         table: Table,
         job: PlainJob,
@@ -313,7 +335,7 @@ impl Model {
         Ok(())
     }
 
-    pub(crate) fn restart(
+    pub fn restart(
         &mut self,
         table: Table,
         g: u32,
@@ -330,7 +352,7 @@ impl Model {
         Ok(())
     }
 
-    pub(crate) fn set_error_mode(&mut self, g: u32, mode: ErrorMode) -> Result<(), ModeFault> {
+    pub fn set_error_mode(&mut self, g: u32, mode: ErrorMode) -> Result<(), ModeFault> {
         let Some(account) = self.accounts.get_mut(g as usize) else {
             return Err(ModeFault::NoSuchAgent);
         };

@@ -9,43 +9,66 @@ use std::alloc::AllocError;
 
 /// An operation with its answer.
 #[derive(Clone, Copy, Drop, PartialEq)]
-pub(crate) struct PlainDone {
-    pub(crate) r: u32,
-    pub(crate) op: PlainOp,
-    pub(crate) answer: Plain,
+pub struct PlainDone {
+    pub r: u32,
+    pub op: PlainOp,
+    pub answer: Plain,
 }
 
 /// What is sent.
 #[derive(Clone, Copy, Drop, PartialEq)]
-pub(crate) struct PlainSent {
-    pub(crate) agent: u32,
-    pub(crate) call: PlainCall,
+pub struct PlainSent {
+    pub agent: u32,
+    pub call: PlainCall,
 }
 
 /// A transaction: what it began with, and what it did.
-#[derive(Drop)]
-pub(crate) struct PlainTx {
-    pub(crate) read_point: u64,
-    pub(crate) began: Vec<Plain>,
-    pub(crate) tally: Option<u32>,
-    pub(crate) agents: usize,
-    pub(crate) dones: Vec<PlainDone>,
-    pub(crate) sends: Vec<PlainSent>,
+pub struct PlainTx {
+    pub read_point: u64,
+    pub began: Vec<Plain>,
+    pub tally: Option<u32>,
+    pub agents: usize,
+    pub dones: Vec<PlainDone>,
+    pub sends: Vec<PlainSent>,
+}
+
+// A function of its own, which whoever lets one go calls; a derived one would be written out there.
+impl Drop for PlainTx {
+    fn drop(self) {
+        let PlainTx {
+            read_point: _,
+            began: _began,
+            tally: _,
+            agents: _,
+            dones: _dones,
+            sends: _sends,
+        } = self;
+    }
 }
 
 /// A commit that was made.
-#[derive(Drop)]
-pub(crate) struct PlainReceipt {
-    pub(crate) point: u64,
-    pub(crate) stamp: Stamp,
-    pub(crate) told: Vec<Told>,
+pub struct PlainReceipt {
+    pub point: u64,
+    pub stamp: Stamp,
+    pub told: Vec<Told>,
+}
+
+// A function of its own, which whoever lets one go calls; a derived one would be written out there.
+impl Drop for PlainReceipt {
+    fn drop(self) {
+        let PlainReceipt {
+            point: _,
+            stamp: _,
+            told: _told,
+        } = self;
+    }
 }
 
 // ---- While it is open
 
 impl PlainTx {
     /// The value of a ref at the beginning, after the operations on it.
-    pub(crate) fn inner(&self, r: u32) -> Option<Plain> {
+    pub fn inner(&self, r: u32) -> Option<Plain> {
         let mut value = self.began.get(r as usize).copied()?;
         for done in &self.dones {
             if done.r == r {
@@ -88,7 +111,7 @@ impl PlainTx {
     }
 
     /// Makes an operation, and answers the value of the ref after it.
-    pub(crate) fn operate(&mut self, table: Table, r: u32, op: PlainOp) -> Answer<Plain, TxFault> {
+    pub fn operate(&mut self, table: Table, r: u32, op: PlainOp) -> Answer<Plain, TxFault> {
         let answer = self.answer(table, r, op);
         if let Ok(answer) = answer {
             self.dones.push(PlainDone { r, op, answer })?;
@@ -96,12 +119,7 @@ impl PlainTx {
         Ok(answer)
     }
 
-    pub(crate) fn send(
-        &mut self,
-        table: Table,
-        agent: u32,
-        call: PlainCall,
-    ) -> Answer<(), TxFault> {
+    pub fn send(&mut self, table: Table, agent: u32, call: PlainCall) -> Answer<(), TxFault> {
         if let Some(code) = table.lacked_fun(call.code) {
             return Ok(Err(TxFault::NoSuchFun(code)));
         }
@@ -112,7 +130,7 @@ impl PlainTx {
         Ok(Ok(()))
     }
 
-    pub(crate) fn require(&self, table: Table, r: u32, rule: PlainCall) -> Result<(), TxFault> {
+    pub fn require(&self, table: Table, r: u32, rule: PlainCall) -> Result<(), TxFault> {
         let Some(value) = self.inner(r) else {
             return Err(TxFault::NoSuchRef);
         };
@@ -140,7 +158,7 @@ impl PlainTx {
 }
 
 impl Model {
-    pub(crate) fn values(&self, of: &[Reference]) -> Result<Vec<Plain>, AllocError> {
+    pub fn values(&self, of: &[Reference]) -> Result<Vec<Plain>, AllocError> {
         let mut values = Vec::new(self.alloc);
         for reference in of {
             values.push(reference.value)?;
@@ -148,7 +166,7 @@ impl Model {
         Ok(values)
     }
 
-    pub(crate) fn begin(&self) -> Result<PlainTx, AllocError> {
+    pub fn begin(&self) -> Result<PlainTx, AllocError> {
         Ok(PlainTx {
             read_point: self.point(),
             began: self.values(&self.refs)?,
@@ -351,7 +369,7 @@ impl Model {
     }
 
     /// Commits a transaction.
-    pub(crate) fn commit(
+    pub fn commit(
         &mut self,
         table: Table,
         stamp: Stamp,
@@ -375,7 +393,7 @@ impl Model {
 
 impl Model {
     /// The code of the first function in the log that the table lacks.
-    pub(crate) fn lacked_in_log(&self, table: Table) -> Option<u32> {
+    pub fn lacked_in_log(&self, table: Table) -> Option<u32> {
         for entry in &self.log {
             let code = match entry {
                 PlainEntry::Trans(_, tx) => tx.lacked(table),

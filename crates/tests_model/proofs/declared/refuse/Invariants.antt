@@ -1,4 +1,4 @@
-use Rattle.tests_model.proofs.playing.drawn_world.Given as goal
+use Rattle.tests_model.proofs.declared.refuse.Given as goal
 
 abbrev pub ghosts-is_refused-C-Ledger : goal.ghosts-is_refused-C-Ledger
 ghosts-is_refused-C-Ledger g a = record { name = a.commits.name; parts = a.commits.parts }

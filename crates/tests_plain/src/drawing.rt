@@ -6,12 +6,12 @@ use ref_log::Who;
 
 /// Numbers that follow one another as if by chance. The same first one gives the same row.
 #[derive(Clone, Copy, Drop)]
-pub(crate) struct Draws {
+pub struct Draws {
     state: u64,
 }
 
 impl Draws {
-    pub(crate) fn of(first: u64) -> Draws {
+    pub fn of(first: u64) -> Draws {
         Draws { state: first }
     }
 
@@ -23,12 +23,12 @@ impl Draws {
     }
 
     /// A number below `limit`, or 0.
-    pub(crate) fn below(&mut self, limit: usize) -> usize {
+    pub fn below(&mut self, limit: usize) -> usize {
         let drawn = self.next() as usize;
         if limit == 0 { 0 } else { drawn % limit }
     }
 
-    pub(crate) fn once_in(&mut self, times: usize) -> bool {
+    pub fn once_in(&mut self, times: usize) -> bool {
         self.below(times) == 0
     }
 
@@ -47,7 +47,7 @@ impl Draws {
         }
     }
 
-    pub(crate) fn value(&mut self) -> Plain {
+    pub fn value(&mut self) -> Plain {
         match self.below(20) {
             0 | 1 => Plain::Nil,
             2 | 3 => Plain::Int(self.extreme()),
@@ -64,7 +64,7 @@ impl Draws {
     }
 
     /// A function with arguments, now and then one that no table has.
-    pub(crate) fn function(&mut self) -> PlainCall {
+    pub fn function(&mut self) -> PlainCall {
         let code = match self.below(16) {
             0 => 7,
             1 | 2 => 3,
@@ -80,7 +80,7 @@ impl Draws {
     }
 
     /// An action. Two of them are drawn often: one that fails, and one that may be the same in two worlds.
-    pub(crate) fn action(&mut self) -> PlainCall {
+    pub fn action(&mut self) -> PlainCall {
         let (code, given) = match self.below(8) {
             0..=2 => (2, Given::One(Plain::Nil)),
             3..=5 => (1, Given::One(Plain::Int(1))),
@@ -98,7 +98,7 @@ impl Draws {
     }
 
     /// A predicate with arguments, now and then one that no table has.
-    pub(crate) fn rule(&mut self) -> PlainCall {
+    pub fn rule(&mut self) -> PlainCall {
         match self.below(16) {
             0 => PlainCall {
                 code: 104,
@@ -116,7 +116,7 @@ impl Draws {
     }
 
     /// A rule or none.
-    pub(crate) fn rule_or_none(&mut self) -> Option<PlainCall> {
+    pub fn rule_or_none(&mut self) -> Option<PlainCall> {
         if self.once_in(3) {
             Some(self.rule())
         } else {
@@ -124,7 +124,7 @@ impl Draws {
         }
     }
 
-    pub(crate) fn mode(&mut self) -> ErrorMode {
+    pub fn mode(&mut self) -> ErrorMode {
         if self.once_in(2) {
             ErrorMode::Continue
         } else {
@@ -133,7 +133,7 @@ impl Draws {
     }
 
     /// How many references of a kind there are at the start: mostly one or some, but no more than so many.
-    pub(crate) fn count(&mut self, most: usize) -> usize {
+    pub fn count(&mut self, most: usize) -> usize {
         if self.once_in(20) {
             0
         } else {
@@ -142,12 +142,12 @@ impl Draws {
     }
 
     /// How many calls a list has.
-    pub(crate) fn length(&mut self) -> u32 {
+    pub fn length(&mut self) -> u32 {
         5 + (self.next() % 56) as u32
     }
 
     /// What a reference begins with. It may be meant as the tally.
-    pub(crate) fn start(&mut self) -> PlainStart {
+    pub fn start(&mut self) -> PlainStart {
         PlainStart {
             value: self.value(),
             rule: self.rule_or_none(),
@@ -157,7 +157,7 @@ impl Draws {
     }
 
     /// A number below a count, now and then one past it.
-    pub(crate) fn near(&mut self, count: usize) -> u32 {
+    pub fn near(&mut self, count: usize) -> u32 {
         let number = if self.once_in(12) {
             count.saturating_add(self.below(2))
         } else {
@@ -166,7 +166,7 @@ impl Draws {
         u32::try_from(number).unwrap_or(u32::MAX)
     }
 
-    pub(crate) fn kind(&mut self) -> Kind {
+    pub fn kind(&mut self) -> Kind {
         match self.below(3) {
             0 => Kind::Ref,
             1 => Kind::Atom,
@@ -175,11 +175,11 @@ impl Draws {
     }
 
     /// The number of a reference of a kind, now and then of one that isn't there.
-    pub(crate) fn number(&mut self, model: &Model, kind: Kind) -> u32 {
+    pub fn number(&mut self, model: &Model, kind: Kind) -> u32 {
         self.near(model.count(kind))
     }
 
-    pub(crate) fn who(&mut self, model: &Model) -> Who {
+    pub fn who(&mut self, model: &Model) -> Who {
         match self.kind() {
             Kind::Ref => Who::Ref(self.number(model, Kind::Ref)),
             Kind::Atom => Who::Atom(self.number(model, Kind::Atom)),
@@ -187,12 +187,30 @@ impl Draws {
         }
     }
 
-    pub(crate) fn key(&mut self) -> Plain {
+    /// Mostly a point that is held, and rather one whose sends were dropped.
+    pub fn held_point(&mut self, model: &Model) -> u64 {
+        let i = self.below(model.held.len());
+        match (model.first_dropped(), model.held.get(i)) {
+            (Some(point), _) if self.once_in(2) => point,
+            (_, Some(point)) if !self.once_in(4) => *point,
+            _ => self.below(model.log.len().saturating_add(2)) as u64,
+        }
+    }
+
+    /// Mostly an agent that is failed.
+    pub fn failed(&mut self, model: &Model) -> u32 {
+        match model.first_failed() {
+            Some(g) if !self.once_in(4) => g,
+            _ => self.number(model, Kind::Agent),
+        }
+    }
+
+    pub fn key(&mut self) -> Plain {
         Plain::Int(self.small(0) % 2)
     }
 
     /// The table that has all functions, now and then the one that has fewer.
-    pub(crate) fn table(&mut self) -> Table {
+    pub fn table(&mut self) -> Table {
         if self.once_in(8) {
             Table::Fewer
         } else {

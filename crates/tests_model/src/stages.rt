@@ -1,0 +1,241 @@
+//! Two worlds at once, and the calls on them.
+use crate::commits::{begin, commit};
+use crate::jobs::{call_on_agents, call_on_job, take};
+use crate::references::call_on_references;
+use crate::sides::{Side, check};
+use std::alloc::Global;
+use std::sync::ledger::Ledger;
+use tests_plain::held::Held;
+use tests_plain::open::{Open, call_on_open};
+use tests_plain::outcomes::{Played, Stop};
+use tests_plain::player::Player;
+
+/// Two worlds, and the open transactions and jobs that may be handed to either.
+pub(crate) struct Stage<'a, C: Ledger, A: Ledger, D: Ledger, B: Ledger> {
+    pub(crate) first: Side<'a, C, A>,
+    pub(crate) second: Side<'a, D, B>,
+    open: Vec<Option<Open>>,
+    jobs: Vec<Option<Held>>,
+}
+
+// A function of its own, which whoever lets one go calls; a derived one would be written out there.
+impl<C: Ledger, A: Ledger, D: Ledger, B: Ledger> Drop for Stage<'_, C, A, D, B> {
+    fn drop(self) {
+        let Stage {
+            first: _first,
+            second: _second,
+            open: _open,
+            jobs: _jobs,
+        } = self;
+    }
+}
+
+// Places with nothing in them.
+fn places<T: Drop>(alloc: Global) -> Result<Vec<Option<T>>, Stop> {
+    let mut places = Vec::new(alloc);
+    for _ in 0..3 {
+        places.push(None)?;
+    }
+    Ok(places)
+}
+
+/// Nothing is open on it, and no job is held.
+pub(crate) fn new_stage<'a, C: Ledger, A: Ledger, D: Ledger, B: Ledger>(
+    player: &Player,
+    first: Side<'a, C, A>,
+    second: Side<'a, D, B>,
+) -> Result<Stage<'a, C, A, D, B>, Stop> {
+    Ok(Stage {
+        first,
+        second,
+        open: places(player.alloc)?,
+        jobs: places(player.alloc)?,
+    })
+}
+
+fn taken<T: Drop>(places: &mut Vec<Option<T>>, i: usize) -> Option<T> {
+    match places.get_mut(i) {
+        Some(place) => place.take(),
+        None => None,
+    }
+}
+
+fn put<T: Drop>(places: &mut Vec<Option<T>>, i: usize, item: Option<T>) {
+    if let Some(place) = places.get_mut(i) {
+        *place = item;
+    }
+}
+
+// Mostly this one of the two worlds.
+fn near(player: &mut Player, home: usize) -> usize {
+    if player.draws.once_in(3) {
+        player.draws.below(2)
+    } else {
+        home
+    }
+}
+
+fn call_on_world<C: Ledger, A: Ledger>(
+    player: &mut Player,
+    side: &mut Side<C, A>,
+    of_agents: bool,
+) -> Played {
+    if of_agents {
+        call_on_agents(player, side)?;
+    } else {
+        call_on_references(player, side)?;
+    }
+    check(player, side)
+}
+
+fn play_on_world<C: Ledger, A: Ledger, D: Ledger, B: Ledger>(
+    player: &mut Player,
+    stage: &mut Stage<C, A, D, B>,
+    of_agents: bool,
+) -> Played {
+    match player.draws.below(2) {
+        0 => call_on_world(player, &mut stage.first, of_agents),
+        _ => call_on_world(player, &mut stage.second, of_agents),
+    }
+}
+
+fn begun<C: Ledger, A: Ledger, D: Ledger, B: Ledger>(
+    player: &mut Player,
+    stage: &Stage<C, A, D, B>,
+) -> Result<Open, Stop> {
+    match player.draws.below(2) {
+        0 => begin(player, &stage.first),
+        _ => begin(player, &stage.second),
+    }
+}
+
+// A refused one is dropped or tried again.
+fn commit_on<C: Ledger, A: Ledger>(
+    player: &mut Player,
+    side: &mut Side<C, A>,
+    open: Open,
+) -> Result<Option<Open>, Stop> {
+    let left = commit(player, side, open)?;
+    check(player, side)?;
+    if player.draws.once_in(2) {
+        Ok(None)
+    } else {
+        Ok(left)
+    }
+}
+
+// A commit comes mostly after some operations.
+fn go_on<C: Ledger, A: Ledger, D: Ledger, B: Ledger>(
+    player: &mut Player,
+    stage: &mut Stage<C, A, D, B>,
+    mut open: Open,
+) -> Result<Option<Open>, Stop> {
+    let operations = open
+        .plain
+        .dones
+        .len()
+        .saturating_add(open.plain.sends.len());
+    if !player.draws.once_in(if operations > 1 { 4 } else { 16 }) {
+        call_on_open(player, &stage.first.tables, &mut open)?;
+        return Ok(Some(open));
+    }
+    match near(player, open.home) {
+        0 => commit_on(player, &mut stage.first, open),
+        _ => commit_on(player, &mut stage.second, open),
+    }
+}
+
+fn play_transaction<C: Ledger, A: Ledger, D: Ledger, B: Ledger>(
+    player: &mut Player,
+    stage: &mut Stage<C, A, D, B>,
+) -> Played {
+    let i = player.draws.below(stage.open.len());
+    let left = match taken(&mut stage.open, i) {
+        None => Some(begun(player, stage)?),
+        Some(open) => go_on(player, stage, open)?,
+    };
+    put(&mut stage.open, i, left);
+    Ok(())
+}
+
+fn take_on<C: Ledger, A: Ledger>(
+    player: &mut Player,
+    side: &mut Side<C, A>,
+) -> Result<Option<Held>, Stop> {
+    let held = take(player, side)?;
+    check(player, side)?;
+    Ok(held)
+}
+
+// Mostly from a world that has an agent that is ready.
+fn taken_job<C: Ledger, A: Ledger, D: Ledger, B: Ledger>(
+    player: &mut Player,
+    stage: &mut Stage<C, A, D, B>,
+) -> Result<Option<Held>, Stop> {
+    let is_first = if player.draws.once_in(2) {
+        stage.first.model.is_one_ready()
+    } else {
+        !stage.second.model.is_one_ready()
+    };
+    if is_first {
+        take_on(player, &mut stage.first)
+    } else {
+        take_on(player, &mut stage.second)
+    }
+}
+
+fn work_on<C: Ledger, A: Ledger>(
+    player: &mut Player,
+    side: &mut Side<C, A>,
+    held: Held,
+) -> Result<Option<Held>, Stop> {
+    let left = call_on_job(player, side, held)?;
+    check(player, side)?;
+    Ok(left)
+}
+
+fn work<C: Ledger, A: Ledger, D: Ledger, B: Ledger>(
+    player: &mut Player,
+    stage: &mut Stage<C, A, D, B>,
+    held: Held,
+) -> Result<Option<Held>, Stop> {
+    match near(player, held.slip.home) {
+        0 => work_on(player, &mut stage.first, held),
+        _ => work_on(player, &mut stage.second, held),
+    }
+}
+
+fn is_one_ready<C: Ledger, A: Ledger, D: Ledger, B: Ledger>(stage: &Stage<C, A, D, B>) -> bool {
+    stage.first.model.is_one_ready() || stage.second.model.is_one_ready()
+}
+
+fn play_job<C: Ledger, A: Ledger, D: Ledger, B: Ledger>(
+    player: &mut Player,
+    stage: &mut Stage<C, A, D, B>,
+) -> Played {
+    let i = player.draws.below(stage.jobs.len());
+    let left = match taken(&mut stage.jobs, i) {
+        None if !is_one_ready(stage) && !player.draws.once_in(4) => {
+            return play_on_world(player, stage, true);
+        }
+        None => taken_job(player, stage)?,
+        Some(held) => work(player, stage, held)?,
+    };
+    put(&mut stage.jobs, i, left);
+    Ok(())
+}
+
+/// One call.
+pub(crate) fn play<C: Ledger, A: Ledger, D: Ledger, B: Ledger>(
+    player: &mut Player,
+    stage: &mut Stage<C, A, D, B>,
+) -> Played {
+    let (transactions, jobs) = if player.of_agents { (3, 7) } else { (6, 7) };
+    match player.draws.below(10) {
+        kind if kind < transactions => play_transaction(player, stage),
+        kind if kind < jobs => play_job(player, stage),
+        7 => play_on_world(player, stage, true),
+        8 => play_on_world(player, stage, player.of_agents),
+        _ => play_on_world(player, stage, false),
+    }
+}

@@ -1,0 +1,64 @@
+//! Values, arguments and rules as the references have them, made from those of the model.
+ghost use Rattle.std.specs.Prelude.{◌≤◌, length};
+
+use crate::model::PlainStart;
+use crate::plain::{Given, Plain, PlainCall};
+use ref_edn::{Node, Value};
+use ref_fun::{Args, MOST_ARGUMENTS, Rule};
+use std::alloc::{AllocError, Global};
+
+/// The value that the model has.
+pub fn value_from(value: Plain) -> Result<Value, AllocError> {
+    let node = match value {
+        Plain::Int(n) => Node::Int(n),
+        Plain::Nil => Node::Nil,
+    };
+    Value::of(node).map_err(|_| AllocError)
+}
+
+fn values_from(alloc: Global, given: Given) -> Result<Vec<Value>, AllocError> {
+    let mut values = Vec::new(alloc);
+    match given {
+        Given::Nothing => {}
+        Given::One(a) => values.push(value_from(a)?)?,
+        Given::Two(a, b) => {
+            values.push(value_from(a)?)?;
+            values.push(value_from(b)?)?;
+        }
+    }
+    Ok(values)
+}
+
+/// The arguments that the model has.
+pub fn args_from(alloc: Global, given: Given) -> Result<Args, AllocError> {
+    let values = values_from(alloc, given)?;
+    if values.len() > MOST_ARGUMENTS {
+        return Err(AllocError);
+    }
+    Args::of(alloc, values)
+}
+
+pub fn rule_from(alloc: Global, rule: PlainCall) -> Result<Rule, AllocError> {
+    Ok(Rule {
+        code: rule.code,
+        args: args_from(alloc, rule.given)?,
+    })
+}
+
+/// The rule that the model has, if any.
+pub fn any_rule_from(alloc: Global, rule: Option<PlainCall>) -> Result<Option<Rule>, AllocError> {
+    match rule {
+        Some(rule) => Ok(Some(rule_from(alloc, rule)?)),
+        None => Ok(None),
+    }
+}
+
+/// The value and the rule, if any, that a reference begins with.
+pub fn value_and_rule_from(
+    alloc: Global,
+    start: PlainStart,
+) -> Result<(Value, Option<Rule>), AllocError> {
+    let value = value_from(start.value)?;
+    let rule = any_rule_from(alloc, start.rule)?;
+    Ok((value, rule))
+}

@@ -1,0 +1,246 @@
+//! Open transactions: the calls of them, each on one and on its model, and what came of their commits.
+use crate::making::{args_from, rule_from, value_from};
+use crate::model::Model;
+use crate::outcomes::{Played, Row};
+use crate::plain::{Plain, PlainCall, PlainOp, Table};
+use crate::player::Player;
+use crate::shows::{Shows, agree};
+use crate::tables::Tables;
+use crate::transactions::{PlainReceipt, PlainTx};
+use ref_edn::Value;
+use ref_fun::{Cause, Core, FunTable};
+use ref_refs::{Alien, CommitFault};
+use ref_tx::{Tx, TxFault};
+use std::alloc::Global;
+
+/// An open transaction, its model, and the number of the world that it was begun in.
+pub struct Open {
+    pub tx: Tx<Core>,
+    pub plain: PlainTx,
+    pub home: usize,
+}
+
+// A function of its own, which whoever lets one go calls; a derived one would be written out there.
+impl Drop for Open {
+    fn drop(self) {
+        let Open {
+            tx: _tx,
+            plain: _plain,
+            home: _,
+        } = self;
+    }
+}
+
+impl Open {
+    /// The transaction, its model, and the number of its world.
+    pub fn parts(self) -> (Tx<Core>, PlainTx, usize) {
+        let Open { tx, plain, home } = self;
+        (tx, plain, home)
+    }
+}
+
+// ---- While it is open
+
+fn drawn_op(player: &mut Player) -> PlainOp {
+    match player.draws.below(12) {
+        0..=2 => {
+            player.calls(Row::RefSet);
+            PlainOp::Set(player.draws.value())
+        }
+        3..=5 => {
+            player.calls(Row::Alter);
+            PlainOp::Alter(player.draws.function())
+        }
+        6..=9 => {
+            player.calls(Row::Commute);
+            PlainOp::Commute(player.draws.function())
+        }
+        _ => {
+            player.calls(Row::Ensure);
+            PlainOp::Ensure
+        }
+    }
+}
+
+fn set(alloc: Global, tx: &mut Tx<Core>, r: u32, value: Plain) -> Result<Value, TxFault> {
+    let value = value_from(value)?;
+    tx.ref_set(alloc, r, value)
+}
+
+fn alter(
+    alloc: Global,
+    funs: &FunTable,
+    tx: &mut Tx<Core>,
+    r: u32,
+    call: PlainCall,
+) -> Result<Value, TxFault> {
+    let args = args_from(alloc, call.given)?;
+    tx.alter(alloc, funs, r, call.code, args)
+}
+
+fn commute(
+    alloc: Global,
+    funs: &FunTable,
+    tx: &mut Tx<Core>,
+    r: u32,
+    call: PlainCall,
+) -> Result<Value, TxFault> {
+    let args = args_from(alloc, call.given)?;
+    tx.commute(alloc, funs, r, call.code, args)
+}
+
+fn operated(
+    alloc: Global,
+    funs: &FunTable,
+    tx: &mut Tx<Core>,
+    r: u32,
+    op: PlainOp,
+) -> Result<Value, TxFault> {
+    match op {
+        PlainOp::Set(value) => set(alloc, tx, r, value),
+        PlainOp::Alter(call) => alter(alloc, funs, tx, r, call),
+        PlainOp::Commute(call) => commute(alloc, funs, tx, r, call),
+        PlainOp::Ensure => tx.ensure(alloc, r),
+    }
+}
+
+fn cause_of(fault: Option<TxFault>) -> Option<Cause> {
+    match fault {
+        Some(TxFault::Refused(cause)) => Some(cause),
+        _ => None,
+    }
+}
+
+// Ends a call of an open transaction, which shows what the model has.
+fn told(player: &mut Player, open: &Open, is_same: bool, fault: Option<TxFault>) -> Played {
+    let number = match fault {
+        Some(fault) => fault.number(),
+        None => 0,
+    };
+    player.told(is_same && open.tx.shows(&open.plain), number)
+}
+
+// Whether an operation was answered as in the model.
+fn compare(
+    player: &mut Player,
+    open: &mut Open,
+    seen: &Result<Value, TxFault>,
+    (table, r, op): (Table, u32, PlainOp),
+) -> Played {
+    let wanted = open.plain.operate(table, r, op)?;
+    player.count_cause(Row::CauseInside, cause_of(wanted.err()));
+    told(player, open, agree(seen, &wanted), wanted.err())
+}
+
+fn operate(player: &mut Player, tables: &Tables, open: &mut Open, r: u32) -> Played {
+    let op = drawn_op(player);
+    let table = player.draws.table();
+    let seen = operated(player.alloc, tables.of(table), &mut open.tx, r, op);
+    compare(player, open, &seen, (table, r, op))
+}
+
+fn deref(player: &mut Player, open: &Open, r: u32) -> Played {
+    player.calls(Row::Deref);
+    match (open.tx.deref(r), open.plain.inner(r)) {
+        (Ok(value), Some(plain)) => player.told(value.shows(&plain), 0),
+        (Err(fault), None) => player.told(fault == TxFault::NoSuchRef, 1),
+        _ => player.told(false, 0),
+    }
+}
+
+fn required(
+    alloc: Global,
+    funs: &FunTable,
+    tx: &Tx<Core>,
+    r: u32,
+    rule: PlainCall,
+) -> Result<(), TxFault> {
+    let rule = rule_from(alloc, rule)?;
+    tx.require(funs, r, &rule)
+}
+
+fn require(player: &mut Player, tables: &Tables, open: &Open, r: u32) -> Played {
+    player.calls(Row::Require);
+    let (table, rule) = (player.draws.table(), player.draws.rule());
+    let seen = required(player.alloc, tables.of(table), &open.tx, r, rule);
+    let wanted = open.plain.require(table, r, rule);
+    told(player, open, seen == wanted, wanted.err())
+}
+
+fn sent(
+    alloc: Global,
+    funs: &FunTable,
+    tx: &mut Tx<Core>,
+    g: u32,
+    call: PlainCall,
+) -> Result<(), TxFault> {
+    let args = args_from(alloc, call.given)?;
+    tx.send(alloc, funs, g, call.code, args)
+}
+
+fn send(player: &mut Player, tables: &Tables, open: &mut Open) -> Played {
+    player.calls(Row::SendInside);
+    let g = player.draws.near(open.plain.agents);
+    let (table, call) = (player.draws.table(), player.draws.action());
+    let seen = sent(player.alloc, tables.of(table), &mut open.tx, g, call);
+    let wanted = open.plain.send(table, g, call)?;
+    told(player, open, seen == wanted, wanted.err())
+}
+
+/// Makes a call of an open transaction.
+pub fn call_on_open(player: &mut Player, tables: &Tables, open: &mut Open) -> Played {
+    if player.of_agents && player.draws.once_in(2) {
+        return send(player, tables, open);
+    }
+    let r = player.draws.near(open.plain.began.len());
+    match player.draws.below(16) {
+        0..=10 => operate(player, tables, open, r),
+        11 => deref(player, open, r),
+        12 => require(player, tables, open, r),
+        _ => send(player, tables, open),
+    }
+}
+
+// ---- Its commit
+
+fn count_fault(player: &mut Player, fault: CommitFault) {
+    let (call, number) = match fault {
+        CommitFault::Foreign(Alien::Ref(_)) => (Row::Alien, 0),
+        CommitFault::Foreign(Alien::Agent(_)) => (Row::Alien, 1),
+        CommitFault::Foreign(Alien::Tally) => (Row::Alien, 2),
+        CommitFault::Foreign(Alien::Point(_)) => (Row::Alien, 3),
+        CommitFault::Foreign(Alien::Value(_)) => (Row::Alien, 4),
+        CommitFault::Refused(_, cause) => (Row::CauseAtCommit, cause.number()),
+        CommitFault::NoSuchFun(code) if code < 100 => (Row::Lacking, 0),
+        CommitFault::NoSuchFun(_) => (Row::Lacking, 1),
+        _ => return,
+    };
+    player.count(call, number);
+}
+
+// What else there is to say of a commit that was made.
+fn count_commit(player: &mut Player, model: &Model, receipt: &PlainReceipt, plain: &PlainTx) {
+    if plain.dones.is_empty() && plain.sends.is_empty() {
+        player.count(Row::Committed, 0);
+    }
+    if !receipt.told.is_empty() {
+        player.count(Row::Committed, 1);
+    }
+    for sent in &plain.sends {
+        let is_failed = model.is_failed(sent.agent);
+        player.count(Row::Committed, if is_failed { 3 } else { 2 });
+    }
+}
+
+/// Counts what came of a commit.
+pub fn count_outcome(
+    player: &mut Player,
+    model: &Model,
+    wanted: &Result<PlainReceipt, CommitFault>,
+    plain: &PlainTx,
+) {
+    match wanted {
+        Ok(receipt) => count_commit(player, model, receipt, plain),
+        Err(fault) => count_fault(player, *fault),
+    }
+}

@@ -1,0 +1,257 @@
+//! Whether what is seen is what the model has.
+use crate::agents::{PlainAccount, PlainFinished, PlainJob};
+use crate::model::{Model, PlainChange, PlainEntry, Told};
+use crate::plain::{Given, Plain, PlainCall, PlainOp, Table};
+use crate::transactions::{PlainDone, PlainSent, PlainTx};
+use ref_agents::{Account, Finished, Handled, Job, Mark};
+use ref_atoms::{Cas, Swapped};
+use ref_edn::{Node, Value};
+use ref_fun::{Action, Args, Core, Rule};
+use ref_log::{AuditFault, Base, Done, Entry, Notice, Op, PlainState, Sent, Transaction};
+use ref_tx::Tx;
+use std::alloc::AllocError;
+
+/// What shows something of the model.
+pub trait Shows<P> {
+    /// Whether it is this.
+    fn shows(&self, plain: &P) -> bool;
+}
+
+/// Whether these show just those, in order.
+pub fn show<S: Shows<P>, P>(seen: &[S], plain: &[P]) -> bool {
+    for (item, wanted) in seen.iter().zip(plain) {
+        if !item.shows(wanted) {
+            return false;
+        }
+    }
+    seen.len() == plain.len()
+}
+
+/// Whether an answer is that of the model, or the same fault.
+pub fn agree<S: Shows<P>, P, F: PartialEq>(seen: &Result<S, F>, wanted: &Result<P, F>) -> bool {
+    match (seen, wanted) {
+        (Ok(answer), Ok(plain)) => answer.shows(plain),
+        (Err(fault), Err(other)) => fault == other,
+        _ => false,
+    }
+}
+
+// ---- Values and functions
+
+impl Shows<Plain> for Value {
+    fn shows(&self, plain: &Plain) -> bool {
+        match (self.node(), plain) {
+            (Node::Nil, Plain::Nil) => true,
+            (Node::Int(n), Plain::Int(wanted)) => n == wanted,
+            _ => false,
+        }
+    }
+}
+
+impl Shows<Given> for Args {
+    fn shows(&self, plain: &Given) -> bool {
+        match (self.as_slice(), plain) {
+            ([], Given::Nothing) => true,
+            ([a], Given::One(first)) => a.shows(first),
+            ([a, b], Given::Two(first, second)) => a.shows(first) && b.shows(second),
+            _ => false,
+        }
+    }
+}
+
+impl Shows<PlainCall> for Action {
+    fn shows(&self, plain: &PlainCall) -> bool {
+        self.code == plain.code && self.args.shows(&plain.given)
+    }
+}
+
+impl Shows<PlainOp> for Op {
+    fn shows(&self, plain: &PlainOp) -> bool {
+        match (self, plain) {
+            (Op::Set(value), PlainOp::Set(wanted)) => value.shows(wanted),
+            (Op::Alter(code, args), PlainOp::Alter(call))
+            | (Op::Commute(code, args), PlainOp::Commute(call)) => {
+                *code == call.code && args.shows(&call.given)
+            }
+            (Op::Ensure, PlainOp::Ensure) => true,
+            _ => false,
+        }
+    }
+}
+
+/// Whether a rule, if there is one, is the one of the model.
+pub fn is_rule(seen: Option<&Rule>, wanted: Option<PlainCall>) -> bool {
+    match (seen, wanted) {
+        (Some(rule), Some(call)) => rule.code == call.code && rule.args.shows(&call.given),
+        (None, None) => true,
+        _ => false,
+    }
+}
+
+// ---- Answers
+
+impl Shows<Told> for Notice {
+    fn shows(&self, plain: &Told) -> bool {
+        self.who == plain.who
+            && self.key.shows(&plain.key)
+            && self.before.shows(&plain.before)
+            && self.after.shows(&plain.after)
+    }
+}
+
+impl Shows<PlainChange> for Swapped {
+    fn shows(&self, plain: &PlainChange) -> bool {
+        self.old.shows(&plain.old) && self.new.shows(&plain.new) && show(&self.notices, &plain.told)
+    }
+}
+
+impl Shows<Option<PlainChange>> for Cas {
+    fn shows(&self, plain: &Option<PlainChange>) -> bool {
+        match plain {
+            Some(change) => self.done && show(&self.notices, &change.told),
+            None => !self.done && self.notices.is_empty(),
+        }
+    }
+}
+
+impl Shows<PlainJob> for Job {
+    fn shows(&self, plain: &PlainJob) -> bool {
+        self.agent() == plain.agent
+            && self.number() == plain.number
+            && self.action().shows(&plain.call)
+            && self.state().shows(&plain.state)
+    }
+}
+
+impl Shows<PlainFinished> for Finished {
+    fn shows(&self, plain: &PlainFinished) -> bool {
+        match (self, plain) {
+            (Finished::Changed(notices), PlainFinished::Changed(told)) => show(notices, told),
+            (Finished::Failed(error), PlainFinished::Failed(other)) => error == other,
+            (Finished::Continued(error), PlainFinished::Continued(other)) => error == other,
+            _ => false,
+        }
+    }
+}
+
+// ---- Transactions
+
+impl Shows<PlainDone> for Done {
+    fn shows(&self, plain: &PlainDone) -> bool {
+        self.r == plain.r && self.op.shows(&plain.op) && self.answer.shows(&plain.answer)
+    }
+}
+
+impl Shows<PlainSent> for Sent {
+    fn shows(&self, plain: &PlainSent) -> bool {
+        self.agent == plain.agent && self.action.shows(&plain.call)
+    }
+}
+
+impl Shows<PlainTx> for Transaction {
+    fn shows(&self, plain: &PlainTx) -> bool {
+        self.read_point == plain.read_point
+            && show(self.dones.as_slice(), &plain.dones)
+            && show(self.sends.as_slice(), &plain.sends)
+    }
+}
+
+fn are_inner(tx: &Tx<Core>, plain: &PlainTx) -> bool {
+    for (r, _) in (0..u32::MAX).zip(&plain.began) {
+        match (tx.deref(r), plain.inner(r)) {
+            (Ok(value), Some(wanted)) if value.shows(&wanted) => {}
+            _ => return false,
+        }
+    }
+    true
+}
+
+impl Shows<PlainTx> for Tx<Core> {
+    fn shows(&self, plain: &PlainTx) -> bool {
+        self.read_point() == plain.read_point
+            && show(self.began().as_slice(), &plain.began)
+            && show(self.dones(), &plain.dones)
+            && show(self.sends(), &plain.sends)
+            && are_inner(self, plain)
+    }
+}
+
+// ---- Agents
+
+impl Shows<(PlainCall, Mark)> for Handled {
+    fn shows(&self, plain: &(PlainCall, Mark)) -> bool {
+        self.action.shows(&plain.0) && self.mark == plain.1
+    }
+}
+
+fn is_queue(seen: &Account, wanted: &PlainAccount) -> bool {
+    for (queued, (call, by)) in seen.queue().zip(&wanted.queue) {
+        if !queued.action.shows(call) || queued.by != *by {
+            return false;
+        }
+    }
+    seen.waiting() == wanted.queue.len()
+}
+
+impl Shows<PlainAccount> for Account {
+    fn shows(&self, plain: &PlainAccount) -> bool {
+        self.start().shows(&plain.start)
+            && show(self.handled(), &plain.handled)
+            && is_queue(self, plain)
+    }
+}
+
+// ---- The log
+
+impl Shows<PlainEntry> for Entry {
+    fn shows(&self, plain: &PlainEntry) -> bool {
+        match (self, plain) {
+            (Entry::Trans(trans), PlainEntry::Trans(stamp, tx)) => {
+                trans.stamp == *stamp && trans.shows(tx)
+            }
+            (Entry::Atom(a, op, answer), PlainEntry::Atom(number, change, new)) => {
+                a == number && op.shows(change) && answer.shows(new)
+            }
+            (Entry::MadeRef(value), PlainEntry::MadeRef(_, wanted))
+            | (Entry::MadeAtom(value), PlainEntry::MadeAtom(wanted)) => value.shows(wanted),
+            _ => false,
+        }
+    }
+}
+
+/// Whether there are as many entries, and the last is the same.
+pub fn is_log(seen: &[Entry], wanted: &[PlainEntry]) -> bool {
+    match (seen.last(), wanted.last()) {
+        (Some(entry), Some(plain)) => seen.len() == wanted.len() && entry.shows(plain),
+        (None, None) => true,
+        _ => false,
+    }
+}
+
+/// Whether a base has what the model declared.
+pub fn is_base(base: &Base, model: &Model) -> bool {
+    base.point == 0
+        && base.commits == 0
+        && base.added == 0
+        && base.tally == model.tally
+        && base.last.iter().all(|last| *last == 0)
+        && base.last.len() == model.declared_refs.len()
+        && show(base.refs.as_slice(), &model.declared_refs)
+        && show(base.atoms.as_slice(), &model.declared_atoms)
+}
+
+/// Whether a replay by a table gave these values of refs and atoms, and the table lacks no function of the log.
+pub fn is_state(state: &PlainState, model: &Model, table: Table) -> Result<bool, AllocError> {
+    let refs = model.values(&model.refs)?;
+    let atoms = model.values(&model.atoms)?;
+    let is_same = show(state.refs.as_slice(), &refs) && show(state.atoms.as_slice(), &atoms);
+    Ok(is_same && model.lacked_in_log(table).is_none())
+}
+
+/// Whether a replay lacks this function, which is the first that the table lacks.
+pub fn is_lacking(fault: AuditFault, lacked: Option<u32>) -> bool {
+    match lacked {
+        Some(code) => fault == AuditFault::NoSuchFun(code),
+        None => false,
+    }
+}
