@@ -1,5 +1,5 @@
 //! The command line.
-use crate::table::Task;
+use crate::tasks::Task;
 use clap::{Arg, ArgAction, ArgMatches, Command, Error, value_parser};
 use ref_workload::Options;
 use std::alloc::{AllocError, Global};

@@ -2,9 +2,12 @@
 //! what came of it; it dumps a run and audits a dump, and prints EDN.
 //!
 //! Each command is one function from a reader to a writer: `ref_workload::run_workload`, [`checking::check_text`],
-//! [`auditing::audit_text`] and [`printing::print_text`]. `commands` reads the command line, `lines` has what is said on standard
-//! error and the statuses, and `table` makes the closures of Core's functions, by which workloads run and dumps are audited.
+//! [`auditing::audit_text`] and [`printing::print_text`]. `commands` reads the command line, and `lines` has what is said on standard
+//! error and the statuses. `main` makes the closures of Core's functions, by which workloads run and dumps are audited.
 #![tactic(auto)]
+
+ghost use Rattle.std.specs.Prelude.{◌≤◌, length};
+ghost use Rattle.ref_fun.specs.Calls.{HasCore};
 
 pub mod auditing;
 pub mod checking;
@@ -12,7 +15,7 @@ mod commands;
 pub mod faults;
 mod lines;
 pub mod printing;
-mod table;
+mod tasks;
 mod telling;
 
 use clap::Error;
@@ -21,15 +24,19 @@ use commands::{Act, act_of, arguments, matches_of};
 use faults::Fault;
 use lines::{Line, status};
 use ref_audit::Verdict;
-use ref_edn::Counted;
+use ref_edn::{Counted, Value};
+use ref_fun::{
+    Core, Fun, FunFault, FunTable, Functions, Pred, StoredFun, StoredPred, core_fun, core_test,
+};
 use ref_workload::RunFault;
+use std::alloc::Global;
 use std::env::Env;
 use std::io;
 use std::process::ExitCode;
 use std::sync::Wait;
 use std::thread::Threads;
 use std::time::Clock;
-use table::by_core;
+use tasks::carry_out;
 
 // The status where the words are no command.
 const USAGE: u8 = 2;
@@ -37,21 +44,53 @@ const USAGE: u8 = 2;
 // The status where an audit says no.
 const AUDIT_SAYS_NO: u8 = 5;
 
+// Makes the table of Core, a closure for each of its functions and predicates, and does what the words ask for.
 fn main(rt: HostRuntime) -> ExitCode {
-    ExitCode::from(answer(&rt))
+    let alloc = rt.alloc();
+    let mut table = FunTable::empty(alloc);
+    for code in 1..11u32 {
+        let run: Fun = match Box::new(
+            alloc,
+            move |alloc: Global, state: &Value, args: &[Value]| -> Result<Value, FunFault>
+                requires { length args.now ≤ 8 }
+            { core_fun(alloc, code, state, args) },
+        ) {
+            Ok(run) => run,
+            Err(_) => return ExitCode::from(no_memory(&rt)),
+        };
+        // The codes differ and there are few, so that nothing but memory can be wanting.
+        let Ok(()) = table.add_fun(StoredFun::new(code, run)) else {
+            return ExitCode::from(no_memory(&rt));
+        };
+    }
+    for code in 101..110u32 {
+        let run: Pred = match Box::new(alloc, move |state: &Value, args: &[Value]| {
+            core_test(code, state, args)
+        }) {
+            Ok(run) => run,
+            Err(_) => return ExitCode::from(no_memory(&rt)),
+        };
+        let Ok(()) = table.add_pred(StoredPred::new(code, run)) else {
+            return ExitCode::from(no_memory(&rt));
+        };
+    }
+    ExitCode::from(answer(&rt, &table))
 }
 
-// Does what the words ask for, and answers the status.
-fn answer<R: AllocGlobal + Env + Input + Print + Eprint + Threads + Wait + Clock + Sync>(
-    rt: &R,
-) -> u8 {
+// Does what the words ask for by a table, and answers the status.
+fn answer<F, R>(rt: &R, funs: &F) -> u8
+where
+    F: Functions<Core> + Sync,
+    R: AllocGlobal + Env + Input + Print + Eprint + Threads + Wait + Clock + Sync,
+    requires { HasCore (F.knows funs.now) }
+{
     let words = match arguments(rt) {
         Ok(words) => words,
         Err(error) => return no_arguments(rt, &error),
     };
     match matches_of(rt.alloc(), words.as_slice()) {
         Ok(matches) => match act_of(&matches) {
-            Some(act) => obey(rt, act),
+            Some(act) => obey(rt, funs, act),
             // The parser lets no other words pass.
             None => USAGE,
         },
@@ -60,10 +99,12 @@ fn answer<R: AllocGlobal + Env + Input + Print + Eprint + Threads + Wait + Clock
 }
 
 // Does what the command says, from standard input to standard output.
-fn obey<R: AllocGlobal + Input + Print + Eprint + Threads + Wait + Clock + Sync>(
-    rt: &R,
-    act: Act,
-) -> u8 {
+fn obey<F, R>(rt: &R, funs: &F, act: Act) -> u8
+where
+    F: Functions<Core> + Sync,
+    R: AllocGlobal + Input + Print + Eprint + Threads + Wait + Clock + Sync,
+    requires { HasCore (F.knows funs.now) }
+{
     let mut reader = Counted::new(rt.reader());
     let mut writer = Counted::new(io::writer(rt));
     match act {
@@ -75,7 +116,7 @@ fn obey<R: AllocGlobal + Input + Print + Eprint + Threads + Wait + Clock + Sync>
             Ok(()) => 0,
             Err(fault) => say(rt, Fault::Run(fault)),
         },
-        Act::ByCore(task) => match by_core(rt, rt.alloc(), task, &mut reader, &mut writer) {
+        Act::ByCore(task) => match carry_out(rt, rt.alloc(), funs, task, &mut reader, &mut writer) {
             Ok(Verdict::Ok) => 0,
             Ok(_) => AUDIT_SAYS_NO,
             Err(fault) => say(rt, fault),
@@ -92,10 +133,14 @@ fn say<R: Eprint>(rt: &R, fault: Fault) -> u8 {
     status(fault)
 }
 
+fn no_memory<R: Eprint>(rt: &R) -> u8 {
+    say(rt, Fault::Run(RunFault::Memory))
+}
+
 // The words can't be had: one of them isn't UTF-8, or there is no memory for them.
 fn no_arguments<R: Eprint>(rt: &R, error: &io::Error) -> u8 {
     if error.kind() == io::ErrorKind::OutOfMemory {
-        return say(rt, Fault::Run(RunFault::Memory));
+        return no_memory(rt);
     }
     let _said = eprintln!(rt; "error: an argument is not UTF-8");
     USAGE
@@ -104,7 +149,7 @@ fn no_arguments<R: Eprint>(rt: &R, error: &io::Error) -> u8 {
 // The words are no command, or they ask for help.
 fn no_matches<R: Print + Eprint>(rt: &R, error: &Error) -> u8 {
     if error.kind() == ErrorKind::OutOfMemory {
-        return say(rt, Fault::Run(RunFault::Memory));
+        return no_memory(rt);
     }
     let printed = error.print(rt);
     if error.use_stderr() {

@@ -1,15 +1,15 @@
 use Rattle.std.proofs.Common.{ap, is_some, ◌∙◌}
 use Rattle.ref_fun.specs.Table.{fun_of, pred_of}
 use Rattle.refrun.proofs.Known.{known_up_to}
-use Rattle.refrun.proofs.table.by_core.Goals as goal
+use Rattle.refrun.proofs.main.Goals as goal
 
 pub loop-code-preserved : goal.loop-code-preserved
-loop-code-preserved g c =
+loop-code-preserved c =
     let added = c.in-Ok-add_fun.ensures.ok in
     known_up_to (fun_of c.loop-code.table) (fun_of c.add_fun.new.self) c.new-in-loop-code.result _ added.0 1 c.loop-code.code c.new-in-loop-code.ensures c.loop-code.invariant
 
 pub loop-code-2-preserved : goal.loop-code-2-preserved
-loop-code-2-preserved g c =
+loop-code-2-preserved c =
     let so_far = c.loop-code-2.invariant in
     let told = c.in-Ok-add_pred.ensures in
     record {

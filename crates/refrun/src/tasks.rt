@@ -1,0 +1,60 @@
+//! What is done by a table of all functions and predicates of Core.
+ghost use Rattle.ref_fun.specs.Calls.{HasCore};
+
+use crate::auditing::audit_text;
+use crate::faults::Fault;
+use crate::telling::run_and_tell;
+use ref_audit::Verdict;
+use ref_edn::{Sink, Source};
+use ref_fun::{Core, Functions};
+use ref_workload::{Options, run_workload};
+use std::alloc::Global;
+use std::sync::Wait;
+use std::thread::Threads;
+use std::time::Clock;
+
+/// What is done by the table.
+#[derive(Clone, Copy, Drop)]
+pub(crate) enum Task {
+    Run {
+        options: Options,
+        /// Whether it is told on standard error how far the run is.
+        tells: bool,
+    },
+    Audit,
+}
+
+/// Runs a workload or audits a dump by the table, as [`run_workload`] and [`audit_text`] say.
+pub(crate) fn carry_out<F, R, I, O>(
+    rt: &R,
+    alloc: Global,
+    funs: &F,
+    task: Task,
+    reader: &mut I,
+    writer: &mut O,
+) -> Result<Verdict, Fault>
+where
+    F: Functions<Core> + Sync,
+    R: Threads + Wait + Clock + Eprint + Sync,
+    I: Source,
+    O: Sink,
+    requires { HasCore (F.knows funs.now) }
+{
+    match task {
+        Task::Run { options, tells } => {
+            let ran = if tells {
+                run_and_tell(rt, alloc, funs, reader, writer, options)
+            } else {
+                run_workload(rt, alloc, funs, reader, writer, options)
+            };
+            match ran {
+                Ok(verdict) => Ok(verdict),
+                Err(fault) => Err(Fault::Run(fault)),
+            }
+        }
+        Task::Audit => match audit_text(alloc, funs, reader, writer) {
+            Ok(verdict) => Ok(verdict),
+            Err(fault) => Err(Fault::Audit(fault)),
+        },
+    }
+}
