@@ -1,3 +1,3 @@
-pub mod Known
+pub mod Codes
 pub mod PrintedLines
 pub mod AuditFaults

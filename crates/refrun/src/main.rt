@@ -3,16 +3,16 @@
 //!
 //! Each command is one function from a reader to a writer: `ref_workload::run_workload`, [`checking::check_text`],
 //! [`auditing::audit_text`] and [`printing::print_text`]. `commands` reads the command line, and `lines` has what is said on standard
-//! error and the statuses. `main` makes the closures of Core's functions, by which workloads run and dumps are audited.
+//! error and the statuses. `tasks` has what is done by Core's functions, of which `functions` is the table.
 #![tactic(auto)]
 
-ghost use Rattle.std.specs.Prelude.{◌≤◌, length};
 ghost use Rattle.ref_fun.specs.Calls.{HasCore};
 
 pub mod auditing;
 pub mod checking;
 mod commands;
 pub mod faults;
+mod functions;
 mod lines;
 pub mod printing;
 mod tasks;
@@ -22,14 +22,12 @@ use clap::Error;
 use clap::error::ErrorKind;
 use commands::{Act, act_of, arguments, matches_of};
 use faults::Fault;
+use functions::CoreFunctions;
 use lines::{Line, status};
 use ref_audit::Verdict;
-use ref_edn::{Counted, Value};
-use ref_fun::{
-    Core, Fun, FunFault, FunTable, Functions, Pred, StoredFun, StoredPred, core_fun, core_test,
-};
+use ref_edn::Counted;
+use ref_fun::{Core, Functions};
 use ref_workload::RunFault;
-use std::alloc::Global;
 use std::env::Env;
 use std::io;
 use std::process::ExitCode;
@@ -44,37 +42,9 @@ const USAGE: u8 = 2;
 // The status where an audit says no.
 const AUDIT_SAYS_NO: u8 = 5;
 
-// Makes the table of Core, a closure for each of its functions and predicates, and does what the words ask for.
+#[tactic(auto, using(crate::proofs::Codes::all_of_core))]
 fn main(rt: HostRuntime) -> ExitCode {
-    let alloc = rt.alloc();
-    let mut table = FunTable::empty(alloc);
-    for code in 1..11u32 {
-        let run: Fun = match Box::new(
-            alloc,
-            move |alloc: Global, state: &Value, args: &[Value]| -> Result<Value, FunFault>
-                requires { length args.now ≤ 8 }
-            { core_fun(alloc, code, state, args) },
-        ) {
-            Ok(run) => run,
-            Err(_) => return ExitCode::from(no_memory(&rt)),
-        };
-        // The codes differ and there are few, so that nothing but memory can be wanting.
-        let Ok(()) = table.add_fun(StoredFun::new(code, run)) else {
-            return ExitCode::from(no_memory(&rt));
-        };
-    }
-    for code in 101..110u32 {
-        let run: Pred = match Box::new(alloc, move |state: &Value, args: &[Value]| {
-            core_test(code, state, args)
-        }) {
-            Ok(run) => run,
-            Err(_) => return ExitCode::from(no_memory(&rt)),
-        };
-        let Ok(()) = table.add_pred(StoredPred::new(code, run)) else {
-            return ExitCode::from(no_memory(&rt));
-        };
-    }
-    ExitCode::from(answer(&rt, &table))
+    ExitCode::from(answer(&rt, &CoreFunctions))
 }
 
 // Does what the words ask for by a table, and answers the status.
