@@ -33,11 +33,17 @@
                #(when-not (accepts @r) (throw (IllegalStateException. "not met"))))
     :send (call send (agents name) f args)))
 
+;; Clojure gives a transaction up after 10,000 tries. Here none is to give up, so it is begun again.
+(defn gave-up? [^Throwable why]
+  (= (.getMessage why) "Transaction failed after reaching retry limit"))
+
 ;; A step is a function that answers how many commits it made; one that a rule refuses makes none.
 (defn transaction [world operations]
-  (let [^objects all (object-array (map #(operation world %) operations))]
-    #(try (dosync (dotimes [i (alength all)] ((aget all i)))) 1
-          (catch IllegalStateException _ 0))))
+  (let [^objects all (object-array (map #(operation world %) operations))
+        once #(try (dosync (dotimes [i (alength all)] ((aget all i)))) 1
+                   (catch IllegalStateException _ 0)
+                   (catch RuntimeException why (if (gave-up? why) nil (throw why))))]
+    #(loop [] (or (once) (recur)))))
 
 (defn step [{:keys [atoms agents] :as world} [word name f & args :as all]]
   (case word
