@@ -61,7 +61,7 @@ def run_once(words, text):
         child = subprocess.Popen(words, stdin=given, stdout=out)
         _, status, used = os.wait4(child.pid, 0)
         took = time.monotonic() - start
-        child.returncode = os.waitstatus_to_exitcode(status)
+        child.returncode = os.WEXITSTATUS(status) if os.WIFEXITED(status) else -os.WTERMSIG(status)
         out.seek(0)
         lines = out.read().decode().splitlines()
     if child.returncode:
