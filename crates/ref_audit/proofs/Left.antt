@@ -41,11 +41,6 @@ number_at (x ∷ xs) (suc i) below = number_at xs i (omega arith)
 pub zipped_at : {X Y : Type 0} (xs : List X) (ys : List Y) (i : ℕ) (x : X) (y : Y) → slice_get xs i ≡ Some x → slice_get ys i ≡ Some y → zip (drop i xs) (drop i ys) ≡ (x, y) ∷ zip (drop (i + 1) xs) (drop (i + 1) ys)
 zipped_at xs ys i x y there also = rw (left_at xs i x there, left_at ys i y also) refl
 
-pub none_past : {X : Type 0} (xs : List X) (i : ℕ) → slice_get xs i ≡ None → length xs ≤ i
-none_past [] i none = omega arith
-none_past (x ∷ xs) zero none = absurd cc
-none_past (x ∷ xs) (suc i) none = omega (arith, none_past xs i none)
-
 -- ---- one more form
 
 pub one_more : (all made next rest left : List Edn) (v form : Edn) → made ++ rest ≡ all → rest ≡ form ∷ left → v ≡ form → next ≡ made ++ v ∷ [] → next ++ left ≡ all

@@ -9,7 +9,7 @@ use Rattle.ref_log.specs.Guards as guards
 use Rattle.ref_log.specs.declared.notices.Who.TheVariants as whos
 use Rattle.ref_world.specs.Seen.{WorldSeen}
 use Rattle.ref_world.specs.References.{guards_of, rule_at, value_at, values_of}
-use Rattle.ref_audit.specs.Made.{AreFew, who_of}
+use Rattle.ref_audit.specs.Made.{who_of}
 use Rattle.ref_audit.specs.declared.kinds.Kind.{Kind}
 use Rattle.ref_audit.specs.declared.kinds.Kind.TheVariants as kinds
 
@@ -52,15 +52,3 @@ account_none (Some agent) none = absurd cc
 
 pub no_account : (agents : List Agent) (g : ℕ) → account_at agents g ≡ None → slice_get agents g ≡ None
 no_account agents g none = account_none (slice_get agents g) none
-
--- The agents are as many as their states.
-states_of : (agents : List Agent) → length (map (λ (agent : Agent). agent.value) agents) ≡ length agents
-states_of [] = refl
-states_of (a ∷ agents) = ap suc (states_of agents)
-
-pub few_of : (world : WorldSeen) → length (values_of world (whos.Ref 1048576)) ≤ 1048576 → length (values_of world (whos.Atom 1048576)) ≤ 1048576 → length (values_of world (whos.Agent 1048576)) ≤ 1048576 → AreFew world
-few_of world refs atoms agents = record {
-  refs = refs;
-  atoms = atoms;
-  agents = rw (states_of world.agents.agents) at agents;
-}

@@ -2,12 +2,11 @@
 ghost use Rattle.ref_log.specs.Told.{TellsOrMemory};
 ghost use Rattle.std.specs.Prelude.{IfOk, ◌≡◌};
 ghost use Rattle.ref_audit.specs.Dumped.{dump_refusal, dumped, unnamed_refusal};
-ghost use Rattle.ref_audit.specs.Made.{AreFew};
 ghost use Rattle.ref_audit.specs.declared.faults.DumpMakeFault.TheVariants as faults;
 
 pub mod agents;
 pub mod entries;
-pub mod few;
+mod few;
 pub mod forms;
 pub mod maps;
 pub mod references;
@@ -15,6 +14,7 @@ pub mod unnamed;
 pub mod worlds;
 
 use crate::faults::DumpMakeFault;
+pub(crate) use few::tell_few;
 use maps::{entries_of, map_of, parts_of};
 use ref_edn::Value;
 use ref_fun::Core;
@@ -28,16 +28,15 @@ use worlds::unnamed_in;
 ///
 /// Where an action in the log's sends or in an agent's account names a function that Core doesn't have, the least such code is
 /// told, and else that the dump would nest deeper than 64. The time is linear in what is dumped; values are shared, not copied.
-/// [`are_few`](crate::are_few) is the test for what is required.
 #[tactic(auto, using(crate::proofs::Dumps::dump_told))]
 pub fn dump<C: Ledger, A: Ledger>(
     alloc: Global,
     world: &World<Core, C, A>,
 ) -> Result<Value, DumpMakeFault>
-    requires { AreFew world.now }
     ensures value { IfOk result (λ v. v ≡ dumped world.now) }
     ensures refused { TellsOrMemory faults.Memory (unnamed_refusal world.now) (dump_refusal world.now) result }
 {
+    tell_few(world);
     if let Some(code) = unnamed_in(world) {
         return Err(DumpMakeFault::Unnamed(code));
     }

@@ -14,7 +14,6 @@ pub mod words;
 
 pub use auditor::audit;
 pub use dumping::dump;
-pub use dumping::few::are_few;
 pub use faults::DumpMakeFault;
 pub use own_audit::audit_own_dump;
 pub use reading::dumps::{Changed, Kept, KeptAgent};

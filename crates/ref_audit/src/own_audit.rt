@@ -3,7 +3,6 @@ ghost use Rattle.std.specs.Prelude.{◌≡◌, IfOk};
 ghost use Rattle.ref_fun.specs.Calls.{HasCore};
 ghost use Rattle.ref_log.specs.Told.{TellsOrMemory};
 ghost use Rattle.ref_audit.specs.Dumped.{dump_refusal, unnamed_refusal};
-ghost use Rattle.ref_audit.specs.Made.{AreFew};
 ghost use Rattle.ref_audit.specs.OwnDump.{IsTold};
 ghost use Rattle.ref_audit.specs.declared.faults.DumpMakeFault.TheVariants as faults;
 ghost use Rattle.ref_audit.specs.declared.reports.Verdict.TheVariants as verdicts;
@@ -12,7 +11,7 @@ pub(crate) mod parts;
 pub(crate) mod references;
 
 use crate::auditor::audit;
-use crate::dumping::dump;
+use crate::dumping::{dump, tell_few};
 use crate::faults::DumpMakeFault;
 use crate::own_audit::parts::tell_entries;
 use crate::own_audit::references::{tell_accounts, tell_agents, tell_atoms, tell_refs};
@@ -31,7 +30,6 @@ pub fn audit_own_dump<F: Functions<Core>, C: Ledger, A: Ledger>(
     world: &World<Core, C, A>,
 ) -> Result<Verdict, DumpMakeFault>
     requires core { HasCore (F.knows funs.now) }
-    requires few { AreFew world.now }
     ensures ok { IfOk result (λ verdict. verdict ≡ verdicts.Ok) }
     ensures refused { TellsOrMemory faults.Memory (unnamed_refusal world.now) (dump_refusal world.now) result }
 {
@@ -50,9 +48,9 @@ pub fn audit_own_dump<F: Functions<Core>, C: Ledger, A: Ledger>(
 // What is always so in a world, and what the types of its parts say, told of the whole. It changes nothing, and costs a look at each
 // part.
 fn tell<C: Ledger, A: Ledger>(world: &World<Core, C, A>)
-    requires { AreFew world.now }
     ensures { IsTold world.now }
 {
+    tell_few(world);
     tell_entries(world.log());
     tell_accounts(world);
     tell_refs(world);

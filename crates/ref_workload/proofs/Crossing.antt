@@ -21,6 +21,7 @@ use Rattle.ref_audit.specs.contracts.reports.Refusal as Refusal
 use Rattle.ref_shared.proofs.Crossing.{crosses as shared_crosses}
 use Rattle.ref_workload.specs.contracts.plans.PlannedOp as PlannedOp
 use Rattle.ref_workload.specs.contracts.plans.Step as Step
+use Rattle.ref_workload.specs.contracts.progress.Progress as Progress
 use Rattle.ref_workload.specs.contracts.running.workers.Ended as Ended
 use Rattle.ref_workload.specs.contracts.running.workers.Job as Job
 use Rattle.ref_workload.specs.contracts.running.workers.Run as Run
@@ -157,6 +158,10 @@ reason_send = variants_send Reason.enum (tt, (tt, ((search plain depth 60, tt), 
 refusal_send : IsSend Refusal.the_row
 refusal_send = declared_send Refusal.the_type (search plain depth 60, (reason_send, tt))
 
+progress_sync : IsSync Progress.the_row
+progress_sync = declared_sync Progress.the_type
+    (search plain depth 60, (search plain depth 60, (search plain depth 60, (search plain depth 60, tt))))
+
 module _ (κ : NamedLft) (F C A : RattleType) (gC : Ledger.Ghosts C.Denot) (gA : Ledger.Ghosts A.Denot) where
   pub run_sync : IsSync F → IsSync (Run.the_row κ F C A gC gA)
   run_sync y = declared_sync (Run.the_type κ F C A gC gA) (
@@ -165,7 +170,7 @@ module _ (κ : NamedLft) (F C A : RattleType) (gC : Ledger.Ghosts C.Denot) (gA :
       search (y, plain) depth 60,
       (
         search (shared_crosses, plain) depth 60,
-        (search (step_send, step_sync, lists.the_sync, plain) depth 60, (search plain depth 60, tt)),
+        (search (step_send, step_sync, lists.the_sync, plain) depth 60, (search plain depth 60, (search (progress_sync, plain) depth 60, tt))),
       ),
     ),
   )

@@ -5,11 +5,12 @@ ghost use Rattle.ref_world.specs.Shares.{all_parts};
 
 use crate::faults::{RunFault, Stop};
 use crate::order::is_orderly;
-use crate::plans::Plan;
+use crate::plans::{Plan, Step};
+use crate::progress::Progress;
 use crate::running::{Run, run_threads, share_start};
 use ref_audit::Refusal;
 use ref_fun::{Core, Functions};
-use ref_log::MakeFault;
+use ref_log::{MakeFault, SharedVec};
 use ref_shared::{Gate, GatherFault, Shared};
 use ref_world::{Share, Totals, World};
 use std::alloc::Global;
@@ -56,6 +57,37 @@ where
     ensures totals { IfOk result (λ out. (out.totals.commits ≡ out.world.books.commits)
         × (out.totals.added ≡ out.world.books.added)) }
 {
+    let progress = Progress::new();
+    run_plan_with::<F, C, A, R, G>(
+        rt, alloc, funs, plan, tries, gates, &progress, commits, added,
+    )
+}
+
+/// As [`run_plan`], and counts in `progress` how far it is.
+pub fn run_plan_with<F, C, A, R, G>(
+    rt: &R,
+    alloc: Global,
+    funs: &F,
+    plan: &Plan,
+    tries: u32,
+    gates: Vec<G>,
+    progress: &Progress,
+    commits: Blank,
+    added: Blank,
+) -> Result<RunOut<C, A>, RunFault>
+where
+    F: Functions<Core> + Sync,
+    C: Ledger + Send + Sync,
+    A: Ledger + Send + Sync,
+    R: Threads + Wait + Sync,
+    G: Gate + Send + Drop,
+    requires gates { vec_len gates ≡ length plan.now.workers + plan.now.pool }
+    requires commits { (commits.name ≡ C.name) × (commits.parts ≡ C.parts) × (commits.parts ≡ all_parts) }
+    requires added { (added.name ≡ A.name) × (added.parts ≡ A.parts) × (added.parts ≡ all_parts) }
+    ensures orderly { IfOk result (λ out. IsOrderly plan.now out.world out.refused.items) }
+    ensures totals { IfOk result (λ out. (out.totals.commits ≡ out.world.books.commits)
+        × (out.totals.added ≡ out.world.books.added)) }
+{
     let (world, mut share) = open_world::<F, C, A>(alloc, funs, plan, commits, added)?;
     let run = Run {
         alloc,
@@ -63,10 +95,21 @@ where
         shared: Shared::new(world),
         workers: plan.workers(),
         tries,
+        progress,
     };
+    progress.begin(count_steps(run.workers));
     let refused = run_threads(rt, &run, &mut share, gates)?;
     let Run { shared, .. } = run;
     take_out(alloc, plan, shared, share, refused)
+}
+
+// How many steps all workers have.
+fn count_steps(workers: &[SharedVec<Step>]) -> u64 {
+    let mut steps = 0u64;
+    for worker in workers {
+        steps = steps.saturating_add(worker.len() as u64);
+    }
+    steps
 }
 
 // The world that a plan declares, with its whole share.

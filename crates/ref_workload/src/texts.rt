@@ -15,9 +15,10 @@ ghost use Rattle.ref_world.specs.Shares.{all_parts};
 use crate::faults::RunFault;
 use crate::plan::plan;
 use crate::plans::Plan;
-use crate::run::{RunOut, run_plan};
+use crate::progress::Progress;
+use crate::run::{RunOut, run_plan_with};
 use crate::streams::{read_input, write_output};
-use ref_audit::{DumpFault, DumpMakeFault, Verdict, are_few, audit, dump, report};
+use ref_audit::{DumpFault, DumpMakeFault, Verdict, audit, dump, report};
 use ref_edn::{Sink, Source, Value, print, read_one};
 use ref_fun::{Core, Functions};
 use ref_shared::Open;
@@ -70,8 +71,43 @@ where
     ensures reads { CountsReads (I.failures reader.old) (I.failures reader.new) result }
     ensures writes { CountsWrites (O.failures writer.old) (O.failures writer.new) result }
 {
+    let progress = Progress::new();
+    run_workload_with(rt, alloc, funs, reader, writer, options, &progress)
+}
+
+/// As [`run_workload`], and counts in `progress` how far the run is.
+pub fn run_workload_with<F, R, I, O>(
+    rt: &R,
+    alloc: Global,
+    funs: &F,
+    reader: &mut I,
+    writer: &mut O,
+    options: Options,
+    progress: &Progress,
+) -> Result<Verdict, RunFault>
+where
+    F: Functions<Core> + Sync,
+    R: Threads + Wait + Sync,
+    I: Source,
+    O: Sink,
+    requires { HasCore (F.knows funs.now) }
+    // It reads no further than one byte past what a workload may have.
+    ensures taken { ConsumesUpTo (I.left reader.old) (I.left reader.new) 16777217 }
+    ensures ok { IfOk result (λ verdict. (verdict ≡ verdicts.Ok)
+        × HasWritten (IsRun options.dump) (I.left reader.old) (I.left reader.new) (O.written writer.old)
+        (O.written writer.new)) }
+    // The text, its value or its length is at fault, where the fault says so.
+    ensures fault { IfErr result (λ f. IfSome (I.left reader.old) (λ text. IsAtFault text f)) }
+    ensures write { IfErr result (λ f. f ≡ RunFault.Write
+        → HasBrokenOff (IsRun options.dump) (I.left reader.old) (I.left reader.new) (O.written writer.old)
+        (O.written writer.new)) }
+    // Before any other fault nothing was written.
+    ensures silent { IfErr result (λ f. f ≢ RunFault.Write → O.written writer.new ≡ O.written writer.old) }
+    ensures reads { CountsReads (I.failures reader.old) (I.failures reader.new) result }
+    ensures writes { CountsWrites (O.failures writer.old) (O.failures writer.new) result }
+{
     let input = read_input(alloc, reader)?;
-    let output = output_of(rt, alloc, funs, &input, options)?;
+    let output = output_of(rt, alloc, funs, &input, options, progress)?;
     write_output(writer, &output)?;
     Ok(Verdict::Ok)
 }
@@ -83,6 +119,7 @@ fn output_of<F: Functions<Core> + Sync, R: Threads + Wait + Sync>(
     funs: &F,
     text: &[u8],
     options: Options,
+    progress: &Progress,
 ) -> Result<Vec<u8>, RunFault>
     requires { HasCore (F.knows funs.now) }
     ensures ok { IfOk result (λ output. IsRun options.dump text.now output.items) }
@@ -92,7 +129,9 @@ fn output_of<F: Functions<Core> + Sync, R: Threads + Wait + Sync>(
     let value = read_one(alloc, text)?;
     let plan = plan(alloc, &value)?;
     let (commits, added) = (Blank::new(4_294_967_296), Blank::new(4_294_967_296));
-    match output_of_plan::<F, Brand, Brand, R>(rt, alloc, funs, &plan, options, commits, added) {
+    match output_of_plan::<F, Brand, Brand, R>(
+        rt, alloc, funs, &plan, options, progress, commits, added,
+    ) {
         Ok(output) => Ok(output),
         Err(fault) => Err(fault),
     }
@@ -105,6 +144,7 @@ fn output_of_plan<F, C, A, R>(
     funs: &F,
     plan: &Plan,
     options: Options,
+    progress: &Progress,
     commits: Blank,
     added: Blank,
 ) -> Result<Vec<u8>, RunFault>
@@ -120,13 +160,14 @@ where
     ensures inner { IfErr result IsOfPlan }
 {
     let gates = open_gates(alloc, plan)?;
-    let ran = run_plan::<F, C, A, R, Open>(
+    let ran = run_plan_with::<F, C, A, R, Open>(
         rt,
         alloc,
         funs,
         plan,
         options.tries,
         gates,
+        progress,
         commits,
         added,
     );
@@ -169,9 +210,6 @@ fn audited<F: Functions<Core>, C: Ledger, A: Ledger>(
     ensures audited { OnOk result (verdict_on (dump_of (dumped world.now)) ≡ Ok verdicts.Ok) }
     ensures inner { IfErr result IsOfPlan }
 {
-    if !are_few(world) {
-        return Err(RunFault::Internal);
-    }
     let value = match dump(alloc, world) {
         Ok(value) => value,
         Err(DumpMakeFault::Memory) => return Err(RunFault::Memory),

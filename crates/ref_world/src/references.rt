@@ -1,6 +1,6 @@
 //! What can be asked of each kind of reference: its value, its rule and its watches.
 ghost use Rattle.ref_log.specs.Told.{Tells};
-ghost use Rattle.std.specs.Prelude.{◌≡◌, ◌≢◌, ◌↔◌, true, false, not, None, IfOk, IfErr, OnErr, OnOk, option_copied};
+ghost use Rattle.std.specs.Prelude.{◌≡◌, ◌≢◌, ◌≤◌, ◌^◌, ◌↔◌, true, false, not, None, IfOk, IfErr, OnErr, OnOk, option_copied, length};
 ghost use Rattle.ref_log.specs.Watches.{has_key};
 ghost use Rattle.ref_log.specs.declared.faults.WatchFault.TheVariants as watches;
 ghost use Rattle.ref_world.specs.References.{are_known, is_accepted_at, keys_at, rule_at, rule_refusal, value_at, with_rule, with_watch, without_watch};
@@ -14,6 +14,30 @@ use std::alloc::Global;
 use std::sync::ledger::Ledger;
 
 impl<M: Meaning, C: Ledger, A: Ledger> World<M, C, A> {
+    /// How many refs there are, at most 2^20.
+    pub fn ref_count(&self) -> usize
+        ensures value { result ≡ length self.now.refs.values }
+        ensures bound { result ≤ 2 ^ 20 }
+    {
+        self.refs.len()
+    }
+
+    /// How many atoms there are, at most 2^20.
+    pub fn atom_count(&self) -> usize
+        ensures value { result ≡ length self.now.atoms.values }
+        ensures bound { result ≤ 2 ^ 20 }
+    {
+        self.atoms.len()
+    }
+
+    /// How many agents there are, at most 2^20.
+    pub fn agent_count(&self) -> usize
+        ensures value { result ≡ length self.now.agents.agents }
+        ensures bound { result ≤ 2 ^ 20 }
+    {
+        self.agents.len()
+    }
+
     /// The value of a reference now, if it is there: of an agent its state. It takes no memory.
     pub fn value_of(&self, who: Who) -> Option<&Value>
         ensures value { option_copied result ≡ value_at self.now who }

@@ -151,6 +151,7 @@ impl<M: Meaning, C: Ledger, A: Ledger> World<M, C, A> {
         ensures value { result ≡ self.now.books.commits }
         // Those up to the base, and the transactions of the log.
         ensures books { result ≡ self.now.base.commits + commits_of self.now.log }
+        ensures limit { result ≤ point_of self.now }
     {
         self.books.commits
     }

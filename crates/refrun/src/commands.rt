@@ -99,18 +99,23 @@ fn run<'a>(alloc: Global) -> Result<Command<'a>, AllocError> {
         .long("dump")
         .action(ArgAction::SetTrue)
         .help("Prints the dump of the run in the place of its report");
+    let progress = Arg::new(alloc, "progress")
+        .long("progress")
+        .action(ArgAction::SetTrue)
+        .help("Tells on standard error, once a second, how far the run is; for a terminal");
     Command::new(alloc, "run")
         .about(RUN)
         .after_help(RUN_MORE)
         .arg(tries)?
-        .arg(dump)
+        .arg(dump)?
+        .arg(progress)
 }
 
 /// What the command says.
 pub(crate) fn act_of(matches: &ArgMatches) -> Option<Act> {
     let (name, inner) = matches.subcommand()?;
     match name {
-        "run" => Some(Act::ByCore(Task::Run(options(inner)))),
+        "run" => Some(Act::ByCore(run_of(inner))),
         "check" => Some(Act::Check),
         "audit" => Some(Act::ByCore(Task::Audit)),
         "print" => Some(Act::Print),
@@ -118,9 +123,13 @@ pub(crate) fn act_of(matches: &ArgMatches) -> Option<Act> {
     }
 }
 
-fn options(matches: &ArgMatches) -> Options {
-    Options {
+fn run_of(matches: &ArgMatches) -> Task {
+    let options = Options {
         tries: matches.get_one::<u32>("tries").unwrap_or(TRIES),
         dump: matches.get_flag("dump"),
+    };
+    Task::Run {
+        options,
+        tells: matches.get_flag("progress"),
     }
 }

@@ -13,6 +13,7 @@ pub mod faults;
 mod lines;
 pub mod printing;
 mod table;
+mod telling;
 
 use clap::Error;
 use clap::error::ErrorKind;
@@ -27,6 +28,7 @@ use std::io;
 use std::process::ExitCode;
 use std::sync::Wait;
 use std::thread::Threads;
+use std::time::Clock;
 use table::by_core;
 
 // The status where the words are no command.
@@ -40,7 +42,9 @@ fn main(rt: HostRuntime) -> ExitCode {
 }
 
 // Does what the words ask for, and answers the status.
-fn answer<R: AllocGlobal + Env + Input + Print + Eprint + Threads + Wait + Sync>(rt: &R) -> u8 {
+fn answer<R: AllocGlobal + Env + Input + Print + Eprint + Threads + Wait + Clock + Sync>(
+    rt: &R,
+) -> u8 {
     let words = match arguments(rt) {
         Ok(words) => words,
         Err(error) => return no_arguments(rt, &error),
@@ -56,7 +60,10 @@ fn answer<R: AllocGlobal + Env + Input + Print + Eprint + Threads + Wait + Sync>
 }
 
 // Does what the command says, from standard input to standard output.
-fn obey<R: AllocGlobal + Input + Print + Eprint + Threads + Wait + Sync>(rt: &R, act: Act) -> u8 {
+fn obey<R: AllocGlobal + Input + Print + Eprint + Threads + Wait + Clock + Sync>(
+    rt: &R,
+    act: Act,
+) -> u8 {
     let mut reader = Counted::new(rt.reader());
     let mut writer = Counted::new(io::writer(rt));
     match act {

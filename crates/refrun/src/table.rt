@@ -3,6 +3,7 @@ ghost use Rattle.std.specs.Prelude.{◌≤◌, length};
 
 use crate::auditing::audit_text;
 use crate::faults::Fault;
+use crate::telling::run_and_tell;
 use ref_audit::Verdict;
 use ref_edn::{Sink, Source, Value};
 use ref_fun::{Fun, FunFault, FunTable, Pred, StoredFun, StoredPred, core_fun, core_test};
@@ -10,16 +11,21 @@ use ref_workload::{Options, RunFault, run_workload};
 use std::alloc::Global;
 use std::sync::Wait;
 use std::thread::Threads;
+use std::time::Clock;
 
 /// What is done by the table.
 #[derive(Clone, Copy, Drop)]
 pub(crate) enum Task {
-    Run(Options),
+    Run {
+        options: Options,
+        /// Whether it is told on standard error how far the run is.
+        tells: bool,
+    },
     Audit,
 }
 
 /// Makes the table of Core, and runs a workload or audits a dump by it, as [`run_workload`] and [`audit_text`] say.
-pub(crate) fn by_core<R: Threads + Wait + Sync, I: Source, O: Sink>(
+pub(crate) fn by_core<R: Threads + Wait + Clock + Eprint + Sync, I: Source, O: Sink>(
     rt: &R,
     alloc: Global,
     task: Task,
@@ -54,10 +60,17 @@ pub(crate) fn by_core<R: Threads + Wait + Sync, I: Source, O: Sink>(
         };
     }
     match task {
-        Task::Run(options) => match run_workload(rt, alloc, &table, reader, writer, options) {
-            Ok(verdict) => Ok(verdict),
-            Err(fault) => Err(Fault::Run(fault)),
-        },
+        Task::Run { options, tells } => {
+            let ran = if tells {
+                run_and_tell(rt, alloc, &table, reader, writer, options)
+            } else {
+                run_workload(rt, alloc, &table, reader, writer, options)
+            };
+            match ran {
+                Ok(verdict) => Ok(verdict),
+                Err(fault) => Err(Fault::Run(fault)),
+            }
+        }
         Task::Audit => match audit_text(alloc, &table, reader, writer) {
             Ok(verdict) => Ok(verdict),
             Err(fault) => Err(Fault::Audit(fault)),

@@ -4,7 +4,7 @@ ghost use Rattle.ref_world.specs.Shares.{all_parts};
 
 use crate::tables::core_table;
 use ref_agents::ErrorMode;
-use ref_audit::{DumpMakeFault, Names, Refusal, Verdict, are_few, dump, report};
+use ref_audit::{DumpMakeFault, Names, Refusal, Verdict, dump, report};
 use ref_edn::{Node, Text, Value, print, read_one};
 use ref_fun::{Action, Args, Core, FunTable, Rule};
 use ref_log::Stamp;
@@ -120,9 +120,6 @@ fn dumped<C: Ledger, A: Ledger>(
     alloc: Global,
     world: &World<Core, C, A>,
 ) -> Result<Result<Vec<u8>, DumpMakeFault>, Fail> {
-    if !are_few(world) {
-        return Err(Fail::new("a world has too many references"));
-    }
     match dump(alloc, world) {
         Ok(value) => {
             let mut text = Vec::new(alloc);

@@ -1,6 +1,7 @@
 //! What the threads of a run are lent, what they are started with, and what they hand back.
 use crate::faults::Stop;
 use crate::plans::Step;
+use crate::progress::Progress;
 use crate::running::steps::run_step;
 use ref_audit::Refusal;
 use ref_fun::{Core, Functions};
@@ -11,8 +12,8 @@ use std::alloc::Global;
 use std::sync::Wait;
 use std::sync::ledger::Ledger;
 
-/// What all threads of a run are lent: the shared world, a table, the steps of each worker, and how often a transaction is
-/// tried.
+/// What all threads of a run are lent: the shared world, a table, the steps of each worker, how often a transaction is tried, and
+/// where they count how far they are.
 #[derive(Drop)]
 pub(crate) struct Run<'a, F: Functions<Core>, C: Ledger, A: Ledger> {
     pub(crate) alloc: Global,
@@ -20,6 +21,7 @@ pub(crate) struct Run<'a, F: Functions<Core>, C: Ledger, A: Ledger> {
     pub(crate) shared: Shared<Core, C, A>,
     pub(crate) workers: &'a [SharedVec<Step>],
     pub(crate) tries: u32,
+    pub(crate) progress: &'a Progress,
 }
 
 /// What a worker is started with.
@@ -74,7 +76,10 @@ fn run_steps<F: Functions<Core>, C: Ledger, A: Ledger, R: Wait, G: Gate>(
             return Err(Stop::Internal);
         };
         let stamp = Stamp { worker, step: at };
-        if let Some(reason) = run_step(rt, run, share, gate, stamp, step)? {
+        let refusal = run_step(rt, run, share, gate, stamp, step)?;
+        run.progress
+            .end_step(matches!(step, Step::Tx(_)), refusal.is_some());
+        if let Some(reason) = refusal {
             if refused.push(Refusal { stamp, reason }).is_err() {
                 return Err(Stop::Memory);
             }
