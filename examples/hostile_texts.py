@@ -595,7 +595,8 @@ def numbers_of_dumps():
 
 
 def growing():
-    """Steps on collections that grow. Each copies all members of its collection, so these are known to pass no limit yet."""
+    """Steps whose cost grows with what there is, and which are known to pass no limit yet. A step copies all members of the collection
+    that it changes, and a transaction begins and ends with a look at all refs."""
     n = scaled(STEPS)
     text = workload(":refs [[a []]] :workers [[", repeat("[:tx[:alter a conj 0]]", n), "]]")
     yield Case(f"{n:,} times conj on a vector", text, {"run": printed("ref a [", joined("0", n), f"]\ncommits {n}\naudit ok\n")}, 64, True)
@@ -606,6 +607,11 @@ def growing():
     count = fitting("[conj[0]:done]0 ", AROUND)
     agent = ["[[[]", listed("[conj[0]:done]", count), "[]", listed("0 ", count), ":ready nil]]"]
     yield Case(f"{count:,} actions conj in a dump", dump(agents=agent), verdict("ok"), 64, True)
+    refs = scaled(REFERENCES)
+    worker = ["[", each(lambda i: f"[:tx[:alter r{i % refs} inc]]", n), "]"]
+    text = workload(":refs [", each(lambda i: f"[r{i} 0]", refs), "] :workers [", [worker] * WORKERS, "]")
+    lines = each(lambda i: f"ref r{i} {WORKERS * (n // refs + (i < n % refs))}\n", refs)
+    yield Case(f"{WORKERS * n:,} transactions on {refs:,} refs", text, {RUN: printed(lines, f"commits {WORKERS * n}\naudit ok\n")}, 64, True)
 
 
 GROUPS = (
