@@ -4,6 +4,7 @@ import math
 import os
 import re
 import subprocess
+import tempfile
 from dataclasses import dataclass
 from functools import partial
 from pathlib import Path
@@ -331,20 +332,26 @@ def long_names():
 
 
 def colliding(count):
-    """As many steps as there may be on the last of many atoms whose names fall on one place of a table."""
-    compiler, program = os.environ.get("CC", "cc"), Path(os.environ.get("TMPDIR", "/tmp")) / f"collide-{os.getpid()}"
+    """As many steps as there may be on the last of many references whose names fall on one place of a table."""
+    told = names_of_one_place(2 * count)
+    refs, atoms = told[:count], told[count:]
+    steps = scaled(STEPS)
+    declared = [":refs [", [f"[{name} 0]" for name in refs], "] :atoms [", [f"[{name} 0]" for name in atoms], "]"]
+    lines = [[f"ref {name} 0\n" for name in refs], [f"atom {name} 0\n" for name in atoms[:-1]], f"atom {atoms[-1]} {WORKERS * steps}\n"]
+    text = workload(declared, in_all(f"[:swap {atoms[-1]} inc]", steps))
+    return Case("steps on the last of all refs and atoms, whose names collide", text, {
+        "check": printed("workload ok\n"), "run": printed(lines, "commits 0\naudit ok\n")}, 64)
+
+
+def names_of_one_place(count):
+    # A group of the table has nine names on average, and there are a power of two of these.
     bits = math.ceil(math.log2(math.ceil(count / 9)))
+    program = Path(tempfile.gettempdir()) / f"collide-{os.getpid()}"
     try:
-        subprocess.run([compiler, "-O2", "-o", program, HERE / "collide.c"], check=True)
-        told = subprocess.run([program, str(count), str(bits)], check=True, capture_output=True, text=True).stdout.split()
+        subprocess.run([os.environ.get("CC", "cc"), "-O2", "-o", program, HERE / "collide.c"], check=True)
+        return subprocess.run([program, str(count), str(bits)], check=True, capture_output=True, text=True).stdout.split()
     finally:
         program.unlink(missing_ok=True)
-    steps = scaled(STEPS)
-    atoms = "".join(f"[{name} 0]" for name in told)
-    lines = "".join(f"atom {name} 0\n" for name in told[:-1])
-    return Case(f"{WORKERS * steps:,} steps on the last of {count:,} atoms whose names collide",
-                workload(f":atoms [{atoms}]", in_all(f"[:swap {told[-1]} inc]", steps)), {
-        "check": printed("workload ok\n"), "run": printed(lines, f"atom {told[-1]} {WORKERS * steps}\ncommits 0\naudit ok\n")}, 64)
 
 
 def too_many():
@@ -594,6 +601,26 @@ def numbers_of_dumps():
     yield Case("the greatest worker", dump(entries="[[:tx 4294967295 4294967295 0 [] []]]", commits="1"), verdict("ok"))
 
 
+def long_values():
+    """Steps that change nothing of a long value, and that are not to look at all of it."""
+    n, count = fitting("0 ", Length.size // 4), scaled(STEPS)
+    value, shown = listed("0 ", n), ["[", joined("0", n), "]"]
+    rows = (
+        (":refs [[a ", "]]", "[:tx[:ensure a]]", "ref a ", "", count),
+        (":refs [[a ", "]]", "[:tx[:require a = 0]]", "ref a ", "not-met", 0),
+        (":refs [[a ", " [vector?]][b 0]]", "[:tx[:require a some?][:set b 0]]", "ref a ", "", count),
+        (":atoms [[a ", "]]", "[:cas a [0] 0]", "atom a ", "", 0),
+        (":atoms [[a ", "]]", "[:validator a [vector?]]", "atom a ", "", 0),
+        (":agents [[a ", " :continue]]", "[:send a inc]", "agent a ", "", 0),
+    )
+    for before, behind, step, begin, reason, commits in rows:
+        text = workload(before, value, behind, " :workers [", listed(step, count), "]")
+        end = {"agent a ": " ready\n"}.get(begin, "\n") + ("ref b 0\n" if "b 0" in behind else "")
+        told = each(lambda i, r=reason: f"refused 0 {i} {r}\n", count) if reason else ""
+        lines = [begin, shown, end, told, f"commits {commits}\naudit ok\n"]
+        yield Case(f"{count:,} times {step} on a long value", text, {"run": printed(*lines)})
+
+
 def growing():
     """Steps whose cost grows with what there is, and which are known to pass no limit yet. A step copies all members of the collection
     that it changes, and a transaction begins and ends with a look at all refs."""
@@ -611,9 +638,11 @@ def growing():
     worker = ["[", each(lambda i: f"[:tx[:alter r{i % refs} inc]]", n), "]"]
     text = workload(":refs [", each(lambda i: f"[r{i} 0]", refs), "] :workers [", [worker] * WORKERS, "]")
     lines = each(lambda i: f"ref r{i} {WORKERS * (n // refs + (i < n % refs))}\n", refs)
-    yield Case(f"{WORKERS * n:,} transactions on {refs:,} refs", text, {RUN: printed(lines, f"commits {WORKERS * n}\naudit ok\n")}, 64, True)
+    shown = printed(lines, f"commits {WORKERS * n}\naudit ok\n")
+    yield Case(f"{WORKERS * n:,} transactions on {refs:,} refs", text, {RUN: shown}, 64, True)
 
 
 GROUPS = (
-    nesting, strings, names, integers, vectors, maps, blanks, brackets, values, long_names, too_many, steps, operations, dumps, growing,
+    nesting, strings, names, integers, vectors, maps, blanks, brackets, values, long_names, too_many, steps, operations, dumps,
+    long_values, growing,
 )  # fmt: skip
