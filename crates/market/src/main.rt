@@ -12,10 +12,10 @@ ghost use Rattle.std.specs.Prelude.{◌≡◌};
 ghost use Rattle.ref_world.specs.Shares.{all_parts};
 
 mod board;
+mod codes;
 mod customers;
 mod helpers;
 mod stalls;
-mod table;
 mod tickets;
 mod values;
 
@@ -23,17 +23,17 @@ use board::Board;
 use customers::{Custom, Wishes, serve_all};
 use helpers::help_both;
 use ref_edn::Value;
-use ref_fun::{Core, FunTable, Functions};
+use ref_fun::{Core, CoreFunctions, Functions};
 use ref_log::Who;
-use ref_world::{Share, Totals, World};
+use ref_world::{ALL_PARTS, Share, Totals, World};
 use stalls::{CAME, Good, JOURNAL, Market, TAKINGS, TILL, start};
 use std::alloc::{AllocError, AllocFailed};
+use std::marker::Brand;
 use std::process::ExitCode;
 use std::sync::Wait;
 use std::sync::ledger::{Blank, Ledger};
 use std::thread;
 use std::thread::Threads;
-use table::run_by_core;
 use tickets::sell_tickets;
 use values::{length, text};
 
@@ -54,7 +54,7 @@ impl<T: Drop> From<AllocFailed<T>> for Trouble {
 }
 
 fn main(rt: HostRuntime) -> ExitCode {
-    let done = match run_by_core(&rt) {
+    let done = match run_day(&rt) {
         Ok(()) => sell_tickets(&rt),
         Err(Trouble) => Err(Trouble),
     };
@@ -64,12 +64,23 @@ fn main(rt: HostRuntime) -> ExitCode {
     }
 }
 
-// A day at the market. C and A name the books of its world, which are told from those of another world by their types alone.
+// A day at the market, by the functions of Core.
+fn run_day<R: AllocGlobal + Print + Threads + Wait + Sync>(rt: &R) -> Result<(), Trouble> {
+    // The books of a world begin as blanks, each of which is named as it is made.
+    day::<Brand, Brand, R>(
+        rt,
+        &CoreFunctions,
+        Blank::new(ALL_PARTS),
+        Blank::new(ALL_PARTS),
+    )
+}
+
+// The day in a world. C and A name the books of its world, which are told from those of another world by their types alone.
 fn day<
     C: Ledger + Send + Sync,
     A: Ledger + Send + Sync,
     R: AllocGlobal + Print + Threads + Wait + Sync,
->(rt: &R, funs: &FunTable, commits: Blank, added: Blank) -> Result<(), Trouble>
+>(rt: &R, funs: &CoreFunctions, commits: Blank, added: Blank) -> Result<(), Trouble>
     requires commits { (commits.name ≡ C.name) × (commits.parts ≡ C.parts) × (commits.parts ≡ all_parts) }
     requires added { (added.name ≡ A.name) × (added.parts ≡ A.parts) × (added.parts ≡ all_parts) }
 {

@@ -1,7 +1,7 @@
 //! The market: its world, and what one customer does.
 use crate::Trouble;
 use crate::board::Board;
-use crate::table::{AT_LEAST, CONJ, INC, MINUS, PLUS};
+use crate::codes::{AT_LEAST, CONJ, INC, MINUS, PLUS};
 use crate::values::{args, no_args, value};
 use ref_agents::ErrorMode;
 use ref_fun::{Core, Functions, Rule};

@@ -4,7 +4,7 @@ use Rattle.std.proofs.lemmas.Bool.Decides.{nat_tests}
 use Rattle.std.specs.Prelude.{option_and_then}
 use Rattle.std.specs.List.{list_all}
 use Rattle.ref_edn.specs.Edn.{Edn}
-use Rattle.ref_fun.specs.Names.{core_names}
+use Rattle.ref_fun.specs.Names.{core_names, is_function, is_predicate}
 use Rattle.ref_fun.specs.declared.actions.Action.{Action}
 use Rattle.ref_fun.specs.declared.rules.Rule.{Rule}
 use Rattle.ref_log.specs.declared.entries.Entry.{Entry}
@@ -20,9 +20,9 @@ use Rattle.ref_agents.specs.declared.accounts.Queued.{Queued}
 use Rattle.ref_edn.specs.OrderLaws.{edn_eq}
 use Rattle.ref_log.specs.Replay.{is_set}
 use Rattle.ref_audit.specs.Dumped.{atom_form, done_form, entry_form, handled_form, op_form, queued_form, sent_form}
-use Rattle.ref_audit.specs.DumpForm.{action_of, all_said, args_said, code_of, done_of, elements_of, entries_from, entry_of, handled_of, is_predicate, list_said, only_if, queued_of, reference_of, rule_of, sent_of, stamp_number}
+use Rattle.ref_audit.specs.DumpForm.{action_of, all_said, args_said, code_of, done_of, elements_of, entries_from, entry_of, handled_of, list_said, only_if, queued_of, reference_of, rule_of, sent_of, stamp_number}
 use Rattle.ref_audit.specs.OwnDump.{is_typed_action, is_typed_args, is_typed_entry, is_typed_handled, is_typed_number, is_typed_op, is_typed_queued, is_typed_sent, is_typed_done, is_typed_rule, is_typed_stamp, is_reset}
-use Rattle.ref_audit.specs.Words.{is_function, name_form, number_form, rule_form, vector_form}
+use Rattle.ref_audit.specs.Words.{name_form, number_form, rule_form, vector_form}
 use Rattle.ref_audit.proofs.Lists.{args_said_few, elements_of_vector, rule_of_vector}
 
 split : (a b : Bool) → (a && b) ≡ true → (a ≡ true) × (b ≡ true)

@@ -8,6 +8,7 @@ use Rattle.ref_edn.specs.Edn.{Edn}
 use Rattle.ref_edn.specs.Order.{edn_cmp}
 use Rattle.ref_fun.specs.Core.{core_means}
 use Rattle.ref_fun.specs.declared.faults.Cause.TheVariants.{WrongArity}
+use Rattle.ref_fun.specs.Names.{is_function}
 use Rattle.ref_log.specs.Laws.{after_dones-Ok, after_found-Ok, refs_of, replay_from-Ok}
 use Rattle.ref_log.specs.Replay.{after_done, after_dones, after_found, after_one, done_of, is_protected, place, replay_from, step, with_atoms}
 use Rattle.ref_log.specs.declared.entries.Entry.{Entry}
@@ -19,7 +20,6 @@ use Rattle.ref_log.specs.declared.operations.Op.TheVariants as ops
 use Rattle.ref_log.specs.declared.states.PlainState.{PlainState}
 use Rattle.ref_audit.specs.OfCore.{is_entry_of_core, is_op_of_core}
 use Rattle.ref_audit.specs.OwnDump.{is_reset, is_reset_entry}
-use Rattle.ref_audit.specs.Words.{is_function}
 
 -- ---- functions
 

@@ -6,6 +6,7 @@ use Rattle.std.specs.Prelude.{slice_get}
 use Rattle.ref_edn.specs.Edn.{Edn}
 use Rattle.ref_fun.specs.Calls.{HasCore, Known}
 use Rattle.ref_fun.specs.Meaning.{Means}
+use Rattle.ref_fun.specs.Names.{is_function}
 use Rattle.ref_log.specs.Replay.{and_done, and_step, done_of, missing, needed, needed_from, needed_of_done, needed_of_dones, needed_of_entry, needed_of_found, needed_of_step, state_of}
 use Rattle.ref_log.specs.declared.entries.Entry.{Entry}
 use Rattle.ref_log.specs.declared.entries.Entry.TheVariants.{Trans, Atom, MadeRef, MadeAtom}
@@ -14,7 +15,6 @@ use Rattle.ref_log.specs.declared.operations.Done.{Done}
 use Rattle.ref_log.specs.declared.states.Base.{Base}
 use Rattle.ref_log.specs.declared.states.PlainState.{PlainState}
 use Rattle.ref_audit.specs.OfCore.{is_entry_of_core, is_op_of_core}
-use Rattle.ref_audit.specs.Words.{is_function}
 use Rattle.ref_audit.proofs.OfCore.{knows_function}
 
 split : (a b : Bool) → (a && b) ≡ true → (a ≡ true) × (b ≡ true)

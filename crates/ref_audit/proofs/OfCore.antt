@@ -5,9 +5,8 @@ use Rattle.std.proofs.lemmas.Bool.Decides.{nat_tests}
 use Rattle.ref_fun.specs.Calls.{HasCore, Known}
 use Rattle.ref_fun.specs.Rule.{unknown}
 use Rattle.ref_fun.specs.declared.rules.Rule.{Rule}
-use Rattle.ref_audit.specs.DumpForm.{is_predicate}
+use Rattle.ref_fun.specs.Names.{is_function, is_predicate}
 use Rattle.ref_audit.specs.OfCore.{is_rule_of_core}
-use Rattle.ref_audit.specs.Words.{is_function}
 
 both : (a b : Bool) → (a && b) ≡ true → (a ≡ true) × (b ≡ true)
 both true b e = (refl, e)

@@ -29,5 +29,8 @@ named_all w e = map_none (unnamed w) (first_none (unnamed_refusal w) (depth_refu
 same_verdict : (v : Verdict) (r : Result Verdict DumpFault) → r ≡ Ok v → r ≡ Ok verdicts.Ok → v ≡ verdicts.Ok
 same_verdict v r p q = cc
 
-pub own_audit : (w : WorldSeen) (x : Edn) (v : Verdict) → IsTold w → dump_refusal w ≡ None → x ≡ dumped w → verdict_on (dump_of x) ≡ Ok v → v ≡ verdicts.Ok
-own_audit w x v told fine is says = same_verdict v (verdict_on (dump_of x)) says (ap (λ y. verdict_on (dump_of y)) is ∙ own_verdict w told (named_all w fine))
+pub own_ok : (w : WorldSeen) → IsTold w → dump_refusal w ≡ None → verdict_on (dump_of (dumped w)) ≡ Ok verdicts.Ok
+own_ok w told fine = own_verdict w told (named_all w fine)
+
+pub own_audit : (w : WorldSeen) (x : Edn) (v : Verdict) → (dump_refusal w ≡ None → verdict_on (dump_of (dumped w)) ≡ Ok verdicts.Ok) → dump_refusal w ≡ None → x ≡ dumped w → verdict_on (dump_of x) ≡ Ok v → v ≡ verdicts.Ok
+own_audit w x v law fine is says = same_verdict v (verdict_on (dump_of x)) says (ap (λ y. verdict_on (dump_of y)) is ∙ law fine)

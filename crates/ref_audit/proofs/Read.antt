@@ -8,6 +8,7 @@ use Rattle.ref_edn.specs.Edn.{list_of}
 use Rattle.ref_edn.specs.Names.{bytes_eq}
 use Rattle.ref_fun.specs.declared.actions.Action.{Action}
 use Rattle.ref_fun.specs.declared.rules.Rule.{Rule}
+use Rattle.ref_fun.specs.Names.{is_function, is_predicate}
 use Rattle.ref_log.specs.declared.entries.Entry.{Entry}
 use Rattle.ref_log.specs.declared.entries.Entry.TheVariants.{Trans, Atom, MadeRef, MadeAtom}
 use Rattle.ref_log.specs.declared.entries.Stamp.{Stamp}
@@ -17,9 +18,9 @@ use Rattle.ref_log.specs.declared.operations.Op.TheVariants as ops
 use Rattle.ref_log.specs.declared.sends.Sent.{Sent}
 use Rattle.ref_agents.specs.declared.accounts.Handled.{Handled}
 use Rattle.ref_agents.specs.declared.accounts.Mark.{Mark}
-use Rattle.ref_audit.specs.DumpForm.{action_of, agent_of, agent_said, agent_with, all_said, alter_said, and_entry, and_said, args_said, both, call_said, code_named, code_of, commute_said, done_of, done_said, elements_of, elements_within, ensure_said, entries_from, entry_of, entry_said, handled_of, handled_said, is_predicate, kept_of, kept_said, list_said, made_atom_said, made_ref_said, mark_of, number_of, only_if, part_said, queued_of, reference_of, reset_said, rule_of, rule_said, sent_of, set_said, stamp_of, status_of, swap_said, tagged_of, transaction_of, tx_said, under, key_word, values_said}
+use Rattle.ref_audit.specs.DumpForm.{action_of, agent_of, agent_said, agent_with, all_said, alter_said, and_entry, and_said, args_said, both, call_said, code_named, code_of, commute_said, done_of, done_said, elements_of, elements_within, ensure_said, entries_from, entry_of, entry_said, handled_of, handled_said, kept_of, kept_said, list_said, made_atom_said, made_ref_said, mark_of, number_of, only_if, part_said, queued_of, reference_of, reset_said, rule_of, rule_said, sent_of, set_said, stamp_of, status_of, swap_said, tagged_of, transaction_of, tx_said, under, key_word, values_said}
 use Rattle.ref_audit.specs.OfCore.{is_account_of_core, is_agent_rule_of_core, is_entry_of_core, is_handled_of_core, is_kept_of_core, is_op_of_core, is_rule_of_core}
-use Rattle.ref_audit.specs.Words.{alter_tag, commute_tag, ensure_tag, is_function, made_atom_tag, made_ref_tag, reset_tag, set_tag, swap_tag, tx_tag}
+use Rattle.ref_audit.specs.Words.{alter_tag, commute_tag, ensure_tag, made_atom_tag, made_ref_tag, reset_tag, set_tag, swap_tag, tx_tag}
 use Rattle.ref_audit.specs.declared.reading.dumps.Kept.{Kept}
 use Rattle.ref_audit.specs.declared.reading.dumps.KeptAgent.{KeptAgent}
 use Rattle.ref_audit.specs.declared.reading.faults.DumpFault.{DumpFault}

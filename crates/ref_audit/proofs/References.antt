@@ -1,5 +1,5 @@
 -- What a world tells of the reference of a number.
-use Rattle.std.proofs.Common.{◌≡◌, ℕ, zero, suc, List, [], ◌∷◌, Option, None, Some, map, refl, length, ◌≤◌, ap}
+use Rattle.std.proofs.Common.{◌≡◌, ℕ, zero, suc, List, [], ◌∷◌, Option, None, Some, map, refl, ap}
 use Rattle.std.specs.Prelude.{slice_get}
 use Rattle.ref_edn.specs.Edn.{Edn}
 use Rattle.ref_agents.specs.Account.{AccountSeen}

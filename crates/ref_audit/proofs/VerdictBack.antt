@@ -16,7 +16,7 @@ use Rattle.ref_agents.specs.Agents.{AreAgents, IsAgent, values_of}
 use Rattle.ref_agents.specs.declared.agents.Agent.{Agent}
 use Rattle.ref_world.specs.Seen.{WorldSeen}
 use Rattle.ref_audit.specs.OwnDump.{IsSound, agent_seen, agents_seen, dump_seen, kept_seen, kepts_seen}
-use Rattle.ref_audit.specs.Verdict.{agent_breaks_rule, are_counts, breaks_fold, breaks_rule, first_difference, is_value, replay_line, verdict}
+use Rattle.ref_audit.specs.Verdict.{agent_breaks_rule, breaks_fold, breaks_rule, first_difference, verdict}
 use Rattle.ref_audit.specs.Verdict as audits
 use Rattle.ref_audit.specs.declared.reports.Verdict.TheVariants as verdicts
 

@@ -20,7 +20,7 @@ use Rattle.std.specs.List.{list_all, list_any}
 use Rattle.ref_edn.specs.Edn.{Edn, nil, int, keyword, symbol, vector, list_of, pairs_of}
 use Rattle.ref_edn.specs.Edn as edn
 use Rattle.ref_edn.specs.Names.{bytes_eq}
-use Rattle.ref_fun.specs.Names.{code_in, core_names}
+use Rattle.ref_fun.specs.Names.{code_in, core_names, is_function, is_predicate}
 use Rattle.ref_fun.specs.declared.actions.Action.{Action}
 use Rattle.ref_fun.specs.declared.rules.Rule.{Rule}
 use Rattle.ref_log.specs.declared.entries.Entry.{Entry}
@@ -34,7 +34,7 @@ use Rattle.ref_log.specs.declared.states.Base.{Base}
 use Rattle.ref_agents.specs.declared.accounts.Handled.{Handled}
 use Rattle.ref_agents.specs.declared.accounts.Mark.{Mark}
 use Rattle.ref_agents.specs.declared.accounts.Mark.TheVariants as marks
-use Rattle.ref_audit.specs.Words.{added_key, agents_key, all_keys, alter_tag, atoms_key, base_atoms_key, base_refs_key, commits_key, commute_tag, done_mark, dump_key, ensure_tag, entries_key, failed_mark, failed_status, folded_key, is_function, made_atom_tag, made_ref_tag, passed_mark, point_key, ready_status, refs_key, reset_tag, set_tag, swap_tag, tally_key, tx_tag}
+use Rattle.ref_audit.specs.Words.{added_key, agents_key, all_keys, alter_tag, atoms_key, base_atoms_key, base_refs_key, commits_key, commute_tag, done_mark, dump_key, ensure_tag, entries_key, failed_mark, failed_status, folded_key, made_atom_tag, made_ref_tag, passed_mark, point_key, ready_status, refs_key, reset_tag, set_tag, swap_tag, tally_key, tx_tag}
 use Rattle.ref_audit.specs.declared.reading.dumps.Changed.{Changed}
 use Rattle.ref_audit.specs.declared.reading.dumps.Dump.{Dump}
 use Rattle.ref_audit.specs.declared.reading.dumps.Kept.{Kept}
@@ -96,9 +96,6 @@ values_said said x = option_and_then (all_said said) (elements_within (2 ^ 32 - 
 -- since a dump has fewer, and so none that is replayed has one where the verdict is ok.
 abbrev pub reference_of : Edn → Option ℕ
 reference_of x = option_map (λ n. min n (2 ^ 32 - 1)) (number_of x)
-
-abbrev pub is_predicate : ℕ → Bool
-is_predicate code = nat_le 101 code && nat_le code 109
 
 -- the code of Core that a symbol names
 abbrev pub code_named : Edn → Option ℕ

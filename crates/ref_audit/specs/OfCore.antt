@@ -2,13 +2,12 @@
 use Rattle.std.specs.Prelude.{◌≡◌, Bool, true, Option, None, Some}
 use Rattle.std.specs.List.{list_all}
 use Rattle.ref_fun.specs.declared.rules.Rule.{Rule}
+use Rattle.ref_fun.specs.Names.{is_function, is_predicate}
 use Rattle.ref_log.specs.Replay.{codes_of}
 use Rattle.ref_log.specs.declared.entries.Entry.{Entry}
 use Rattle.ref_log.specs.declared.entries.Entry.TheVariants.{Trans, Atom, MadeRef, MadeAtom}
 use Rattle.ref_log.specs.declared.operations.Op.{Op}
 use Rattle.ref_agents.specs.declared.accounts.Handled.{Handled}
-use Rattle.ref_audit.specs.DumpForm.{is_predicate}
-use Rattle.ref_audit.specs.Words.{is_function}
 use Rattle.ref_audit.specs.declared.reading.dumps.Dump.{Dump}
 use Rattle.ref_audit.specs.declared.reading.dumps.Kept.{Kept}
 use Rattle.ref_audit.specs.declared.reading.dumps.KeptAgent.{KeptAgent}

@@ -24,6 +24,7 @@ use Rattle.ref_agents.specs.declared.agents.Agent.{Agent}
 use Rattle.ref_log.specs.Guards.{rule_at}
 use Rattle.ref_log.specs.declared.guards.Guard.{Guard}
 use Rattle.ref_fun.specs.Core.{core_accepts, core_means}
+use Rattle.ref_fun.specs.Names.{is_function, is_predicate}
 use Rattle.ref_log.specs.Guards.{AreAccepted}
 use Rattle.ref_log.specs.Tally.{IsTally, added_of, commits_of, fits_entry}
 use Rattle.ref_agents.specs.Agents as stores
@@ -34,8 +35,6 @@ use Rattle.ref_audit.specs.Made.{AreFew}
 use Rattle.ref_audit.specs.declared.reading.dumps.Dump.{Dump}
 use Rattle.ref_audit.specs.declared.reading.dumps.Kept.{Kept}
 use Rattle.ref_audit.specs.declared.reading.dumps.KeptAgent.{KeptAgent}
-use Rattle.ref_audit.specs.DumpForm.{is_predicate}
-use Rattle.ref_audit.specs.Words.{is_function}
 
 -- a number of 32 bits
 abbrev pub is_typed_number : ℕ → Bool

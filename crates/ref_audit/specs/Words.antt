@@ -1,6 +1,6 @@
 -- The words of dumps, and the forms that stand in more than one place of a dump. Keys, tags, marks and statuses are keywords;
 -- each is told here without its colon.
-use Rattle.std.specs.Prelude.{ℕ, pos, nat_le, ◌&&◌, Bool, List, [], ◌∷◌, Option, None, Some, codes}
+use Rattle.std.specs.Prelude.{ℕ, pos, List, [], ◌∷◌, Option, None, Some, codes}
 use Rattle.ref_edn.specs.Edn.{Edn, nil, int, symbol, vector, items_of}
 use Rattle.ref_fun.specs.Names.{core_names, name_in}
 use Rattle.ref_fun.specs.declared.actions.Action.{Action}
@@ -106,10 +106,6 @@ number_form n = int (pos n)
 
 abbrev pub vector_form : List Edn → Edn
 vector_form forms = vector (items_of forms)
-
--- The codes of Core's functions.
-abbrev pub is_function : ℕ → Bool
-is_function code = nat_le 1 code && nat_le code 10
 
 abbrev pub named : Option (List ℕ) → Edn
 named (Some name) = symbol name

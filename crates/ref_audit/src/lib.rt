@@ -15,7 +15,7 @@ pub mod words;
 pub use auditor::audit;
 pub use dumping::dump;
 pub use faults::DumpMakeFault;
-pub use own_audit::audit_own_dump;
+pub use own_audit::{audit_own_dump, own_dump_is_ok};
 pub use reading::dumps::{Changed, Kept, KeptAgent};
 pub use reading::faults::{DumpFault, Key};
 pub use reading::read_dump;

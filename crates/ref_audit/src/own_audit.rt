@@ -1,9 +1,11 @@
 //! The audit of a world's own dump.
-ghost use Rattle.std.specs.Prelude.{◌≡◌, IfOk};
+ghost use Rattle.std.specs.Prelude.{◌≡◌, None, Ok, IfOk};
 ghost use Rattle.ref_fun.specs.Calls.{HasCore};
 ghost use Rattle.ref_log.specs.Told.{TellsOrMemory};
-ghost use Rattle.ref_audit.specs.Dumped.{dump_refusal, unnamed_refusal};
+ghost use Rattle.ref_audit.specs.DumpForm.{dump_of};
+ghost use Rattle.ref_audit.specs.Dumped.{dump_refusal, dumped, unnamed_refusal};
 ghost use Rattle.ref_audit.specs.OwnDump.{IsTold};
+ghost use Rattle.ref_audit.specs.Verdict.{verdict_on};
 ghost use Rattle.ref_audit.specs.declared.faults.DumpMakeFault.TheVariants as faults;
 ghost use Rattle.ref_audit.specs.declared.reports.Verdict.TheVariants as verdicts;
 
@@ -22,8 +24,17 @@ use ref_world::World;
 use std::alloc::Global;
 use std::sync::ledger::Ledger;
 
-/// Dumps a world, and audits the dump: where that is done, the verdict is ok, whatever the world went through. It is refused where
-/// [`dump`] is.
+/// The law of dumps: the verdict on a world's dump is ok, whatever the world went through. It changes nothing and answers nothing, and
+/// costs a look at each part of the world.
+#[tactic(auto, using(crate::proofs::OwnVerdict::own_ok))]
+pub fn own_dump_is_ok<C: Ledger, A: Ledger>(world: &World<Core, C, A>)
+    ensures { dump_refusal world.now ≡ None → verdict_on (dump_of (dumped world.now)) ≡ Ok verdicts.Ok }
+{
+    tell(world);
+}
+
+/// Dumps a world, and audits the dump: where that is done, the verdict is ok, by [`own_dump_is_ok`]. It is refused where [`dump`]
+/// is.
 pub fn audit_own_dump<F: Functions<Core>, C: Ledger, A: Ledger>(
     alloc: Global,
     funs: &F,
@@ -33,7 +44,7 @@ pub fn audit_own_dump<F: Functions<Core>, C: Ledger, A: Ledger>(
     ensures ok { IfOk result (λ verdict. verdict ≡ verdicts.Ok) }
     ensures refused { TellsOrMemory faults.Memory (unnamed_refusal world.now) (dump_refusal world.now) result }
 {
-    tell(world);
+    own_dump_is_ok(world);
     let value = match dump(alloc, world) {
         Ok(value) => value,
         Err(fault) => return Err(fault),

@@ -1,4 +1,5 @@
 pub mod Kept
+pub mod CoreCodes
 pub mod Shallower
 pub mod OwnCodes
 pub mod Sameness

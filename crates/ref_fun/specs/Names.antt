@@ -1,5 +1,5 @@
--- The names of the functions and predicates of Core, as they stand in texts.
-use Rattle.std.specs.Prelude.{ℕ, ◌==◌, if◌then◌else◌, List, [], ◌∷◌, Option, None, Some, codes}
+-- The codes of the functions and predicates of Core, and their names as they stand in texts.
+use Rattle.std.specs.Prelude.{ℕ, ◌==◌, nat_le, Bool, ◌&&◌, if◌then◌else◌, List, [], ◌∷◌, Option, None, Some, codes}
 use Rattle.ref_edn.specs.Names.{bytes_eq}
 
 -- each code with its name
@@ -18,3 +18,10 @@ code_in (e ∷ es) name = if bytes_eq e.1 name then Some e.0 else code_in es nam
 abbrev pub name_in : List (ℕ × List ℕ) → ℕ → Option (List ℕ)
 name_in [] code = None
 name_in (e ∷ es) code = if e.0 == code then Some e.1 else name_in es code
+
+-- which codes are functions, and which are predicates
+abbrev pub is_function : ℕ → Bool
+is_function code = nat_le 1 code && nat_le code 10
+
+abbrev pub is_predicate : ℕ → Bool
+is_predicate code = nat_le 101 code && nat_le code 109

@@ -5,9 +5,9 @@
 //! predicate, and [`code_of`] and [`name_of`] tell their names. They take a state and at most 8 arguments, all of them
 //! EDN values. A [`Rule`] is a predicate with its arguments, and an [`Action`] a function with its arguments.
 //!
-//! A program runs functions by closures of its own: a [`StoredFun`] or [`StoredPred`] is a closure under a code, which is made only
-//! with a proof that it answers what Core means by the code, and a [`FunTable`] holds at most 64 of each kind. Generic code asks a
-//! table through the trait [`Functions`], for any meaning.
+//! A program that has no functions of its own takes [`CoreFunctions`], the table of Core. Another runs closures: a [`StoredFun`] or
+//! [`StoredPred`] is a closure under a code, which is made only with a proof that it answers what Core means by the code, and a
+//! [`FunTable`] holds at most 64 of each kind. Generic code asks a table through the trait [`Functions`], for any meaning.
 //!
 //! A look-up is logarithmic in the table. A function of integers takes constant time for each argument and no memory; one of
 //! collections copies the list of members once where something changes, and shares the members. A closure may take what time it
@@ -17,6 +17,7 @@
 pub mod actions;
 pub mod arguments;
 mod collections;
+pub mod core_functions;
 pub mod faults;
 pub mod functions;
 mod integers;
@@ -30,10 +31,11 @@ pub mod tables;
 
 pub use actions::Action;
 pub use arguments::{Args, MOST_ARGUMENTS};
+pub use core_functions::CoreFunctions;
 pub use faults::{AddFault, CallFault, Cause, FunFault};
 pub use functions::core_fun;
 pub use meanings::{Core, Meaning};
-pub use names::{code_of, name_of};
+pub use names::{code_of, is_function, is_predicate, name_of};
 pub use predicates::core_test;
 pub use rules::{Rule, check_known, passes};
 pub use stored::{Fun, Pred, StoredFun, StoredPred};

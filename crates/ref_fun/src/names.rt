@@ -1,7 +1,7 @@
-//! The names of the functions and predicates of Core.
+//! The codes and names of the functions and predicates of Core.
 ghost use Rattle.std.specs.Prelude.{◌≡◌, map, option_copied};
 ghost use Rattle.ref_edn.specs.Names.{bytes_eq};
-ghost use Rattle.ref_fun.specs.Names.{core_names, code_in, name_in};
+ghost use Rattle.ref_fun.specs.Names.{core_names, code_in, name_in, is_function, is_predicate};
 
 const NAMES: [(u32, &str); 19] = [
     (1, "+"),
@@ -39,6 +39,20 @@ pub fn name_of(code: u32) -> Option<&'static str>
     ensures { option_copied result ≡ name_in core_names code }
 {
     name_in(&NAMES, code)
+}
+
+/// Whether Core has a function of this code.
+pub fn is_function(code: u32) -> bool
+    ensures { result ≡ is_function code }
+{
+    1 <= code && code <= 10
+}
+
+/// Whether Core has a predicate of this code.
+pub fn is_predicate(code: u32) -> bool
+    ensures { result ≡ is_predicate code }
+{
+    101 <= code && code <= 109
 }
 
 fn is_same(a: &[u8], b: &[u8]) -> bool

@@ -3,3 +3,5 @@ pub mod Removals
 pub mod Rising
 pub mod Opened
 pub mod WholeMaps
+pub mod Listed
+pub mod Crossing

@@ -1,4 +1,5 @@
-//! Maps from numbers that keep their old versions: [`PMap`].
+//! Maps from numbers that keep their old versions: [`PMap`], and [`Numbered`], values by number from 0 on, which is a list kept in
+//! such a map.
 //!
 //! Take one where somebody keeps a map as it was while somebody else goes on, as a transaction keeps the values of its
 //! beginning while others commit: [`PMap::with`] and [`PMap::without`] answer a new map and leave the old one as it is, and
@@ -16,6 +17,9 @@
 //! | `walk` | linear | the answer |
 //! | `share` | constant | none |
 //! | letting the last owner go | linear | |
+//! | `Numbered`: `empty`, `len`, `is_empty`, `share`, `get` | as those of the map | none |
+//! | `Numbered`: `with`, `with_next` | as `with` | as `with` |
+//! | `Numbered`: going over all | a `get` for each value | none |
 //!
 //! **How it is kept.** As a binary radix tree, which is also known as a Patricia tree; Okasaki and Gill's 'Fast Mergeable
 //! Integer Maps' has it as a persistent map. A fork stands for a block of numbers, of a power of two at a multiple of it, and its
@@ -33,6 +37,8 @@
 
 mod bounds;
 pub mod maps;
+pub mod numbered;
 mod trees;
 
 pub use maps::PMap;
+pub use numbered::Numbered;

@@ -1,7 +1,7 @@
 -- After a commit whose guards were asked each rule accepts again.
 use Rattle.std.proofs.Common.{◌≡◌, ℕ, zero, suc, ◌<◌, ◌==◌, ◌&&◌, ◌||◌, not, cond, Bool, true, false, List, [], ◌∷◌, length, Option, None, Some, Ok, get_or, refl, sym, ap, subst, ◌∙◌, arith}
 use Rattle.std.specs.BTreeSet.{insert_key}
-use Rattle.std.specs.List.{AllByRecursion, find, list_any}
+use Rattle.std.specs.List.{AllByRecursion, find}
 use Rattle.std.specs.Option.{option_map}
 use Rattle.std.specs.Ordering.{nat_cmp, match_ordering}
 use Rattle.std.specs.declared.cmp.Ordering.{Ordering}
@@ -21,7 +21,7 @@ use Rattle.ref_refs.specs.Rules.{AreKnown}
 use Rattle.ref_refs.specs.Watches.{touched_from, touched_refs}
 use Rattle.ref_refs.specs.declared.faults.CommitFault.{CommitFault}
 use Rattle.ref_refs.specs.declared.faults.CommitFault.TheVariants.{NoSuchFun}
-use Rattle.ref_refs.proofs.Refs.{no_map}
+use Rattle.ref_refs.proofs.Refs.{among, no_map}
 
 -- ---- what is known of the refs that are touched
 
@@ -66,9 +66,6 @@ pub known_at : (knows : ℕ → Bool) (guards : List Guard) (rs : List ℕ) (i :
 known_at knows guards rs i known below = all_at (λ r. unknown knows (rule_at guards r) ≡ None) rs i known below
 
 -- ---- a ref that is touched is among the refs that are touched
-
-abbrev among : List ℕ → ℕ → Bool
-among rs r = list_any (λ x. x == r) rs
 
 among_insert : (rs : List ℕ) (k r : ℕ) → among (insert_key nat_cmp rs k) r ≡ ((k == r) || among rs r)
 among_insert [] k r = refl

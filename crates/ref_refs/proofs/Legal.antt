@@ -25,7 +25,7 @@ use Rattle.ref_refs.specs.declared.faults.Alien.TheVariants as aliens
 use Rattle.ref_tx.specs.Seen.{TxSeen}
 use Rattle.ref_refs.specs.Commit.{refused, alien_ref, alien_value, commuted_code, commuted_codes, differs, differs_at, first_protected}
 use Rattle.ref_refs.proofs.Refs.{all_here, no_map}
-use Rattle.ref_refs.proofs.Smallest.{wanted, none_in_range}
+use Rattle.ref_refs.proofs.Smallest.{none_in_range}
 
 -- ---- one operation
 
@@ -145,6 +145,7 @@ pub agrees_first : (values : List Edn) (tx : TxSeen) → alien_ref values tx.don
 agrees_first values tx here none r protected =
     let below = all_here values tx.dones here r protected in
     let holds = differs_at values tx.began in
-    let unwanted : wanted holds tx.dones r ≡ false = none_in_range (wanted holds tx.dones) (length values) 0 r (no_map (λ q. Foreign (aliens.Value q)) (first_protected values tx.dones holds) none) (omega arith) (omega (arith, below)) in
-    let same : holds r ≡ false = false_from_ne_true (holds r) (λ h. both_ways (wanted holds tx.dones r) unwanted (and_from (is_protected tx.dones r) (holds r) protected h)) in
+    let wanted : ℕ → Bool = λ q. is_protected tx.dones q && holds q in
+    let unwanted : wanted r ≡ false = none_in_range wanted (length values) 0 r (no_map (λ q. Foreign (aliens.Value q)) (first_protected values tx.dones holds) none) (omega arith) (omega (arith, below)) in
+    let same : holds r ≡ false = false_from_ne_true (holds r) (λ h. both_ways (wanted r) unwanted (and_from (is_protected tx.dones r) (holds r) protected h)) in
     same_of (slice_get tx.began r) (slice_get values r) (get_or values r nil) (slice_get-get_or values r nil below) same

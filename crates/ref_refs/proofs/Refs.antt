@@ -1,10 +1,11 @@
 -- The refs of operations are here, and what follows where there is no tally.
-use Rattle.std.proofs.Common.{◌≡◌, ℕ, ◌<◌, ◌==◌, ◌&&◌, not, nat_lt, cond, Bool, true, false, List, [], ◌∷◌, length, Option, None, Some, refl, ap, get_or, zero, suc, ◌⊎◌, inl, inr, arith}
-use Rattle.std.specs.List.{find}
+use Rattle.std.proofs.Common.{◌≡◌, ℕ, ◌<◌, ◌==◌, ◌&&◌, ◌||◌, not, nat_lt, cond, Bool, true, false, List, [], ◌∷◌, ◌++◌, length, Option, None, Some, refl, ap, ◌∙◌, get_or, zero, suc, ◌⊎◌, inl, inr, arith}
+use Rattle.std.specs.List.{find, list_any}
 use Rattle.std.specs.Option.{option_map}
-use Rattle.std.proofs.lemmas.Bool.{eqb-true, or_cases, and_parts, ltb-true}
+use Rattle.std.proofs.lemmas.Bool.{eqb-true, eq-eqb, or_cases, and_parts, ltb-true}
+use Rattle.std.proofs.lemmas.List.Folds.{list_any-append, list_any_at}
 use Rattle.ref_edn.specs.Edn.{Edn}
-use Rattle.ref_log.specs.Replay.{is_commute, is_protected}
+use Rattle.ref_log.specs.Replay.{is_commute, is_ensure, is_protected, is_touched}
 use Rattle.ref_log.specs.declared.operations.Done.{Done}
 use Rattle.ref_log.specs.Tally.{fit_tally}
 use Rattle.ref_refs.specs.declared.faults.Alien.TheVariants as aliens
@@ -16,6 +17,21 @@ pub no_tally : (ds : List Done) → fit_tally None ds ≡ true
 no_tally [] = refl
 no_tally (d ∷ ds) = no_tally ds
 
+-- ---- a ref among others
+
+abbrev pub among : List ℕ → ℕ → Bool
+among rs r = list_any (λ x. x == r) rs
+
+pub or_false : (b : Bool) → (b || false) ≡ b
+or_false true = refl
+or_false false = refl
+
+pub among_more : (rs : List ℕ) (x q : ℕ) → among (rs ++ x ∷ []) q ≡ (among rs q || (x == q))
+among_more rs x q = list_any-append (λ y. y == q) rs (x ∷ []) ∙ ap (λ b. among rs q || b) (or_false (x == q))
+
+pub among_at : (rs : List ℕ) (i : ℕ) → i < length rs → among rs (get_or rs i 0) ≡ true
+among_at rs i below = list_any_at (λ y. y == get_or rs i 0) rs i 0 below (eq-eqb (get_or rs i 0) (get_or rs i 0) refl)
+
 -- ---- where no ref is foreign, the ref of each operation is here
 
 abbrev foreign : Done → CommitFault
@@ -25,12 +41,18 @@ here_parts : (b : Bool) (d : Done) (later : Option Done) → option_map foreign 
 here_parts true d later e = (refl, e)
 here_parts false d later e = absurd cc
 
-pub all_here : (values : List Edn) (ds : List Done) → alien_ref values ds ≡ None → (r : ℕ) → is_protected ds r ≡ true → r < length values
-all_here values [] none r protected = absurd cc
-all_here values (d ∷ ds) none r protected = at (here_parts (nat_lt d.r (length values)) d (find (λ x. not (has_ref values x.r)) ds) none) (or_cases (d.r == r && not (is_commute d.op)) (is_protected ds r) protected) (λ n p. all_here values ds n r p) where
-  at : (nat_lt d.r (length values) ≡ true) × (alien_ref values ds ≡ None) → ((d.r == r && not (is_commute d.op)) ≡ true) ⊎ (is_protected ds r ≡ true) → (alien_ref values ds ≡ None → is_protected ds r ≡ true → r < length values) → r < length values
-  at parts (inl here) others = omega (arith, ltb-true d.r (length values) parts.0, eqb-true d.r r (and_parts (d.r == r) (not (is_commute d.op)) here).0)
+here_by : (p : Done → Bool) (values : List Edn) (ds : List Done) → alien_ref values ds ≡ None → (r : ℕ) → list_any (λ d. d.r == r && p d) ds ≡ true → r < length values
+here_by p values [] none r on = absurd cc
+here_by p values (d ∷ ds) none r on = at (here_parts (nat_lt d.r (length values)) d (find (λ x. not (has_ref values x.r)) ds) none) (or_cases (d.r == r && p d) (list_any (λ x. x.r == r && p x) ds) on) (λ n o. here_by p values ds n r o) where
+  at : (nat_lt d.r (length values) ≡ true) × (alien_ref values ds ≡ None) → ((d.r == r && p d) ≡ true) ⊎ (list_any (λ x. x.r == r && p x) ds ≡ true) → (alien_ref values ds ≡ None → list_any (λ x. x.r == r && p x) ds ≡ true → r < length values) → r < length values
+  at parts (inl here) others = omega (arith, ltb-true d.r (length values) parts.0, eqb-true d.r r (and_parts (d.r == r) (p d) here).0)
   at parts (inr later) others = others parts.1 later
+
+pub all_here : (values : List Edn) (ds : List Done) → alien_ref values ds ≡ None → (r : ℕ) → is_protected ds r ≡ true → r < length values
+all_here = here_by (λ d. not (is_commute d.op))
+
+pub touched_here : (values : List Edn) (ds : List Done) → alien_ref values ds ≡ None → (r : ℕ) → is_touched ds r ≡ true → r < length values
+touched_here = here_by (λ d. not (is_ensure d.op))
 
 pub no_map : {X Y : Type 0} (f : X → Y) (o : Option X) → option_map f o ≡ None → o ≡ None
 no_map f None is = refl

@@ -1,6 +1,7 @@
 -- No ref has changed after a point, where each last change is at it or before.
 use Rattle.std.proofs.Common.{◌≡◌, ℕ, zero, suc, ◌≤◌, ◌-◌, ◌==◌, ◌++◌, ◌∷◌, [], Bool, true, false, not, cond, List, length, refl, ap, sym, ◌∙◌, arith, subst}
-use Rattle.std.specs.Prelude.{nat_lt}
+use Rattle.std.specs.Prelude.{nat_lt, None, slice_get, unwrap_or}
+use Rattle.std.proofs.lemmas.Option.{unwrap_or-slice_get}
 use Rattle.std.proofs.lemmas.Bool.{and_from, and_parts, eqb-true, eqb-false, le-ltb, ltb-false, not-true}
 use Rattle.ref_log.specs.declared.operations.Done.{Done}
 use Rattle.ref_log.specs.Replay.{is_touched}
@@ -44,3 +45,7 @@ lasts_make lasts count at r is = by (count == r) refl where
   by : (b : Bool) → (count == r) ≡ b → changed_at (lasts ++ at ∷ []) r ≡ cond b at (changed_at lasts r)
   by true e = ap (changed_at (lasts ++ at ∷ [])) (sym (is ∙ eqb-true count r e)) ∙ here lasts at
   by false e = elsewhere lasts at r (λ same. eqb-false count r e (sym is ∙ same))
+
+-- The last change of a ref that isn't there.
+pub never_changed : (lasts : List ℕ) (r : ℕ) → slice_get lasts r ≡ None → changed_at lasts r ≡ 0
+never_changed lasts r none = sym (unwrap_or-slice_get lasts r 0) ∙ ap (λ o. unwrap_or o 0) none

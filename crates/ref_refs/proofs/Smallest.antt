@@ -1,68 +1,58 @@
--- The smallest protected ref of which something holds, found by one pass over the operations.
-use Rattle.std.proofs.Common.{◌≡◌, ℕ, zero, suc, cond, ◌+◌, ◌<◌, ◌≤◌, ◌==◌, ◌&&◌, ◌||◌, not, nat_lt, Bool, true, false, if◌then◌else◌, ◌⊎◌, inl, inr, List, [], ◌∷◌, ◌++◌, Option, None, Some, refl, sym, ap, ◌∙◌, arith}
+-- The smallest of some refs of which something holds, found by one pass over them.
+use Rattle.std.proofs.Common.{◌≡◌, ℕ, zero, suc, cond, ◌+◌, ◌<◌, ◌≤◌, ◌==◌, ◌&&◌, not, nat_lt, Bool, true, false, if◌then◌else◌, ◌⊎◌, inl, inr, List, [], ◌∷◌, ◌++◌, length, Option, None, Some, refl, sym, ap, ◌∙◌, arith}
 use Rattle.std.specs.List.{find, range_with_len}
 use Rattle.std.specs.Option.{MatchOption}
 use Rattle.std.proofs.lemmas.Bool.{eqb-true, eq-eqb, or_cases, and_parts, and_from, or_left, or_right, both_ways, not-true, ltb-true, ltb-false, lt-ltb, le-ltb, cases_order, cond-true, cond-false, false_from_ne_true}
-use Rattle.std.proofs.lemmas.List.Folds.{list_any-append}
-use Rattle.ref_log.specs.Replay.{is_commute, is_protected}
+use Rattle.ref_edn.specs.Edn.{Edn}
 use Rattle.ref_log.specs.declared.operations.Done.{Done}
+use Rattle.ref_tx.specs.Own.{AreProtected}
+use Rattle.ref_refs.specs.Commit.{alien_ref, first_protected}
 use Rattle.ref_refs.specs.Smaller.{smaller}
+use Rattle.ref_refs.proofs.Refs.{all_here, among, among_more}
 
 -- whether a number was found that isn't greater
 abbrev pub covers : Option ℕ → ℕ → Bool
 covers None q = false
 covers (Some first) q = not (nat_lt q first)
 
--- what a pass over these operations has found
-abbrev pub wanted : (ℕ → Bool) → List Done → ℕ → Bool
-wanted holds ds r = is_protected ds r && holds r
+-- what a pass over these refs has found
+abbrev pub wanted : (ℕ → Bool) → List ℕ → ℕ → Bool
+wanted holds rs r = among rs r && holds r
 
-pub record IsFirst (holds : ℕ → Bool) (ds : List Done) (first : Option ℕ) : Type 0 where
-  pub found : MatchOption first (Unit {0}) (λ m. wanted holds ds m ≡ true)
-  pub least : (q : ℕ) → wanted holds ds q ≡ true → covers first q ≡ true
+pub record IsFirst (holds : ℕ → Bool) (rs : List ℕ) (first : Option ℕ) : Type 0 where
+  pub found : MatchOption first (Unit {0}) (λ m. wanted holds rs m ≡ true)
+  pub least : (q : ℕ) → wanted holds rs q ≡ true → covers first q ≡ true
 
-pub or_false : (b : Bool) → (b || false) ≡ b
-or_false true = refl
-or_false false = refl
+-- what was wanted of the refs before, is so of one more
+still : (holds : ℕ → Bool) (rs : List ℕ) (x q : ℕ) → wanted holds rs q ≡ true → wanted holds (rs ++ x ∷ []) q ≡ true
+still holds rs x q w =
+    let p = and_parts (among rs q) (holds q) w in
+    and_from (among (rs ++ x ∷ []) q) (holds q) (among_more rs x q ∙ or_left (among rs q) (x == q) p.0) p.1
 
-pub is_protected_more : (ds : List Done) (d : Done) (q : ℕ) → is_protected (ds ++ d ∷ []) q ≡ (is_protected ds q || (d.r == q && not (is_commute d.op)))
-is_protected_more ds d q =
-    let on : Done → Bool = λ x. x.r == q && not (is_commute x.op) in
-    list_any-append on ds (d ∷ []) ∙ ap (λ b. is_protected ds q || b) (or_false (d.r == q && not (is_commute d.op)))
-
--- what was wanted of the operations before, is so of one more
-still : (holds : ℕ → Bool) (ds : List Done) (d : Done) (q : ℕ) → wanted holds ds q ≡ true → wanted holds (ds ++ d ∷ []) q ≡ true
-still holds ds d q w =
-    let p = and_parts (is_protected ds q) (holds q) w in
-    and_from (is_protected (ds ++ d ∷ []) q) (holds q) (is_protected_more ds d q ∙ or_left (is_protected ds q) (d.r == q && not (is_commute d.op)) p.0) p.1
-
--- and what is wanted of one more, was so before or is on this ref
-came : (holds : ℕ → Bool) (ds : List Done) (d : Done) (q : ℕ) → wanted holds (ds ++ d ∷ []) q ≡ true → (wanted holds ds q ≡ true) ⊎ ((d.r ≡ q) × ((not (is_commute d.op) && holds d.r) ≡ true))
-came holds ds d q w =
-    let p = and_parts (is_protected (ds ++ d ∷ []) q) (holds q) w in
-    came_by (or_cases (is_protected ds q) (d.r == q && not (is_commute d.op)) (sym (is_protected_more ds d q) ∙ p.0)) p.1 where
-      came_by : (is_protected ds q ≡ true) ⊎ ((d.r == q && not (is_commute d.op)) ≡ true) → holds q ≡ true → (wanted holds ds q ≡ true) ⊎ ((d.r ≡ q) × ((not (is_commute d.op) && holds d.r) ≡ true))
-      came_by (inl before) h = inl (and_from (is_protected ds q) (holds q) before h)
-      came_by (inr here) h =
-          let on = and_parts (d.r == q) (not (is_commute d.op)) here in
-          let same = eqb-true d.r q on.0 in
-          inr (same, and_from (not (is_commute d.op)) (holds d.r) on.1 (ap holds same ∙ h))
+-- and what is wanted of one more, was so before or is this ref
+came : (holds : ℕ → Bool) (rs : List ℕ) (x q : ℕ) → wanted holds (rs ++ x ∷ []) q ≡ true → (wanted holds rs q ≡ true) ⊎ ((x ≡ q) × (holds x ≡ true))
+came holds rs x q w =
+    let p = and_parts (among (rs ++ x ∷ []) q) (holds q) w in
+    came_by (or_cases (among rs q) (x == q) (sym (among_more rs x q) ∙ p.0)) p.1 where
+      came_by : (among rs q ≡ true) ⊎ ((x == q) ≡ true) → holds q ≡ true → (wanted holds rs q ≡ true) ⊎ ((x ≡ q) × (holds x ≡ true))
+      came_by (inl before) h = inl (and_from (among rs q) (holds q) before h)
+      came_by (inr here) h = let same = eqb-true x q here in inr (same, ap holds same ∙ h)
 
 pub first_of_none : (holds : ℕ → Bool) → IsFirst holds [] None
 first_of_none holds = record { found = tt; least = λ q w. w }
 
-pub first_skips : (holds : ℕ → Bool) (ds : List Done) (d : Done) (first : Option ℕ) → IsFirst holds ds first → (not (is_commute d.op) && holds d.r) ≡ false → IsFirst holds (ds ++ d ∷ []) first
-first_skips holds ds d first is skipped = record {
+pub first_skips : (holds : ℕ → Bool) (rs : List ℕ) (x : ℕ) (first : Option ℕ) → IsFirst holds rs first → holds x ≡ false → IsFirst holds (rs ++ x ∷ []) first
+first_skips holds rs x first is skipped = record {
   found = still_found first is.found;
-  least = λ q w. by q (came holds ds d q w);
+  least = λ q w. by q (came holds rs x q w);
 } where
-  still_found : (o : Option ℕ) → MatchOption o (Unit {0}) (λ m. wanted holds ds m ≡ true) → MatchOption o (Unit {0}) (λ m. wanted holds (ds ++ d ∷ []) m ≡ true)
+  still_found : (o : Option ℕ) → MatchOption o (Unit {0}) (λ m. wanted holds rs m ≡ true) → MatchOption o (Unit {0}) (λ m. wanted holds (rs ++ x ∷ []) m ≡ true)
   still_found None f = tt
-  still_found (Some m) f = still holds ds d m f
+  still_found (Some m) f = still holds rs x m f
 
-  by : (q : ℕ) → (wanted holds ds q ≡ true) ⊎ ((d.r ≡ q) × ((not (is_commute d.op) && holds d.r) ≡ true)) → covers first q ≡ true
+  by : (q : ℕ) → (wanted holds rs q ≡ true) ⊎ ((x ≡ q) × (holds x ≡ true)) → covers first q ≡ true
   by q (inl before) = is.least q before
-  by q (inr here) = absurd (both_ways (not (is_commute d.op) && holds d.r) skipped here.1)
+  by q (inr here) = absurd (both_ways (holds x) skipped here.1)
 
 smaller_here : (o : Option ℕ) (r : ℕ) → covers (Some (smaller o r)) r ≡ true
 smaller_here None r = ap not (le-ltb r r (omega arith))
@@ -78,27 +68,24 @@ smaller_before (Some m) r q c = before (nat_lt m r) refl where
   before true e = c
   before false e = ap not (le-ltb q r (omega (arith, ltb-false q m (not-true (nat_lt q m) c), ltb-false m r e)))
 
-pub first_takes : (holds : ℕ → Bool) (ds : List Done) (d : Done) (first : Option ℕ) → IsFirst holds ds first → (not (is_commute d.op) && holds d.r) ≡ true → IsFirst holds (ds ++ d ∷ []) (Some (smaller first d.r))
-first_takes holds ds d first is taken_here = record {
+pub first_takes : (holds : ℕ → Bool) (rs : List ℕ) (x : ℕ) (first : Option ℕ) → IsFirst holds rs first → holds x ≡ true → IsFirst holds (rs ++ x ∷ []) (Some (smaller first x))
+first_takes holds rs x first is it = record {
   found = taken first is.found;
-  least = λ q w. by q (came holds ds d q w);
+  least = λ q w. by q (came holds rs x q w);
 } where
-  p : (not (is_commute d.op) ≡ true) × (holds d.r ≡ true)
-  p = and_parts (not (is_commute d.op)) (holds d.r) taken_here
+  here : wanted holds (rs ++ x ∷ []) x ≡ true
+  here = and_from (among (rs ++ x ∷ []) x) (holds x) (among_more rs x x ∙ or_right (among rs x) (x == x) (eq-eqb x x refl)) it
 
-  here : wanted holds (ds ++ d ∷ []) d.r ≡ true
-  here = and_from (is_protected (ds ++ d ∷ []) d.r) (holds d.r) (is_protected_more ds d d.r ∙ or_right (is_protected ds d.r) (d.r == d.r && not (is_commute d.op)) (and_from (d.r == d.r) (not (is_commute d.op)) (eq-eqb d.r d.r refl) p.0)) p.1
-
-  taken : (o : Option ℕ) → MatchOption o (Unit {0}) (λ m. wanted holds ds m ≡ true) → wanted holds (ds ++ d ∷ []) (smaller o d.r) ≡ true
+  taken : (o : Option ℕ) → MatchOption o (Unit {0}) (λ m. wanted holds rs m ≡ true) → wanted holds (rs ++ x ∷ []) (smaller o x) ≡ true
   taken None f = here
-  taken (Some m) f = pick (nat_lt m d.r) where
-    pick : (b : Bool) → wanted holds (ds ++ d ∷ []) (if b then m else d.r) ≡ true
-    pick true = still holds ds d m f
+  taken (Some m) f = pick (nat_lt m x) where
+    pick : (b : Bool) → wanted holds (rs ++ x ∷ []) (if b then m else x) ≡ true
+    pick true = still holds rs x m f
     pick false = here
 
-  by : (q : ℕ) → (wanted holds ds q ≡ true) ⊎ ((d.r ≡ q) × ((not (is_commute d.op) && holds d.r) ≡ true)) → covers (Some (smaller first d.r)) q ≡ true
-  by q (inl before) = smaller_before first d.r q (is.least q before)
-  by q (inr on) = ap (λ x. covers (Some (smaller first d.r)) x) (sym on.0) ∙ smaller_here first d.r
+  by : (q : ℕ) → (wanted holds rs q ≡ true) ⊎ ((x ≡ q) × (holds x ≡ true)) → covers (Some (smaller first x)) q ≡ true
+  by q (inl before) = smaller_before first x q (is.least q before)
+  by q (inr on) = ap (λ y. covers (Some (smaller first x)) y) (sym on.0) ∙ smaller_here first x
 
 -- ---- the first number of a range
 
@@ -132,9 +119,15 @@ none_in_range p (suc n) a q none low high =
 
 -- ---- at the end of the pass
 
-pub first_is : (holds : ℕ → Bool) (ds : List Done) (first : Option ℕ) (n : ℕ) → IsFirst holds ds first → ((q : ℕ) → is_protected ds q ≡ true → q < n) → first ≡ find (wanted holds ds) (range_with_len 0 n)
-first_is holds ds None n is here =
-    sym (find_none (wanted holds ds) (range_with_len 0 n) (λ q. false_from_ne_true (wanted holds ds q) (λ w. both_ways false refl (is.least q w))))
-first_is holds ds (Some m) n is here =
-    sym (find_first (wanted holds ds) n 0 m (omega arith) (omega (arith, here m (and_parts (is_protected ds m) (holds m) is.found).0)) is.found
-    (λ q less. false_from_ne_true (wanted holds ds q) (λ w. both_ways (nat_lt q m) (not-true (nat_lt q m) (is.least q w)) (lt-ltb q m less))))
+first_is : (holds : ℕ → Bool) (rs : List ℕ) (first : Option ℕ) (n : ℕ) → IsFirst holds rs first → ((q : ℕ) → among rs q ≡ true → q < n) → first ≡ find (wanted holds rs) (range_with_len 0 n)
+first_is holds rs None n is here =
+    sym (find_none (wanted holds rs) (range_with_len 0 n) (λ q. false_from_ne_true (wanted holds rs q) (λ w. both_ways false refl (is.least q w))))
+first_is holds rs (Some m) n is here =
+    sym (find_first (wanted holds rs) n 0 m (omega arith) (omega (arith, here m (and_parts (among rs m) (holds m) is.found).0)) is.found
+    (λ q less. false_from_ne_true (wanted holds rs q) (λ w. both_ways (nat_lt q m) (not-true (nat_lt q m) (is.least q w)) (lt-ltb q m less))))
+
+-- where the refs are those that a transaction protects
+pub first_protected_is : (values : List Edn) (ds : List Done) (rs : List ℕ) (holds : ℕ → Bool) (first : Option ℕ) → AreProtected ds rs → alien_ref values ds ≡ None → IsFirst holds rs first → first ≡ first_protected values ds holds
+first_protected_is values ds rs holds first are here is =
+    first_is holds rs first (length values) is (λ q it. all_here values ds here q (sym (are q) ∙ it))
+    ∙ ap (λ (p : ℕ → Bool). find p (range_with_len 0 (length values))) (λ i q. are q i && holds q)

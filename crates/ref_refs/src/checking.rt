@@ -10,15 +10,18 @@ ghost use Rattle.ref_refs.specs.Smaller.{smaller};
 use crate::faults::{Alien, CommitFault};
 use ref_edn::{Node, Value};
 use ref_fun::{Functions, Meaning};
-use ref_log::{Done, Op, Sent, SharedVec};
+use ref_log::{Done, Op, Sent};
+use ref_pmap::Numbered;
+use ref_tx::Tx;
 
 // Tells the first operation on a ref that isn't here.
-pub(crate) fn check_refs(values: &[Value], dones: &[Done]) -> Result<(), CommitFault>
+pub(crate) fn check_refs(values: &Numbered<Value>, dones: &[Done]) -> Result<(), CommitFault>
     ensures refused { Tells (alien_ref values.now dones.now) result }
     ensures told { IfErr result (λ f. f ≢ Memory) }
 {
+    let count = values.len();
     for done in dones {
-        if done.r as usize >= values.len() {
+        if done.r as usize >= count {
             return Err(CommitFault::Foreign(Alien::Ref(done.r)));
         }
     }
@@ -72,44 +75,43 @@ pub(crate) fn check_served<M: Meaning, F: Functions<M>>(
 }
 
 // The smallest protected ref that has changed after the read point.
-pub(crate) fn first_changed(
-    values: &[Value],
-    lasts: &[u64],
-    read_point: u64,
-    dones: &[Done],
+pub(crate) fn first_changed<M: Meaning>(
+    values: &Numbered<Value>,
+    lasts: &Numbered<u64>,
+    tx: &Tx<M>,
 ) -> Option<u32>
-    requires { alien_ref values.now dones.now ≡ None }
-    ensures { result ≡ first_protected values.now dones.now (changed_after lasts.now read_point) }
+    requires { alien_ref values.now tx.now.dones ≡ None }
+    ensures { result ≡ first_protected values.now tx.now.dones (changed_after lasts.now tx.now.read_point) }
 {
+    let read_point = tx.read_point();
+    let protected = tx.protected();
     let mut first = None;
-    for done in dones {
-        if !done.op.is_commute() && is_changed(lasts, done.r, read_point) {
-            first = Some(smaller(first, done.r));
+    for r in protected {
+        if is_changed(lasts, *r, read_point) {
+            first = Some(smaller(first, *r));
         }
     }
     first
 }
 
-// The smallest protected ref whose value isn't the one that the transaction began with.
-pub(crate) fn first_differing(
-    values: &[Value],
-    began: &SharedVec<Value>,
-    dones: &[Done],
-) -> Option<u32>
-    requires { alien_ref values.now dones.now ≡ None }
-    ensures { result ≡ first_protected values.now dones.now (differs_at values.now began.now) }
+// The smallest protected ref whose value isn't the one that the transaction began with. Each ref's is compared once.
+pub(crate) fn first_differing<M: Meaning>(values: &Numbered<Value>, tx: &Tx<M>) -> Option<u32>
+    requires { alien_ref values.now tx.now.dones ≡ None }
+    ensures { result ≡ first_protected values.now tx.now.dones (differs_at values.now tx.now.began) }
 {
+    let began = tx.began();
+    let protected = tx.protected();
     let mut first = None;
-    for done in dones {
-        if !done.op.is_commute() && differs_at(values, began, done.r) {
-            first = Some(smaller(first, done.r));
+    for r in protected {
+        if differs_at(values, began, *r) {
+            first = Some(smaller(first, *r));
         }
     }
     first
 }
 
 // Whether none of these points comes after this one.
-pub(crate) fn are_unchanged_since(lasts: &[u64], point: u64) -> bool
+pub(crate) fn are_unchanged_since(lasts: &Numbered<u64>, point: u64) -> bool
     ensures { result ≡ are_unchanged_since lasts.now point }
 {
     for last in lasts {
@@ -121,22 +123,22 @@ pub(crate) fn are_unchanged_since(lasts: &[u64], point: u64) -> bool
 }
 
 // Whether a ref has changed after a point.
-fn is_changed(lasts: &[u64], r: u32, point: u64) -> bool
+fn is_changed(lasts: &Numbered<u64>, r: u32, point: u64) -> bool
     ensures { result ≡ changed_after lasts.now point r }
 {
-    match lasts.get(r as usize) {
+    match lasts.get(r) {
         Some(last) => *last > point,
         None => false,
     }
 }
 
 // Whether a ref has another value now than in the beginning.
-fn differs_at(values: &[Value], began: &SharedVec<Value>, r: u32) -> bool
+fn differs_at(values: &Numbered<Value>, began: &Numbered<Value>, r: u32) -> bool
     ensures { result ≡ differs_at values.now began.now r }
 {
-    match values.get(r as usize) {
+    match values.get(r) {
         None => false,
-        Some(now) => match began.get(r as usize) {
+        Some(now) => match began.get(r) {
             None => true,
             Some(began) => began != now,
         },

@@ -1,6 +1,6 @@
 //! Committing a transaction.
 ghost use Rattle.ref_log.specs.Told.{Tells, TellsBack, TellsOrMemory};
-ghost use Rattle.std.specs.Prelude.{◌≡◌, ◌≢◌, ◌≤◌, ◌-◌, ◌+◌, ◌^◌, ℕ, List, true, None, Some, Ok, IfOk, IfErr, OnOk, OnErr, slice_get};
+ghost use Rattle.std.specs.Prelude.{◌≡◌, ◌≢◌, ◌≤◌, ◌-◌, ◌+◌, ◌^◌, ℕ, List, true, None, Some, Ok, IfOk, IfErr, OnOk, OnErr, length, slice_get};
 ghost use Rattle.std.specs.Option.{option_map};
 ghost use Rattle.ref_edn.specs.Edn.{Edn};
 ghost use Rattle.ref_log.specs.Guards.{AreAccepted};
@@ -17,7 +17,7 @@ use crate::checking::{
     check_agents, check_refs, check_served, first_changed, first_differing, fits_tally,
 };
 use crate::faults::{Alien, CommitFault, Conflict};
-use crate::lasts::move_lasts;
+use crate::lasts::moved_lasts;
 use crate::placing::place_all;
 use crate::rules::{check_rules_known, first_invalid};
 use crate::store::RefStore;
@@ -25,6 +25,7 @@ use crate::watches::{notices, touched_refs};
 use ref_edn::Value;
 use ref_fun::{Functions, Meaning};
 use ref_log::{Done, Entry, LAST_POINT, Notice, SharedVec, Stamp, Transaction, share_all};
+use ref_pmap::Numbered;
 use ref_tx::Tx;
 use std::alloc::Global;
 
@@ -35,10 +36,11 @@ pub struct Landed {
     pub notices: Vec<Notice>,
 }
 
-/// A commit that was tested: the values of all refs after it, and what is answered.
+/// A commit that was tested: the values and the last changes of all refs after it, and what is answered.
 #[derive(Drop)]
 pub struct Prepared {
-    pub values: Vec<Value>,
+    pub values: Numbered<Value>,
+    pub lasts: Numbered<u64>,
     pub landed: Landed,
 }
 
@@ -56,9 +58,9 @@ impl<M: Meaning> RefStore<M> {
     /// A refused commit changes nothing and hands the transaction back. The tests are made in this order: what is foreign,
     /// functions and predicates that the table lacks, the conflict, a foreign value, a refusal over the latest values, a
     /// rule that doesn't accept, the end of points.
-    /// Linear in the number of refs. Each operation on a protected ref costs a comparison of its value with the one of the
-    /// beginning, which is linear in its size; a `commute` of another ref costs its function, each changed ref the test of
-    /// its rule and a notice for each of its watches.
+    /// Each operation costs time logarithmic in the number of refs. A protected ref costs a comparison of its value with the one
+    /// of the beginning, which is linear in its size; a `commute` of another ref costs its function, each changed ref the test
+    /// of its rule and a notice for each of its watches.
     pub fn commit<F: Functions<M>>(
         &mut self,
         alloc: Global,
@@ -93,7 +95,7 @@ impl<M: Meaning> RefStore<M> {
     {
         match self.prepare(alloc, funs, at, agents, stamp, &tx) {
             Ok(prepared) => {
-                self.install(at, prepared.values, tx.dones());
+                self.install(at, prepared.values, prepared.lasts, tx.dones());
                 Ok(prepared.landed)
             }
             Err(fault) => Err((tx, fault)),
@@ -115,28 +117,30 @@ impl<M: Meaning> RefStore<M> {
         ensures here { OnOk result (alien_ref self.now.values tx.now.dones ≡ None) }
         ensures values { IfOk result (λ p. (atoms : List Edn)
             → step M.means at (entry_of stamp tx.now) (record { refs = self.now.values; atoms = atoms })
-            ≡ Ok (record { refs = p.values.items; atoms = atoms })) }
+            ≡ Ok (record { refs = p.values; atoms = atoms })) }
         // What `install` asks.
         ensures fits { OnOk result (fit_tally self.now.tally tx.now.dones ≡ true) }
         ensures made { IfOk result (λ p. after_dones M.means tx.now.dones at tx.now.dones (Ok self.now.values)
-            ≡ Ok p.values.items) }
-        ensures accepted { IfOk result (λ p. AreAccepted M.accepts self.now.guards p.values.items) }
+            ≡ Ok p.values) }
+        ensures accepted { IfOk result (λ p. AreAccepted M.accepts self.now.guards p.values) }
+        ensures moved { IfOk result (λ p. (r : ℕ) → changed_at p.lasts r ≡ changed_by self.now.lasts at tx.now.dones r) }
+        ensures all { IfOk result (λ p. length p.lasts ≡ length self.now.lasts) }
         ensures entry { IfOk result (λ p. p.landed.entry ≡ entry_of stamp tx.now) }
         ensures notices { IfOk result (λ p. p.landed.notices.items
-            ≡ notices self.now.guards self.now.values p.values.items (touched_refs tx.now.dones)) }
+            ≡ notices self.now.guards self.now.values p.values (touched_refs tx.now.dones)) }
         ensures inner { IfOk result (λ p. (r : ℕ) → is_protected tx.now.dones r ≡ true
-            → slice_get p.values.items r ≡ inner_value M.means tx.now r) }
+            → slice_get p.values r ≡ inner_value M.means tx.now r) }
         ensures limit { OnOk result (at ≤ 2 ^ 62) }
     {
         self.check(funs, at, agents, tx)?;
         let dones = tx.dones();
-        let values = place_all(alloc, funs, self.values.as_slice(), tx)?;
+        let values = place_all(alloc, funs, &self.values, tx)?;
         let touched = self.check_rules(alloc, funs, dones, &values)?;
         if at > LAST_POINT {
             return Err(CommitFault::PointLimit);
         }
-        let before = self.values.as_slice();
-        let notices = notices(alloc, &self.guards, before, &values, &touched)?;
+        let lasts = self.moved_lasts(alloc, at, dones, &touched)?;
+        let notices = notices(alloc, &self.guards, &self.values, &values, &touched)?;
         let entry = Entry::Trans(Transaction {
             stamp,
             read_point: tx.read_point(),
@@ -145,28 +149,35 @@ impl<M: Meaning> RefStore<M> {
         });
         Ok(Prepared {
             values,
+            lasts,
             landed: Landed { entry, notices },
         })
     }
 
-    /// Puts the values after a prepared commit in the place of those before it, and moves the last changes of the refs that
-    /// its operations touched. It can't fail.
-    pub fn install(&mut self, at: u64, values: Vec<Value>, dones: &[Done])
+    /// Puts the values and the last changes after a prepared commit in the place of those before it. It can't fail.
+    pub fn install(
+        &mut self,
+        at: u64,
+        values: Numbered<Value>,
+        lasts: Numbered<u64>,
+        dones: &[Done],
+    )
         requires new { 1 ≤ at }
         requires last { are_unchanged_since self.old.lasts (at - 1) ≡ true }
-        requires here { alien_ref self.old.values dones.now ≡ None }
+        requires moved { (r : ℕ) → changed_at lasts r ≡ changed_by self.old.lasts at dones.now r }
+        requires all { length lasts ≡ length self.old.lasts }
         requires fits { fit_tally self.old.tally dones.now ≡ true }
-        requires made { after_dones M.means dones.now at dones.now (Ok self.old.values) ≡ Ok values.items }
-        requires accepted { AreAccepted M.accepts self.old.guards values.items }
-        ensures values { self.new.values ≡ values.items }
+        requires made { after_dones M.means dones.now at dones.now (Ok self.old.values) ≡ Ok values }
+        requires accepted { AreAccepted M.accepts self.old.guards values }
+        ensures values { self.new.values ≡ values }
         ensures lasts { (r : ℕ) → changed_at self.new.lasts r ≡ changed_by self.old.lasts at dones.now r }
         ensures since { are_unchanged_since self.new.lasts at ≡ true }
         ensures rest { (self.new.tally ≡ self.old.tally) × (self.new.guards ≡ self.old.guards) }
         ensures tally { tally_value self.new.tally self.new.values
             ≡ tally_value self.old.tally self.old.values + added_by_dones self.old.tally dones.now }
     {
-        move_lasts(&mut self.lasts, at, dones);
         self.values = values;
+        self.lasts = lasts;
     }
 }
 
@@ -177,7 +188,7 @@ impl<M: Meaning> RefStore<M> {
         alloc: Global,
         funs: &F,
         dones: &[Done],
-        values: &[Value],
+        values: &Numbered<Value>,
     ) -> Result<Vec<u32>, CommitFault>
         requires known { lacking_rule (F.knows funs.now).preds self.now.guards dones.now ≡ None }
         requires made { (at : ℕ) → after_dones M.means dones.now at dones.now (Ok self.now.values) ≡ Ok values.now }
@@ -193,6 +204,23 @@ impl<M: Meaning> RefStore<M> {
             None => Ok(touched),
             Some(r) => Err(CommitFault::Invalid(r)),
         }
+    }
+
+    // The last changes after the operations, which change these refs.
+    fn moved_lasts(
+        &self,
+        alloc: Global,
+        at: u64,
+        dones: &[Done],
+        touched: &[u32],
+    ) -> Result<Numbered<u64>, CommitFault>
+        requires here { alien_ref self.now.values dones.now ≡ None }
+        requires touched { touched.now ≡ touched_refs dones.now }
+        ensures moved { IfOk result (λ moved. (r : ℕ) → changed_at moved r ≡ changed_by self.now.lasts at dones.now r) }
+        ensures all { IfOk result (λ moved. length moved ≡ length self.now.lasts) }
+        ensures fault { IfErr result (λ f. f ≡ commits.Memory) }
+    {
+        Ok(moved_lasts(alloc, &self.lasts, at, touched)?)
     }
 
     // Asks all that can be asked before memory is taken.
@@ -225,7 +253,7 @@ impl<M: Meaning> RefStore<M> {
         ensures fits { OnOk result (fit_tally self.now.tally tx.now.dones ≡ true) }
         ensures told { IfErr result (λ f. f ≢ commits.Memory) }
     {
-        check_refs(self.values.as_slice(), tx.dones())?;
+        check_refs(&self.values, tx.dones())?;
         check_agents(agents, tx.sends())?;
         if !fits_tally(self.tally, tx.dones()) {
             return Err(CommitFault::Foreign(Alien::Tally));
@@ -243,13 +271,7 @@ impl<M: Meaning> RefStore<M> {
         ensures told { IfErr result (λ f. f ≢ commits.Memory) }
     {
         let read_point = tx.read_point();
-        let first = first_changed(
-            self.values.as_slice(),
-            self.lasts.as_slice(),
-            read_point,
-            tx.dones(),
-        );
-        match first {
+        match first_changed(&self.values, &self.lasts, tx) {
             None => Ok(()),
             Some(r) => Err(CommitFault::Conflict(Conflict {
                 r,
@@ -264,7 +286,7 @@ impl<M: Meaning> RefStore<M> {
         ensures refused { Tells (alien_value self.now.values tx.now) result }
         ensures told { IfErr result (λ f. f ≢ commits.Memory) }
     {
-        match first_differing(self.values.as_slice(), tx.began(), tx.dones()) {
+        match first_differing(&self.values, tx) {
             None => Ok(()),
             Some(r) => Err(CommitFault::Foreign(Alien::Value(r))),
         }

@@ -83,12 +83,12 @@ impl<M: Meaning> RefStore<M> {
         ensures err { OnErr result (self.new ≡ self.old) }
     {
         let r = self.len() as u32;
-        // The growths come first, and the pushes can't fail.
-        self.values.reserve(1)?;
-        self.lasts.reserve(1)?;
+        let values = self.values.with_next(alloc, start)?;
+        let lasts = self.lasts.with_next(alloc, at)?;
         self.guards.add(alloc, rule)?;
-        self.lasts.push_reserved(at);
-        self.values.push_reserved(start);
+        // From here on nothing can fail.
+        self.values = values;
+        self.lasts = lasts;
         if tally {
             self.tally = Some(r);
         }

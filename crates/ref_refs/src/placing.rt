@@ -12,7 +12,8 @@ ghost use Rattle.ref_refs.specs.declared.faults.CommitFault.TheVariants.{Memory}
 use crate::faults::CommitFault;
 use ref_edn::Value;
 use ref_fun::{CallFault, Functions, Meaning};
-use ref_log::{Done, protected_refs, share_all};
+use ref_log::Done;
+use ref_pmap::Numbered;
 use ref_tx::Tx;
 use std::alloc::Global;
 
@@ -21,25 +22,24 @@ use std::alloc::Global;
 pub(crate) fn place_all<M: Meaning, F: Functions<M>>(
     alloc: Global,
     funs: &F,
-    values: &[Value],
+    values: &Numbered<Value>,
     tx: &Tx<M>,
-) -> Result<Vec<Value>, CommitFault>
+) -> Result<Numbered<Value>, CommitFault>
     requires here { alien_ref values.now tx.now.dones ≡ None }
     requires served { lacking (F.knows funs.now).funs tx.now.dones ≡ None }
     requires unchanged { alien_value values.now tx.now ≡ None }
     ensures ok { IfOk result (λ after. (at : ℕ)
-        → after_dones M.means tx.now.dones at tx.now.dones (Ok values.now) ≡ Ok after.items) }
-    ensures all { IfOk result (λ after. length after.items ≡ length values.now) }
+        → after_dones M.means tx.now.dones at tx.now.dones (Ok values.now) ≡ Ok after) }
+    ensures all { IfOk result (λ after. length after ≡ length values.now) }
     ensures unrefused { OnOk result (refused M.means tx.now.dones values.now ≡ None) }
     ensures inner { IfOk result (λ after. (r : ℕ) → is_protected tx.now.dones r ≡ true
-        → slice_get after.items r ≡ inner_value M.means tx.now r) }
+        → slice_get after r ≡ inner_value M.means tx.now r) }
     ensures fault { IfErr result (λ f. f ≢ Memory → refused M.means tx.now.dones values.now ≡ Some f) }
 {
     let dones = tx.dones();
-    let protected = protected_refs(alloc, dones)?;
-    let mut after = share_all(alloc, values)?;
+    let mut after = values.share()?;
     for done in dones {
-        let is_free = !protected.contains(&done.r);
+        let is_free = !tx.is_protected(done.r);
         place_one(alloc, funs, is_free, done, &mut after)?;
     }
     Ok(after)
@@ -51,24 +51,27 @@ fn place_one<M: Meaning, F: Functions<M>>(
     funs: &F,
     is_free: bool,
     done: &Done,
-    values: &mut Vec<Value>,
+    values: &mut Numbered<Value>,
 ) -> Result<(), CommitFault>
-    requires here { done.now.r < length values.old.items }
+    requires here { done.now.r < length values.old }
     requires served { missing (F.knows funs.now).funs (commuted_code done.now.op) ≡ None }
     requires free { is_free ≡ true → is_commute done.now.op ≡ true }
-    requires kept { is_free ≡ false → option_map (place M.means done.now.op) (slice_get values.old.items done.now.r)
+    requires kept { is_free ≡ false → option_map (place M.means done.now.op) (slice_get values.old done.now.r)
         ≡ Some (Ok done.now.answer) }
-    ensures ok { OnOk result ((at : ℕ) → after_one M.means is_free at done.now values.old.items ≡ Ok values.new.items) }
-    ensures all { length values.new.items ≡ length values.old.items }
-    ensures others { (r : ℕ) → (done.now.r == r) ≡ false → slice_get values.new.items r ≡ slice_get values.old.items r }
-    ensures answers { OnOk result (is_free ≡ false → slice_get values.new.items done.now.r ≡ Some done.now.answer) }
+    ensures ok { OnOk result ((at : ℕ) → after_one M.means is_free at done.now values.old ≡ Ok values.new) }
+    ensures all { length values.new ≡ length values.old }
+    ensures others { (r : ℕ) → (done.now.r == r) ≡ false → slice_get values.new r ≡ slice_get values.old r }
+    ensures answers { OnOk result (is_free ≡ false → slice_get values.new done.now.r ≡ Some done.now.answer) }
     ensures unrefused { OnOk result ((ds : List Done)
-        → refused M.means (done.now ∷ ds) values.old.items ≡ refused M.means ds values.new.items) }
+        → refused M.means (done.now ∷ ds) values.old ≡ refused M.means ds values.new) }
     ensures fault { IfErr result (λ f. f ≢ Memory → (ds : List Done)
-        → refused M.means (done.now ∷ ds) values.old.items ≡ Some f) }
+        → refused M.means (done.now ∷ ds) values.old ≡ Some f) }
 {
-    let r = done.r as usize;
-    values[r] = next_value(alloc, funs, is_free, done, &values[r])?;
+    let Some(value) = values.get(done.r) else {
+        unreachable!();
+    };
+    let value = next_value(alloc, funs, is_free, done, value)?;
+    *values = values.with(alloc, done.r, value)?;
     Ok(())
 }
 

@@ -11,6 +11,7 @@ use crate::faults::CommitFault;
 use ref_edn::Value;
 use ref_fun::{Functions, Meaning};
 use ref_log::{Done, Guards};
+use ref_pmap::Numbered;
 
 // Tells the first rule of a ref that these operations change whose predicate the table lacks.
 pub(crate) fn check_rules_known<M: Meaning, F: Functions<M>>(
@@ -48,7 +49,7 @@ fn check_rule_known<M: Meaning, F: Functions<M>>(
 pub(crate) fn first_invalid<M: Meaning, F: Functions<M>>(
     funs: &F,
     guards: &Guards,
-    values: &[Value],
+    values: &Numbered<Value>,
     touched: &[u32],
 ) -> Option<u32>
     requires { AreKnown (F.knows funs.now).preds guards.now touched.now }
@@ -66,13 +67,13 @@ pub(crate) fn first_invalid<M: Meaning, F: Functions<M>>(
 fn is_accepted<M: Meaning, F: Functions<M>>(
     funs: &F,
     guards: &Guards,
-    values: &[Value],
+    values: &Numbered<Value>,
     r: u32,
 ) -> bool
     requires { unknown (F.knows funs.now).preds (rule_at guards.now r) ≡ None }
     ensures { result ≡ is_accepted_at M.accepts guards.now values.now r }
 {
-    match values.get(r as usize) {
+    match values.get(r) {
         Some(value) => guards.accepts(funs, r, value),
         None => true,
     }

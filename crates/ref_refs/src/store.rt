@@ -10,7 +10,8 @@ ghost use Rattle.ref_refs.specs.Seen.{changed_at, are_unchanged_since, with_guar
 use crate::checking::{are_unchanged_since, counted};
 use ref_edn::Value;
 use ref_fun::{Functions, Meaning, Rule};
-use ref_log::{Guards, RuleFault, SharedVec, WatchFault, share_all};
+use ref_log::{Guards, RuleFault, WatchFault};
+use ref_pmap::Numbered;
 use ref_tx::Tx;
 use std::alloc::{AllocError, Global};
 use std::marker::{Model, PhantomData};
@@ -21,8 +22,8 @@ use std::marker::{Model, PhantomData};
 /// It is always so that each rule accepts the value of its ref, and that the tally is an integer of 0 or more.
 #[derive(Drop)]
 pub struct RefStore<M: Meaning> {
-    pub(crate) values: Vec<Value>,
-    pub(crate) lasts: Vec<u64>,
+    pub(crate) values: Numbered<Value>,
+    pub(crate) lasts: Numbered<u64>,
     pub(crate) tally: Option<u32>,
     pub(crate) guards: Guards,
     of: PhantomData<M>,
@@ -40,11 +41,11 @@ impl<M: Meaning> Model for RefStore<M> {
 
     ghost coded = { Prim.hlevel (codes, edn_code) };
 
-    ghost view = { λ a. record { values = a.values.items; lasts = a.lasts.items; tally = a.tally; guards = a.guards } };
+    ghost view = { λ a. record { values = a.values; lasts = a.lasts; tally = a.tally; guards = a.guards } };
 
-    ghost invariant = { λ a. (length a.lasts.items ≡ length a.values.items) × (length a.guards ≡ length a.values.items)
-        × (length a.values.items ≤ 2 ^ 20) × AreAccepted M.accepts a.guards a.values.items
-        × IsTally a.tally a.values.items (tally_value a.tally a.values.items) };
+    ghost invariant = { λ a. (length a.lasts ≡ length a.values) × (length a.guards ≡ length a.values)
+        × (length a.values ≤ 2 ^ 20) × AreAccepted M.accepts a.guards a.values
+        × IsTally a.tally a.values (tally_value a.tally a.values) };
 }
 
 impl<M: Meaning> RefStore<M> {
@@ -53,8 +54,8 @@ impl<M: Meaning> RefStore<M> {
         ensures { result ≡ record { values = []; lasts = []; tally = None; guards = [] } }
     {
         RefStore {
-            values: Vec::new(alloc),
-            lasts: Vec::new(alloc),
+            values: Numbered::empty(),
+            lasts: Numbered::empty(),
             tally: None,
             guards: Guards::empty(alloc),
             of: PhantomData,
@@ -82,7 +83,7 @@ impl<M: Meaning> RefStore<M> {
     pub fn value_of(&self, r: u32) -> Option<&Value>
         ensures { option_copied result ≡ slice_get self.now.values r }
     {
-        self.values.get(r as usize)
+        self.values.get(r)
     }
 
     /// The number of the tally, if there is one.
@@ -111,7 +112,7 @@ impl<M: Meaning> RefStore<M> {
     pub fn changed_at(&self, r: u32) -> u64
         ensures { result ≡ changed_at self.now.lasts r }
     {
-        match self.lasts.get(r as usize) {
+        match self.lasts.get(r) {
             Some(last) => *last,
             None => 0,
         }
@@ -121,7 +122,7 @@ impl<M: Meaning> RefStore<M> {
     pub fn are_unchanged_since(&self, point: u64) -> bool
         ensures { result ≡ are_unchanged_since self.now.lasts point }
     {
-        are_unchanged_since(self.lasts.as_slice(), point)
+        are_unchanged_since(&self.lasts, point)
     }
 
     /// The rule of a ref, if it has one. It takes no memory.
@@ -153,7 +154,7 @@ impl<M: Meaning> RefStore<M> {
         ensures sets { OnOk result (self.new ≡ with_guards self.old (with_rule self.old.guards r rule)) }
         ensures err { OnErr result (self.new ≡ self.old) }
     {
-        let value = self.values.get(r as usize);
+        let value = self.values.get(r);
         self.guards.set_rule(funs, r, value, rule)
     }
 
@@ -180,13 +181,13 @@ impl<M: Meaning> RefStore<M> {
     }
 
     /// Begins a transaction, which reads the values as they are now. The point is the present one: no ref has changed after
-    /// it; there are so many agents. Linear in the number of refs.
+    /// it; there are so many agents. It takes no memory, and as long whatever the number of refs.
     pub fn begin(&self, alloc: Global, point: u64, agents: usize) -> Result<Tx<M>, AllocError>
         requires { are_unchanged_since self.now.lasts point ≡ true }
         ensures { IfOk result (λ tx. tx
             ≡ record { read_point = point; began = self.now.values; dones = []; sends = []; tally = self.now.tally; agents = agents }) }
     {
-        let values = SharedVec::of(alloc, share_all(alloc, self.values.as_slice())?)?;
+        let values = self.values.share()?;
         Ok(Tx::start(alloc, point, values, self.tally, agents))
     }
 }

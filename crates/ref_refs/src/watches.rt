@@ -6,6 +6,7 @@ ghost use Rattle.ref_refs.specs.Watches.{notices, notices_at, notices_if_here, t
 
 use ref_edn::Value;
 use ref_log::{Done, Guards, Notice, Who};
+use ref_pmap::Numbered;
 use std::alloc::{AllocError, Global};
 use std::collections::BTreeSet;
 
@@ -36,8 +37,8 @@ fn in_order(alloc: Global, refs: BTreeSet<u32>) -> Result<Vec<u32>, AllocError>
 pub(crate) fn notices(
     alloc: Global,
     guards: &Guards,
-    before: &[Value],
-    after: &[Value],
+    before: &Numbered<Value>,
+    after: &Numbered<Value>,
     touched: &[u32],
 ) -> Result<Vec<Notice>, AllocError>
     ensures { IfOk result (λ ns. ns.items ≡ notices guards.now before.now after.now touched.now) }
@@ -52,15 +53,14 @@ pub(crate) fn notices(
 // Adds the notices of one ref.
 fn tell(
     guards: &Guards,
-    before: &[Value],
-    after: &[Value],
+    before: &Numbered<Value>,
+    after: &Numbered<Value>,
     r: u32,
     all: &mut Vec<Notice>,
 ) -> Result<(), AllocError>
     ensures { OnOk result (all.new.items ≡ all.old.items ++ notices_at guards.now before.now after.now r) }
 {
-    let i = r as usize;
-    tell_if_here(guards, before.get(i), after.get(i), r, all)
+    tell_if_here(guards, before.get(r), after.get(r), r, all)
 }
 
 // Adds the notices of a ref, if it is here.

@@ -1,7 +1,8 @@
 -- The calls of a transaction's body.
-use Rattle.std.specs.Prelude.{◌≡◌, ℕ, ◌+◌, ◌≤◌, List, [], ◌∷◌, length, Result, Err}
+use Rattle.std.specs.Prelude.{◌≡◌, ℕ, ◌+◌, ◌≤◌, true, List, [], ◌∷◌, length, Result, Err}
 use Rattle.std.specs.Fn.{Mut, CalledAtMut}
 use Rattle.std.specs.Borrow.{MutBor}
+use Rattle.std.specs.Result.{is_ok}
 use Rattle.ref_log.specs.declared.entries.Stamp.{Stamp}
 use Rattle.ref_refs.specs.Conflicts.{IsConflictOf}
 use Rattle.ref_refs.specs.declared.faults.CommitFault.{CommitFault}
@@ -61,15 +62,16 @@ IsFinal commits.Memory = ⊥
 IsFinal (commits.NoSuchFun code) = Unit {0}
 
 -- When a transaction's faults come: giving up after all tries, with a conflict of what the last call left; a body's fault as the
--- last call answered.
+-- last call answered; a commit's fault behind a last call that answered a value.
 abbrev pub FaultComes : {B T E : Type 0} → BodyOf B (Result T E) → B → B → ℕ → TransactFault E → Type 0
 FaultComes {B} {T} {E} g body last tries (GaveUp n conflict) =
     (call : Call (Result T E)) × (earlier : List (Call (Result T E))) × AllCalls g body last (call ∷ earlier) tries
-    × (n ≡ tries) × (length earlier + 1 ≡ tries) × IsConflictOf call.left conflict
+    × (is_ok call.answer ≡ true) × (n ≡ tries) × (length earlier + 1 ≡ tries) × IsConflictOf call.left conflict
 FaultComes {B} {T} {E} g body last tries (Body e) =
     (call : Call (Result T E)) × (earlier : List (Call (Result T E))) × AllCalls g body last (call ∷ earlier) tries
     × (call.answer ≡ Err e)
 FaultComes {B} {T} {E} g body last tries (Commit fault) =
-    (calls : List (Call (Result T E))) × AllCalls g body last calls tries × IsFinal fault
+    (call : Call (Result T E)) × (earlier : List (Call (Result T E))) × AllCalls g body last (call ∷ earlier) tries
+    × (is_ok call.answer ≡ true) × IsFinal fault
 FaultComes {B} {T} {E} g body last tries Memory =
     (calls : List (Call (Result T E))) × AllCalls g body last calls tries

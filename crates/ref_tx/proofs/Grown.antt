@@ -1,6 +1,7 @@
 -- A transaction with one operation more is a transaction.
 use Rattle.std.proofs.Common.{◌≡◌, ℕ, ◌==◌, ◌&&◌, ◌||◌, not, Bool, true, false, if◌then◌else◌, cond, List, [], ◌∷◌, ◌++◌, Option, None, Some, slice_get, refl, sym, ap, ◌∙◌}
 use Rattle.std.specs.BTreeMap.{BTreeMap, get, is_at}
+use Rattle.std.specs.List.{list_any}
 use Rattle.std.specs.Map.{lookup}
 use Rattle.std.specs.Cmp.{unsigned_tied}
 use Rattle.std.specs.Ordering.{eq_by_cmp, nat_cmp}
@@ -8,7 +9,7 @@ use Rattle.std.proofs.lemmas.Bool.{eqb-true, eq-eqb}
 use Rattle.std.proofs.lemmas.List.Folds.{list_any-append, list_all-append}
 use Rattle.ref_edn.specs.Edn.{Edn}
 use Rattle.ref_fun.specs.Meaning.{Means}
-use Rattle.ref_log.specs.Replay.{is_set, is_commute}
+use Rattle.ref_log.specs.Replay.{is_set, is_commute, is_protected}
 use Rattle.ref_log.specs.Tally.{fit_tally, fits_tally, is_tally}
 use Rattle.ref_log.specs.declared.operations.Op.{Op}
 use Rattle.ref_log.specs.declared.operations.Done.{Done}
@@ -18,7 +19,7 @@ use Rattle.ref_tx.specs.declared.faults.TxFault.TheVariants.{NoSuchRef, SetAfter
 use Rattle.ref_tx.specs.declared.owns.Own.{Own}
 use Rattle.ref_tx.specs.Seen.{TxSeen}
 use Rattle.ref_tx.specs.Inner.{after_ops, has_ref, is_commuted, refusal, inner_value, value_after, and_place, IsTx}
-use Rattle.ref_tx.specs.Own.{own_value, own_commuted, IsTableOf}
+use Rattle.ref_tx.specs.Own.{own_value, own_commuted, own_protected, AreProtected, IsTableOf}
 use Rattle.ref_tx.specs.Laws.{value_after-here, value_after-elsewhere, AreAnswers-append}
 
 -- ---- the tally
@@ -50,31 +51,79 @@ or_false : (b : Bool) → (b || false) ≡ b
 or_false true = refl
 or_false false = refl
 
-commuted_here : (b commute : Bool) (before : Bool) (o : Own) (former : Option Own) → own_commuted former ≡ before → (b ≡ true → o.commuted ≡ (before || commute)) → own_commuted (cond b (Some o) former) ≡ (before || (b && commute))
-commuted_here true commute before o former is here = here refl
-commuted_here false commute before o former is here = is ∙ sym (or_false before)
+-- what the table tells of a ref by yes or no
+told_here : (tells : Option Own → Bool) (b now : Bool) (before : Bool) (o : Own) (former : Option Own) → tells former ≡ before → (b ≡ true → tells (Some o) ≡ (before || now)) → tells (cond b (Some o) former) ≡ (before || (b && now))
+told_here tells true now before o former is here = here refl
+told_here tells false now before o former is here = is ∙ sym (or_false before)
 
 is_commuted_more : (ds : List Done) (d : Done) (q : ℕ) → is_commuted (ds ++ d ∷ []) q ≡ (is_commuted ds q || (d.r == q && is_commute d.op))
 is_commuted_more ds d q =
     let on : Done → Bool = λ x. x.r == q && is_commute x.op in
     list_any-append on ds (d ∷ []) ∙ ap (λ b. is_commuted ds q || b) (or_false (d.r == q && is_commute d.op))
 
+is_protected_more : (ds : List Done) (d : Done) (q : ℕ) → is_protected (ds ++ d ∷ []) q ≡ (is_protected ds q || (d.r == q && not (is_commute d.op)))
+is_protected_more ds d q =
+    let on : Done → Bool = λ x. x.r == q && not (is_commute x.op) in
+    list_any-append on ds (d ∷ []) ∙ ap (λ b. is_protected ds q || b) (or_false (d.r == q && not (is_commute d.op)))
+
+-- what the table has of a ref after its operation
+abbrev own_of : Edn → Bool → Bool → Own
+own_of v commuted protected = record { value = v; commuted = commuted; protected = protected }
+
 -- the table after one operation more
-pub table_more : (means : Means) (began : List Edn) (ds : List Done) (d : Done) (commuted : Bool) (own new : ℕ → Option Own) → IsTableOf means began ds own
+pub table_more : (means : Means) (began : List Edn) (ds : List Done) (d : Done) (commuted protected : Bool) (own new : ℕ → Option Own) → IsTableOf means began ds own
     → and_place means d.op (value_after means began ds d.r) ≡ Some d.answer
     → commuted ≡ (is_commuted ds d.r || is_commute d.op)
-    → ((q : ℕ) → new q ≡ cond (d.r == q) (Some (record { value = d.answer; commuted = commuted })) (own q))
+    → protected ≡ (is_protected ds d.r || not (is_commute d.op))
+    → ((q : ℕ) → new q ≡ cond (d.r == q) (Some (own_of d.answer commuted protected)) (own q))
     → IsTableOf means began (ds ++ d ∷ []) new
-table_more means began ds d commuted own new is gives commutes updates = record {
+table_more means began ds d commuted protected own new is gives commutes protects updates = record {
   values = λ q. ap (λ o. own_value o (slice_get began q)) (updates q)
-      ∙ own_here (d.r == q) (record { value = d.answer; commuted = commuted }) (own q) (slice_get began q) (value_after means began (ds ++ d ∷ []) q)
+      ∙ own_here (d.r == q) (own_of d.answer commuted protected) (own q) (slice_get began q) (value_after means began (ds ++ d ∷ []) q)
       (λ here. sym (value_after-here means began ds d q here ∙ ap (λ r. and_place means d.op (value_after means began ds r)) (sym (eqb-true d.r q here)) ∙ gives))
       (λ elsewhere. is.values q ∙ sym (value_after-elsewhere means began ds d q elsewhere));
   commuted = λ q. ap own_commuted (updates q)
-      ∙ commuted_here (d.r == q) (is_commute d.op) (is_commuted ds q) (record { value = d.answer; commuted = commuted }) (own q) (is.commuted q)
+      ∙ told_here own_commuted (d.r == q) (is_commute d.op) (is_commuted ds q) (own_of d.answer commuted protected) (own q) (is.commuted q)
       (λ here. commutes ∙ ap (λ r. is_commuted ds r || is_commute d.op) (eqb-true d.r q here))
       ∙ sym (is_commuted_more ds d q);
+  protected = λ q. ap own_protected (updates q)
+      ∙ told_here own_protected (d.r == q) (not (is_commute d.op)) (is_protected ds q) (own_of d.answer commuted protected) (own q) (is.protected q)
+      (λ here. protects ∙ ap (λ r. is_protected ds r || not (is_commute d.op)) (eqb-true d.r q here))
+      ∙ sym (is_protected_more ds d q);
 }
+
+-- ---- the list of the protected refs
+
+among_more : (rs : List ℕ) (r q : ℕ) → list_any (λ x. x == q) (rs ++ r ∷ []) ≡ (list_any (λ x. x == q) rs || (r == q))
+among_more rs r q = list_any-append (λ x. x == q) rs (r ∷ []) ∙ ap (λ b. list_any (λ x. x == q) rs || b) (or_false (r == q))
+
+-- a ref that is there already
+again : (here before : Bool) (now : Bool) → (here ≡ true → before ≡ true) → before ≡ (before || (here && now))
+again true before now is = rw (is refl) refl
+again false before now is = sym (or_false before)
+
+or_nothing : (before here : Bool) → before ≡ (before || (here && false))
+or_nothing before true = sym (or_false before)
+or_nothing before false = sym (or_false before)
+
+or_here : (before here : Bool) → (before || here) ≡ (before || (here && true))
+or_here before true = refl
+or_here before false = refl
+
+pub protected_more : (ds : List Done) (d : Done) (rs new : List ℕ) (before now : Bool) → AreProtected ds rs
+    → before ≡ is_protected ds d.r
+    → now ≡ (is_protected ds d.r || not (is_commute d.op))
+    → new ≡ (if now && not before then rs ++ d.r ∷ [] else rs)
+    → AreProtected (ds ++ d ∷ []) new
+protected_more ds d rs new before now are was is adds q =
+    ap (list_any (λ x. x == q)) (adds ∙ ap (λ b. if b && not before then rs ++ d.r ∷ [] else rs) (is ∙ ap (λ b. b || not (is_commute d.op)) (sym was)))
+    ∙ by before (not (is_commute d.op)) was
+    ∙ sym (is_protected_more ds d q)
+  where
+    by : (b protects : Bool) → b ≡ is_protected ds d.r → list_any (λ x. x == q) (if (b || protects) && not b then rs ++ d.r ∷ [] else rs) ≡ (is_protected ds q || (d.r == q && protects))
+    by true protects there = are q ∙ again (d.r == q) (is_protected ds q) protects (λ here. sym (there ∙ ap (is_protected ds) (eqb-true d.r q here)))
+    by false true there = among_more rs d.r q ∙ ap (λ b. b || (d.r == q)) (are q) ∙ or_here (is_protected ds q) (d.r == q)
+    by false false there = are q ∙ or_nothing (is_protected ds q) (d.r == q)
 
 -- ---- both
 
@@ -103,29 +152,34 @@ pub table_same : (means : Means) (began : List Edn) (ds : List Done) (m n : BTre
 table_same means began ds m n same is = record {
   values = λ q. ap (λ es. own_value (lookup (is_at (nat_cmp q)) es) (slice_get began q)) same ∙ is.values q;
   commuted = λ q. ap (λ es. own_commuted (lookup (is_at (nat_cmp q)) es)) same ∙ is.commuted q;
+  protected = λ q. ap (λ es. own_protected (lookup (is_at (nat_cmp q)) es)) same ∙ is.protected q;
 }
 
 -- What a transaction keeps, after one operation more.
-pub kept_more : (means : Means) (tx : TxSeen) (read_point : ℕ) (began : List Edn) (ds new : List Done) (sends : List Sent) (tally : Option ℕ) (agents : ℕ) (own after : ℕ → Option Own) (r : ℕ) (op : Op) (v kept answer : Edn) (commuted : Bool)
+pub kept_more : (means : Means) (tx : TxSeen) (read_point : ℕ) (began : List Edn) (ds new : List Done) (sends : List Sent) (tally : Option ℕ) (agents : ℕ) (own after : ℕ → Option Own) (rs rs' : List ℕ) (r : ℕ) (op : Op) (v kept answer : Edn) (commuted before protected : Bool)
     → tx ≡ record { read_point = read_point; began = began; dones = ds; sends = sends; tally = tally; agents = agents }
-    → IsTx means began ds tally × IsTableOf means began ds own
+    → IsTx means began ds tally × IsTableOf means began ds own × AreProtected ds rs
     → refusal tx r op ≡ None
     → and_place means op (inner_value means tx r) ≡ Some v
     → commuted ≡ (is_commuted tx.dones r || is_commute op)
+    → before ≡ is_protected tx.dones r
+    → protected ≡ (is_protected tx.dones r || not (is_commute op))
     → kept ≡ v
     → answer ≡ v
     → new ≡ ds ++ (record { r = r; op = op; answer = answer }) ∷ []
-    → ((q : ℕ) → after q ≡ cond (r == q) (Some (record { value = kept; commuted = commuted })) (own q))
-    → IsTx means began new tally × IsTableOf means began new after
-kept_more means tx read_point began ds new sends tally agents own after r op v kept answer commuted seen is allowed gives commutes keeps answers adds updates =
-    let before : TxSeen = record { read_point = read_point; began = began; dones = ds; sends = sends; tally = tally; agents = agents } in
+    → ((q : ℕ) → after q ≡ cond (r == q) (Some (own_of kept commuted protected)) (own q))
+    → rs' ≡ (if protected && not before then rs ++ r ∷ [] else rs)
+    → IsTx means began new tally × IsTableOf means began new after × AreProtected new rs'
+kept_more means tx read_point began ds new sends tally agents own after rs rs' r op v kept answer commuted before protected seen is allowed gives commutes was protects keeps answers adds updates listed =
     let d : Done = record { r = r; op = op; answer = v } in
     let placed : and_place means op (value_after means began ds r) ≡ Some v = ap (λ t. and_place means op (inner_value means t r)) (sym seen) ∙ gives in
     let more : new ≡ ds ++ d ∷ [] = adds ∙ ap (λ x. ds ++ (record { r = r; op = op; answer = x }) ∷ []) answers in
+    let now : protected ≡ (is_protected ds r || not (is_commute op)) = protects ∙ ap (λ t. is_protected t.dones r || not (is_commute op)) seen in
     rw more (
       tx_more means read_point began ds sends tally agents d is.0 (ap (λ t. refusal t r op) (sym seen) ∙ allowed) placed,
-      table_more means began ds d commuted own after is.1 placed (commutes ∙ ap (λ t. is_commuted t.dones r || is_commute op) seen)
-          (λ q. updates q ∙ ap (λ x. cond (r == q) (Some (record { value = x; commuted = commuted })) (own q)) keeps),
+      table_more means began ds d commuted protected own after is.1 placed (commutes ∙ ap (λ t. is_commuted t.dones r || is_commute op) seen) now
+          (λ q. updates q ∙ ap (λ x. cond (r == q) (Some (own_of x commuted protected)) (own q)) keeps),
+      protected_more ds d rs rs' before protected is.2 (was ∙ ap (λ t. is_protected t.dones r) seen) now listed,
     )
 
 -- Where there is no ref, there is no value after any operations.

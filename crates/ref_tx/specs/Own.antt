@@ -1,7 +1,9 @@
 -- How a transaction keeps its in-transaction values: a table of the refs that it has operated on.
-use Rattle.std.specs.Prelude.{ℕ, Bool, false, Option, None, Some, List, ◌≡◌, slice_get}
+use Rattle.std.specs.Prelude.{ℕ, ◌==◌, Bool, false, Option, None, Some, List, ◌≡◌, slice_get}
+use Rattle.std.specs.List.{list_any}
 use Rattle.ref_edn.specs.Edn.{Edn}
 use Rattle.ref_fun.specs.Meaning.{Means}
+use Rattle.ref_log.specs.Replay.{is_protected}
 use Rattle.ref_log.specs.declared.operations.Done.{Done}
 use Rattle.ref_tx.specs.declared.owns.Own.{Own}
 use Rattle.ref_tx.specs.Inner.{value_after, is_commuted}
@@ -15,7 +17,16 @@ abbrev pub own_commuted : Option Own → Bool
 own_commuted (Some own) = own.commuted
 own_commuted None = false
 
--- The table, as a function, has the in-transaction values, and tells which refs were commuted.
+abbrev pub own_protected : Option Own → Bool
+own_protected (Some own) = own.protected
+own_protected None = false
+
+-- The table, as a function, has the in-transaction values, and tells which refs were commuted, and which are protected.
 pub record IsTableOf (means : Means) (began : List Edn) (dones : List Done) (own : ℕ → Option Own) : Type 0 where
   pub values : (r : ℕ) → own_value (own r) (slice_get began r) ≡ value_after means began dones r
   pub commuted : (r : ℕ) → own_commuted (own r) ≡ is_commuted dones r
+  pub protected : (r : ℕ) → own_protected (own r) ≡ is_protected dones r
+
+-- These are the refs that the operations protect.
+abbrev pub AreProtected : List Done → List ℕ → Type 0
+AreProtected dones rs = (r : ℕ) → list_any (λ x. x == r) rs ≡ is_protected dones r

@@ -1,9 +1,10 @@
 //! What a transaction keeps of a ref that it has operated on.
 use ref_edn::Value;
 
-/// The in-transaction value of a ref, and whether it was commuted.
+/// The in-transaction value of a ref, whether it was commuted, and whether it is protected.
 #[derive(Drop)]
 pub(crate) struct Own {
     pub(crate) value: Value,
     pub(crate) commuted: bool,
+    pub(crate) protected: bool,
 }

@@ -2,18 +2,20 @@
 ghost use Rattle.ref_log.specs.Told.{AnswersOrMemory, Tells, TellsThenMemory};
 ghost use Rattle.std.specs.BTreeMap.{get};
 ghost use Rattle.std.specs.Ordering.{nat_cmp};
-ghost use Rattle.std.specs.Prelude.{◌==◌, ◌||◌, cond, ◌≡◌, ◌≢◌, ℕ, [], true, false, Ok, Err, Some, None, IfOk, IfErr, OnOk, OnErr};
-ghost use Rattle.ref_log.specs.Replay.{codes_of, is_commute, missing, place};
+ghost use Rattle.std.specs.Prelude.{◌==◌, ◌||◌, ◌<◌, ◌∷◌, ◌++◌, cond, if◌then◌else◌, not, ◌&&◌, vec_len, vec_capacity, ◌≡◌, ◌≢◌, ℕ, [], true, false, Ok, Err, Some, None, IfOk, IfErr, OnOk, OnErr};
+ghost use Rattle.ref_log.specs.Replay.{codes_of, is_commute, is_protected, missing, place};
 ghost use Rattle.ref_log.specs.declared.operations.Op.TheVariants.{Set, Alter, Commute, Ensure};
 ghost use Rattle.ref_log.specs.Tally.{is_tally};
 ghost use Rattle.ref_tx.specs.Inner.{IsTx, inner_value, has_ref, is_commuted, refusal, refusal_by, early_refusal, answer_of, and_place, called, send_refusal, unmet, with_done, with_sent};
+ghost use Rattle.ref_tx.specs.Own.{AreProtected};
 ghost use Rattle.ref_tx.specs.declared.faults.TxFault.TheVariants.{NoSuchRef, Memory};
 
 use crate::faults::TxFault;
 use crate::owns::Own;
 use ref_edn::Value;
 use ref_fun::{Action, CallFault, Functions, Meaning, Rule};
-use ref_log::{Args, Done, Op, Sent, SharedVec};
+use ref_log::{Args, Done, Op, Sent};
+use ref_pmap::Numbered;
 use std::alloc::{AllocError, Global};
 use std::collections::BTreeMap;
 use std::marker::{Model, PhantomData};
@@ -25,8 +27,10 @@ use std::marker::{Model, PhantomData};
 #[derive(Drop)]
 pub struct Tx<M: Meaning> {
     read_point: u64,
-    began: SharedVec<Value>,
+    began: Numbered<Value>,
     dones: Vec<Done>,
+    // The refs that were set, altered or ensured, each once.
+    protected: Vec<u32>,
     sends: Vec<Sent>,
     tally: Option<u32>,
     agents: usize,
@@ -40,7 +44,7 @@ impl<M: Meaning> Model for Tx<M> {
     ghost use Rattle.std.specs.Ordering.{nat_cmp};
     ghost use Rattle.ref_edn.specs.Code.{edn_code};
     ghost use Rattle.ref_tx.specs.Inner.{IsTx};
-    ghost use Rattle.ref_tx.specs.Own.{IsTableOf};
+    ghost use Rattle.ref_tx.specs.Own.{AreProtected, IsTableOf};
     ghost use Rattle.ref_tx.specs.Seen.{TxSeen};
 
     ghost Value = { TxSeen };
@@ -56,7 +60,9 @@ impl<M: Meaning> Model for Tx<M> {
       agents = a.agents;
     } };
 
-    ghost invariant = { λ a. IsTx M.means a.began a.dones.items a.tally × IsTableOf M.means a.began a.dones.items (get nat_cmp a.own) };
+    ghost invariant = { λ a. IsTx M.means a.began a.dones.items a.tally
+        × IsTableOf M.means a.began a.dones.items (get nat_cmp a.own)
+        × AreProtected a.dones.items a.protected.items };
 }
 
 impl<M: Meaning> Tx<M> {
@@ -65,7 +71,7 @@ impl<M: Meaning> Tx<M> {
     pub fn start(
         alloc: Global,
         read_point: u64,
-        began: SharedVec<Value>,
+        began: Numbered<Value>,
         tally: Option<u32>,
         agents: usize,
     ) -> Tx<M>
@@ -76,6 +82,7 @@ impl<M: Meaning> Tx<M> {
             read_point,
             began,
             dones: Vec::new(alloc),
+            protected: Vec::new(alloc),
             sends: Vec::new(alloc),
             tally,
             agents,
@@ -92,7 +99,7 @@ impl<M: Meaning> Tx<M> {
     }
 
     /// The values of all refs as of the read point, by number.
-    pub fn began(&self) -> &SharedVec<Value>
+    pub fn began(&self) -> &Numbered<Value>
         ensures { result.now ≡ self.now.began }
     {
         &self.began
@@ -104,6 +111,23 @@ impl<M: Meaning> Tx<M> {
         ensures kept { IsTx M.means self.now.began self.now.dones self.now.tally }
     {
         self.dones.as_slice()
+    }
+
+    /// The refs that it has set, altered or ensured, each once.
+    pub fn protected(&self) -> &[u32]
+        ensures { AreProtected self.now.dones result.now }
+    {
+        self.protected.as_slice()
+    }
+
+    /// Whether it has set, altered or ensured a ref. A look-up among the refs that it has operated on.
+    pub fn is_protected(&self, r: u32) -> bool
+        ensures { result ≡ is_protected self.now.dones r }
+    {
+        match self.own.get(&r) {
+            Some(own) => own.protected,
+            None => false,
+        }
     }
 
     /// What it sends when it is committed, in the order in which it was sent.
@@ -121,7 +145,7 @@ impl<M: Meaning> Tx<M> {
         ensures err { IfErr result (λ f. (f ≡ NoSuchRef) × (has_ref self.now r ≡ false)) }
         ensures none { OnErr result (inner_value M.means self.now r ≡ None) }
     {
-        match self.began.get(r as usize) {
+        match self.began.get(r) {
             None => Err(TxFault::NoSuchRef),
             Some(value) => match self.own.get(&r) {
                 Some(own) => Ok(&own.value),
@@ -271,6 +295,13 @@ impl<M: Meaning> Tx<M> {
         self.is_commuted(r) || op.is_commute()
     }
 
+    // Whether the ref is protected once this operation is made on it.
+    fn is_protected_with(&self, r: u32, op: &Op) -> bool
+        ensures { result ≡ (is_protected self.now.dones r || not (is_commute op.now)) }
+    {
+        self.is_protected(r) || !op.is_commute()
+    }
+
     fn is_tally(&self, r: u32) -> bool
         ensures { result ≡ is_tally self.now.tally r }
     {
@@ -292,10 +323,14 @@ impl<M: Meaning> Tx<M> {
         ensures err { OnErr result (self.new ≡ self.old) }
     {
         let commuted = self.is_commuted_with(r, &op);
+        let before = self.is_protected(r);
+        let protected = self.is_protected_with(r, &op);
         let kept = value.share()?;
         let answer = value.share()?;
         self.dones.reserve(1)?;
-        put(&mut self.own, r, kept, commuted)?;
+        self.protected.reserve(1)?;
+        put(&mut self.own, r, kept, commuted, protected)?;
+        add_if_new(&mut self.protected, r, before, protected);
         self.dones.push_reserved(Done { r, op, answer });
         Ok(value)
     }
@@ -303,14 +338,38 @@ impl<M: Meaning> Tx<M> {
 
 // Keeps what stands for a ref from now on.
 #[tactic(auto, using(crate::proofs::Grown::tied))]
-fn put(own: &mut BTreeMap<u32, Own>, r: u32, value: Value, commuted: bool) -> Result<(), AllocError>
+fn put(
+    own: &mut BTreeMap<u32, Own>,
+    r: u32,
+    value: Value,
+    commuted: bool,
+    protected: bool,
+) -> Result<(), AllocError>
     ensures ok { OnOk result ((q : ℕ)
         → get nat_cmp own.new q
-        ≡ cond (r == q) (Some (record { value = value; commuted = commuted })) (get nat_cmp own.old q)) }
+        ≡ cond (r == q) (Some (record { value = value; commuted = commuted; protected = protected }))
+        (get nat_cmp own.old q)) }
     ensures err { OnErr result (own.new.entries ≡ own.old.entries) }
 {
-    own.insert(r, Own { value, commuted })?;
+    own.insert(
+        r,
+        Own {
+            value,
+            commuted,
+            protected,
+        },
+    )?;
     Ok(())
+}
+
+// Adds a ref to a list that has room, where it belongs there now and didn't before.
+fn add_if_new(refs: &mut Vec<u32>, r: u32, before: bool, now: bool)
+    requires { vec_len refs.old < vec_capacity refs.old }
+    ensures { refs.new.items ≡ (if now && not before then refs.old.items ++ r ∷ [] else refs.old.items) }
+{
+    if now && !before {
+        refs.push_reserved(r);
+    }
 }
 
 // What the function of an operation makes of a value.

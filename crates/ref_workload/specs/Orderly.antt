@@ -1,5 +1,5 @@
 -- Which worlds and refused steps a plan may end with.
-use Rattle.std.specs.Prelude.{◌≡◌, ℕ, ◌==◌, ◌&&◌, ◌||◌, Bool, true, false, List, Option, None, Some, length, map, position, slice_get}
+use Rattle.std.specs.Prelude.{◌≡◌, ℕ, ◌==◌, nat_lt, ◌&&◌, ◌||◌, Bool, true, false, List, [], ◌∷◌, Option, None, Some, length, map, position, slice_get}
 use Rattle.std.specs.List.{All, IsDistinct, filter_map, list_any}
 use Rattle.ref_audit.specs.declared.reports.Refusal.{Refusal}
 use Rattle.ref_log.specs.declared.entries.Entry.{Entry}
@@ -88,6 +88,20 @@ IsPlanned workers refused (MadeAtom v) = ⊥
 
 abbrev pub IsStep : List (List Step) → Refusal → Type 0
 IsStep workers r = (step : Step) × (at_stamp workers r.stamp ≡ Some step)
+
+-- ---- the order of refused steps
+
+abbrev pub comes_after : Option Stamp → Stamp → Bool
+comes_after None stamp = true
+comes_after (Some last) stamp = nat_lt last.worker stamp.worker || ((last.worker == stamp.worker) && nat_lt last.step stamp.step)
+
+abbrev pub rise_after : Option Stamp → List Refusal → Bool
+rise_after last [] = true
+rise_after last (r ∷ refused) = comes_after last r.stamp && rise_after (Some r.stamp) refused
+
+-- Refused steps stand by worker, then step.
+abbrev pub AreInOrder : List Refusal → Type 0
+AreInOrder refused = rise_after None refused ≡ true
 
 -- ---- the whole
 

@@ -10,7 +10,7 @@ use Rattle.ref_audit.specs.Verdict.{verdict_on}
 use Rattle.ref_audit.specs.declared.reports.Refusal.{Refusal}
 use Rattle.ref_audit.specs.declared.reports.Verdict.TheVariants as verdicts
 use Rattle.ref_world.specs.Seen.{WorldSeen}
-use Rattle.ref_workload.specs.Orderly.{IsOrderly}
+use Rattle.ref_workload.specs.Orderly.{AreInOrder, IsOrderly}
 use Rattle.ref_workload.specs.Plan.{PlanSeen}
 use Rattle.ref_workload.specs.Streams.{IsInputAtFault}
 use Rattle.ref_workload.specs.Workload.{IsWorkload}
@@ -29,6 +29,7 @@ pub record IsPlanRun (dump : Bool) (plan : PlanSeen) (output : List ℕ) : Type 
   pub world : WorldSeen
   pub refused : List Refusal
   pub orderly : IsOrderly plan world refused
+  pub in_order : AreInOrder refused
   pub audited : verdict_on (dump_of (dumped world)) ≡ Ok verdicts.Ok
   pub output_is : output ≡ told dump plan world refused
 

@@ -6,6 +6,7 @@ ghost use Rattle.ref_workload.specs.Orderly.{IsOrderly};
 mod board;
 mod entries;
 mod named;
+mod refusals;
 mod start;
 
 use crate::plans::Plan;
@@ -14,6 +15,7 @@ use entries::{is_done, mark_entries, mark_refused};
 use ref_audit::Refusal;
 use ref_fun::Core;
 use ref_world::World;
+pub(crate) use refusals::are_in_order;
 use start::{are_agents, is_base};
 use std::alloc::{AllocError, Global};
 use std::sync::ledger::Ledger;

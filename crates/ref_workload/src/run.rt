@@ -1,10 +1,11 @@
 //! A plan, run by threads.
-ghost use Rattle.std.specs.Prelude.{◌≡◌, ◌+◌, IfOk, length, vec_len};
-ghost use Rattle.ref_workload.specs.Orderly.{IsOrderly};
+ghost use Rattle.std.specs.Prelude.{◌≡◌, ◌+◌, IfErr, IfOk, length, vec_len};
+ghost use Rattle.ref_workload.specs.Orderly.{AreInOrder, IsOrderly};
+ghost use Rattle.ref_workload.specs.Run.{IsOfPlan};
 ghost use Rattle.ref_world.specs.Shares.{all_parts};
 
 use crate::faults::{RunFault, Stop};
-use crate::order::is_orderly;
+use crate::order::{are_in_order, is_orderly};
 use crate::plans::{Plan, Step};
 use crate::progress::Progress;
 use crate::running::{Run, run_threads, share_start};
@@ -54,8 +55,10 @@ where
     requires commits { (commits.name ≡ C.name) × (commits.parts ≡ C.parts) × (commits.parts ≡ all_parts) }
     requires added { (added.name ≡ A.name) × (added.parts ≡ A.parts) × (added.parts ≡ all_parts) }
     ensures orderly { IfOk result (λ out. IsOrderly plan.now out.world out.refused.items) }
+    ensures order { IfOk result (λ out. AreInOrder out.refused.items) }
     ensures totals { IfOk result (λ out. (out.totals.commits ≡ out.world.books.commits)
         × (out.totals.added ≡ out.world.books.added)) }
+    ensures inner { IfErr result IsOfPlan }
 {
     let progress = Progress::new();
     run_plan_with::<F, C, A, R, G>(
@@ -85,8 +88,10 @@ where
     requires commits { (commits.name ≡ C.name) × (commits.parts ≡ C.parts) × (commits.parts ≡ all_parts) }
     requires added { (added.name ≡ A.name) × (added.parts ≡ A.parts) × (added.parts ≡ all_parts) }
     ensures orderly { IfOk result (λ out. IsOrderly plan.now out.world out.refused.items) }
+    ensures order { IfOk result (λ out. AreInOrder out.refused.items) }
     ensures totals { IfOk result (λ out. (out.totals.commits ≡ out.world.books.commits)
         × (out.totals.added ≡ out.world.books.added)) }
+    ensures inner { IfErr result IsOfPlan }
 {
     let (world, mut share) = open_world::<F, C, A>(alloc, funs, plan, commits, added)?;
     let run = Run {
@@ -140,8 +145,10 @@ fn take_out<C: Ledger, A: Ledger>(
     refused: Vec<Refusal>,
 ) -> Result<RunOut<C, A>, RunFault>
     ensures orderly { IfOk result (λ out. IsOrderly plan.now out.world out.refused.items) }
+    ensures order { IfOk result (λ out. AreInOrder out.refused.items) }
     ensures totals { IfOk result (λ out. (out.totals.commits ≡ out.world.books.commits)
         × (out.totals.added ≡ out.world.books.added)) }
+    ensures inner { IfErr result IsOfPlan }
 {
     if !share.is_whole() {
         return Err(RunFault::Internal);
@@ -151,6 +158,9 @@ fn take_out<C: Ledger, A: Ledger>(
         Err((_, _, GatherFault::Memory)) => return Err(RunFault::Memory),
         Err((_, _, _)) => return Err(RunFault::Internal),
     };
+    if !are_in_order(refused.as_slice()) {
+        return Err(RunFault::Internal);
+    }
     match is_orderly(alloc, plan, &world, refused.as_slice()) {
         Ok(true) => Ok(RunOut {
             world,

@@ -128,6 +128,8 @@ fn output_of<F: Functions<Core> + Sync, R: Threads + Wait + Sync>(
 {
     let value = read_one(alloc, text)?;
     let plan = plan(alloc, &value)?;
+    // A run needs its memory.
+    drop(value);
     let (commits, added) = (Blank::new(4_294_967_296), Blank::new(4_294_967_296));
     match output_of_plan::<F, Brand, Brand, R>(
         rt, alloc, funs, &plan, options, progress, commits, added,
@@ -173,9 +175,7 @@ where
     );
     let out = match ran {
         Ok(out) => out,
-        Err(RunFault::Memory) => return Err(RunFault::Memory),
-        // A plan that is run reads and writes nothing.
-        Err(_) => return Err(RunFault::Internal),
+        Err(fault) => return Err(fault),
     };
     let dumped = audited(alloc, funs, &out.world)?;
     if options.dump {

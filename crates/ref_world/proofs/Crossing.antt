@@ -10,6 +10,7 @@ use Rattle.std.proofs.MapsCrossingOver as over
 use Rattle.std.specs.declared.sync.ledger.Ledger as Ledger
 use Rattle.ref_edn.proofs.data.Value.TheLaws.TheKnot as knot
 use Rattle.ref_log.proofs.lists.SharedVec.TheSendSync as lists
+use Rattle.ref_pmap.proofs.Crossing.{numbered_send}
 use Rattle.ref_edn.specs.contracts.data.Value as Value
 use Rattle.ref_fun.specs.contracts.arguments.Args as Args
 use Rattle.ref_fun.specs.declared.meanings.Meaning as Meaning
@@ -174,9 +175,9 @@ agent_send = search (value_send, account_send, plain) depth 60
 module _ (M : RattleType) (g : Meaning.Ghosts M.Denot) where
   refs_send : IsSend (RefStore.the_row M g)
   refs_send = view_send _ _ _ _ _ (declared_send (InRefStore.the_type M g) (
-    search (value_send, plain) depth 60,
+    search (numbered_send, value_send, value_sync, plain) depth 60,
     (
-      search plain depth 60,
+      search (numbered_send, plain) depth 60,
       (
         search plain depth 60,
         (

@@ -30,7 +30,7 @@ pub struct Receipt {
 }
 
 impl<M: Meaning, C: Ledger, A: Ledger> World<M, C, A> {
-    /// Begins a transaction over the values as they are now. Linear in the number of refs.
+    /// Begins a transaction over the values as they are now. It takes no memory, and as long whatever the number of refs.
     pub fn begin(&self, alloc: Global) -> Result<Tx<M>, AllocError>
         ensures { IfOk result (λ tx. tx
             ≡ record {
@@ -53,7 +53,7 @@ impl<M: Meaning, C: Ledger, A: Ledger> World<M, C, A> {
     /// A refused commit changes nothing and hands the transaction back. The tests are made in this order: what is foreign,
     /// functions and predicates that the table lacks, the conflict, a foreign value, a refusal over the latest values, a rule
     /// that doesn't accept, the end of points. All growths come before the first change, but for the sends, which are taken back
-    /// where there is no memory for all of them. The cost is that of the store's commit, linear in the number of refs, and a
+    /// where there is no memory for all of them. The cost is that of the store's commit, logarithmic in the number of refs for each operation, and a
     /// step for each send, logarithmic in the number of agents with actions that wait.
     pub fn commit_with<F: Functions<M>>(
         &mut self,
@@ -95,7 +95,11 @@ impl<M: Meaning, C: Ledger, A: Ledger> World<M, C, A> {
             Ok(prepared) => prepared,
             Err(fault) => return Err((tx, fault)),
         };
-        let Prepared { values, landed } = prepared;
+        let Prepared {
+            values,
+            lasts,
+            landed,
+        } = prepared;
         let Landed { entry, notices } = landed;
         let Ok(kept) = entry.share() else {
             return Err((tx, CommitFault::Memory));
@@ -108,7 +112,7 @@ impl<M: Meaning, C: Ledger, A: Ledger> World<M, C, A> {
         }
         // From here on nothing can fail.
         let before = self.refs.tally_value();
-        self.refs.install(at, values, tx.dones());
+        self.refs.install(at, values, lasts, tx.dones());
         self.log.push_reserved(entry);
         share.receipts.push_reserved(LogReceipt {
             point: at,

@@ -3,7 +3,7 @@
 //!
 //! Each command is one function from a reader to a writer: `ref_workload::run_workload`, [`checking::check_text`],
 //! [`auditing::audit_text`] and [`printing::print_text`]. `commands` reads the command line, and `lines` has what is said on standard
-//! error and the statuses. `tasks` has what is done by Core's functions, of which `functions` is the table.
+//! error and the statuses. `tasks` has what is done by Core's functions.
 #![tactic(auto)]
 
 ghost use Rattle.ref_fun.specs.Calls.{HasCore};
@@ -12,7 +12,6 @@ pub mod auditing;
 pub mod checking;
 mod commands;
 pub mod faults;
-mod functions;
 mod lines;
 pub mod printing;
 mod tasks;
@@ -22,11 +21,10 @@ use clap::Error;
 use clap::error::ErrorKind;
 use commands::{Act, act_of, arguments, matches_of};
 use faults::Fault;
-use functions::CoreFunctions;
 use lines::{Line, status};
 use ref_audit::Verdict;
 use ref_edn::Counted;
-use ref_fun::{Core, Functions};
+use ref_fun::{Core, CoreFunctions, Functions};
 use ref_workload::RunFault;
 use std::env::Env;
 use std::io;
@@ -42,9 +40,8 @@ const USAGE: u8 = 2;
 // The status where an audit says no.
 const AUDIT_SAYS_NO: u8 = 5;
 
-#[tactic(auto, using(crate::proofs::Codes::all_of_core))]
 fn main(rt: HostRuntime) -> ExitCode {
-    ExitCode::from(answer(&rt, &CoreFunctions))
+    ExitCode::from(answer(&rt, &CoreFunctions::new()))
 }
 
 // Does what the words ask for by a table, and answers the status.

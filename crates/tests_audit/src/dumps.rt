@@ -113,19 +113,65 @@ fn an_action_without_a_name(rt: HostRuntime) -> Result<(), Fail> {
     Ok(())
 }
 
-#[test]
-fn a_ref_that_is_too_deep(rt: HostRuntime) -> Result<(), Fail> {
+// ---- how deep a dump is nested
+
+// What is dumped of a world with one ref and one agent, after these steps.
+fn dumped(
+    alloc: Global,
+    value: &str,
+    steps: &[Step],
+) -> Result<Result<Vec<u8>, DumpMakeFault>, Fail> {
+    let refs = [Given {
+        name: "a",
+        value,
+        rule: None,
+    }];
     let declared = Declared {
-        refs: &[Given {
-            name: "a",
-            value: "[[[[[[[[[[[[[[[[[[[[[[[[[[[[[[[[[[[[[[[[[[[[[[[[[[[[[[[[[[[[[[[[]]]]]]]]]]]]]]]]]]]]]]]]]]]]]]]]]]]]]]]]]]]]]]]]]]]]]]]]]]]]]]]]",
-            rule: None,
-        }],
+        refs: &refs,
         tally: NO_TALLY,
         atoms: &[],
-        agents: &[],
+        agents: &[G],
     };
-    let seen = seen(rt.alloc(), &declared, &[])?;
-    assert!(rt; seen.dumped == Err(DumpMakeFault::TooDeep));
+    Ok(seen(alloc, &declared, steps)?.dumped)
+}
+
+// So many vectors, one in another.
+fn nested(alloc: Global, levels: usize) -> Result<String, Fail> {
+    let (begin, end) = ("[".repeat(alloc, levels)?, "]".repeat(alloc, levels)?);
+    Ok(format!(in alloc; "{begin}{end}")?)
+}
+
+#[test]
+fn the_deepest_refs(rt: HostRuntime) -> Result<(), Fail> {
+    let alloc = rt.alloc();
+    assert!(rt; dumped(alloc, &nested(alloc, 61)?, &[])?.is_ok());
+    for levels in 62..65usize {
+        let dumped = dumped(alloc, &nested(alloc, levels)?, &[])?;
+        assert!(rt; dumped == Err(DumpMakeFault::TooDeep), "{levels} levels");
+    }
+    Ok(())
+}
+
+#[test]
+fn the_deepest_operations(rt: HostRuntime) -> Result<(), Fail> {
+    let alloc = rt.alloc();
+    for (levels, fits) in [(59usize, true), (60, false)] {
+        let value = nested(alloc, levels)?;
+        let calls = [Call::Set(0, &value)];
+        let dumped = dumped(alloc, "0", &[Step::Commit(&calls)])?;
+        assert!(rt; dumped.is_ok() == fits, "{levels} levels");
+    }
+    Ok(())
+}
+
+#[test]
+fn the_deepest_arguments(rt: HostRuntime) -> Result<(), Fail> {
+    let alloc = rt.alloc();
+    for (levels, fits) in [(58usize, true), (59, false)] {
+        // One level is the vector of arguments.
+        let args = nested(alloc, levels + 1)?;
+        let dumped = dumped(alloc, "0", &[Step::Send(0, 7, &args)])?;
+        assert!(rt; dumped.is_ok() == fits, "{levels} levels");
+    }
     Ok(())
 }

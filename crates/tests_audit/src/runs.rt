@@ -2,11 +2,11 @@
 ghost use Rattle.std.specs.Prelude.{◌≡◌};
 ghost use Rattle.ref_world.specs.Shares.{all_parts};
 
-use crate::tables::core_table;
+use crate::values::{action_of, args_of, value_of};
 use ref_agents::ErrorMode;
-use ref_audit::{DumpMakeFault, Names, Refusal, Verdict, dump, report};
+use ref_audit::{DumpMakeFault, Names, Refusal, Verdict, audit_own_dump, dump, report};
 use ref_edn::{Node, Text, Value, print, read_one};
-use ref_fun::{Action, Args, Core, FunTable, Rule};
+use ref_fun::{Action, Args, Core, CoreFunctions, Rule};
 use ref_log::Stamp;
 use ref_tx::Tx;
 use ref_world::{ALL_PARTS, AgentStart, AtomStart, RefStart, Share, Start, World};
@@ -79,18 +79,25 @@ pub(crate) fn run(
     refused: &[Refusal],
     verdict: Verdict,
 ) -> Result<Seen, Fail> {
-    let funs = core_table(alloc)?;
     let start = start_of(alloc, declared)?;
     let names = names_of(alloc, declared)?;
     let (commits, added) = (Blank::new(ALL_PARTS), Blank::new(ALL_PARTS));
     run_in::<Brand, Brand>(
-        alloc, &funs, start, steps, &names, refused, verdict, commits, added,
+        alloc,
+        &CoreFunctions,
+        start,
+        steps,
+        &names,
+        refused,
+        verdict,
+        commits,
+        added,
     )
 }
 
 fn run_in<C: Ledger, A: Ledger>(
     alloc: Global,
-    funs: &FunTable,
+    funs: &CoreFunctions,
     start: Start,
     steps: &[Step],
     names: &Names,
@@ -120,19 +127,21 @@ fn dumped<C: Ledger, A: Ledger>(
     alloc: Global,
     world: &World<Core, C, A>,
 ) -> Result<Result<Vec<u8>, DumpMakeFault>, Fail> {
+    let verdict = audit_own_dump(alloc, &CoreFunctions::new(), world);
     match dump(alloc, world) {
-        Ok(value) => {
+        Ok(value) if verdict == Ok(Verdict::Ok) => {
             let mut text = Vec::new(alloc);
             print(alloc, &value, &mut text)?;
             Ok(Ok(text))
         }
-        Err(fault) => Ok(Err(fault)),
+        Err(fault) if verdict == Err(fault) => Ok(Err(fault)),
+        _ => Err(Fail::new("the audit of a world's own dump says ok")),
     }
 }
 
 fn take_step<C: Ledger, A: Ledger>(
     alloc: Global,
-    funs: &FunTable,
+    funs: &CoreFunctions,
     world: &mut World<Core, C, A>,
     share: &mut Share<C, A>,
     number: u32,
@@ -168,7 +177,7 @@ fn take_step<C: Ledger, A: Ledger>(
 
 fn commit<C: Ledger, A: Ledger>(
     alloc: Global,
-    funs: &FunTable,
+    funs: &CoreFunctions,
     world: &mut World<Core, C, A>,
     share: &mut Share<C, A>,
     step: u32,
@@ -185,7 +194,12 @@ fn commit<C: Ledger, A: Ledger>(
     }
 }
 
-fn make_call(alloc: Global, funs: &FunTable, tx: &mut Tx<Core>, call: &Call) -> Result<(), Fail> {
+fn make_call(
+    alloc: Global,
+    funs: &CoreFunctions,
+    tx: &mut Tx<Core>,
+    call: &Call,
+) -> Result<(), Fail> {
     match call {
         Call::Set(r, value) => {
             tx.ref_set(alloc, *r, value_of(alloc, value)?)?;
@@ -208,7 +222,7 @@ fn make_call(alloc: Global, funs: &FunTable, tx: &mut Tx<Core>, call: &Call) -> 
 
 fn act<C: Ledger, A: Ledger>(
     alloc: Global,
-    funs: &FunTable,
+    funs: &CoreFunctions,
     world: &mut World<Core, C, A>,
 ) -> Result<(), Fail> {
     let Some(job) = world.take()? else {
@@ -231,32 +245,6 @@ fn act<C: Ledger, A: Ledger>(
 }
 
 // ---- what is declared
-
-pub(crate) fn value_of(alloc: Global, text: &str) -> Result<Value, Fail> {
-    Ok(read_one(alloc, text.as_bytes())?)
-}
-
-fn args_of(alloc: Global, text: &str) -> Result<Args, Fail> {
-    let value = value_of(alloc, text)?;
-    let Node::Vector(items) = value.node() else {
-        return Err(Fail::new("arguments are a vector"));
-    };
-    let mut args = Vec::new(alloc);
-    for arg in items {
-        args.push(arg.share()?)?;
-    }
-    if args.len() > 8 {
-        return Err(Fail::new("at most 8 arguments"));
-    }
-    Ok(Args::of(alloc, args)?)
-}
-
-fn action_of(alloc: Global, code: u32, args: &str) -> Result<Action, Fail> {
-    Ok(Action {
-        code,
-        args: args_of(alloc, args)?,
-    })
-}
 
 fn rule_of(alloc: Global, given: &Given) -> Result<Option<Rule>, Fail> {
     match given.rule {

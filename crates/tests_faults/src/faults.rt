@@ -1,4 +1,5 @@
 //! The faults of replays, operations, makings, rules, watches, commits, atoms and agents.
+use crate::saying::is_said;
 use ref_agents::{FinishFault, JobFault, ModeFault, RestartFault, SendFault};
 use ref_atoms::AtomFault;
 use ref_fun::Cause;
@@ -17,9 +18,11 @@ fn check<F: Display>(
     number: u8,
     words: &str,
 ) -> Result<(), Fail> {
-    let said = format!(in rt.alloc(); "{told} {fault}")?;
-    let wanted = format!(in rt.alloc(); "{number} {words}")?;
-    assert_eq!(rt; said, wanted);
+    let said = fault.to_string(rt.alloc())?;
+    assert!(rt;
+        is_said(told, &said, number, words),
+        "{told} {said}, not {number} {words}"
+    );
     Ok(())
 }
 

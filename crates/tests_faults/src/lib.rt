@@ -3,3 +3,4 @@
 
 #[cfg(test)]
 mod faults;
+pub mod saying;

@@ -7,7 +7,7 @@ use tests_tables::{Row, nested, rows, same, text_of};
 
 /// A function or a predicate by its code, and what it is called with.
 #[derive(Drop)]
-pub(crate) struct Call {
+pub struct Call {
     pub code: u32,
     pub state: Value,
     pub args: Args,
@@ -33,7 +33,7 @@ fn args_of(alloc: Global, parts: &Items) -> Result<Args, Fail> {
 }
 
 /// The call that a text writes.
-pub(crate) fn call_of(alloc: Global, text: &str) -> Result<Call, Fail> {
+pub fn call_of(alloc: Global, text: &str) -> Result<Call, Fail> {
     let read = read_one(alloc, text.as_bytes())?;
     let Node::Vector(parts) = read.node() else {
         return Err(Fail::from("not a call"));
@@ -81,7 +81,7 @@ fn check_call(alloc: Global, row: &Row) -> Result<(), Fail> {
 }
 
 /// Each call of a table gives this value, or is refused for this cause. There `@48` is a vector nested 48 deep.
-pub(crate) fn check_calls(alloc: Global, table: &str) -> Result<(), Fail> {
+pub fn check_calls(alloc: Global, table: &str) -> Result<(), Fail> {
     for row in &rows(alloc, table)? {
         check_call(alloc, row)?;
     }

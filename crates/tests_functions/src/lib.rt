@@ -2,8 +2,7 @@
 //! `ref_fun`, since a crate that has tests is proved twice, without them and with them.
 #![tactic(auto)]
 
-#[cfg(test)]
-mod calls;
+pub mod calls;
 #[cfg(test)]
 mod closures;
 #[cfg(test)]

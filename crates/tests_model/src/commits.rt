@@ -1,7 +1,6 @@
 //! Where transactions begin and end, each on a world and on its model.
-use crate::seen::is_receipt;
+use crate::receipts::is_receipt;
 use crate::sides::Side;
-use crate::tables::funs_of;
 use ref_fun::Core;
 use ref_log::Stamp;
 use ref_refs::CommitFault;
@@ -10,9 +9,9 @@ use ref_world::Receipt;
 use std::sync::ledger::Ledger;
 use tests_plain::open::{Open, count_outcome};
 use tests_plain::outcomes::{Row, Stop};
-use tests_plain::plain::Table;
 use tests_plain::player::Player;
 use tests_plain::shows::Shows;
+use tests_plain::tables::Table;
 use tests_plain::transactions::{PlainReceipt, PlainTx};
 
 pub(crate) fn begin<C: Ledger, A: Ledger>(
@@ -72,10 +71,9 @@ pub(crate) fn commit<C: Ledger, A: Ledger>(
     player.calls(Row::CommitWith);
     let (tx, plain, home) = open.parts();
     let (table, stamp) = (player.draws.table(), player.stamp());
-    let funs = funs_of(&side.tables, table);
     let seen = side
         .world
-        .commit_with(player.alloc, funs, &mut side.share, stamp, tx);
+        .commit_with(player.alloc, &table, &mut side.share, stamp, tx);
     let is_made = compare(player, side, &seen, (table, stamp), &plain)?;
     if is_made && side.number != home {
         player.count(Row::Committed, 4);

@@ -2,8 +2,7 @@
 ghost use Rattle.std.specs.Prelude.{◌≡◌};
 ghost use Rattle.ref_world.specs.Shares.{all_parts};
 
-use crate::tables::funs_of;
-use ref_fun::{Core, FunTable};
+use ref_fun::Core;
 use ref_log::{MakeFault, Who};
 use ref_world::{ALL_PARTS, AgentStart, AtomStart, RefStart, Start, World};
 use std::alloc::{AllocError, Global};
@@ -12,10 +11,9 @@ use std::sync::ledger::{Blank, Ledger};
 use tests_plain::making::value_and_rule_from;
 use tests_plain::model::{Model, PlainStart};
 use tests_plain::outcomes::{Played, Stop};
-use tests_plain::plain::Table;
 use tests_plain::player::Player;
 use tests_plain::starts::{Starts, count_refused, declare_all, drawn_starts};
-use tests_plain::tables::Tables;
+use tests_plain::tables::Table;
 
 fn ref_start(alloc: Global, start: PlainStart) -> Result<RefStart, AllocError> {
     let (value, rule) = value_and_rule_from(alloc, start)?;
@@ -83,7 +81,7 @@ pub(crate) struct Drawn {
 // Whether a world that can't be made is refused so.
 fn is_refused<C: Ledger, A: Ledger>(
     alloc: Global,
-    funs: &FunTable,
+    table: Table,
     start: Start,
     wanted: (Who, MakeFault),
     commits: Blank,
@@ -92,16 +90,16 @@ fn is_refused<C: Ledger, A: Ledger>(
     requires commits { (commits.name ≡ C.name) × (commits.parts ≡ C.parts) × (commits.parts ≡ all_parts) }
     requires added { (added.name ≡ A.name) × (added.parts ≡ A.parts) × (added.parts ≡ all_parts) }
 {
-    match World::<Core, C, A>::new(alloc, funs, start, commits, added) {
+    match World::<Core, C, A>::new(alloc, &table, start, commits, added) {
         Ok(_made) => false,
         Err(refused) => refused == wanted,
     }
 }
 
 // A world that can't be made.
-fn refuse(player: &mut Player, funs: &FunTable, start: Start, wanted: (Who, MakeFault)) -> Played {
+fn refuse(player: &mut Player, table: Table, start: Start, wanted: (Who, MakeFault)) -> Played {
     let (commits, added) = (Blank::new(ALL_PARTS), Blank::new(ALL_PARTS));
-    if !is_refused::<Brand, Brand>(player.alloc, funs, start, wanted, commits, added) {
+    if !is_refused::<Brand, Brand>(player.alloc, table, start, wanted, commits, added) {
         return Err(Stop::Differs("the answer"));
     }
     count_refused(player, wanted.0, wanted.1);
@@ -109,7 +107,7 @@ fn refuse(player: &mut Player, funs: &FunTable, start: Start, wanted: (Who, Make
 }
 
 // References that are drawn, or none, where a world with them is refused.
-fn drawn_world(player: &mut Player, tables: &Tables) -> Result<Option<Drawn>, Stop> {
+fn drawn_world(player: &mut Player) -> Result<Option<Drawn>, Stop> {
     let starts = drawn_starts(player)?;
     let (alloc, table) = (player.alloc, player.draws.table());
     let mut model = Model::empty(alloc);
@@ -122,16 +120,16 @@ fn drawn_world(player: &mut Player, tables: &Tables) -> Result<Option<Drawn>, St
             table,
         })),
         Err(wanted) => {
-            refuse(player, funs_of(tables, table), start, wanted)?;
+            refuse(player, table, start, wanted)?;
             Ok(None)
         }
     }
 }
 
 /// The first of drawn worlds that can be made.
-pub(crate) fn first_world(player: &mut Player, tables: &Tables) -> Result<Drawn, Stop> {
+pub(crate) fn first_world(player: &mut Player) -> Result<Drawn, Stop> {
     for _ in 0..100 {
-        if let Some(drawn) = drawn_world(player, tables)? {
+        if let Some(drawn) = drawn_world(player)? {
             return Ok(drawn);
         }
     }

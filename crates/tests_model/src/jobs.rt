@@ -1,6 +1,5 @@
 //! The calls of agents, each on a world and on its model.
 use crate::sides::Side;
-use crate::tables::funs_of;
 use ref_agents::{FinishFault, Finished, Job, ModeFault, Ran, RestartFault, SendFault};
 use ref_fun::{Action, Core};
 use std::sync::ledger::Ledger;
@@ -12,9 +11,10 @@ use tests_plain::held::{
 use tests_plain::making::{args_from, value_from};
 use tests_plain::model::{Kind, Model};
 use tests_plain::outcomes::{Played, Row, Stop};
-use tests_plain::plain::{Plain, PlainCall, Table};
+use tests_plain::plain::{Plain, PlainCall};
 use tests_plain::player::Player;
 use tests_plain::shows::Shows;
+use tests_plain::tables::Table;
 
 // ---- Jobs
 
@@ -121,8 +121,7 @@ fn finish<C: Ledger, A: Ledger>(
     player.calls(Row::Finish);
     count_foreign(player, &side.model, slip.job);
     let table = player.draws.table();
-    let funs = funs_of(&side.tables, table);
-    match side.world.finish(player.alloc, funs, ran) {
+    match side.world.finish(player.alloc, &table, ran) {
         Ok(finished) => {
             compare_finish(player, side, Ok(&finished), (table, slip, ended))?;
             Ok(None)
@@ -148,7 +147,7 @@ fn go_on<C: Ledger, A: Ledger>(
             Ok(None)
         }
         1..=3 => put_back(player, side, job, slip),
-        _ => Ok(Some(run(player, &side.tables, job, slip)?)),
+        _ => Ok(Some(run(player, job, slip)?)),
     }
 }
 
@@ -217,8 +216,7 @@ fn restarted<C: Ledger, A: Ledger>(
     (state, clear): (Plain, bool),
 ) -> Result<(), RestartFault> {
     let value = value_from(state)?;
-    let funs = funs_of(&side.tables, table);
-    side.world.restart(player.alloc, funs, g, value, clear)
+    side.world.restart(player.alloc, &table, g, value, clear)
 }
 
 fn restart_number(wanted: Result<(), RestartFault>, waits: bool, clear: bool) -> u8 {

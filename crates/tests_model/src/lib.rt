@@ -10,7 +10,8 @@
 //! | `seen`, `books` | what a world shows, its books and its share, and whether they are as in the model |
 //! | `sides`, `declared` | a world beside its model; what a new one begins with |
 //! | `references`, `commits`, `jobs` | the calls, each on both: of atoms and references, of transactions, of agents |
-//! | `stages`, `playing`, `tables` | two worlds at once; lists of calls; tables of functions |
+//! | [`receipts`] | whether a receipt is that of the model. It stands outside of the tests, so that a wrong body of it can be tried |
+//! | `stages`, `playing` | two worlds at once; lists of calls |
 #![tactic(auto)]
 
 #[cfg(test)]
@@ -23,6 +24,7 @@ mod declared;
 mod jobs;
 #[cfg(test)]
 mod playing;
+pub mod receipts;
 #[cfg(test)]
 mod references;
 #[cfg(test)]
@@ -31,5 +33,3 @@ mod seen;
 mod sides;
 #[cfg(test)]
 mod stages;
-#[cfg(test)]
-mod tables;

@@ -4,16 +4,13 @@ ghost use Rattle.ref_world.specs.Shares.{all_parts};
 
 use crate::sides::{check_end, new_side};
 use crate::stages::{Stage, new_stage, play};
-use crate::tables::table_of;
 use ref_world::ALL_PARTS;
 use std::marker::Brand;
 use std::process::Abort;
 use std::sync::ledger::{Blank, Ledger};
 use std::test::Fail;
 use tests_plain::outcomes::{Outcomes, Played};
-use tests_plain::plain::Table;
 use tests_plain::player::Player;
-use tests_plain::tables::Tables;
 
 fn play_stage<C: Ledger, A: Ledger, D: Ledger, B: Ledger>(
     player: &mut Player,
@@ -30,7 +27,6 @@ fn play_stage<C: Ledger, A: Ledger, D: Ledger, B: Ledger>(
 // Now and then the second world begins as the first. Each has its own blanks.
 fn play_worlds<C: Ledger, A: Ledger, D: Ledger, B: Ledger>(
     player: &mut Player,
-    tables: Tables,
     commits: Blank,
     added: Blank,
     other_commits: Blank,
@@ -44,20 +40,19 @@ fn play_worlds<C: Ledger, A: Ledger, D: Ledger, B: Ledger>(
         × (other_added.parts ≡ all_parts) }
 {
     let draws = player.draws;
-    let first = new_side::<C, A>(player, tables, 0, commits, added)?;
+    let first = new_side::<C, A>(player, 0, commits, added)?;
     if player.draws.once_in(2) {
         player.draws = draws;
     }
-    let second = new_side::<D, B>(player, tables, 1, other_commits, other_added)?;
+    let second = new_side::<D, B>(player, 1, other_commits, other_added)?;
     let mut stage = new_stage(player, first, second)?;
     play_stage(player, &mut stage)
 }
 
-fn play_list(player: &mut Player, tables: Tables, list: u64) -> Played {
+fn play_list(player: &mut Player, list: u64) -> Played {
     player.begins(list);
     play_worlds::<Brand, Brand, Brand, Brand>(
         player,
-        tables,
         Blank::new(ALL_PARTS),
         Blank::new(ALL_PARTS),
         Blank::new(ALL_PARTS),
@@ -68,17 +63,9 @@ fn play_list(player: &mut Player, tables: Tables, list: u64) -> Played {
 // Plays 2,500 lists, and looks whether each outcome came in them.
 fn play_lists(rt: &(impl Abort + AllocGlobal), first: u64) -> Result<(), Fail> {
     let alloc = rt.alloc();
-    let (full, fewer) = (
-        table_of(alloc, Table::Full)?,
-        table_of(alloc, Table::Fewer)?,
-    );
-    let tables = Tables {
-        full: &full,
-        fewer: &fewer,
-    };
     let mut player = Player::new(alloc)?;
     for list in first..first.saturating_add(2500) {
-        let played = play_list(&mut player, tables, list);
+        let played = play_list(&mut player, list);
         let (place, call) = (player.place, Outcomes::name(player.call));
         assert!(rt;
             played.is_ok(),

@@ -1,6 +1,5 @@
 //! Calls on atoms, makings, rules and watches, each on a world and on its model.
 use crate::sides::Side;
-use crate::tables::funs_of;
 use ref_atoms::{AtomFault, Cas, Swapped};
 use ref_fun::Cause;
 use ref_log::{MakeFault, RuleFault, WatchFault};
@@ -8,9 +7,10 @@ use std::sync::ledger::Ledger;
 use tests_plain::making::{any_rule_from, args_from, value_and_rule_from, value_from};
 use tests_plain::model::{Kind, Model, PlainChange, PlainStart};
 use tests_plain::outcomes::{Played, Row};
-use tests_plain::plain::{Plain, PlainCall, PlainOp, Table};
+use tests_plain::plain::{Plain, PlainCall, PlainOp};
 use tests_plain::player::Player;
 use tests_plain::shows::agree;
+use tests_plain::tables::Table;
 
 // ---- Atoms
 
@@ -31,9 +31,9 @@ fn reset<C: Ledger, A: Ledger>(
     a: u32,
     value: Plain,
 ) -> Result<Swapped, AtomFault> {
-    let (alloc, funs) = (player.alloc, funs_of(&side.tables, table));
+    let alloc = player.alloc;
     let value = value_from(value)?;
-    side.world.reset(alloc, funs, &mut side.share, a, value)
+    side.world.reset(alloc, &table, &mut side.share, a, value)
 }
 
 fn swap<C: Ledger, A: Ledger>(
@@ -43,10 +43,10 @@ fn swap<C: Ledger, A: Ledger>(
     a: u32,
     call: PlainCall,
 ) -> Result<Swapped, AtomFault> {
-    let (alloc, funs) = (player.alloc, funs_of(&side.tables, table));
+    let alloc = player.alloc;
     let args = args_from(alloc, call.given)?;
     side.world
-        .swap(alloc, funs, &mut side.share, a, call.code, args)
+        .swap(alloc, &table, &mut side.share, a, call.code, args)
 }
 
 fn changed<C: Ledger, A: Ledger>(
@@ -121,11 +121,11 @@ fn compared<C: Ledger, A: Ledger>(
     old: Plain,
     new: Plain,
 ) -> Result<Cas, AtomFault> {
-    let (alloc, funs) = (player.alloc, funs_of(&side.tables, table));
+    let alloc = player.alloc;
     let old = value_from(old)?;
     let new = value_from(new)?;
     side.world
-        .compare_and_set(alloc, funs, &mut side.share, a, &old, new)
+        .compare_and_set(alloc, &table, &mut side.share, a, &old, new)
 }
 
 fn compared_number(wanted: &Result<Option<PlainChange>, AtomFault>) -> u8 {
@@ -156,12 +156,14 @@ fn made<C: Ledger, A: Ledger>(
     kind: Kind,
     start: PlainStart,
 ) -> Result<u32, MakeFault> {
-    let (alloc, funs) = (player.alloc, funs_of(&side.tables, table));
+    let alloc = player.alloc;
     let (value, rule) = value_and_rule_from(alloc, start)?;
     match kind {
-        Kind::Ref => side.world.make_ref(alloc, funs, value, rule, start.tally),
-        Kind::Atom => side.world.make_atom(alloc, funs, value, rule),
-        Kind::Agent => side.world.make_agent(alloc, funs, value, rule, start.mode),
+        Kind::Ref => side.world.make_ref(alloc, &table, value, rule, start.tally),
+        Kind::Atom => side.world.make_atom(alloc, &table, value, rule),
+        Kind::Agent => side
+            .world
+            .make_agent(alloc, &table, value, rule, start.mode),
     }
 }
 
@@ -213,8 +215,7 @@ fn set_validator<C: Ledger, A: Ledger>(player: &mut Player, side: &mut Side<C, A
     let who = player.draws.who(&side.model);
     let rule = drawn_rule(player);
     let given = any_rule_from(player.alloc, rule)?;
-    let funs = funs_of(&side.tables, table);
-    let seen = side.world.set_validator(funs, who, given);
+    let seen = side.world.set_validator(&table, who, given);
     let wanted = side.model.set_validator(table, who, rule);
     player.told(seen == wanted, rule_number(wanted))
 }

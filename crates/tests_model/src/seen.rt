@@ -1,19 +1,13 @@
 //! Whether what a world shows is what the model has.
 use crate::books::are_books;
-use ref_fun::{Core, FunTable};
+use ref_fun::Core;
 use ref_log::{Who, replay_plain};
-use ref_world::{Receipt, World};
+use ref_world::World;
 use std::alloc::{AllocError, Global};
 use std::sync::ledger::Ledger;
 use tests_plain::model::{Model, Reference};
-use tests_plain::plain::Table;
 use tests_plain::shows::{Shows, is_base, is_lacking, is_log, is_rule, is_state, show};
-use tests_plain::transactions::PlainReceipt;
-
-/// Whether a receipt is that of the model.
-pub(crate) fn is_receipt(seen: &Receipt, plain: &PlainReceipt) -> bool {
-    seen.point == plain.point && seen.stamp == plain.stamp && show(&seen.notices, &plain.told)
-}
+use tests_plain::tables::Table;
 
 // ---- References
 
@@ -80,13 +74,12 @@ pub(crate) fn is_replayed<C: Ledger, A: Ledger>(
     world: &World<Core, C, A>,
     model: &Model,
     table: Table,
-    funs: &FunTable,
 ) -> Result<bool, AllocError> {
     let (base, log) = (world.base(), world.log());
     if base.point > 0 {
         return Ok(false);
     }
-    match replay_plain(alloc, funs, base, log) {
+    match replay_plain(alloc, &table, base, log) {
         Ok(state) => is_state(&state, model, table),
         Err(fault) => Ok(is_lacking(fault, model.lacked_in_log(table))),
     }

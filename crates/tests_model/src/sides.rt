@@ -6,31 +6,27 @@ use crate::books::is_whole_share;
 use crate::declared::{Drawn, first_world};
 use crate::references::add_watch;
 use crate::seen::{difference, is_replayed, is_whole_log};
-use crate::tables::funs_of;
 use ref_fun::Core;
 use ref_world::{Share, World};
 use std::sync::ledger::{Blank, Ledger};
 use tests_plain::model::Model;
 use tests_plain::outcomes::{Played, Row, Stop};
-use tests_plain::plain::Table;
 use tests_plain::player::Player;
-use tests_plain::tables::Tables;
+use tests_plain::tables::Table;
 
 /// A world with its whole share, and its model, with a number: 0 or 1.
-pub(crate) struct Side<'a, C: Ledger, A: Ledger> {
+pub(crate) struct Side<C: Ledger, A: Ledger> {
     pub(crate) number: usize,
-    pub(crate) tables: Tables<'a>,
     pub(crate) world: World<Core, C, A>,
     pub(crate) share: Share<C, A>,
     pub(crate) model: Model,
 }
 
 // A function of its own, which whoever lets one go calls; a derived one would be written out there.
-impl<C: Ledger, A: Ledger> Drop for Side<'_, C, A> {
+impl<C: Ledger, A: Ledger> Drop for Side<C, A> {
     fn drop(self) {
         let Side {
             number: _,
-            tables: _,
             world: _world,
             share: _share,
             model: _model,
@@ -45,7 +41,7 @@ fn check_served<C: Ledger, A: Ledger>(
     table: Table,
     (yes, no): (u8, u8),
 ) -> Played {
-    let is_served = side.world.served_by(funs_of(&side.tables, table));
+    let is_served = side.world.served_by(&table);
     if is_served != side.model.served_by(table) {
         return Err(Stop::Differs("served_by"));
     }
@@ -58,8 +54,8 @@ pub(crate) fn check<C: Ledger, A: Ledger>(player: &mut Player, side: &Side<C, A>
     if let Some(what) = difference(&side.world, &side.model) {
         return Err(Stop::Differs(what));
     }
-    check_served(player, side, Table::Full, (0, 1))?;
-    check_served(player, side, Table::Fewer, (2, 3))
+    check_served(player, side, Table::FULL, (0, 1))?;
+    check_served(player, side, Table::FEWER, (2, 3))
 }
 
 // Whether the log's replay by a table gives the values.
@@ -69,13 +65,7 @@ fn check_replay<C: Ledger, A: Ledger>(
     table: Table,
 ) -> Played {
     let (world, model) = (&side.world, &side.model);
-    let is_same = is_replayed(
-        player.alloc,
-        world,
-        model,
-        table,
-        funs_of(&side.tables, table),
-    )?;
+    let is_same = is_replayed(player.alloc, world, model, table)?;
     let is_lacking = model.lacked_in_log(table).is_some();
     player.told(is_same, if is_lacking { 9 } else { 0 })
 }
@@ -92,21 +82,20 @@ pub(crate) fn check_end<C: Ledger, A: Ledger>(
     if !is_whole_share(&mut side.world, &mut side.share, &side.model) {
         return Err(Stop::Differs("the share"));
     }
-    check_replay(player, side, Table::Full)?;
-    check_replay(player, side, Table::Fewer)
+    check_replay(player, side, Table::FULL)?;
+    check_replay(player, side, Table::FEWER)
 }
 
 // ---- New worlds
 
 // A new world and its model.
-fn made<'a, C: Ledger, A: Ledger>(
+fn made<C: Ledger, A: Ledger>(
     player: &Player,
-    tables: Tables<'a>,
     number: usize,
     drawn: Drawn,
     commits: Blank,
     added: Blank,
-) -> Result<Side<'a, C, A>, Stop>
+) -> Result<Side<C, A>, Stop>
     requires commits { (commits.name ≡ C.name) × (commits.parts ≡ C.parts) × (commits.parts ≡ all_parts) }
     requires added { (added.name ≡ A.name) × (added.parts ≡ A.parts) × (added.parts ≡ all_parts) }
 {
@@ -115,10 +104,9 @@ fn made<'a, C: Ledger, A: Ledger>(
         model,
         table,
     } = drawn;
-    match World::new(player.alloc, funs_of(&tables, table), start, commits, added) {
+    match World::new(player.alloc, &table, start, commits, added) {
         Ok((world, share)) => Ok(Side {
             number,
-            tables,
             world,
             share,
             model,
@@ -135,19 +123,18 @@ fn add_watches<C: Ledger, A: Ledger>(player: &mut Player, side: &mut Side<C, A>)
 }
 
 /// A new world and its model, with some watches.
-pub(crate) fn new_side<'a, C: Ledger, A: Ledger>(
+pub(crate) fn new_side<C: Ledger, A: Ledger>(
     player: &mut Player,
-    tables: Tables<'a>,
     number: usize,
     commits: Blank,
     added: Blank,
-) -> Result<Side<'a, C, A>, Stop>
+) -> Result<Side<C, A>, Stop>
     requires commits { (commits.name ≡ C.name) × (commits.parts ≡ C.parts) × (commits.parts ≡ all_parts) }
     requires added { (added.name ≡ A.name) × (added.parts ≡ A.parts) × (added.parts ≡ all_parts) }
 {
     player.calls(Row::New);
-    let drawn = first_world(player, &tables)?;
-    let mut side = made(player, tables, number, drawn, commits, added)?;
+    let drawn = first_world(player)?;
+    let mut side = made(player, number, drawn, commits, added)?;
     player.count(Row::New, 0);
     check(player, &side)?;
     add_watches(player, &mut side)?;

@@ -11,15 +11,15 @@ use tests_plain::outcomes::{Played, Stop};
 use tests_plain::player::Player;
 
 /// Two worlds, and the open transactions and jobs that may be handed to either.
-pub(crate) struct Stage<'a, C: Ledger, A: Ledger, D: Ledger, B: Ledger> {
-    pub(crate) first: Side<'a, C, A>,
-    pub(crate) second: Side<'a, D, B>,
+pub(crate) struct Stage<C: Ledger, A: Ledger, D: Ledger, B: Ledger> {
+    pub(crate) first: Side<C, A>,
+    pub(crate) second: Side<D, B>,
     open: Vec<Option<Open>>,
     jobs: Vec<Option<Held>>,
 }
 
 // A function of its own, which whoever lets one go calls; a derived one would be written out there.
-impl<C: Ledger, A: Ledger, D: Ledger, B: Ledger> Drop for Stage<'_, C, A, D, B> {
+impl<C: Ledger, A: Ledger, D: Ledger, B: Ledger> Drop for Stage<C, A, D, B> {
     fn drop(self) {
         let Stage {
             first: _first,
@@ -40,11 +40,11 @@ fn places<T: Drop>(alloc: Global) -> Result<Vec<Option<T>>, Stop> {
 }
 
 /// Nothing is open on it, and no job is held.
-pub(crate) fn new_stage<'a, C: Ledger, A: Ledger, D: Ledger, B: Ledger>(
+pub(crate) fn new_stage<C: Ledger, A: Ledger, D: Ledger, B: Ledger>(
     player: &Player,
-    first: Side<'a, C, A>,
-    second: Side<'a, D, B>,
-) -> Result<Stage<'a, C, A, D, B>, Stop> {
+    first: Side<C, A>,
+    second: Side<D, B>,
+) -> Result<Stage<C, A, D, B>, Stop> {
     Ok(Stage {
         first,
         second,
@@ -136,7 +136,7 @@ fn go_on<C: Ledger, A: Ledger, D: Ledger, B: Ledger>(
         .len()
         .saturating_add(open.plain.sends.len());
     if !player.draws.once_in(if operations > 1 { 4 } else { 16 }) {
-        call_on_open(player, &stage.first.tables, &mut open)?;
+        call_on_open(player, &mut open)?;
         return Ok(Some(open));
     }
     match near(player, open.home) {

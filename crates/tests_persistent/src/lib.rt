@@ -1,8 +1,10 @@
-//! Tests of persistent vectors and maps by their public calls, each against a plain slow structure. There is nothing else here.
+//! Tests of persistent vectors and maps by their public calls, each against a plain slow structure. There is nothing else here
+//! than these and the numbers that they draw.
 #![tactic(auto)]
 
 #[cfg(test)]
-mod drawing;
+mod by_number;
+pub mod drawing;
 #[cfg(test)]
 mod lists;
 #[cfg(test)]

@@ -1,6 +1,7 @@
 //! Agents of the model.
 use crate::model::{Answer, Model, PlainStart, Told};
-use crate::plain::{Plain, PlainCall, Table, means, passes};
+use crate::plain::{Plain, PlainCall, means, passes};
+use crate::tables::Table;
 use ref_agents::{
     AgentError, ErrorMode, FinishFault, JobFault, Mark, ModeFault, RestartFault, SendFault, SentBy,
 };

@@ -1,6 +1,7 @@
 //! What is drawn: numbers, values, functions, rules, references.
 use crate::model::{Kind, Model, PlainStart};
-use crate::plain::{Given, Plain, PlainCall, Table};
+use crate::plain::{Given, Plain, PlainCall};
+use crate::tables::Table;
 use ref_agents::ErrorMode;
 use ref_log::Who;
 
@@ -212,9 +213,9 @@ impl Draws {
     /// The table that has all functions, now and then the one that has fewer.
     pub fn table(&mut self) -> Table {
         if self.once_in(8) {
-            Table::Fewer
+            Table::FEWER
         } else {
-            Table::Full
+            Table::FULL
         }
     }
 }

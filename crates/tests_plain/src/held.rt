@@ -4,7 +4,6 @@ use crate::model::Model;
 use crate::outcomes::{Played, Row, Stop};
 use crate::player::Player;
 use crate::shows::{Shows, agree};
-use crate::tables::Tables;
 use ref_agents::{AgentError, FinishFault, Finished, Job, JobFault, Ran};
 use ref_fun::{Cause, Core};
 
@@ -78,10 +77,10 @@ fn run_cause(wanted: Result<Ended, JobFault>) -> Option<Cause> {
 }
 
 /// Runs a job. Where the table lacks its function it comes back.
-pub fn run(player: &mut Player, tables: &Tables, job: Job, mut slip: Slip) -> Result<Held, Stop> {
+pub fn run(player: &mut Player, job: Job, mut slip: Slip) -> Result<Held, Stop> {
     player.calls(Row::Run);
     let table = player.draws.table();
-    let (hand, fault) = match job.run(player.alloc, tables.of(table)) {
+    let (hand, fault) = match job.run(player.alloc, &table) {
         Ok(ran) => (Hand::Ran(ran), None),
         Err((job, fault)) => (Hand::Waits(job), Some(fault)),
     };

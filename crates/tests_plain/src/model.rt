@@ -1,6 +1,7 @@
 //! The model of a world: lists of references, and the log.
 use crate::agents::PlainAccount;
-use crate::plain::{Plain, PlainCall, PlainOp, Table, passes, place};
+use crate::plain::{Plain, PlainCall, PlainOp, passes, place};
+use crate::tables::Table;
 use crate::transactions::PlainTx;
 use ref_agents::ErrorMode;
 use ref_atoms::AtomFault;

@@ -2,13 +2,13 @@
 use crate::making::{args_from, rule_from, value_from};
 use crate::model::Model;
 use crate::outcomes::{Played, Row};
-use crate::plain::{Plain, PlainCall, PlainOp, Table};
+use crate::plain::{Plain, PlainCall, PlainOp};
 use crate::player::Player;
 use crate::shows::{Shows, agree};
-use crate::tables::Tables;
+use crate::tables::Table;
 use crate::transactions::{PlainReceipt, PlainTx};
 use ref_edn::Value;
-use ref_fun::{Cause, Core, FunTable};
+use ref_fun::{Cause, Core};
 use ref_refs::{Alien, CommitFault};
 use ref_tx::{Tx, TxFault};
 use std::alloc::Global;
@@ -69,37 +69,37 @@ fn set(alloc: Global, tx: &mut Tx<Core>, r: u32, value: Plain) -> Result<Value, 
 
 fn alter(
     alloc: Global,
-    funs: &FunTable,
+    table: Table,
     tx: &mut Tx<Core>,
     r: u32,
     call: PlainCall,
 ) -> Result<Value, TxFault> {
     let args = args_from(alloc, call.given)?;
-    tx.alter(alloc, funs, r, call.code, args)
+    tx.alter(alloc, &table, r, call.code, args)
 }
 
 fn commute(
     alloc: Global,
-    funs: &FunTable,
+    table: Table,
     tx: &mut Tx<Core>,
     r: u32,
     call: PlainCall,
 ) -> Result<Value, TxFault> {
     let args = args_from(alloc, call.given)?;
-    tx.commute(alloc, funs, r, call.code, args)
+    tx.commute(alloc, &table, r, call.code, args)
 }
 
 fn operated(
     alloc: Global,
-    funs: &FunTable,
+    table: Table,
     tx: &mut Tx<Core>,
     r: u32,
     op: PlainOp,
 ) -> Result<Value, TxFault> {
     match op {
         PlainOp::Set(value) => set(alloc, tx, r, value),
-        PlainOp::Alter(call) => alter(alloc, funs, tx, r, call),
-        PlainOp::Commute(call) => commute(alloc, funs, tx, r, call),
+        PlainOp::Alter(call) => alter(alloc, table, tx, r, call),
+        PlainOp::Commute(call) => commute(alloc, table, tx, r, call),
         PlainOp::Ensure => tx.ensure(alloc, r),
     }
 }
@@ -132,10 +132,10 @@ fn compare(
     told(player, open, agree(seen, &wanted), wanted.err())
 }
 
-fn operate(player: &mut Player, tables: &Tables, open: &mut Open, r: u32) -> Played {
+fn operate(player: &mut Player, open: &mut Open, r: u32) -> Played {
     let op = drawn_op(player);
     let table = player.draws.table();
-    let seen = operated(player.alloc, tables.of(table), &mut open.tx, r, op);
+    let seen = operated(player.alloc, table, &mut open.tx, r, op);
     compare(player, open, &seen, (table, r, op))
 }
 
@@ -150,54 +150,54 @@ fn deref(player: &mut Player, open: &Open, r: u32) -> Played {
 
 fn required(
     alloc: Global,
-    funs: &FunTable,
+    table: Table,
     tx: &Tx<Core>,
     r: u32,
     rule: PlainCall,
 ) -> Result<(), TxFault> {
     let rule = rule_from(alloc, rule)?;
-    tx.require(funs, r, &rule)
+    tx.require(&table, r, &rule)
 }
 
-fn require(player: &mut Player, tables: &Tables, open: &Open, r: u32) -> Played {
+fn require(player: &mut Player, open: &Open, r: u32) -> Played {
     player.calls(Row::Require);
     let (table, rule) = (player.draws.table(), player.draws.rule());
-    let seen = required(player.alloc, tables.of(table), &open.tx, r, rule);
+    let seen = required(player.alloc, table, &open.tx, r, rule);
     let wanted = open.plain.require(table, r, rule);
     told(player, open, seen == wanted, wanted.err())
 }
 
 fn sent(
     alloc: Global,
-    funs: &FunTable,
+    table: Table,
     tx: &mut Tx<Core>,
     g: u32,
     call: PlainCall,
 ) -> Result<(), TxFault> {
     let args = args_from(alloc, call.given)?;
-    tx.send(alloc, funs, g, call.code, args)
+    tx.send(alloc, &table, g, call.code, args)
 }
 
-fn send(player: &mut Player, tables: &Tables, open: &mut Open) -> Played {
+fn send(player: &mut Player, open: &mut Open) -> Played {
     player.calls(Row::SendInside);
     let g = player.draws.near(open.plain.agents);
     let (table, call) = (player.draws.table(), player.draws.action());
-    let seen = sent(player.alloc, tables.of(table), &mut open.tx, g, call);
+    let seen = sent(player.alloc, table, &mut open.tx, g, call);
     let wanted = open.plain.send(table, g, call)?;
     told(player, open, seen == wanted, wanted.err())
 }
 
 /// Makes a call of an open transaction.
-pub fn call_on_open(player: &mut Player, tables: &Tables, open: &mut Open) -> Played {
+pub fn call_on_open(player: &mut Player, open: &mut Open) -> Played {
     if player.of_agents && player.draws.once_in(2) {
-        return send(player, tables, open);
+        return send(player, open);
     }
     let r = player.draws.near(open.plain.began.len());
     match player.draws.below(16) {
-        0..=10 => operate(player, tables, open, r),
+        0..=10 => operate(player, open, r),
         11 => deref(player, open, r),
-        12 => require(player, tables, open, r),
-        _ => send(player, tables, open),
+        12 => require(player, open, r),
+        _ => send(player, open),
     }
 }
 

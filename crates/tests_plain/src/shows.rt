@@ -1,13 +1,15 @@
 //! Whether what is seen is what the model has.
 use crate::agents::{PlainAccount, PlainFinished, PlainJob};
 use crate::model::{Model, PlainChange, PlainEntry, Told};
-use crate::plain::{Given, Plain, PlainCall, PlainOp, Table};
+use crate::plain::{Given, Plain, PlainCall, PlainOp};
+use crate::tables::Table;
 use crate::transactions::{PlainDone, PlainSent, PlainTx};
 use ref_agents::{Account, Finished, Handled, Job, Mark};
 use ref_atoms::{Cas, Swapped};
 use ref_edn::{Node, Value};
 use ref_fun::{Action, Args, Core, Rule};
 use ref_log::{AuditFault, Base, Done, Entry, Notice, Op, PlainState, Sent, Transaction};
+use ref_pmap::Numbered;
 use ref_tx::Tx;
 use std::alloc::AllocError;
 
@@ -19,6 +21,16 @@ pub trait Shows<P> {
 
 /// Whether these show just those, in order.
 pub fn show<S: Shows<P>, P>(seen: &[S], plain: &[P]) -> bool {
+    for (item, wanted) in seen.iter().zip(plain) {
+        if !item.shows(wanted) {
+            return false;
+        }
+    }
+    seen.len() == plain.len()
+}
+
+/// Whether these show just those, in order.
+pub fn show_numbered<S: Shows<P> + Drop, P>(seen: &Numbered<S>, plain: &[P]) -> bool {
     for (item, wanted) in seen.iter().zip(plain) {
         if !item.shows(wanted) {
             return false;
@@ -169,7 +181,7 @@ fn are_inner(tx: &Tx<Core>, plain: &PlainTx) -> bool {
 impl Shows<PlainTx> for Tx<Core> {
     fn shows(&self, plain: &PlainTx) -> bool {
         self.read_point() == plain.read_point
-            && show(self.began().as_slice(), &plain.began)
+            && show_numbered(self.began(), &plain.began)
             && show(self.dones(), &plain.dones)
             && show(self.sends(), &plain.sends)
             && are_inner(self, plain)

@@ -1,8 +1,8 @@
 //! What new worlds begin with.
 use crate::model::{Answer, Kind, Model, PlainStart};
 use crate::outcomes::Row;
-use crate::plain::Table;
 use crate::player::Player;
+use crate::tables::Table;
 use ref_log::{MakeFault, Who};
 use std::alloc::AllocError;
 

@@ -1,6 +1,7 @@
 //! Transactions of the model: what they answer while they are open, and their commit.
 use crate::model::{Answer, Model, PlainEntry, Reference, Told};
-use crate::plain::{Plain, PlainCall, PlainOp, Table, fits_tally, passes, place};
+use crate::plain::{Plain, PlainCall, PlainOp, fits_tally, passes, place};
+use crate::tables::Table;
 use ref_agents::SentBy;
 use ref_log::{Stamp, Who};
 use ref_refs::{Alien, CommitFault, Conflict};

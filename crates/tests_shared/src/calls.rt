@@ -2,13 +2,16 @@
 ghost use Rattle.std.specs.Prelude.{◌≡◌};
 ghost use Rattle.ref_world.specs.Shares.{all_parts};
 
+use crate::numbers::int_of;
 use crate::worlds::{
-    By, STAMP, Stop, Told, all_told, at_least, closed, done, int_at, int_of, one_arg, opened,
-    plain_start, table, value,
+    STAMP, Stop, Told, all_told, at_least, closed, done, int_at, one_arg, opened, plain_start,
+    value,
 };
 use ref_agents::ErrorMode;
+use ref_fun::CoreFunctions;
 use ref_log::{MakeFault, RuleFault, Who};
 use ref_world::ALL_PARTS;
+use std::alloc::Global;
 use std::marker::Brand;
 use std::sync::Wait;
 use std::sync::ledger::{Blank, Ledger};
@@ -24,19 +27,18 @@ struct Read {
 
 fn try_commit<C: Ledger, A: Ledger, R: Wait>(
     rt: &R,
-    by: By,
+    alloc: Global,
     commits: Blank,
     added: Blank,
 ) -> Result<Read, Stop>
     requires commits { (commits.name ≡ C.name) × (commits.parts ≡ C.parts) × (commits.parts ≡ all_parts) }
     requires added { (added.name ≡ A.name) × (added.parts ≡ A.parts) × (added.parts ≡ all_parts) }
 {
-    let By { alloc, funs } = by;
     let start = plain_start(alloc, "0", "")?;
-    let (shared, mut share) = opened::<C, A>(by, start, commits, added)?;
+    let (shared, mut share) = opened::<C, A>(alloc, start, commits, added)?;
     let mut tx = shared.begin(rt, alloc)?;
     let _ = done(tx.ref_set(alloc, 0, value(alloc, "5")?))?;
-    let receipt = done(shared.commit(rt, alloc, funs, &mut share, STAMP, tx))?;
+    let receipt = done(shared.commit(rt, alloc, &CoreFunctions, &mut share, STAMP, tx))?;
     let tx = shared.begin(rt, alloc)?;
     Ok(Read {
         point: receipt.point,
@@ -48,10 +50,8 @@ fn try_commit<C: Ledger, A: Ledger, R: Wait>(
 #[test]
 fn a_transaction_reads_what_was_committed(rt: HostRuntime) -> Result<(), Fail> {
     let alloc = rt.alloc();
-    let funs = table(alloc)?;
-    let by = By { alloc, funs: &funs };
     let (commits, added) = (Blank::new(ALL_PARTS), Blank::new(ALL_PARTS));
-    let read = try_commit::<Brand, Brand, _>(&rt, by, commits, added)?;
+    let read = try_commit::<Brand, Brand, _>(&rt, alloc, commits, added)?;
     let wanted = Read {
         point: 1,
         read_point: 1,
@@ -77,27 +77,34 @@ struct Changes {
 
 fn try_atoms<C: Ledger, A: Ledger, R: Wait>(
     rt: &R,
-    by: By,
+    alloc: Global,
     commits: Blank,
     added: Blank,
 ) -> Result<Changes, Stop>
     requires commits { (commits.name ≡ C.name) × (commits.parts ≡ C.parts) × (commits.parts ≡ all_parts) }
     requires added { (added.name ≡ A.name) × (added.parts ≡ A.parts) × (added.parts ≡ all_parts) }
 {
-    let By { alloc, funs } = by;
     let start = plain_start(alloc, "", "1")?;
-    let (shared, mut share) = opened::<C, A>(by, start, commits, added)?;
+    let (shared, mut share) = opened::<C, A>(alloc, start, commits, added)?;
     let _ = done(shared.add_watch(rt, alloc, Who::Atom(0), value(alloc, ":k")?))?;
     let one = one_arg(alloc, "1")?;
-    let swapped = done(shared.swap(rt, alloc, funs, &mut share, 0, 1, one))?;
+    let swapped = done(shared.swap(rt, alloc, &CoreFunctions, &mut share, 0, 1, one))?;
     let seven = value(alloc, "7")?;
-    let reset = done(shared.reset(rt, alloc, funs, &mut share, 0, seven))?;
+    let reset = done(shared.reset(rt, alloc, &CoreFunctions, &mut share, 0, seven))?;
     let now = int_at(rt, &shared, Who::Atom(0));
     let (nine, one) = (value(alloc, "9")?, value(alloc, "1")?);
-    let unset = done(shared.compare_and_set(rt, alloc, funs, &mut share, 0, &nine, one))?;
+    let unset = done(shared.compare_and_set(rt, alloc, &CoreFunctions, &mut share, 0, &nine, one))?;
     let from_nine = (unset.done, share.receipts().len());
     let (seven, eight) = (value(alloc, "7")?, value(alloc, "8")?);
-    let set = done(shared.compare_and_set(rt, alloc, funs, &mut share, 0, &seven, eight))?;
+    let set = done(shared.compare_and_set(
+        rt,
+        alloc,
+        &CoreFunctions,
+        &mut share,
+        0,
+        &seven,
+        eight,
+    ))?;
     let from_seven = (set.done, share.receipts().len());
     let (_, totals) = closed(alloc, shared, share)?;
     Ok(Changes {
@@ -115,10 +122,8 @@ fn try_atoms<C: Ledger, A: Ledger, R: Wait>(
 #[test]
 fn atoms_change_and_tell_their_watches(rt: HostRuntime) -> Result<(), Fail> {
     let alloc = rt.alloc();
-    let funs = table(alloc)?;
-    let by = By { alloc, funs: &funs };
     let (commits, added) = (Blank::new(ALL_PARTS), Blank::new(ALL_PARTS));
-    let changes = try_atoms::<Brand, Brand, _>(&rt, by, commits, added)?;
+    let changes = try_atoms::<Brand, Brand, _>(&rt, alloc, commits, added)?;
     let wanted = Changes {
         swapped: (Some(1), Some(2)),
         swap_told: vec![in alloc; (Who::Atom(0), true, Some(1), Some(2))]?,
@@ -150,38 +155,37 @@ struct Made {
 
 fn try_makings<C: Ledger, A: Ledger, R: Wait>(
     rt: &R,
-    by: By,
+    alloc: Global,
     commits: Blank,
     added: Blank,
 ) -> Result<Made, Stop>
     requires commits { (commits.name ≡ C.name) × (commits.parts ≡ C.parts) × (commits.parts ≡ all_parts) }
     requires added { (added.name ≡ A.name) × (added.parts ≡ A.parts) × (added.parts ≡ all_parts) }
 {
-    let By { alloc, funs } = by;
     let start = plain_start(alloc, "", "")?;
-    let (shared, share) = opened::<C, A>(by, start, commits, added)?;
+    let (shared, share) = opened::<C, A>(alloc, start, commits, added)?;
     let (five, six) = (value(alloc, "5")?, value(alloc, "6")?);
     let refs = (
-        shared.make_ref(rt, alloc, funs, five, None, false),
-        shared.make_ref(rt, alloc, funs, six, None, true),
+        shared.make_ref(rt, alloc, &CoreFunctions, five, None, false),
+        shared.make_ref(rt, alloc, &CoreFunctions, six, None, true),
     );
     let (seven, eight) = (value(alloc, "7")?, value(alloc, "8")?);
     let atoms = (
-        shared.make_atom(rt, alloc, funs, seven, None),
-        shared.make_atom(rt, alloc, funs, eight, None),
+        shared.make_atom(rt, alloc, &CoreFunctions, seven, None),
+        shared.make_atom(rt, alloc, &CoreFunctions, eight, None),
     );
     let (nine, ten) = (value(alloc, "9")?, value(alloc, "10")?);
     let agents = (
-        shared.make_agent(rt, alloc, funs, nine, None, ErrorMode::Fail),
-        shared.make_agent(rt, alloc, funs, ten, None, ErrorMode::Continue),
+        shared.make_agent(rt, alloc, &CoreFunctions, nine, None, ErrorMode::Fail),
+        shared.make_agent(rt, alloc, &CoreFunctions, ten, None, ErrorMode::Continue),
     );
     let (five, six) = (at_least(alloc, "5")?, at_least(alloc, "6")?);
     let rules = (
-        shared.set_validator(rt, funs, Who::Ref(0), Some(six)),
-        shared.set_validator(rt, funs, Who::Ref(0), Some(five)),
+        shared.set_validator(rt, &CoreFunctions, Who::Ref(0), Some(six)),
+        shared.set_validator(rt, &CoreFunctions, Who::Ref(0), Some(five)),
     );
     let (five, six) = (value(alloc, "5")?, at_least(alloc, "6")?);
-    let unmade = shared.make_atom(rt, alloc, funs, five, Some(six));
+    let unmade = shared.make_atom(rt, alloc, &CoreFunctions, five, Some(six));
     let key = value(alloc, ":k")?;
     let (first, again) = (key.share()?, key.share()?);
     let watches = (
@@ -211,10 +215,8 @@ fn try_makings<C: Ledger, A: Ledger, R: Wait>(
 #[test]
 fn references_are_made_and_get_rules_and_watches(rt: HostRuntime) -> Result<(), Fail> {
     let alloc = rt.alloc();
-    let funs = table(alloc)?;
-    let by = By { alloc, funs: &funs };
     let (commits, added) = (Blank::new(ALL_PARTS), Blank::new(ALL_PARTS));
-    let made = try_makings::<Brand, Brand, _>(&rt, by, commits, added)?;
+    let made = try_makings::<Brand, Brand, _>(&rt, alloc, commits, added)?;
     let wanted = Made {
         refs: (Ok(0), Ok(1)),
         atoms: (Ok(0), Ok(1)),

@@ -3,15 +3,16 @@ ghost use Rattle.std.specs.Prelude.{◌≡◌, ◌<◌};
 ghost use Rattle.ref_world.specs.Shares.{all_parts};
 
 use crate::worlds::{
-    By, MINUS, PLUS, STAMP, Stop, all_commits, at_least, closed, done, int_at, one_arg, opened,
-    plain_start, table, value,
+    MINUS, PLUS, STAMP, Stop, all_commits, at_least, closed, done, int_at, one_arg, opened,
+    plain_start, value,
 };
-use ref_fun::Core;
+use ref_fun::{Core, CoreFunctions};
 use ref_log::{Stamp, Who};
 use ref_refs::{CommitFault, Conflict};
 use ref_shared::{Gate, Quiet, Shared, Spot, TransactFault};
 use ref_tx::Tx;
 use ref_world::{ALL_PARTS, Share};
+use std::alloc::Global;
 use std::marker::Brand;
 use std::sync::Wait;
 use std::sync::ledger::{Blank, Ledger};
@@ -21,23 +22,23 @@ const OTHER: Stamp = Stamp { worker: 1, step: 0 };
 
 // A gate that lets another caller set a to 10 after the first bodies, and counts the bodies.
 #[derive(Drop)]
-struct Between<'a, 'b, 'c, R: Wait, C: Ledger, A: Ledger> {
+struct Between<'a, 'b, R: Wait, C: Ledger, A: Ledger> {
     rt: &'a R,
     shared: &'b Shared<Core, C, A>,
-    by: By<'c>,
+    alloc: Global,
     share: Share<C, A>,
     left: u32,
     bodies: u32,
 }
 
-impl<'a, 'b, 'c, R: Wait, C: Ledger, A: Ledger> Gate for Between<'a, 'b, 'c, R, C, A> {
+impl<'a, 'b, R: Wait, C: Ledger, A: Ledger> Gate for Between<'a, 'b, R, C, A> {
     fn pass(&mut self, spot: Spot) {
         match spot {
             Spot::BeforeBody => self.bodies = self.bodies.saturating_add(1),
             Spot::AfterBody => {
                 if self.left > 0 {
                     self.left -= 1;
-                    let _ = set_ten(self.rt, self.by, self.shared, &mut self.share);
+                    let _ = set_ten(self.rt, self.alloc, self.shared, &mut self.share);
                 }
             }
             _ => {}
@@ -47,13 +48,13 @@ impl<'a, 'b, 'c, R: Wait, C: Ledger, A: Ledger> Gate for Between<'a, 'b, 'c, R, 
 
 fn set_ten<R: Wait, C: Ledger, A: Ledger>(
     rt: &R,
-    by: By,
+    alloc: Global,
     shared: &Shared<Core, C, A>,
     share: &mut Share<C, A>,
 ) -> Result<(), Stop> {
-    let mut tx = shared.begin(rt, by.alloc)?;
-    let _ = done(tx.ref_set(by.alloc, 0, value(by.alloc, "10")?))?;
-    let _ = done(shared.commit(rt, by.alloc, by.funs, share, OTHER, tx))?;
+    let mut tx = shared.begin(rt, alloc)?;
+    let _ = done(tx.ref_set(alloc, 0, value(alloc, "10")?))?;
+    let _ = done(shared.commit(rt, alloc, &CoreFunctions, share, OTHER, tx))?;
     Ok(())
 }
 
@@ -89,9 +90,9 @@ struct Tried {
     commits: u64,
 }
 
-fn alter(by: By, case: Case, tx: &mut Tx<Core>) -> Result<(), Stop> {
-    let args = one_arg(by.alloc, "1")?;
-    let _ = done(tx.alter(by.alloc, by.funs, 0, case.code, args))?;
+fn alter(alloc: Global, case: Case, tx: &mut Tx<Core>) -> Result<(), Stop> {
+    let args = one_arg(alloc, "1")?;
+    let _ = done(tx.alter(alloc, &CoreFunctions, 0, case.code, args))?;
     if case.refuses {
         return Err(Stop::Late);
     }
@@ -101,7 +102,7 @@ fn alter(by: By, case: Case, tx: &mut Tx<Core>) -> Result<(), Stop> {
 // The tries of a case beside a gate. It answers what came of them and how many times the body was called.
 fn transact<C: Ledger, A: Ledger, R: Wait, G: Gate>(
     rt: &R,
-    by: By,
+    alloc: Global,
     case: Case,
     shared: &Shared<Core, C, A>,
     share: &mut Share<C, A>,
@@ -109,12 +110,11 @@ fn transact<C: Ledger, A: Ledger, R: Wait, G: Gate>(
 ) -> (Result<(), TransactFault<Stop>>, u32)
     requires tries { 0 < case.tries }
 {
-    let By { alloc, funs } = by;
     let mut calls = 0u32;
     let answer = shared.transact(
         rt,
         alloc,
-        funs,
+        &CoreFunctions,
         share,
         STAMP,
         case.tries,
@@ -122,7 +122,7 @@ fn transact<C: Ledger, A: Ledger, R: Wait, G: Gate>(
         &mut Quiet,
         |tx: &mut Tx<Core>| {
             calls = calls.saturating_add(1);
-            alter(by, case, tx)
+            alter(alloc, case, tx)
         },
     );
     match answer {
@@ -134,7 +134,7 @@ fn transact<C: Ledger, A: Ledger, R: Wait, G: Gate>(
 // The tries of a case, and what a gate saw of them, whose share is joined with the caller's.
 fn try_beside<C: Ledger, A: Ledger, R: Wait>(
     rt: &R,
-    by: By,
+    alloc: Global,
     case: Case,
     shared: &Shared<Core, C, A>,
     share: &mut Share<C, A>,
@@ -145,12 +145,12 @@ fn try_beside<C: Ledger, A: Ledger, R: Wait>(
     let mut gate = Between {
         rt,
         shared,
-        by,
+        alloc,
         share: other,
         left: case.between,
         bodies: 0,
     };
-    let (answer, calls) = transact(rt, by, case, shared, share, &mut gate);
+    let (answer, calls) = transact(rt, alloc, case, shared, share, &mut gate);
     let Between {
         share: other,
         bodies,
@@ -167,7 +167,7 @@ fn try_beside<C: Ledger, A: Ledger, R: Wait>(
 
 fn try_case<C: Ledger, A: Ledger, R: Wait>(
     rt: &R,
-    by: By,
+    alloc: Global,
     case: Case,
     commits: Blank,
     added: Blank,
@@ -176,12 +176,11 @@ fn try_case<C: Ledger, A: Ledger, R: Wait>(
     requires commits { (commits.name ≡ C.name) × (commits.parts ≡ C.parts) × (commits.parts ≡ all_parts) }
     requires added { (added.name ≡ A.name) × (added.parts ≡ A.parts) × (added.parts ≡ all_parts) }
 {
-    let By { alloc, funs } = by;
     let start = plain_start(alloc, "0", "")?;
-    let (shared, mut share) = opened::<C, A>(by, start, commits, added)?;
+    let (shared, mut share) = opened::<C, A>(alloc, start, commits, added)?;
     let rule = Some(at_least(alloc, "0")?);
-    done(shared.set_validator(rt, funs, Who::Ref(0), rule))?;
-    let tries = try_beside(rt, by, case, &shared, &mut share)?;
+    done(shared.set_validator(rt, &CoreFunctions, Who::Ref(0), rule))?;
+    let tries = try_beside(rt, alloc, case, &shared, &mut share)?;
     let now = int_at(rt, &shared, Who::Ref(0));
     let (world, totals) = closed(alloc, shared, share)?;
     Ok(Tried {
@@ -195,8 +194,6 @@ fn try_case<C: Ledger, A: Ledger, R: Wait>(
 #[test]
 fn a_caller_gives_up_after_the_last_conflict(rt: HostRuntime) -> Result<(), Fail> {
     let alloc = rt.alloc();
-    let funs = table(alloc)?;
-    let by = By { alloc, funs: &funs };
     let case = Case {
         code: PLUS,
         refuses: false,
@@ -204,7 +201,7 @@ fn a_caller_gives_up_after_the_last_conflict(rt: HostRuntime) -> Result<(), Fail
         between: 1,
     };
     let (commits, added) = (Blank::new(ALL_PARTS), Blank::new(ALL_PARTS));
-    let tried = try_case::<Brand, Brand, _>(&rt, by, case, commits, added)?;
+    let tried = try_case::<Brand, Brand, _>(&rt, alloc, case, commits, added)?;
     let conflict = Conflict {
         r: 0,
         read_point: 0,
@@ -228,8 +225,6 @@ fn a_caller_gives_up_after_the_last_conflict(rt: HostRuntime) -> Result<(), Fail
 #[test]
 fn after_a_conflict_the_body_reads_the_new_value(rt: HostRuntime) -> Result<(), Fail> {
     let alloc = rt.alloc();
-    let funs = table(alloc)?;
-    let by = By { alloc, funs: &funs };
     let case = Case {
         code: PLUS,
         refuses: false,
@@ -237,7 +232,7 @@ fn after_a_conflict_the_body_reads_the_new_value(rt: HostRuntime) -> Result<(), 
         between: 1,
     };
     let (commits, added) = (Blank::new(ALL_PARTS), Blank::new(ALL_PARTS));
-    let tried = try_case::<Brand, Brand, _>(&rt, by, case, commits, added)?;
+    let tried = try_case::<Brand, Brand, _>(&rt, alloc, case, commits, added)?;
     let tries = Tries {
         answer: Ok(()),
         bodies: (2, 2),
@@ -256,8 +251,6 @@ fn after_a_conflict_the_body_reads_the_new_value(rt: HostRuntime) -> Result<(), 
 #[test]
 fn a_fault_of_the_body_ends_it(rt: HostRuntime) -> Result<(), Fail> {
     let alloc = rt.alloc();
-    let funs = table(alloc)?;
-    let by = By { alloc, funs: &funs };
     let case = Case {
         code: PLUS,
         refuses: true,
@@ -265,7 +258,7 @@ fn a_fault_of_the_body_ends_it(rt: HostRuntime) -> Result<(), Fail> {
         between: 0,
     };
     let (commits, added) = (Blank::new(ALL_PARTS), Blank::new(ALL_PARTS));
-    let tried = try_case::<Brand, Brand, _>(&rt, by, case, commits, added)?;
+    let tried = try_case::<Brand, Brand, _>(&rt, alloc, case, commits, added)?;
     let tries = Tries {
         answer: Err(TransactFault::Body(Stop::Late)),
         bodies: (1, 1),
@@ -284,8 +277,6 @@ fn a_fault_of_the_body_ends_it(rt: HostRuntime) -> Result<(), Fail> {
 #[test]
 fn a_value_that_the_rule_refuses_is_tried_once(rt: HostRuntime) -> Result<(), Fail> {
     let alloc = rt.alloc();
-    let funs = table(alloc)?;
-    let by = By { alloc, funs: &funs };
     let case = Case {
         code: MINUS,
         refuses: false,
@@ -293,7 +284,7 @@ fn a_value_that_the_rule_refuses_is_tried_once(rt: HostRuntime) -> Result<(), Fa
         between: 0,
     };
     let (commits, added) = (Blank::new(ALL_PARTS), Blank::new(ALL_PARTS));
-    let tried = try_case::<Brand, Brand, _>(&rt, by, case, commits, added)?;
+    let tried = try_case::<Brand, Brand, _>(&rt, alloc, case, commits, added)?;
     let tries = Tries {
         answer: Err(TransactFault::Commit(CommitFault::Invalid(0))),
         bodies: (1, 1),

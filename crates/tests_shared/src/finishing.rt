@@ -2,8 +2,8 @@
 ghost use Rattle.std.specs.Prelude.{◌≡◌};
 ghost use Rattle.ref_world.specs.Shares.{all_parts};
 
-use crate::worlds::{By, Stop, done, opened, plain_start, table, value};
-use ref_fun::Core;
+use crate::worlds::{Stop, done, opened, plain_start, value};
+use ref_fun::{Core, CoreFunctions};
 use ref_log::{Done, Entry, Op, SharedVec, Stamp, Transaction};
 use ref_shared::{GatherFault, Shared, match_receipts};
 use ref_world::{ALL_PARTS, LogReceipt, Share};
@@ -26,32 +26,30 @@ struct End {
 // Two commits of empty transactions, the second begun after the first.
 fn commit_in_turn<C: Ledger, A: Ledger, R: Wait>(
     rt: &R,
-    by: By,
+    alloc: Global,
     shared: &Shared<Core, C, A>,
     share: &mut Share<C, A>,
     stamps: (Stamp, Stamp),
 ) -> Result<(), Stop> {
-    let By { alloc, funs } = by;
     let first = shared.begin(rt, alloc)?;
-    let _ = done(shared.commit(rt, alloc, funs, share, stamps.0, first))?;
+    let _ = done(shared.commit(rt, alloc, &CoreFunctions, share, stamps.0, first))?;
     let second = shared.begin(rt, alloc)?;
-    let _ = done(shared.commit(rt, alloc, funs, share, stamps.1, second))?;
+    let _ = done(shared.commit(rt, alloc, &CoreFunctions, share, stamps.1, second))?;
     Ok(())
 }
 
 // Two commits of empty transactions, both begun before the first.
 fn commit_together<C: Ledger, A: Ledger, R: Wait>(
     rt: &R,
-    by: By,
+    alloc: Global,
     shared: &Shared<Core, C, A>,
     share: &mut Share<C, A>,
     stamps: (Stamp, Stamp),
 ) -> Result<(), Stop> {
-    let By { alloc, funs } = by;
     let first = shared.begin(rt, alloc)?;
     let second = shared.begin(rt, alloc)?;
-    let _ = done(shared.commit(rt, alloc, funs, share, stamps.0, first))?;
-    let _ = done(shared.commit(rt, alloc, funs, share, stamps.1, second))?;
+    let _ = done(shared.commit(rt, alloc, &CoreFunctions, share, stamps.0, first))?;
+    let _ = done(shared.commit(rt, alloc, &CoreFunctions, share, stamps.1, second))?;
     Ok(())
 }
 
@@ -81,7 +79,7 @@ fn ended<C: Ledger, A: Ledger>(
 // How a shared world ends after two commits with these stamps, begun in turn or together.
 fn try_stamps<C: Ledger, A: Ledger, R: Wait>(
     rt: &R,
-    by: By,
+    alloc: Global,
     stamps: (Stamp, Stamp),
     together: bool,
     commits: Blank,
@@ -90,14 +88,14 @@ fn try_stamps<C: Ledger, A: Ledger, R: Wait>(
     requires commits { (commits.name ≡ C.name) × (commits.parts ≡ C.parts) × (commits.parts ≡ all_parts) }
     requires added { (added.name ≡ A.name) × (added.parts ≡ A.parts) × (added.parts ≡ all_parts) }
 {
-    let start = plain_start(by.alloc, "0", "")?;
-    let (shared, mut share) = opened::<C, A>(by, start, commits, added)?;
+    let start = plain_start(alloc, "0", "")?;
+    let (shared, mut share) = opened::<C, A>(alloc, start, commits, added)?;
     if together {
-        commit_together(rt, by, &shared, &mut share, stamps)?;
+        commit_together(rt, alloc, &shared, &mut share, stamps)?;
     } else {
-        commit_in_turn(rt, by, &shared, &mut share, stamps)?;
+        commit_in_turn(rt, alloc, &shared, &mut share, stamps)?;
     }
-    ended(by.alloc, shared, share)
+    ended(alloc, shared, share)
 }
 
 const STEP_0: Stamp = Stamp { worker: 0, step: 0 };
@@ -109,11 +107,9 @@ const OTHER: Stamp = Stamp { worker: 1, step: 0 };
 #[test]
 fn steps_that_rise_are_in_order(rt: HostRuntime) -> Result<(), Fail> {
     let alloc = rt.alloc();
-    let funs = table(alloc)?;
-    let by = By { alloc, funs: &funs };
     let stamps = (STEP_0, STEP_1);
     let (commits, added) = (Blank::new(ALL_PARTS), Blank::new(ALL_PARTS));
-    let ended = try_stamps::<Brand, Brand, _>(&rt, by, stamps, false, commits, added)?;
+    let ended = try_stamps::<Brand, Brand, _>(&rt, alloc, stamps, false, commits, added)?;
     let wanted = End {
         fault: None,
         commits: 2,
@@ -126,11 +122,9 @@ fn steps_that_rise_are_in_order(rt: HostRuntime) -> Result<(), Fail> {
 #[test]
 fn steps_that_fall_are_out_of_order(rt: HostRuntime) -> Result<(), Fail> {
     let alloc = rt.alloc();
-    let funs = table(alloc)?;
-    let by = By { alloc, funs: &funs };
     let stamps = (STEP_1, STEP_0);
     let (commits, added) = (Blank::new(ALL_PARTS), Blank::new(ALL_PARTS));
-    let ended = try_stamps::<Brand, Brand, _>(&rt, by, stamps, false, commits, added)?;
+    let ended = try_stamps::<Brand, Brand, _>(&rt, alloc, stamps, false, commits, added)?;
     let wanted = End {
         fault: Some(GatherFault::OutOfOrder),
         commits: 2,
@@ -143,11 +137,9 @@ fn steps_that_fall_are_out_of_order(rt: HostRuntime) -> Result<(), Fail> {
 #[test]
 fn a_step_begun_before_the_last_one_ended_is_out_of_order(rt: HostRuntime) -> Result<(), Fail> {
     let alloc = rt.alloc();
-    let funs = table(alloc)?;
-    let by = By { alloc, funs: &funs };
     let stamps = (STEP_0, STEP_1);
     let (commits, added) = (Blank::new(ALL_PARTS), Blank::new(ALL_PARTS));
-    let ended = try_stamps::<Brand, Brand, _>(&rt, by, stamps, true, commits, added)?;
+    let ended = try_stamps::<Brand, Brand, _>(&rt, alloc, stamps, true, commits, added)?;
     let wanted = End {
         fault: Some(GatherFault::OutOfOrder),
         commits: 2,

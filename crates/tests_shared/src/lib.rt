@@ -7,10 +7,12 @@
 //! | Modules | |
 //! |---|---|
 //! | `calls`, `conflicts`, `finishing` | by one thread: each call, transactions that are tried again, the end |
-//! | `threads`, `work`, `stress` | by several: transactions, agents, all together |
+//! | `work` | by one thread: agents |
+//! | `threads`, `side_by_side`, `stress` | by several: transactions, agents, all together |
 //! | `faults` | what faults say |
 //! | `worlds` | making worlds and values, and what is read of them |
 //! | [`flags`] | how far threads have come. It stands outside of the tests, since the proof of what crosses threads names it |
+//! | [`numbers`] | the number that a value is. It stands outside of the tests too, so that a wrong body of it can be tried |
 #![tactic(auto)]
 
 #[cfg(test)]
@@ -22,6 +24,9 @@ mod faults;
 #[cfg(test)]
 mod finishing;
 pub mod flags;
+pub mod numbers;
+#[cfg(test)]
+mod side_by_side;
 #[cfg(test)]
 mod stress;
 #[cfg(test)]

@@ -2,10 +2,9 @@
 ghost use Rattle.std.specs.Prelude.{◌≡◌};
 ghost use Rattle.ref_world.specs.Shares.{all_parts};
 
-use crate::worlds::{
-    By, PLUS, Stop, add, agent, closed, done, int_of, one_arg, opened, plain_start, table, value,
-};
-use ref_fun::{Core, Functions};
+use crate::numbers::int_of;
+use crate::worlds::{PLUS, Stop, add, agent, closed, done, one_arg, opened, plain_start, value};
+use ref_fun::{Core, CoreFunctions};
 use ref_log::{Stamp, Who};
 use ref_shared::{Open, Quiet, Shared, Worked};
 use ref_tx::Tx;
@@ -37,39 +36,32 @@ fn start(alloc: Global) -> Result<Start, AllocError> {
 }
 
 // Adds 1 to two of the refs and to the tally, and sends `+ 1` to an agent.
-fn change<F: Functions<Core>>(
-    alloc: Global,
-    funs: &F,
-    tx: &mut Tx<Core>,
-    n: u32,
-) -> Result<(), Stop> {
-    add(alloc, funs, tx, n % REFS, "1")?;
-    add(alloc, funs, tx, n.saturating_add(1) % REFS, "1")?;
-    let _ = done(tx.commute(alloc, funs, TALLY, PLUS, one_arg(alloc, "1")?))?;
-    done(tx.send(alloc, funs, n % 2, PLUS, one_arg(alloc, "1")?))
+fn change(alloc: Global, tx: &mut Tx<Core>, n: u32) -> Result<(), Stop> {
+    add(alloc, tx, n % REFS, "1")?;
+    add(alloc, tx, n.saturating_add(1) % REFS, "1")?;
+    let _ = done(tx.commute(alloc, &CoreFunctions, TALLY, PLUS, one_arg(alloc, "1")?))?;
+    done(tx.send(alloc, &CoreFunctions, n % 2, PLUS, one_arg(alloc, "1")?))
 }
 
 // Fifty rounds of a transaction and a change of the atom. It answers the share, and whether none was refused.
-fn fifty<R: Wait, C: Ledger, A: Ledger, F: Functions<Core>>(
+fn fifty<R: Wait, C: Ledger, A: Ledger>(
     rt: &R,
     alloc: Global,
-    funs: &F,
     shared: &Shared<Core, C, A>,
     mut share: Share<C, A>,
     worker: u32,
 ) -> (Share<C, A>, Result<(), Stop>) {
     for step in 0..50u32 {
-        if let Err(stop) = round(rt, alloc, funs, shared, &mut share, Stamp { worker, step }) {
+        if let Err(stop) = round(rt, alloc, shared, &mut share, Stamp { worker, step }) {
             return (share, Err(stop));
         }
     }
     (share, Ok(()))
 }
 
-fn round<R: Wait, C: Ledger, A: Ledger, F: Functions<Core>>(
+fn round<R: Wait, C: Ledger, A: Ledger>(
     rt: &R,
     alloc: Global,
-    funs: &F,
     shared: &Shared<Core, C, A>,
     share: &mut Share<C, A>,
     stamp: Stamp,
@@ -78,29 +70,23 @@ fn round<R: Wait, C: Ledger, A: Ledger, F: Functions<Core>>(
     let _ = done(shared.transact(
         rt,
         alloc,
-        funs,
+        &CoreFunctions,
         share,
         stamp,
         10_000,
         &mut Open,
         &mut Quiet,
-        |tx: &mut Tx<Core>| change(alloc, funs, tx, n),
+        |tx: &mut Tx<Core>| change(alloc, tx, n),
     ))?;
     let one = one_arg(alloc, "1")?;
-    let _ = done(shared.swap(rt, alloc, funs, share, 0, PLUS, one))?;
+    let _ = done(shared.swap(rt, alloc, &CoreFunctions, share, 0, PLUS, one))?;
     Ok(())
 }
 
 // Two threads' rounds, each with a part of the share. It answers the parts joined, and whether none was refused.
-fn two_by_fifty<
-    C: Ledger + Send + Sync,
-    A: Ledger + Send + Sync,
-    R: Threads + Wait + Sync,
-    F: Functions<Core> + Sync,
->(
+fn two_by_fifty<C: Ledger + Send + Sync, A: Ledger + Send + Sync, R: Threads + Wait + Sync>(
     rt: &R,
     alloc: Global,
-    funs: &F,
     shared: &Shared<Core, C, A>,
     mut share: Share<C, A>,
     worker: u32,
@@ -111,8 +97,8 @@ fn two_by_fifty<
     let next = worker.saturating_add(1);
     let (mine, theirs) = thread::join(
         rt,
-        move || fifty(rt, alloc, funs, shared, share, worker),
-        move || fifty(rt, alloc, funs, shared, other, next),
+        move || fifty(rt, alloc, shared, share, worker),
+        move || fifty(rt, alloc, shared, other, next),
     );
     together(mine, theirs)
 }
@@ -132,15 +118,9 @@ fn together<C: Ledger, A: Ledger>(
 }
 
 // Four threads' rounds; then the shared world is closed.
-fn four_by_fifty<
-    C: Ledger + Send + Sync,
-    A: Ledger + Send + Sync,
-    R: Threads + Wait + Sync,
-    F: Functions<Core> + Sync,
->(
+fn four_by_fifty<C: Ledger + Send + Sync, A: Ledger + Send + Sync, R: Threads + Wait + Sync>(
     rt: &R,
     alloc: Global,
-    funs: &F,
     shared: &Shared<Core, C, A>,
     mut share: Share<C, A>,
 ) -> (Share<C, A>, Result<(), Stop>) {
@@ -149,22 +129,21 @@ fn four_by_fifty<
     };
     let (mine, theirs) = thread::join(
         rt,
-        move || two_by_fifty(rt, alloc, funs, shared, share, 0),
-        move || two_by_fifty(rt, alloc, funs, shared, other, 2),
+        move || two_by_fifty(rt, alloc, shared, share, 0),
+        move || two_by_fifty(rt, alloc, shared, other, 2),
     );
     shared.close(rt);
     together(mine, theirs)
 }
 
 // Runs actions until the shared world is closed and no agent is ready, and answers how many.
-fn pool<R: Wait, C: Ledger, A: Ledger, F: Functions<Core>>(
+fn pool<R: Wait, C: Ledger, A: Ledger>(
     rt: &R,
     alloc: Global,
-    funs: &F,
     shared: &Shared<Core, C, A>,
 ) -> Result<u32, Stop> {
     for did in 0..1_000u32 {
-        match done(shared.work_once(rt, alloc, funs, &mut Open, &mut Quiet))? {
+        match done(shared.work_once(rt, alloc, &CoreFunctions, &mut Open, &mut Quiet))? {
             Worked::Did(_) => {}
             Worked::Closed => return Ok(did),
         }
@@ -173,16 +152,15 @@ fn pool<R: Wait, C: Ledger, A: Ledger, F: Functions<Core>>(
 }
 
 // How many actions two threads ran.
-fn two_pools<
-    C: Ledger + Send + Sync,
-    A: Ledger + Send + Sync,
-    R: Threads + Wait + Sync,
-    F: Functions<Core> + Sync,
->(rt: &R, alloc: Global, funs: &F, shared: &Shared<Core, C, A>) -> Result<u32, Stop> {
+fn two_pools<C: Ledger + Send + Sync, A: Ledger + Send + Sync, R: Threads + Wait + Sync>(
+    rt: &R,
+    alloc: Global,
+    shared: &Shared<Core, C, A>,
+) -> Result<u32, Stop> {
     let (one, two) = thread::join(
         rt,
-        move || pool(rt, alloc, funs, shared),
-        move || pool(rt, alloc, funs, shared),
+        move || pool(rt, alloc, shared),
+        move || pool(rt, alloc, shared),
     );
     Ok(one?.saturating_add(two?))
 }
@@ -213,38 +191,31 @@ struct Sums {
 }
 
 // Two threads that run actions, and four threads' rounds.
-fn six<
-    C: Ledger + Send + Sync,
-    A: Ledger + Send + Sync,
-    R: Threads + Wait + Sync,
-    F: Functions<Core> + Sync,
->(
+fn six<C: Ledger + Send + Sync, A: Ledger + Send + Sync, R: Threads + Wait + Sync>(
     rt: &R,
     alloc: Global,
-    funs: &F,
     shared: &Shared<Core, C, A>,
     share: Share<C, A>,
 ) -> (Result<u32, Stop>, (Share<C, A>, Result<(), Stop>)) {
     let (actions, all) = thread::join(
         rt,
-        move || two_pools(rt, alloc, funs, shared),
-        move || four_by_fifty(rt, alloc, funs, shared, share),
+        move || two_pools(rt, alloc, shared),
+        move || four_by_fifty(rt, alloc, shared, share),
     );
     (actions, all)
 }
 
 fn try_all<C: Ledger + Send + Sync, A: Ledger + Send + Sync, R: Threads + Wait + Sync>(
     rt: &R,
-    by: By,
+    alloc: Global,
     commits: Blank,
     added: Blank,
 ) -> Result<Sums, Stop>
     requires commits { (commits.name ≡ C.name) × (commits.parts ≡ C.parts) × (commits.parts ≡ all_parts) }
     requires added { (added.name ≡ A.name) × (added.parts ≡ A.parts) × (added.parts ≡ all_parts) }
 {
-    let alloc = by.alloc;
-    let (shared, share) = opened::<C, A>(by, start(alloc)?, commits, added)?;
-    let (actions, all) = six(rt, alloc, by.funs, &shared, share);
+    let (shared, share) = opened::<C, A>(alloc, start(alloc)?, commits, added)?;
+    let (actions, all) = six(rt, alloc, &shared, share);
     let (share, went) = all;
     went?;
     let actions = actions?;
@@ -270,10 +241,8 @@ fn try_all<C: Ledger + Send + Sync, A: Ledger + Send + Sync, R: Threads + Wait +
 #[test]
 fn the_sums_of_six_threads_are_right(rt: HostRuntime) -> Result<(), Fail> {
     let alloc = rt.alloc();
-    let funs = table(alloc)?;
-    let by = By { alloc, funs: &funs };
     let (commits, added) = (Blank::new(ALL_PARTS), Blank::new(ALL_PARTS));
-    let sums = try_all::<Brand, Brand, _>(&rt, by, commits, added)?;
+    let sums = try_all::<Brand, Brand, _>(&rt, alloc, commits, added)?;
     let wanted = Sums {
         actions: 200,
         refs: 400,

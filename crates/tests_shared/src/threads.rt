@@ -4,10 +4,10 @@ ghost use Rattle.ref_world.specs.Shares.{all_parts};
 
 use crate::flags::Flags;
 use crate::worlds::{
-    By, STAMP, Stop, Told, add, all_commits, all_told, closed, done, int_at, opened, plain_start,
-    table, told_of, value, wait_for,
+    STAMP, Stop, Told, add, all_commits, all_told, closed, done, int_at, opened, plain_start,
+    told_of, value, wait_for,
 };
-use ref_fun::{Core, Functions};
+use ref_fun::{Core, CoreFunctions};
 use ref_log::{Notice, Stamp, Who};
 use ref_shared::{Gate, Open, Quiet, Shared, Spot, WatchSink};
 use ref_tx::Tx;
@@ -34,10 +34,9 @@ struct Sum {
 }
 
 // A hundred commits that add 1 to a. It answers the share, and how many weren't committed.
-fn hundred<R: Wait, C: Ledger, A: Ledger, F: Functions<Core>>(
+fn hundred<R: Wait, C: Ledger, A: Ledger>(
     rt: &R,
     alloc: Global,
-    funs: &F,
     shared: &Shared<Core, C, A>,
     mut share: Share<C, A>,
     worker: u32,
@@ -47,13 +46,13 @@ fn hundred<R: Wait, C: Ledger, A: Ledger, F: Functions<Core>>(
         let committed = shared.transact(
             rt,
             alloc,
-            funs,
+            &CoreFunctions,
             &mut share,
             Stamp { worker, step },
             1000,
             &mut Open,
             &mut Quiet,
-            |tx: &mut Tx<Core>| add(alloc, funs, tx, 0, "1"),
+            |tx: &mut Tx<Core>| add(alloc, tx, 0, "1"),
         );
         if committed.is_err() {
             refused = refused.saturating_add(1);
@@ -63,41 +62,34 @@ fn hundred<R: Wait, C: Ledger, A: Ledger, F: Functions<Core>>(
 }
 
 // A hundred commits of each of two threads, with these shares.
-fn two_hundred<
-    C: Ledger + Send + Sync,
-    A: Ledger + Send + Sync,
-    R: Threads + Wait + Sync,
-    F: Functions<Core> + Sync,
->(
+fn two_hundred<C: Ledger + Send + Sync, A: Ledger + Send + Sync, R: Threads + Wait + Sync>(
     rt: &R,
     alloc: Global,
-    funs: &F,
     shared: &Shared<Core, C, A>,
     share: Share<C, A>,
     other: Share<C, A>,
 ) -> ((Share<C, A>, u32), (Share<C, A>, u32)) {
     let (mine, theirs) = thread::join(
         rt,
-        move || hundred(rt, alloc, funs, shared, share, 0),
-        move || hundred(rt, alloc, funs, shared, other, 1),
+        move || hundred(rt, alloc, shared, share, 0),
+        move || hundred(rt, alloc, shared, other, 1),
     );
     (mine, theirs)
 }
 
 fn try_sum<C: Ledger + Send + Sync, A: Ledger + Send + Sync, R: Threads + Wait + Sync>(
     rt: &R,
-    by: By,
+    alloc: Global,
     commits: Blank,
     added: Blank,
 ) -> Result<Sum, Stop>
     requires commits { (commits.name ≡ C.name) × (commits.parts ≡ C.parts) × (commits.parts ≡ all_parts) }
     requires added { (added.name ≡ A.name) × (added.parts ≡ A.parts) × (added.parts ≡ all_parts) }
 {
-    let alloc = by.alloc;
     let start = plain_start(alloc, "0", "")?;
-    let (shared, mut share) = opened::<C, A>(by, start, commits, added)?;
+    let (shared, mut share) = opened::<C, A>(alloc, start, commits, added)?;
     let other = done(share.split(1).ok_or(Stop::Refused))?;
-    let (mine, theirs) = two_hundred(rt, alloc, by.funs, &shared, share, other);
+    let (mine, theirs) = two_hundred(rt, alloc, &shared, share, other);
     let (mut share, refused) = mine;
     let (other, refused_too) = theirs;
     done(share.join(other))?;
@@ -113,10 +105,8 @@ fn try_sum<C: Ledger + Send + Sync, A: Ledger + Send + Sync, R: Threads + Wait +
 #[test]
 fn no_commit_of_two_threads_is_lost(rt: HostRuntime) -> Result<(), Fail> {
     let alloc = rt.alloc();
-    let funs = table(alloc)?;
-    let by = By { alloc, funs: &funs };
     let (commits, added) = (Blank::new(ALL_PARTS), Blank::new(ALL_PARTS));
-    let sum = try_sum::<Brand, Brand, _>(&rt, by, commits, added)?;
+    let sum = try_sum::<Brand, Brand, _>(&rt, alloc, commits, added)?;
     let wanted = Sum {
         refused: 0,
         value: Some(200),
@@ -149,10 +139,9 @@ impl<'a, 'b, 'c, R: Clock> Gate for Hold<'a, 'b, 'c, R> {
 }
 
 // Adds 1 to a beside a gate, and answers the commit's point.
-fn add_beside<R: Wait, C: Ledger, A: Ledger, G: Gate, F: Functions<Core>>(
+fn add_beside<R: Wait, C: Ledger, A: Ledger, G: Gate>(
     rt: &R,
     alloc: Global,
-    funs: &F,
     shared: &Shared<Core, C, A>,
     share: &mut Share<C, A>,
     gate: &mut G,
@@ -160,21 +149,20 @@ fn add_beside<R: Wait, C: Ledger, A: Ledger, G: Gate, F: Functions<Core>>(
     let (_, receipt) = done(shared.transact(
         rt,
         alloc,
-        funs,
+        &CoreFunctions,
         share,
         STAMP,
         10,
         gate,
         &mut Quiet,
-        |tx: &mut Tx<Core>| add(alloc, funs, tx, 0, "1"),
+        |tx: &mut Tx<Core>| add(alloc, tx, 0, "1"),
     ))?;
     Ok(receipt.point)
 }
 
 // Adds 1 to a, held after its first body. It answers the share, and the commit's point, with how many bodies were begun.
-fn add_held<R: AllocGlobal + Wait + Clock, C: Ledger, A: Ledger, F: Functions<Core>>(
+fn add_held<R: AllocGlobal + Wait + Clock, C: Ledger, A: Ledger>(
     rt: &R,
-    funs: &F,
     shared: &Shared<Core, C, A>,
     mut share: Share<C, A>,
     flags: &Flags,
@@ -187,7 +175,7 @@ fn add_held<R: AllocGlobal + Wait + Clock, C: Ledger, A: Ledger, F: Functions<Co
         bodies: 0,
         in_time: false,
     };
-    let committed = add_beside(rt, alloc, funs, shared, &mut share, &mut gate);
+    let committed = add_beside(rt, alloc, shared, &mut share, &mut gate);
     if !gate.in_time {
         return (share, Err(Stop::Late));
     }
@@ -195,9 +183,8 @@ fn add_held<R: AllocGlobal + Wait + Clock, C: Ledger, A: Ledger, F: Functions<Co
 }
 
 // Adds 10 to a while the other is held. It answers the share, and the commit's point.
-fn add_meanwhile<R: AllocGlobal + Wait + Clock, C: Ledger, A: Ledger, F: Functions<Core>>(
+fn add_meanwhile<R: AllocGlobal + Wait + Clock, C: Ledger, A: Ledger>(
     rt: &R,
-    funs: &F,
     shared: &Shared<Core, C, A>,
     mut share: Share<C, A>,
     flags: &Flags,
@@ -209,13 +196,13 @@ fn add_meanwhile<R: AllocGlobal + Wait + Clock, C: Ledger, A: Ledger, F: Functio
     let committed = shared.transact(
         rt,
         alloc,
-        funs,
+        &CoreFunctions,
         &mut share,
         OTHER,
         1,
         &mut Open,
         &mut Quiet,
-        |tx: &mut Tx<Core>| add(alloc, funs, tx, 0, "10"),
+        |tx: &mut Tx<Core>| add(alloc, tx, 0, "10"),
     );
     flags.second.store(true, Ordering::SeqCst);
     let answer = match committed {
@@ -241,10 +228,8 @@ fn overtake<
     C: Ledger + Send + Sync,
     A: Ledger + Send + Sync,
     R: AllocGlobal + Threads + Wait + Clock + Sync,
-    F: Functions<Core> + Sync,
 >(
     rt: &R,
-    funs: &F,
     shared: &Shared<Core, C, A>,
     share: Share<C, A>,
     other: Share<C, A>,
@@ -256,8 +241,8 @@ fn overtake<
     let lent = &flags;
     let (mine, theirs) = thread::join(
         rt,
-        move || add_held(rt, funs, shared, share, lent),
-        move || add_meanwhile(rt, funs, shared, other, lent),
+        move || add_held(rt, shared, share, lent),
+        move || add_meanwhile(rt, shared, other, lent),
     );
     (mine, theirs)
 }
@@ -266,15 +251,14 @@ fn try_overtaking<
     C: Ledger + Send + Sync,
     A: Ledger + Send + Sync,
     R: AllocGlobal + Threads + Wait + Clock + Sync,
->(rt: &R, by: By, commits: Blank, added: Blank) -> Result<Overtaken, Stop>
+>(rt: &R, alloc: Global, commits: Blank, added: Blank) -> Result<Overtaken, Stop>
     requires commits { (commits.name ≡ C.name) × (commits.parts ≡ C.parts) × (commits.parts ≡ all_parts) }
     requires added { (added.name ≡ A.name) × (added.parts ≡ A.parts) × (added.parts ≡ all_parts) }
 {
-    let alloc = by.alloc;
     let start = plain_start(alloc, "0", "")?;
-    let (shared, mut share) = opened::<C, A>(by, start, commits, added)?;
+    let (shared, mut share) = opened::<C, A>(alloc, start, commits, added)?;
     let other = done(share.split(1).ok_or(Stop::Refused))?;
-    let (mine, theirs) = overtake(rt, by.funs, &shared, share, other);
+    let (mine, theirs) = overtake(rt, &shared, share, other);
     let (mut share, first) = mine;
     let (other, second) = theirs;
     done(share.join(other))?;
@@ -292,10 +276,8 @@ fn try_overtaking<
 #[test]
 fn who_is_overtaken_begins_anew(rt: HostRuntime) -> Result<(), Fail> {
     let alloc = rt.alloc();
-    let funs = table(alloc)?;
-    let by = By { alloc, funs: &funs };
     let (commits, added) = (Blank::new(ALL_PARTS), Blank::new(ALL_PARTS));
-    let overtaken = try_overtaking::<Brand, Brand, _>(&rt, by, commits, added)?;
+    let overtaken = try_overtaking::<Brand, Brand, _>(&rt, alloc, commits, added)?;
     let wanted = Overtaken {
         held: Ok((2, 2)),
         meanwhile: Ok(1),
@@ -336,10 +318,9 @@ struct Delivered {
 }
 
 // Adds 1 to a, whose watches tell a sink, and answers what the receipt says of them.
-fn add_to<R: Wait, C: Ledger, A: Ledger, W: WatchSink, F: Functions<Core>>(
+fn add_to<R: Wait, C: Ledger, A: Ledger, W: WatchSink>(
     rt: &R,
     alloc: Global,
-    funs: &F,
     shared: &Shared<Core, C, A>,
     share: &mut Share<C, A>,
     sink: &mut W,
@@ -347,21 +328,20 @@ fn add_to<R: Wait, C: Ledger, A: Ledger, W: WatchSink, F: Functions<Core>>(
     let (_, receipt) = done(shared.transact(
         rt,
         alloc,
-        funs,
+        &CoreFunctions,
         share,
         STAMP,
         1,
         &mut Open,
         sink,
-        |tx: &mut Tx<Core>| add(alloc, funs, tx, 0, "1"),
+        |tx: &mut Tx<Core>| add(alloc, tx, 0, "1"),
     ))?;
     Ok(all_told(alloc, &receipt.notices)?)
 }
 
 // Adds 1 to a, and answers the share, and what was told.
-fn add_told<R: AllocGlobal + Wait + Clock, C: Ledger, A: Ledger, F: Functions<Core>>(
+fn add_told<R: AllocGlobal + Wait + Clock, C: Ledger, A: Ledger>(
     rt: &R,
-    funs: &F,
     shared: &Shared<Core, C, A>,
     mut share: Share<C, A>,
     flags: &Flags,
@@ -375,7 +355,7 @@ fn add_told<R: AllocGlobal + Wait + Clock, C: Ledger, A: Ledger, F: Functions<Co
         times: 0,
         last: None,
     };
-    let receipt = add_to(rt, alloc, funs, shared, &mut share, &mut sink);
+    let receipt = add_to(rt, alloc, shared, &mut share, &mut sink);
     if !sink.in_time {
         return (share, Err(Stop::Late));
     }
@@ -415,10 +395,8 @@ fn tell<
     C: Ledger + Send + Sync,
     A: Ledger + Send + Sync,
     R: AllocGlobal + Threads + Wait + Clock + Sync,
-    F: Functions<Core> + Sync,
 >(
     rt: &R,
-    funs: &F,
     shared: &Shared<Core, C, A>,
     share: Share<C, A>,
 ) -> (
@@ -429,7 +407,7 @@ fn tell<
     let lent = &flags;
     let (mine, seen) = thread::join(
         rt,
-        move || add_told(rt, funs, shared, share, lent),
+        move || add_told(rt, shared, share, lent),
         move || look(rt, shared, lent),
     );
     (mine, seen)
@@ -439,15 +417,14 @@ fn try_telling<
     C: Ledger + Send + Sync,
     A: Ledger + Send + Sync,
     R: AllocGlobal + Threads + Wait + Clock + Sync,
->(rt: &R, by: By, commits: Blank, added: Blank) -> Result<Telling, Stop>
+>(rt: &R, alloc: Global, commits: Blank, added: Blank) -> Result<Telling, Stop>
     requires commits { (commits.name ≡ C.name) × (commits.parts ≡ C.parts) × (commits.parts ≡ all_parts) }
     requires added { (added.name ≡ A.name) × (added.parts ≡ A.parts) × (added.parts ≡ all_parts) }
 {
-    let alloc = by.alloc;
     let start = plain_start(alloc, "0", "")?;
-    let (shared, share) = opened::<C, A>(by, start, commits, added)?;
+    let (shared, share) = opened::<C, A>(alloc, start, commits, added)?;
     let _ = done(shared.add_watch(rt, alloc, Who::Ref(0), value(alloc, ":k")?))?;
-    let (mine, seen) = tell(rt, by.funs, &shared, share);
+    let (mine, seen) = tell(rt, &shared, share);
     let (share, told) = mine;
     let (_, totals) = closed(alloc, shared, share)?;
     Ok(Telling {
@@ -460,10 +437,8 @@ fn try_telling<
 #[test]
 fn others_read_while_a_watch_is_told(rt: HostRuntime) -> Result<(), Fail> {
     let alloc = rt.alloc();
-    let funs = table(alloc)?;
-    let by = By { alloc, funs: &funs };
     let (commits, added) = (Blank::new(ALL_PARTS), Blank::new(ALL_PARTS));
-    let telling = try_telling::<Brand, Brand, _>(&rt, by, commits, added)?;
+    let telling = try_telling::<Brand, Brand, _>(&rt, alloc, commits, added)?;
     let notice = (Who::Ref(0), true, Some(0), Some(1));
     let wanted = Telling {
         told: Ok(Delivered {

@@ -1,15 +1,11 @@
 //! Making shared worlds and values, and what is read of them.
-ghost use Rattle.std.specs.Prelude.{◌≡◌, ◌≤◌, length};
-ghost use Rattle.ref_fun.specs.Core.{core_accepts, core_means};
-ghost use Rattle.ref_fun.specs.Meaning.{Answers};
+ghost use Rattle.std.specs.Prelude.{◌≡◌};
 ghost use Rattle.ref_world.specs.Shares.{all_parts};
 
+use crate::numbers::int_of;
 use ref_agents::ErrorMode;
 use ref_edn::{Node, Value, read_all, read_one};
-use ref_fun::{
-    Action, Args, Core, Fun, FunFault, FunTable, Functions, Pred, Rule, StoredFun, StoredPred,
-    core_fun, core_test,
-};
+use ref_fun::{Action, Args, Core, CoreFunctions, Rule};
 use ref_log::{Entry, Notice, Stamp, Who};
 use ref_shared::Shared;
 use ref_tx::Tx;
@@ -30,13 +26,6 @@ pub(crate) const AT_LEAST: u32 = 101;
 
 /// The stamp of a commit where nothing hangs on it.
 pub(crate) const STAMP: Stamp = Stamp { worker: 0, step: 0 };
-
-/// By what a call is made.
-#[derive(Clone, Copy, Drop)]
-pub(crate) struct By<'a> {
-    pub(crate) alloc: Global,
-    pub(crate) funs: &'a FunTable,
-}
 
 /// Why a test can't go on.
 #[derive(Clone, Copy, Debug, Drop, PartialEq)]
@@ -93,41 +82,6 @@ pub(crate) fn at_least(alloc: Global, bound: &str) -> Result<Rule, AllocError> {
     })
 }
 
-fn add_fun(alloc: Global, table: &mut FunTable, code: u32) -> Result<(), AllocError> {
-    let run: Fun = Box::new(
-        alloc,
-        move |a: Global, state: &Value, args: &[Value]| -> Result<Value, FunFault>
-            requires { length args.now ≤ 8 }
-            ensures { Answers (core_means code args.now state.now) result }
-        { core_fun(a, code, state, args) },
-    )?;
-    table
-        .add_fun(StoredFun::new(code, run))
-        .map_err(|_| AllocError)
-}
-
-fn add_pred(alloc: Global, table: &mut FunTable, code: u32) -> Result<(), AllocError> {
-    let run: Pred = Box::new(
-        alloc,
-        move |state: &Value, args: &[Value]| -> bool
-            requires { length args.now ≤ 8 }
-            ensures { result ≡ core_accepts code args.now state.now }
-        { core_test(code, state, args) },
-    )?;
-    table
-        .add_pred(StoredPred::new(code, run))
-        .map_err(|_| AllocError)
-}
-
-/// The table of `+`, `-` and `>=`.
-pub(crate) fn table(alloc: Global) -> Result<FunTable, AllocError> {
-    let mut table = FunTable::empty(alloc);
-    add_fun(alloc, &mut table, PLUS)?;
-    add_fun(alloc, &mut table, MINUS)?;
-    add_pred(alloc, &mut table, AT_LEAST)?;
-    Ok(table)
-}
-
 pub(crate) fn plain_ref(value: Value) -> RefStart {
     RefStart {
         value,
@@ -163,7 +117,7 @@ pub(crate) fn agent(value: Value, rule: Option<Rule>) -> AgentStart {
 
 /// A shared world of these references, and its whole share.
 pub(crate) fn opened<C: Ledger, A: Ledger>(
-    by: By,
+    alloc: Global,
     start: Start,
     commits: Blank,
     added: Blank,
@@ -171,8 +125,13 @@ pub(crate) fn opened<C: Ledger, A: Ledger>(
     requires commits { (commits.name ≡ C.name) × (commits.parts ≡ C.parts) × (commits.parts ≡ all_parts) }
     requires added { (added.name ≡ A.name) × (added.parts ≡ A.parts) × (added.parts ≡ all_parts) }
 {
-    let By { alloc, funs } = by;
-    let (world, share) = done(World::<Core, C, A>::new(alloc, funs, start, commits, added))?;
+    let (world, share) = done(World::<Core, C, A>::new(
+        alloc,
+        &CoreFunctions,
+        start,
+        commits,
+        added,
+    ))?;
     Ok((Shared::new(world), share))
 }
 
@@ -186,14 +145,6 @@ pub(crate) fn closed<C: Ledger, A: Ledger>(
         return Err(Stop::Refused);
     }
     done(shared.finish(alloc, share))
-}
-
-/// The number that a value is, if it is one.
-pub(crate) fn int_of(value: &Value) -> Option<i64> {
-    match value.node() {
-        Node::Int(n) => Some(*n),
-        _ => None,
-    }
 }
 
 /// The number that a reference holds now, if it is there and holds one.
@@ -241,15 +192,9 @@ pub(crate) fn all_commits(alloc: Global, log: &[Entry]) -> Result<Vec<(Stamp, u6
 }
 
 /// `alter r + n`.
-pub(crate) fn add<F: Functions<Core>>(
-    alloc: Global,
-    funs: &F,
-    tx: &mut Tx<Core>,
-    r: u32,
-    n: &str,
-) -> Result<(), Stop> {
+pub(crate) fn add(alloc: Global, tx: &mut Tx<Core>, r: u32, n: &str) -> Result<(), Stop> {
     let args = one_arg(alloc, n)?;
-    let _ = done(tx.alter(alloc, funs, r, PLUS, args))?;
+    let _ = done(tx.alter(alloc, &CoreFunctions, r, PLUS, args))?;
     Ok(())
 }
 

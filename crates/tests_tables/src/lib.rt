@@ -5,6 +5,8 @@
 //! else at the first byte. A line that begins with `// ` is a remark.
 #![tactic(auto)]
 
+ghost use Rattle.std.specs.Prelude.{◌≡◌, ◌↔◌, IsTrue, IsOk};
+
 use ref_edn::{Node, Value, print};
 use std::alloc::{AllocError, Global};
 use std::fmt::Display;
@@ -91,7 +93,9 @@ pub fn text_of(alloc: Global, value: &Value) -> Result<String, AllocError> {
 }
 
 /// A failure that names what isn't right.
-pub fn right(is_right: bool, what: &str) -> Result<(), Fail> {
+pub fn right(is_right: bool, what: &str) -> Result<(), Fail>
+    ensures { IsOk result ↔ IsTrue is_right }
+{
     if is_right {
         Ok(())
     } else {
@@ -100,7 +104,9 @@ pub fn right(is_right: bool, what: &str) -> Result<(), Fail> {
 }
 
 /// A failure where a text didn't give what is wanted.
-pub fn same(text: &str, got: &str, want: &str) -> Result<(), Fail> {
+pub fn same(text: &str, got: &str, want: &str) -> Result<(), Fail>
+    ensures { IsOk result ↔ (got.now ≡ want.now) }
+{
     if got == want {
         Ok(())
     } else {

@@ -8,6 +8,7 @@ mod changes;
 mod members;
 #[cfg(test)]
 mod nesting;
+pub mod pieces;
 #[cfg(test)]
 mod printing;
 #[cfg(test)]

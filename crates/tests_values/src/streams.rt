@@ -1,103 +1,10 @@
 //! Reading and writing in pieces, with failures in mid-stream.
-ghost use Rattle.std.specs.Prelude.{None};
-
-use ref_edn::{Counted, Failed, InputFault, Sink, Source, read_to_end, write_all};
+use crate::pieces::{Breaks, Narrow, Pieces};
+use ref_edn::{Counted, Failed, InputFault, Source, read_to_end, write_all};
 use std::alloc::{AllocError, Global};
-use std::io;
-use std::io::{Cursor, ErrorKind, Read};
+use std::io::Cursor;
 use std::test::Fail;
 use tests_tables::{right, same};
-
-// Gives at most `piece` bytes at a read, and fails once `good` reads have been given.
-#[derive(Drop)]
-struct Pieces<'a> {
-    bytes: &'a [u8],
-    piece: usize,
-    good: u64,
-    failures: u64,
-}
-
-impl<'a> Pieces<'a> {
-    fn new(bytes: &'a [u8], piece: usize, good: u64) -> Pieces<'a> {
-        Pieces {
-            bytes,
-            piece,
-            good,
-            failures: 0,
-        }
-    }
-}
-
-impl<'a> Source for Pieces<'a> {
-    ghost left = { λ _. None };
-
-    ghost failures = { λ s. s.failures };
-
-    fn read(&mut self, buf: &mut [u8]) -> Result<usize, Failed> {
-        if self.good == 0 {
-            self.failures = self.failures.saturating_add(1);
-            return Err(Failed);
-        }
-        self.good -= 1;
-        let n = buf.len().min(self.piece).min(self.bytes.len());
-        buf[..n].copy_from_slice(&self.bytes[..n]);
-        self.bytes = &self.bytes[n..];
-        Ok(n)
-    }
-}
-
-// Takes at most `piece` bytes at a write, and fails once it has `room` bytes.
-#[derive(Drop)]
-struct Narrow {
-    taken: Vec<u8>,
-    piece: usize,
-    room: usize,
-    failures: u64,
-}
-
-impl Narrow {
-    fn new(alloc: Global, piece: usize, room: usize) -> Narrow {
-        Narrow {
-            taken: Vec::new(alloc),
-            piece,
-            room,
-            failures: 0,
-        }
-    }
-}
-
-impl Sink for Narrow {
-    ghost written = { λ _. None };
-
-    ghost failures = { λ s. s.failures };
-
-    fn write(&mut self, buf: &[u8]) -> Result<usize, Failed> {
-        let n = buf.len().min(self.piece).min(self.room);
-        if n == 0 || self.taken.extend_from_slice(&buf[..n]).is_err() {
-            self.failures = self.failures.saturating_add(1);
-            return Err(Failed);
-        }
-        self.room -= n;
-        Ok(n)
-    }
-}
-
-// A reader of `std` that gives one byte at a time, and then fails.
-#[derive(Drop)]
-struct Breaks {
-    good: u64,
-}
-
-impl Read for Breaks {
-    fn read(&mut self, buf: &mut [u8]) -> io::Result<usize> {
-        if self.good == 0 || buf.is_empty() {
-            return Err(ErrorKind::Other.into());
-        }
-        self.good -= 1;
-        buf[0] = b'x';
-        Ok(1)
-    }
-}
 
 const LONG: usize = 200_000;
 

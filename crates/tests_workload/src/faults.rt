@@ -1,5 +1,5 @@
 //! Which of several faults of a plan is told, and what faults say.
-use ref_edn::read_one;
+use ref_edn::{ReadFault, read_one};
 use ref_log::Who;
 use ref_workload::plan::plan;
 use ref_workload::{PlanFault, RunFault};
@@ -208,6 +208,7 @@ fn faults_of_plans_say_what_they_are(rt: HostRuntime) -> Result<(), Fail> {
 const RUN_FAULTS: &[(RunFault, u8)] = &[
     (RunFault::Read, 1),
     (RunFault::InputTooLong, 2),
+    (RunFault::NotEdn(ReadFault::Nothing(0)), 3),
     (RunFault::Plan(PlanFault::BadVersion), 4),
     (RunFault::Write, 5),
     (RunFault::Memory, 6),

@@ -1,7 +1,7 @@
 //! Plans whose threads are held by gates, so that it is told which of them comes first.
 use crate::gates::Role;
 use crate::runs::{How, Seen, run};
-use crate::tables::{core_table, table_without};
+use crate::tables::{ALL_OF_CORE, CoreWithout};
 use ref_log::Stamp;
 use ref_workload::RunFault;
 use std::process::Abort;
@@ -25,9 +25,8 @@ const MEETING: &[Role] = &[Role::Open, Role::Meeting(2), Role::Meeting(2)];
 #[test]
 fn who_is_overtaken_begins_anew(rt: HostRuntime) -> Result<(), Fail> {
     let alloc = rt.alloc();
-    let funs = core_table(alloc)?;
     let how = How {
-        funs: &funs,
+        funs: ALL_OF_CORE,
         tries: 2,
         roles: OVERTAKEN,
     };
@@ -61,9 +60,8 @@ fn check<R: AllocGlobal + Threads + Wait + Clock + Sync + Abort>(
     roles: &[Role],
 ) -> Result<(), Fail> {
     let alloc = rt.alloc();
-    let funs = core_table(alloc)?;
     let how = How {
-        funs: &funs,
+        funs: ALL_OF_CORE,
         tries: row.tries,
         roles,
     };
@@ -221,9 +219,8 @@ const LACKING_ROWS: &[(u32, &str)] = &[
 fn a_table_that_lacks_a_function_ends_the_run(rt: HostRuntime) -> Result<(), Fail> {
     let alloc = rt.alloc();
     for (code, text) in LACKING_ROWS {
-        let funs = table_without(alloc, *code)?;
         let how = How {
-            funs: &funs,
+            funs: CoreWithout { code: *code },
             tries: 1000,
             roles: &[],
         };

@@ -101,7 +101,7 @@ impl<'a, 'b, R: Clock> Turn<'a, 'b, R> {
 }
 
 // Waits until a count is so high, for some seconds at most; after that nobody waits any more.
-fn wait_for<R: Clock>(rt: &R, board: &Board, count: &AtomicU32, least: u32) {
+pub(crate) fn wait_for<R: Clock>(rt: &R, board: &Board, count: &AtomicU32, least: u32) {
     for _ in 0..200_000u32 {
         if count.load(Ordering::SeqCst) >= least || board.late.load(Ordering::SeqCst) {
             return;

@@ -9,8 +9,10 @@
 //! | `gated` | plans by `run_plan`, where gates force the order |
 //! | `sums` | four workers beside a pool, and what holds whatever the order |
 //! | `streams` | `run_workload`, from a reader to a writer, some of which fail |
+//! | `progress` | how far a run is, at its end and where it ends early |
+//! | `tries` | `run_workload` tries a transaction as often as its options say |
 //! | `faults` | what `plan` refuses, and what faults say |
-//! | `runs`, `gates`, `tables` | running a text, with gates; the tables of functions |
+//! | `runs`, `gates`, `tables` | running a text, with gates; tables of functions that lack one |
 #![tactic(auto)]
 
 #[cfg(test)]
@@ -20,10 +22,13 @@ mod gated;
 #[cfg(test)]
 mod gates;
 #[cfg(test)]
+mod progress;
+#[cfg(test)]
 mod runs;
 #[cfg(test)]
 mod streams;
 #[cfg(test)]
 mod sums;
+pub mod tables;
 #[cfg(test)]
-mod tables;
+mod tries;

@@ -3,9 +3,10 @@ ghost use Rattle.std.specs.Prelude.{◌≡◌};
 ghost use Rattle.ref_world.specs.Shares.{all_parts};
 
 use crate::gates::{Board, Role, Turn};
+use crate::tables::CoreWithout;
 use ref_audit::{Verdict, audit, dump, report};
 use ref_edn::read_one;
-use ref_fun::{FunTable, has_core};
+use ref_fun::has_core;
 use ref_log::{Entry, Stamp};
 use ref_workload::plan::plan;
 use ref_workload::{Plan, RunFault, RunOut, run_plan};
@@ -23,7 +24,7 @@ use std::time::Clock;
 /// role here is let pass.
 #[derive(Clone, Copy, Drop)]
 pub(crate) struct How<'a> {
-    pub(crate) funs: &'a FunTable,
+    pub(crate) funs: CoreWithout,
     pub(crate) tries: u32,
     pub(crate) roles: &'a [Role],
 }
@@ -77,11 +78,11 @@ where
     if gates.len() != count {
         return Err(Fail::new("each thread has a gate"));
     }
-    let ran = run_plan::<FunTable, C, A, R, Turn<'_, '_, R>>(
-        rt, alloc, how.funs, plan, how.tries, gates, commits, added,
+    let ran = run_plan::<CoreWithout, C, A, R, Turn<'_, '_, R>>(
+        rt, alloc, &how.funs, plan, how.tries, gates, commits, added,
     );
     match ran {
-        Ok(out) => Ok(Ok(look_at(alloc, how.funs, plan, &out)?)),
+        Ok(out) => Ok(Ok(look_at(alloc, &how.funs, plan, &out)?)),
         Err(fault) => Ok(Err(fault)),
     }
 }
@@ -113,7 +114,7 @@ fn make_gates<'a, 'b, R: Clock>(
 // What is seen of the world that a run ended with.
 fn look_at<C: Ledger, A: Ledger>(
     alloc: Global,
-    funs: &FunTable,
+    funs: &CoreWithout,
     plan: &Plan,
     out: &RunOut<C, A>,
 ) -> Result<Seen, Fail> {
@@ -138,7 +139,7 @@ fn look_at<C: Ledger, A: Ledger>(
 
 fn verdict_of<C: Ledger, A: Ledger>(
     alloc: Global,
-    funs: &FunTable,
+    funs: &CoreWithout,
     out: &RunOut<C, A>,
 ) -> Result<Verdict, Fail> {
     if !has_core(funs) {

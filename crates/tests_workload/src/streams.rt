@@ -1,10 +1,9 @@
 //! Workloads from a reader to a writer, some of which fail.
-use crate::tables::core_table;
 use ref_audit::Verdict;
 use ref_edn::{Counted, ReadFault, Sink, Source};
-use ref_fun::has_core;
+use ref_fun::CoreFunctions;
 use ref_log::Who;
-use ref_workload::{Options, PlanFault, Progress, RunFault, run_workload, run_workload_with};
+use ref_workload::{Options, PlanFault, RunFault, run_workload};
 use std::alloc::Global;
 use std::io;
 use std::io::{Cursor, ErrorKind, Read, Write};
@@ -31,10 +30,7 @@ fn run<R: AllocGlobal + Threads + Wait + Sync, I: Source, O: Sink>(
     options: Options,
 ) -> Result<Result<Verdict, RunFault>, Fail> {
     let alloc = rt.alloc();
-    let funs = core_table(alloc)?;
-    if !has_core(&funs) {
-        return Err(Fail::new("the table has all of Core"));
-    }
+    let funs = CoreFunctions::new();
     Ok(run_workload(rt, alloc, &funs, reader, writer, options))
 }
 
@@ -92,44 +88,6 @@ fn writes_a_report_or_a_dump(rt: HostRuntime) -> Result<(), Fail> {
     for (text, options, wanted) in WRITTEN {
         check_written(&rt, text, *options, wanted)?;
     }
-    Ok(())
-}
-
-// ---- how far a run is
-
-// The steps of the plan, those that have ended, the refused ones, and the commits.
-fn counts(progress: &Progress) -> (u64, u64, u64, u64) {
-    (
-        progress.steps(),
-        progress.ended(),
-        progress.refused(),
-        progress.commits(),
-    )
-}
-
-const FIVE_STEPS: &str =
-    "{:version 1 :refs [[a 0]] :atoms [[x 0]] :workers [[[:tx [:alter a + 1]] [:tx [:alter a + :k]] [:swap x inc]] [[:tx] [:swap x conj 1]] []]}";
-
-#[test]
-fn a_run_tells_how_far_it_is(rt: HostRuntime) -> Result<(), Fail> {
-    let alloc = rt.alloc();
-    let funs = core_table(alloc)?;
-    assert!(rt; has_core(&funs));
-    let mut reader = Counted::new(FIVE_STEPS.as_bytes());
-    let mut writer = Counted::new(Vec::new(alloc));
-    let progress = Progress::new();
-    assert_eq!(rt; counts(&progress), (0, 0, 0, 0));
-    let answer = run_workload_with(
-        &rt,
-        alloc,
-        &funs,
-        &mut reader,
-        &mut writer,
-        REPORT,
-        &progress,
-    );
-    assert_eq!(rt; answer, Ok(Verdict::Ok));
-    assert_eq!(rt; counts(&progress), (5, 5, 2, 2));
     Ok(())
 }
 

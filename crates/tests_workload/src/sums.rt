@@ -1,6 +1,6 @@
 //! Four workers beside a pool, and what holds whatever the order.
 use crate::runs::{How, Seen, run};
-use crate::tables::core_table;
+use crate::tables::ALL_OF_CORE;
 use ref_edn::{Node, Value, read_all};
 use std::alloc::{AllocError, Global};
 use std::sync::Wait;
@@ -27,9 +27,8 @@ fn run_four<R: AllocGlobal + Threads + Wait + Clock + Sync>(
     text: &str,
 ) -> Result<Seen, Fail> {
     let alloc = rt.alloc();
-    let funs = core_table(alloc)?;
     let how = How {
-        funs: &funs,
+        funs: ALL_OF_CORE,
         tries: 1_000_000,
         roles: &[],
     };

@@ -1,55 +1,48 @@
-//! Tables of Core's functions and predicates.
-ghost use Rattle.std.specs.Prelude.{◌≡◌, ◌≤◌, length};
-ghost use Rattle.ref_fun.specs.Core.{core_accepts, core_means};
-ghost use Rattle.ref_fun.specs.Meaning.{Answers};
+//! A table of Core's functions and predicates that may lack one.
+ghost use Rattle.ref_fun.specs.Names.{is_function, is_predicate};
+ghost use Rattle.std.specs.Prelude.{◌&&◌, ◌==◌, not};
 
 use ref_edn::Value;
-use ref_fun::{Fun, FunFault, FunTable, Pred, StoredFun, StoredPred, core_fun, core_test};
-use std::alloc::{AllocError, Global};
+use ref_fun::{CallFault, Core, CoreFunctions, Functions};
+use std::alloc::Global;
 
-fn add_fun(alloc: Global, table: &mut FunTable, code: u32) -> Result<(), AllocError> {
-    let run: Fun = Box::new(
-        alloc,
-        move |a: Global, state: &Value, args: &[Value]| -> Result<Value, FunFault>
-            requires { length args.now ≤ 8 }
-            ensures { Answers (core_means code args.now state.now) result }
-        { core_fun(a, code, state, args) },
-    )?;
-    table
-        .add_fun(StoredFun::new(code, run))
-        .map_err(|_| AllocError)
+/// All functions and predicates of Core but that of one code.
+#[derive(Clone, Copy, Drop)]
+pub struct CoreWithout {
+    pub code: u32,
 }
 
-fn add_pred(alloc: Global, table: &mut FunTable, code: u32) -> Result<(), AllocError> {
-    let run: Pred = Box::new(
-        alloc,
-        move |state: &Value, args: &[Value]| -> bool
-            requires { length args.now ≤ 8 }
-            ensures { result ≡ core_accepts code args.now state.now }
-        { core_test(code, state, args) },
-    )?;
-    table
-        .add_pred(StoredPred::new(code, run))
-        .map_err(|_| AllocError)
-}
+/// All of them: Core has nothing under this code.
+pub const ALL_OF_CORE: CoreWithout = CoreWithout { code: 0 };
 
-/// All functions and predicates but that of this code.
-pub(crate) fn table_without(alloc: Global, left_out: u32) -> Result<FunTable, AllocError> {
-    let mut table = FunTable::empty(alloc);
-    for code in 1..11u32 {
-        if code != left_out {
-            add_fun(alloc, &mut table, code)?;
-        }
+impl Functions<Core> for CoreWithout {
+    ghost knows = { λ table. record { funs = λ c. is_function c && not (c == table.code); preds = λ c. is_predicate c && not (c == table.code) } };
+
+    fn has_fun(&self, code: u32) -> bool {
+        CoreFunctions.has_fun(code) && code != self.code
     }
-    for code in 101..110u32 {
-        if code != left_out {
-            add_pred(alloc, &mut table, code)?;
-        }
-    }
-    Ok(table)
-}
 
-/// All functions and predicates.
-pub(crate) fn core_table(alloc: Global) -> Result<FunTable, AllocError> {
-    table_without(alloc, 0)
+    fn has_pred(&self, code: u32) -> bool {
+        CoreFunctions.has_pred(code) && code != self.code
+    }
+
+    fn call(
+        &self,
+        alloc: Global,
+        code: u32,
+        state: &Value,
+        args: &[Value],
+    ) -> Result<Value, CallFault> {
+        if code == self.code {
+            return Err(CallFault::NoSuchFun(code));
+        }
+        CoreFunctions.call(alloc, code, state, args)
+    }
+
+    fn test(&self, code: u32, state: &Value, args: &[Value]) -> Option<bool> {
+        if code == self.code {
+            return None;
+        }
+        CoreFunctions.test(code, state, args)
+    }
 }

@@ -1,4 +1,5 @@
 //! The calls of a row on transactions, refs and atoms.
+use crate::answers::{Form, number, truth, word};
 use crate::forms::{
     agent_at, args_from, atom_at, code_at, number_at, ref_at, rule_at, start_of, value_at, who_of,
     word_at,
@@ -6,9 +7,7 @@ use crate::forms::{
 use crate::jobs::{agents_answer, is_of_agents};
 use crate::subjects::{By, Kind, Open, STAMP, Subject};
 use crate::tables::Tables;
-use crate::words::{
-    Form, name, number, open_form, told_form, truth, values_form, variant_form, vector, word,
-};
+use crate::words::{name, numbered_form, open_form, told_form, values_form, variant_form, vector};
 use ref_atoms::{AtomFault, Swapped};
 use ref_edn::{Node, Value};
 use ref_fun::{Core, Rule};
@@ -121,7 +120,7 @@ fn operation(
         "set" => tx.ref_set(by.alloc, r, value_at(call, 2)?),
         "ensure" => tx.ensure(by.alloc, r),
         "alter" | "commute" | "require" => applied(by, tx, called, r, call),
-        "began" => Ok(values_form(by.alloc, tx.began())?),
+        "began" => Ok(numbered_form(by.alloc, tx.began())?),
         _ => Ok(word(by.alloc, "no-such-call")?),
     }
 }

@@ -9,6 +9,7 @@ use crate::whole::Worlds;
 use ref_edn::{Node, Value};
 use ref_fun::{Cause, Core, FunTable};
 use ref_log::{Base, Entry, Share, SharedVec, Transaction, replay_plain};
+use ref_pmap::Numbered;
 use ref_refs::CommitFault;
 use ref_tx::{Tx, TxFault};
 use std::alloc::{AllocError, Global};
@@ -131,6 +132,14 @@ struct Counts {
     refused: usize,
 }
 
+fn numbered(alloc: Global, values: &SharedVec<Value>) -> Result<Numbered<Value>, AllocError> {
+    let mut all = Numbered::empty();
+    for value in values {
+        all = all.with_next(alloc, value.share()?)?;
+    }
+    Ok(all)
+}
+
 // Draws a transaction and counts its operations. Says whether the slow replay gives its values.
 fn is_one_replayed(
     by: By,
@@ -138,7 +147,8 @@ fn is_one_replayed(
     seed: &mut u64,
     counts: &mut Counts,
 ) -> Result<bool, AllocError> {
-    let mut tx: Tx<Core> = Tx::start(by.alloc, 0, base.refs.share()?, base.tally, 0);
+    let began = numbered(by.alloc, &base.refs)?;
+    let mut tx: Tx<Core> = Tx::start(by.alloc, 0, began, base.tally, 0);
     let refused = operate_often(by, &mut tx, seed)?;
     counts.refused = counts.refused.saturating_add(refused);
     counts.recorded = counts.recorded.saturating_add(tx.dones().len());

@@ -1,10 +1,11 @@
 //! The calls of a row on agents.
+use crate::answers::{Form, number, truth, word};
 use crate::apart::Apart;
 use crate::calls::{Answer, left, made, refused, settled, wrong};
 use crate::forms::{action_from, agent_at, number_at, read, value_at, word_at};
 use crate::rows::starts_of;
 use crate::subjects::{By, Subject};
-use crate::words::{Form, name, number, told_form, truth, variant_form, vector, word};
+use crate::words::{name, told_form, variant_form, vector};
 use ref_agents::{ErrorMode, FinishFault, Finished, Job, Ran};
 use ref_edn::Value;
 use ref_fun::Core;

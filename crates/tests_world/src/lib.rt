@@ -10,11 +10,13 @@
 //! | `limits`, `pieces`, `replay`, `drawn` | full stores and the last point, small types, logs by hand, drawn transactions |
 //! | `rows`, `calls`, `jobs` | what runs rows: the calls of transactions, refs and atoms, and those of agents |
 //! | `forms`, `words`, `tables` | reading what a row is written with, writing what is answered, tables of functions |
+//! | [`answers`] | writing words, numbers and truths. It stands outside of the tests, so that a wrong body of it can be tried |
 //! | `subjects`, `whole`, `apart` | what rows are run on: a world, or the stores side by side |
 #![tactic(auto)]
 
 #[cfg(test)]
 mod agents;
+pub mod answers;
 #[cfg(test)]
 mod apart;
 #[cfg(test)]

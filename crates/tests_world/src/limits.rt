@@ -2,10 +2,11 @@
 ghost use Rattle.std.specs.Prelude.{◌≡◌, true};
 ghost use Rattle.ref_refs.specs.Seen.{are_unchanged_since};
 
+use crate::answers::number;
 use crate::forms::{number_at, read, rule_at};
 use crate::rows::check_apart;
 use crate::tables::table_of;
-use crate::words::{form, number, variant_form};
+use crate::words::{form, variant_form};
 use ref_agents::{AgentStore, ErrorMode};
 use ref_atoms::AtomStore;
 use ref_edn::{Node, Value};

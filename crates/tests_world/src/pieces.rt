@@ -1,6 +1,6 @@
 //! What the stores are made with: shared lists, watches, and changes that are prepared before they are installed.
+use crate::answers::number;
 use crate::forms::{members, read, value_at};
-use crate::words::number;
 use ref_atoms::AtomStore;
 use ref_edn::Value;
 use ref_fun::{Core, FunTable};

@@ -4,11 +4,12 @@
 //! fault. The base has the refs a, 0, and b, 10, and the atom x, 1. An operation ends with the answer that is kept.
 ghost use Rattle.std.specs.Prelude.{◌≡◌, IfOk};
 
+use crate::answers::Form;
 use crate::forms::{
     args_from, atom_at, code_at, members, number_at, read, ref_at, row_of, value_at, word_at,
 };
 use crate::tables::table_of;
-use crate::words::{Form, values_form, variant_form, vector};
+use crate::words::{values_form, variant_form, vector};
 use ref_edn::Value;
 use ref_fun::FunTable;
 use ref_log::{

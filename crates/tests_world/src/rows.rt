@@ -33,13 +33,14 @@
 //!
 //! Where a call is refused or only tells something, the subject has to be as it was before. At the end the slow replay of its
 //! log has to give its values. A row that isn't written so ends its test with an `AllocError`.
+use crate::answers::Form;
 use crate::apart::Aparts;
 use crate::calls::{Stage, answer};
 use crate::forms::{members, read, row_of, starts_at, word_at};
 use crate::subjects::{By, Extent, Ground, Look, Open, Starts, Subject, Visit};
 use crate::tables::{Tables, table_of};
 use crate::whole::Worlds;
-use crate::words::{Form, form, name, value_form, variant_form, vector};
+use crate::words::{form, name, value_form, variant_form, vector};
 use ref_edn::Value;
 use ref_fun::{Core, FunTable};
 use ref_log::{MakeFault, Who, replay_plain};

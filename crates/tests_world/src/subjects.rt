@@ -1,7 +1,8 @@
 //! What rows are run on.
+use crate::answers::{Form, number, word};
 use crate::forms::Start;
 use crate::tables::Tables;
-use crate::words::{Form, account_form, number, rule_form, value_form, variant_form, word};
+use crate::words::{account_form, rule_form, value_form, variant_form};
 use ref_agents::{
     Account, AgentError, ErrorMode, FinishFault, Finished, Job, ModeFault, Ran, RestartFault,
     SendFault,

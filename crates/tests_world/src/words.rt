@@ -1,33 +1,17 @@
-//! Writing answers as forms: words, values, rules, notices, accounts and transactions.
+//! Writing answers as forms: values, rules, notices, accounts and transactions.
+use crate::answers::{Form, number, word};
 use crate::forms::{name_of, read};
 use crate::subjects::Open;
 use ref_agents::Account;
-use ref_edn::{Items, Node, Text, Value, read_one};
+use ref_edn::{Items, Node, Value, read_one};
 use ref_fun::Rule;
 use ref_log::{Notice, SharedVec, Who};
+use ref_pmap::Numbered;
 use std::alloc::{AllocError, Global};
 use std::fmt::Debug;
 
-/// A value that is told.
-pub(crate) type Form = Result<Value, AllocError>;
-
 pub(crate) fn form(alloc: Global, text: &str) -> Form {
     read_one(alloc, text.as_bytes()).map_err(|_| AllocError)
-}
-
-/// `:ok`: a word.
-pub(crate) fn word(alloc: Global, word: &str) -> Form {
-    let word = Text::copy_of(alloc, word)?;
-    Value::of(Node::Keyword(word)).map_err(|_| AllocError)
-}
-
-pub(crate) fn number(n: u64) -> Form {
-    let n = i64::try_from(n).map_err(|_| AllocError)?;
-    Value::of(Node::Int(n)).map_err(|_| AllocError)
-}
-
-pub(crate) fn truth(yes: bool) -> Form {
-    Value::of(Node::Bool(yes)).map_err(|_| AllocError)
 }
 
 pub(crate) fn name(alloc: Global, who: Who) -> Form {
@@ -83,6 +67,14 @@ pub(crate) fn value_form(alloc: Global, value: Option<&Value>) -> Form {
 }
 
 pub(crate) fn values_form(alloc: Global, values: &SharedVec<Value>) -> Form {
+    let mut all = Vec::new(alloc);
+    for value in values {
+        all.push(value.share()?)?;
+    }
+    vector(alloc, all)
+}
+
+pub(crate) fn numbered_form(alloc: Global, values: &Numbered<Value>) -> Form {
     let mut all = Vec::new(alloc);
     for value in values {
         all.push(value.share()?)?;

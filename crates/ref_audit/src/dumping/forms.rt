@@ -1,5 +1,5 @@
 //! What has a form in a dump, and the forms that others are made of.
-ghost use Rattle.std.specs.Prelude.{◌≡◌, true, map, IfErr, IfOk, option_copied};
+ghost use Rattle.std.specs.Prelude.{◌≡◌, ◌<◌, true, map, IfErr, IfOk, OnErr, option_copied};
 ghost use Rattle.ref_edn.specs.Edn.{Edn, nesting, nil, symbol};
 ghost use Rattle.ref_edn.specs.Lawful.{IsLawful};
 ghost use Rattle.ref_edn.specs.Names.{is_symbol};
@@ -39,10 +39,11 @@ pub(crate) fn nil() -> Value
     plain(Node::Nil)
 }
 
-// The integer of a number. Points end at 2^62, and no count of a world passes that; a number past an integer's would be told as
-// want of memory.
+// The integer of a number. Points end at 2^62, and no count of a world passes that; a number past an integer's, and no other, would
+// be told as want of memory.
 pub(crate) fn number(n: u64) -> Result<Value, AllocError>
-    ensures { IfOk result (λ v. v ≡ number_form n) }
+    ensures ok { IfOk result (λ v. v ≡ number_form n) }
+    ensures err { OnErr result (9223372036854775807 < n) }
 {
     match i64::try_from(n) {
         Ok(n) => Ok(plain(Node::Int(n))),

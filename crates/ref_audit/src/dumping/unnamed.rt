@@ -1,9 +1,9 @@
 //! Codes of actions that no function of Core has.
 ghost use Rattle.std.specs.Prelude.{◌≡◌, ℕ, Option, min};
 ghost use Rattle.ref_audit.specs.Dumped.{least, lesser, unnamed_code, unnamed_in_account, unnamed_in_entry, unnamed_in_handled, unnamed_in_queued, unnamed_in_sent};
-ghost use Rattle.ref_audit.specs.Words.{is_function};
 
 use ref_agents::{Account, Handled, Queued};
+use ref_fun::is_function;
 use ref_log::{Entry, Sent};
 
 // What may name actions.
@@ -48,12 +48,6 @@ impl Naming for Queued {
     fn unnamed(&self) -> Option<u32> {
         unnamed_code(self.action.code)
     }
-}
-
-fn is_function(code: u32) -> bool
-    ensures { result ≡ is_function code }
-{
-    1 <= code && code <= 10
 }
 
 fn unnamed_code(code: u32) -> Option<u32>

@@ -1,16 +1,16 @@
 //! Functions, predicates and their arguments.
 ghost use Rattle.std.specs.Bool.{OnTrue};
 ghost use Rattle.std.specs.Prelude.{◌≡◌, ◌≤◌, true, None, Some, IfOk, IfSome, OnOk};
-ghost use Rattle.ref_audit.specs.DumpForm.{action_of, args_said, code_named, code_of, is_predicate, queued_of, rule_of, rule_said};
+ghost use Rattle.ref_audit.specs.DumpForm.{action_of, args_said, code_named, code_of, queued_of, rule_of, rule_said};
 ghost use Rattle.ref_audit.specs.Reading.{Reads};
-ghost use Rattle.ref_audit.specs.Words.{is_function};
+ghost use Rattle.ref_fun.specs.Names.{is_function, is_predicate};
 
 use crate::reading::lists::FromForm;
 use crate::reading::plain::elements_in;
 use crate::reading::wrongs::Wrong;
 use ref_edn::vectors::Iter;
 use ref_edn::{Node, Value};
-use ref_fun::{Action, Args, MOST_ARGUMENTS, Rule};
+use ref_fun::{Action, Args, MOST_ARGUMENTS, Rule, is_function, is_predicate};
 use std::alloc::Global;
 
 fn named_code(form: &Value) -> Option<u32>
@@ -27,11 +27,7 @@ fn function_in(form: &Value) -> Option<u32>
     ensures { result ≡ code_of is_function form.now }
 {
     let code = named_code(form)?;
-    if code >= 1 && code <= 10 {
-        Some(code)
-    } else {
-        None
-    }
+    if is_function(code) { Some(code) } else { None }
 }
 
 /// The code of the predicate of Core that a symbol names.
@@ -39,11 +35,7 @@ fn predicate_in(form: &Value) -> Option<u32>
     ensures { result ≡ code_of is_predicate form.now }
 {
     let code = named_code(form)?;
-    if code >= 101 && code <= 109 {
-        Some(code)
-    } else {
-        None
-    }
+    if is_predicate(code) { Some(code) } else { None }
 }
 
 /// At most 8 arguments.

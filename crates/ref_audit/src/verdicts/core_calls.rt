@@ -4,8 +4,8 @@ ghost use Rattle.ref_fun.specs.Calls.{HasCore};
 ghost use Rattle.ref_fun.specs.Core.{core_accepts, core_means};
 ghost use Rattle.ref_fun.specs.Meaning.{Answers};
 ghost use Rattle.ref_fun.specs.Rule.{passes};
+ghost use Rattle.ref_fun.specs.Names.{is_function};
 ghost use Rattle.ref_audit.specs.OfCore.{is_rule_of_core};
-ghost use Rattle.ref_audit.specs.Words.{is_function};
 
 use ref_edn::Value;
 use ref_fun::{Action, CallFault, Core, FunFault, Functions, Rule, passes};

@@ -1,13 +1,14 @@
-use Rattle.std.proofs.Common.{length, subst}
+use Rattle.std.proofs.Common.{ℕ, Bool, ap, subst}
 use Rattle.std.proofs.lemmas.List.{take_all}
 use Rattle.ref_refs.specs.Commit.{changed_after}
-use Rattle.ref_refs.proofs.Refs.{all_here}
-use Rattle.ref_refs.proofs.Smallest.{IsFirst, first_is}
+use Rattle.ref_refs.proofs.Smallest.{IsFirst, first_protected_is}
 use Rattle.ref_refs.proofs.checking.first_changed.Goals as goal
 
 pub returns : goal.returns
-returns c =
-    let ds = c.args.dones.now in
-    let holds = changed_after c.args.lasts.now c.args.read_point in
-    let is : IsFirst holds ds c.loop-done.first = subst (λ l. IsFirst holds l c.loop-done.first) (take_all c.loop-done.done-index ds c.loop-done-test.false) c.loop-done.invariant in
-    first_is holds ds c.loop-done.first (length c.args.values.now) is (all_here c.args.values.now ds c.requires)
+returns g c =
+    let rs = c.protected-protected.result.now in
+    let holds : ℕ → Bool = changed_after c.args.lasts.now c.args.tx.now.read_point in
+    let first = c.loop-r.first in
+    let all = subst (λ l. IsFirst (changed_after c.args.lasts.now c.read_point-read_point.result) l first) (take_all c.loop-r.r-index rs c.loop-r-test.false) c.loop-r.invariant in
+    let is : IsFirst holds rs first = subst (λ h. IsFirst h rs first) (ap (changed_after c.args.lasts.now) c.read_point-read_point.ensures) all in
+    first_protected_is c.args.values.now c.args.tx.now.dones rs holds first c.protected-protected.ensures c.requires is

@@ -3,5 +3,5 @@ use Rattle.ref_refs.specs.Commit.{changed_after}
 use Rattle.ref_refs.proofs.Smallest.{IsFirst}
 use Rattle.ref_refs.proofs.checking.first_changed.Given as goal
 
-abbrev pub invariant-loop-done : goal.invariant-loop-done
-invariant-loop-done l = IsFirst (changed_after l.lasts l.read_point) (take l.done-index l.dones) l.first
+abbrev pub invariant-loop-r : goal.invariant-loop-r
+invariant-loop-r g l = IsFirst (changed_after l.lasts l.read_point) (take l.r-index l.protected) l.first

@@ -3,5 +3,5 @@ use Rattle.ref_refs.specs.Commit.{differs_at}
 use Rattle.ref_refs.proofs.Smallest.{IsFirst}
 use Rattle.ref_refs.proofs.checking.first_differing.Given as goal
 
-abbrev pub invariant-loop-done : goal.invariant-loop-done
-invariant-loop-done l = IsFirst (differs_at l.values l.began) (take l.done-index l.dones) l.first
+abbrev pub invariant-loop-r : goal.invariant-loop-r
+invariant-loop-r g l = IsFirst (differs_at l.values l.began) (take l.r-index l.protected) l.first

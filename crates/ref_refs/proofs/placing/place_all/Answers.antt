@@ -35,14 +35,14 @@ place_one-requires-clause-kept g c =
     let ds = c.dones-dones.result.now in
     let d = c.done-item.result in
     let are : AreAnswers g.M.Meaning.means c.args.tx.now.began [] ds = subst (AreAnswers g.M.Meaning.means c.args.tx.now.began []) (sym c.dones-dones.ensures.value) c.dones-dones.ensures.kept.answered in
-    kept_at g.M.Meaning.means c.args.tx.now.began ds are c.loop-done.done-index d c.loop-done.after.items (not c.contains-is_free.result) c.loop-done-test.true c.done-item.is (ap not (c.contains-is_free.ensures ∙ c.in_ok-protected.ensures d.r)) c.loop-done.invariant.agrees
+    kept_at g.M.Meaning.means c.args.tx.now.began ds are c.loop-done.done-index d c.loop-done.after (not c.is_protected-is_free.result) c.loop-done-test.true c.done-item.is (ap not (c.is_protected-is_free.ensures ∙ ap (λ l. is_protected l d.r) (sym c.dones-dones.ensures.value))) c.loop-done.invariant.agrees
 
 pub returns-in_err-place_one-clause-fault : goal.returns-in_err-place_one-clause-fault
 returns-in_err-place_one-clause-fault g c =
     let means = g.M.Meaning.means in
     let ds = c.dones-dones.result.now in
     let p = err_from_is_err_and c.from_residual-in_err-place_one.result c.from_residual-in_err-place_one.ensures.1 in
-    rw (p.1, p.2) (λ n. ap (λ l. refused means l c.args.values.now) (sym c.dones-dones.ensures.value) ∙ refused_now means ds c.loop-done.done-index c.done-item.result c.loop-done.after.items (refused means ds c.args.values.now) _ c.loop-done-test.true c.done-item.is (c.in_err-place_one.ensures.fault n) c.loop-done.invariant.unrefused)
+    rw (p.1, p.2) (λ n. ap (λ l. refused means l c.args.values.now) (sym c.dones-dones.ensures.value) ∙ refused_now means ds c.loop-done.done-index c.done-item.result c.loop-done.after (refused means ds c.args.values.now) _ c.loop-done-test.true c.done-item.is (c.in_err-place_one.ensures.fault n) c.loop-done.invariant.unrefused)
 
 pub loop-done-preserved : goal.loop-done-preserved
 loop-done-preserved g c =
@@ -50,10 +50,10 @@ loop-done-preserved g c =
     let ds = c.dones-dones.result.now in
     let i = c.loop-done.done-index in
     let d = c.done-item.result in
-    let before = c.loop-done.after.items in
-    let after = c.place_one.new.values.items in
-    let free = not c.contains-is_free.result in
-    let frees = ap not (c.contains-is_free.ensures ∙ c.in_ok-protected.ensures d.r) in
+    let before = c.loop-done.after in
+    let after = c.place_one.new.values in
+    let free = not c.is_protected-is_free.result in
+    let frees = ap not (c.is_protected-is_free.ensures ∙ ap (λ l. is_protected l d.r) (sym c.dones-dones.ensures.value)) in
     let so_far = c.loop-done.invariant in
     let one = c.in_ok-place_one.ensures in
     let are : AreAnswers means c.args.tx.now.began [] ds = subst (AreAnswers means c.args.tx.now.began []) (sym c.dones-dones.ensures.value) c.dones-dones.ensures.kept.answered in

@@ -8,8 +8,8 @@ abbrev pub invariant-loop-done : goal.invariant-loop-done
 invariant-loop-done g l =
     let means = g.M.Meaning.means in
     record {
-      stepped : (at : ℕ) → after_dones means l.dones at (drop l.done-index l.dones) (Ok l.after.items) ≡ after_dones means l.dones at l.dones (Ok l.values);
-      unrefused : refused means (drop l.done-index l.dones) l.after.items ≡ refused means l.dones l.values;
-      all : length l.after.items ≡ length l.values;
-      agrees : (r : ℕ) → is_protected l.dones r ≡ true → slice_get l.after.items r ≡ value_after means l.tx.began (take l.done-index l.dones) r;
+      stepped : (at : ℕ) → after_dones means l.dones at (drop l.done-index l.dones) (Ok l.after) ≡ after_dones means l.dones at l.dones (Ok l.values);
+      unrefused : refused means (drop l.done-index l.dones) l.after ≡ refused means l.dones l.values;
+      all : length l.after ≡ length l.values;
+      agrees : (r : ℕ) → is_protected l.dones r ≡ true → slice_get l.after r ≡ value_after means l.tx.began (take l.done-index l.dones) r;
     }

@@ -35,6 +35,7 @@ returns-then-attempt-tries-clause-fault g c =
       one_more _ _ _ _ _ _ _ _ so_far.1 so_far.2 c.loop-attempt.invariant.room
           (record { fresh = c.in-Ok.ensures; called = record { shown = _; shows = refl; left = _; called = call; leaves = refl } }),
       refl,
+      refl,
       omega (arith, so_far.2, c.if-attempt-tries.true),
       search rules,
     )
@@ -67,8 +68,10 @@ pub returns-in_default-fault-clause-fault : goal.returns-in_default-fault-clause
 returns-in_default-fault-clause-fault g c =
     let so_far = c.loop-attempt.invariant.called in
     let call = rw c.in-Ok-body.is at c.body.ensures in (
-      (record { began = _; answer = Ok c.in-Ok-body.answer; left = _ }) ∷ so_far.0,
+      record { began = _; answer = Ok c.in-Ok-body.answer; left = _ },
+      so_far.0,
       one_more _ _ _ _ _ _ _ _ so_far.1 so_far.2 c.loop-attempt.invariant.room
           (record { fresh = c.in-Ok.ensures; called = record { shown = _; shows = refl; left = _; called = call; leaves = refl } }),
+      refl,
       final _ c.in_default-fault.not-Conflict c.in_default-fault.not-Memory,
     )

@@ -1,7 +1,7 @@
 use Rattle.std.proofs.Common.{◌≡◌, refl, sym, ap, ◌∙◌, [], ◌∷◌, ◌++◌, ◌+◌, take, subst}
 use Rattle.std.proofs.lemmas.List.{take_more}
 use Rattle.ref_workload.specs.Marks.{EntriesStand}
-use Rattle.ref_workload.proofs.Marking.{entries_more, entries_none}
+use Rattle.ref_workload.proofs.Marking.{entries_more}
 use Rattle.ref_workload.proofs.Naming.{take_all}
 use Rattle.ref_workload.proofs.order.entries.mark_entries.Goals as goal
 

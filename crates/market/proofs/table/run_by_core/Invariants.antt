@@ -1,7 +1,0 @@
-use Rattle.market.proofs.table.run_by_core.Given as goal
-
-abbrev pub ghosts-day-C-Ledger : goal.ghosts-day-C-Ledger
-ghosts-day-C-Ledger g a = record { name = a.commits.name; parts = a.commits.parts }
-
-abbrev pub ghosts-day-A-Ledger : goal.ghosts-day-A-Ledger
-ghosts-day-A-Ledger g a = record { name = a.added.name; parts = a.added.parts }

@@ -1,0 +1,87 @@
+"""Running the built program on texts, and comparing what comes of it, for `tables` and `documents`."""
+
+import os
+import re
+import subprocess
+from pathlib import Path
+
+HERE = Path(__file__).resolve().parent
+PROGRAM = HERE.parent / "crates" / "refrun" / "out" / "refrun"
+LIMIT = 16_777_216
+
+counts = {"run": 0, "failed": 0}
+
+
+def run(command, text, **environment):
+    """Standard output, standard error and the status of a command, a word or several, on a text."""
+    words = [PROGRAM, *command.split()]
+    ran = subprocess.run(words, input=text, capture_output=True, env={**os.environ, **environment})
+    return ran.stdout, ran.stderr, ran.returncode
+
+
+def compare(name, got, wanted):
+    counts["run"] += 1
+    if got != wanted:
+        counts["failed"] += 1
+        print(f"examples: {name}:\n  got    {str(got)[:500]}\n  wanted {str(wanted)[:500]}")
+
+
+def among(name, got, wanted):
+    """The same where threads make it one of several."""
+    compare(name, got, got if got in wanted else wanted)
+
+
+def printed(text):
+    """What is wanted where all goes well, or where an audit says no."""
+    return text.encode(), b"", 5 if text.startswith("audit no") else 0
+
+
+def refused(status, words):
+    """What is wanted where the text is refused: one line on standard error, and nothing on standard output."""
+    return b"", f"refrun: {words}\n".encode(), status
+
+
+# ---- texts and tables in files
+
+
+# The dump of a world without references and entries, key by key.
+EMPTY_DUMP = {
+    ":added": "0", ":agents": "[]", ":atoms": "[]", ":base-atoms": "[]", ":base-refs": "[]", ":commits": "0", ":dump": "1",
+    ":entries": "[]", ":folded": "[0 0]", ":point": "0", ":refs": "[]", ":tally": "nil",
+}  # fmt: skip
+
+
+def dump_of(keys):
+    """A dump that differs from the empty one in these keys."""
+    told = {**EMPTY_DUMP, **dict(it.split(" ", 1) for it in keys.split(" | ") if it)}
+    return ("{" + ", ".join(f"{key} {value}" for key, value in told.items()) + "}").encode()
+
+
+def text_of(head):
+    """The text of a row: behind `<<`, with escapes behind `<<\\`, or as the keys of a dump behind `<<+`."""
+    if head.startswith("<<+"):
+        return dump_of(head[4:])
+    if not head.startswith("<<\\"):
+        return head[3:].encode()
+    escapes = {"n": b"\n", "\\": b"\\"}
+    parts = re.findall(r"\\x(..)|\\(.)|([^\\]+)", head[4:])
+    return b"".join(bytes.fromhex(x) if x else escapes[c] if c else plain.encode() for x, c, plain in parts)
+
+
+def rows_of(file):
+    """The rows of a table: each is a text, and what is wanted of it."""
+    rows = []
+    for line in file.read_text(encoding="utf-8").split("\n"):
+        if line.startswith("<<"):
+            rows.append((text_of(line), []))
+        elif line and line[0] != ";":
+            rows[-1][1].append(line)
+    for text, wanted in rows:
+        fault = re.fullmatch(r"!! (\d) (.*)", wanted[0]) if len(wanted) == 1 else None
+        yield text, refused(int(fault[1]), fault[2]) if fault else printed("".join(f"{it}\n" for it in wanted))
+
+
+def finish(name):
+    """The last line, and the status."""
+    print(f"{name}: {counts['run']} run, {counts['failed']} failed")
+    return 1 if counts["failed"] else 0
