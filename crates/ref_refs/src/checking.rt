@@ -11,15 +11,14 @@ use crate::faults::{Alien, CommitFault};
 use ref_edn::{Node, Value};
 use ref_fun::{Functions, Meaning};
 use ref_log::{Done, Op, Sent};
-use ref_pmap::Numbered;
-use ref_tx::Tx;
+use ref_tx::{Snapshot, Tx};
 
 // Tells the first operation on a ref that isn't here.
-pub(crate) fn check_refs(values: &Numbered<Value>, dones: &[Done]) -> Result<(), CommitFault>
-    ensures refused { Tells (alien_ref values.now dones.now) result }
+pub(crate) fn check_refs(refs: &Snapshot, dones: &[Done]) -> Result<(), CommitFault>
+    ensures refused { Tells (alien_ref refs.now.values dones.now) result }
     ensures told { IfErr result (λ f. f ≢ Memory) }
 {
-    let count = values.len();
+    let count = refs.len();
     for done in dones {
         if done.r as usize >= count {
             return Err(CommitFault::Foreign(Alien::Ref(done.r)));
@@ -75,19 +74,15 @@ pub(crate) fn check_served<M: Meaning, F: Functions<M>>(
 }
 
 // The smallest protected ref that has changed after the read point.
-pub(crate) fn first_changed<M: Meaning>(
-    values: &Numbered<Value>,
-    lasts: &Numbered<u64>,
-    tx: &Tx<M>,
-) -> Option<u32>
-    requires { alien_ref values.now tx.now.dones ≡ None }
-    ensures { result ≡ first_protected values.now tx.now.dones (changed_after lasts.now tx.now.read_point) }
+pub(crate) fn first_changed<M: Meaning>(refs: &Snapshot, tx: &Tx<M>) -> Option<u32>
+    requires { alien_ref refs.now.values tx.now.dones ≡ None }
+    ensures { result ≡ first_protected refs.now.values tx.now.dones (changed_after refs.now.lasts tx.now.read_point) }
 {
     let read_point = tx.read_point();
     let protected = tx.protected();
     let mut first = None;
     for r in protected {
-        if is_changed(lasts, *r, read_point) {
+        if is_changed(refs, *r, read_point) {
             first = Some(smaller(first, *r));
         }
     }
@@ -95,27 +90,28 @@ pub(crate) fn first_changed<M: Meaning>(
 }
 
 // The smallest protected ref whose value isn't the one that the transaction began with. Each ref's is compared once.
-pub(crate) fn first_differing<M: Meaning>(values: &Numbered<Value>, tx: &Tx<M>) -> Option<u32>
-    requires { alien_ref values.now tx.now.dones ≡ None }
-    ensures { result ≡ first_protected values.now tx.now.dones (differs_at values.now tx.now.began) }
+pub(crate) fn first_differing<M: Meaning>(refs: &Snapshot, tx: &Tx<M>) -> Option<u32>
+    requires { alien_ref refs.now.values tx.now.dones ≡ None }
+    ensures { result ≡ first_protected refs.now.values tx.now.dones (differs_at refs.now.values tx.now.began) }
 {
     let began = tx.began();
     let protected = tx.protected();
     let mut first = None;
     for r in protected {
-        if differs_at(values, began, *r) {
+        if differs_at(refs, began, *r) {
             first = Some(smaller(first, *r));
         }
     }
     first
 }
 
-// Whether none of these points comes after this one.
-pub(crate) fn are_unchanged_since(lasts: &Numbered<u64>, point: u64) -> bool
-    ensures { result ≡ are_unchanged_since lasts.now point }
+// Whether no ref has changed after a point.
+pub(crate) fn are_unchanged_since(refs: &Snapshot, point: u64) -> bool
+    ensures { result ≡ are_unchanged_since refs.now.lasts point }
 {
-    for last in lasts {
-        if *last > point {
+    let versions = refs.versions();
+    for version in versions {
+        if version.changed_at > point {
             return false;
         }
     }
@@ -123,20 +119,20 @@ pub(crate) fn are_unchanged_since(lasts: &Numbered<u64>, point: u64) -> bool
 }
 
 // Whether a ref has changed after a point.
-fn is_changed(lasts: &Numbered<u64>, r: u32, point: u64) -> bool
-    ensures { result ≡ changed_after lasts.now point r }
+fn is_changed(refs: &Snapshot, r: u32, point: u64) -> bool
+    ensures { result ≡ changed_after refs.now.lasts point r }
 {
-    match lasts.get(r) {
-        Some(last) => *last > point,
+    match refs.last_change(r) {
+        Some(last) => last > point,
         None => false,
     }
 }
 
 // Whether a ref has another value now than in the beginning.
-fn differs_at(values: &Numbered<Value>, began: &Numbered<Value>, r: u32) -> bool
-    ensures { result ≡ differs_at values.now began.now r }
+fn differs_at(refs: &Snapshot, began: &Snapshot, r: u32) -> bool
+    ensures { result ≡ differs_at refs.now.values began.now.values r }
 {
-    match values.get(r) {
+    match refs.get(r) {
         None => false,
         Some(now) => match began.get(r) {
             None => true,

@@ -1,10 +1,12 @@
 //! Committing a transaction.
 ghost use Rattle.ref_log.specs.Told.{Tells, TellsBack, TellsOrMemory};
-ghost use Rattle.std.specs.Prelude.{◌≡◌, ◌≢◌, ◌≤◌, ◌-◌, ◌+◌, ◌^◌, ℕ, List, true, None, Some, Ok, IfOk, IfErr, OnOk, OnErr, length, slice_get};
+ghost use Rattle.std.specs.Prelude.{◌≡◌, ◌≢◌, ◌≤◌, ◌-◌, ◌+◌, ◌^◌, ◌==◌, ℕ, List, true, None, Some, Ok, IfOk, IfErr, OnOk, OnErr, length, slice_get};
+ghost use Rattle.std.specs.List.{list_any};
 ghost use Rattle.std.specs.Option.{option_map};
 ghost use Rattle.ref_edn.specs.Edn.{Edn};
 ghost use Rattle.ref_log.specs.Guards.{AreAccepted};
-ghost use Rattle.ref_log.specs.Replay.{after_dones, is_protected, step};
+ghost use Rattle.ref_log.specs.Replay.{after_dones, is_protected, is_touched, step};
+ghost use Rattle.ref_log.specs.declared.operations.Done.{Done};
 ghost use Rattle.ref_log.specs.Tally.{added_by_dones, fit_tally, tally_value};
 ghost use Rattle.ref_tx.specs.Inner.{inner_value};
 ghost use Rattle.ref_refs.specs.Commit.{alien, alien_ref, alien_value, changed_by, commit_refusal, conflict, early_refusal, entry_of, first_invalid, lacking, lacking_rule};
@@ -17,16 +19,13 @@ use crate::checking::{
     check_agents, check_refs, check_served, first_changed, first_differing, fits_tally,
 };
 use crate::faults::{Alien, CommitFault, Conflict};
-use crate::lasts::moved_lasts;
 use crate::placing::place_all;
 use crate::rules::{check_rules_known, first_invalid};
 use crate::store::RefStore;
 use crate::watches::{notices, touched_refs};
-use ref_edn::Value;
 use ref_fun::{Functions, Meaning};
 use ref_log::{Done, Entry, LAST_POINT, Notice, SharedVec, Stamp, Transaction, share_all};
-use ref_pmap::Numbered;
-use ref_tx::Tx;
+use ref_tx::{Snapshot, Tx};
 use std::alloc::Global;
 
 /// A commit that was made: its entry for the log, and what its watches are to be told.
@@ -36,13 +35,17 @@ pub struct Landed {
     pub notices: Vec<Notice>,
 }
 
-/// A commit that was tested: the values and the last changes of all refs after it, and what is answered.
+/// A commit that was tested: all refs after it, and what is answered.
 #[derive(Drop)]
 pub struct Prepared {
-    pub values: Numbered<Value>,
-    pub lasts: Numbered<u64>,
+    pub refs: Snapshot,
     pub landed: Landed,
 }
+
+/// The refs of [`RefStore::commit`]'s notices are those that the transaction changes.
+pub fn touched_refs_are_touched()
+    ensures { (dones : List Done) (r : ℕ) → list_any (λ x. x == r) (touched_refs dones) ≡ is_touched dones r }
+{}
 
 impl<M: Meaning> RefStore<M> {
     /// Commits a transaction at a new point, which comes after the last change of each ref and right after the present
@@ -95,7 +98,7 @@ impl<M: Meaning> RefStore<M> {
     {
         match self.prepare(alloc, funs, at, agents, stamp, &tx) {
             Ok(prepared) => {
-                self.install(at, prepared.values, prepared.lasts, tx.dones());
+                self.install(at, prepared.refs, tx.dones());
                 Ok(prepared.landed)
             }
             Err(fault) => Err((tx, fault)),
@@ -117,30 +120,29 @@ impl<M: Meaning> RefStore<M> {
         ensures here { OnOk result (alien_ref self.now.values tx.now.dones ≡ None) }
         ensures values { IfOk result (λ p. (atoms : List Edn)
             → step M.means at (entry_of stamp tx.now) (record { refs = self.now.values; atoms = atoms })
-            ≡ Ok (record { refs = p.values; atoms = atoms })) }
+            ≡ Ok (record { refs = p.refs.values; atoms = atoms })) }
         // What `install` asks.
         ensures fits { OnOk result (fit_tally self.now.tally tx.now.dones ≡ true) }
         ensures made { IfOk result (λ p. after_dones M.means tx.now.dones at tx.now.dones (Ok self.now.values)
-            ≡ Ok p.values) }
-        ensures accepted { IfOk result (λ p. AreAccepted M.accepts self.now.guards p.values) }
-        ensures moved { IfOk result (λ p. (r : ℕ) → changed_at p.lasts r ≡ changed_by self.now.lasts at tx.now.dones r) }
-        ensures all { IfOk result (λ p. length p.lasts ≡ length self.now.lasts) }
+            ≡ Ok p.refs.values) }
+        ensures accepted { IfOk result (λ p. AreAccepted M.accepts self.now.guards p.refs.values) }
+        ensures moved { IfOk result (λ p. (r : ℕ) → changed_at p.refs.lasts r ≡ changed_by self.now.lasts at tx.now.dones r) }
+        ensures all { IfOk result (λ p. length p.refs.lasts ≡ length self.now.lasts) }
         ensures entry { IfOk result (λ p. p.landed.entry ≡ entry_of stamp tx.now) }
         ensures notices { IfOk result (λ p. p.landed.notices.items
-            ≡ notices self.now.guards self.now.values p.values (touched_refs tx.now.dones)) }
+            ≡ notices self.now.guards self.now.values p.refs.values (touched_refs tx.now.dones)) }
         ensures inner { IfOk result (λ p. (r : ℕ) → is_protected tx.now.dones r ≡ true
-            → slice_get p.values r ≡ inner_value M.means tx.now r) }
+            → slice_get p.refs.values r ≡ inner_value M.means tx.now r) }
         ensures limit { OnOk result (at ≤ 2 ^ 62) }
     {
         self.check(funs, at, agents, tx)?;
         let dones = tx.dones();
-        let values = place_all(alloc, funs, &self.values, tx)?;
-        let touched = self.check_rules(alloc, funs, dones, &values)?;
+        let refs = place_all(alloc, funs, at, &self.refs, tx)?;
+        let touched = self.check_rules(alloc, funs, dones, &refs)?;
         if at > LAST_POINT {
             return Err(CommitFault::PointLimit);
         }
-        let lasts = self.moved_lasts(alloc, at, dones, &touched)?;
-        let notices = notices(alloc, &self.guards, &self.values, &values, &touched)?;
+        let notices = notices(alloc, &self.guards, &self.refs, &refs, &touched)?;
         let entry = Entry::Trans(Transaction {
             stamp,
             read_point: tx.read_point(),
@@ -148,36 +150,28 @@ impl<M: Meaning> RefStore<M> {
             sends: SharedVec::of(alloc, share_all(alloc, tx.sends())?)?,
         });
         Ok(Prepared {
-            values,
-            lasts,
+            refs,
             landed: Landed { entry, notices },
         })
     }
 
-    /// Puts the values and the last changes after a prepared commit in the place of those before it. It can't fail.
-    pub fn install(
-        &mut self,
-        at: u64,
-        values: Numbered<Value>,
-        lasts: Numbered<u64>,
-        dones: &[Done],
-    )
+    /// Puts the refs after a prepared commit in the place of those before it. It can't fail.
+    pub fn install(&mut self, at: u64, refs: Snapshot, dones: &[Done])
         requires new { 1 ≤ at }
         requires last { are_unchanged_since self.old.lasts (at - 1) ≡ true }
-        requires moved { (r : ℕ) → changed_at lasts r ≡ changed_by self.old.lasts at dones.now r }
-        requires all { length lasts ≡ length self.old.lasts }
+        requires moved { (r : ℕ) → changed_at refs.lasts r ≡ changed_by self.old.lasts at dones.now r }
+        requires all { length refs.lasts ≡ length self.old.lasts }
         requires fits { fit_tally self.old.tally dones.now ≡ true }
-        requires made { after_dones M.means dones.now at dones.now (Ok self.old.values) ≡ Ok values }
-        requires accepted { AreAccepted M.accepts self.old.guards values }
-        ensures values { self.new.values ≡ values }
+        requires made { after_dones M.means dones.now at dones.now (Ok self.old.values) ≡ Ok refs.values }
+        requires accepted { AreAccepted M.accepts self.old.guards refs.values }
+        ensures values { self.new.values ≡ refs.values }
         ensures lasts { (r : ℕ) → changed_at self.new.lasts r ≡ changed_by self.old.lasts at dones.now r }
         ensures since { are_unchanged_since self.new.lasts at ≡ true }
         ensures rest { (self.new.tally ≡ self.old.tally) × (self.new.guards ≡ self.old.guards) }
         ensures tally { tally_value self.new.tally self.new.values
             ≡ tally_value self.old.tally self.old.values + added_by_dones self.old.tally dones.now }
     {
-        self.values = values;
-        self.lasts = lasts;
+        self.refs = refs;
     }
 }
 
@@ -188,39 +182,22 @@ impl<M: Meaning> RefStore<M> {
         alloc: Global,
         funs: &F,
         dones: &[Done],
-        values: &Numbered<Value>,
+        refs: &Snapshot,
     ) -> Result<Vec<u32>, CommitFault>
         requires known { lacking_rule (F.knows funs.now).preds self.now.guards dones.now ≡ None }
-        requires made { (at : ℕ) → after_dones M.means dones.now at dones.now (Ok self.now.values) ≡ Ok values.now }
+        requires made { (at : ℕ) → after_dones M.means dones.now at dones.now (Ok self.now.values) ≡ Ok refs.now.values }
         ensures touched { IfOk result (λ rs. rs.items ≡ touched_refs dones.now) }
-        ensures ok { OnOk result (first_invalid M.accepts self.now.guards values.now (touched_refs dones.now) ≡ None) }
-        ensures accepted { OnOk result (AreAccepted M.accepts self.now.guards values.now) }
+        ensures ok { OnOk result (first_invalid M.accepts self.now.guards refs.now.values (touched_refs dones.now) ≡ None) }
+        ensures accepted { OnOk result (AreAccepted M.accepts self.now.guards refs.now.values) }
         ensures err { IfErr result (λ f. f ≢ commits.Memory
-            → option_map commits.Invalid (first_invalid M.accepts self.now.guards values.now (touched_refs dones.now))
+            → option_map commits.Invalid (first_invalid M.accepts self.now.guards refs.now.values (touched_refs dones.now))
             ≡ Some f) }
     {
         let touched = touched_refs(alloc, dones)?;
-        match first_invalid(funs, &self.guards, values, &touched) {
+        match first_invalid(funs, &self.guards, refs, &touched) {
             None => Ok(touched),
             Some(r) => Err(CommitFault::Invalid(r)),
         }
-    }
-
-    // The last changes after the operations, which change these refs.
-    fn moved_lasts(
-        &self,
-        alloc: Global,
-        at: u64,
-        dones: &[Done],
-        touched: &[u32],
-    ) -> Result<Numbered<u64>, CommitFault>
-        requires here { alien_ref self.now.values dones.now ≡ None }
-        requires touched { touched.now ≡ touched_refs dones.now }
-        ensures moved { IfOk result (λ moved. (r : ℕ) → changed_at moved r ≡ changed_by self.now.lasts at dones.now r) }
-        ensures all { IfOk result (λ moved. length moved ≡ length self.now.lasts) }
-        ensures fault { IfErr result (λ f. f ≡ commits.Memory) }
-    {
-        Ok(moved_lasts(alloc, &self.lasts, at, touched)?)
     }
 
     // Asks all that can be asked before memory is taken.
@@ -253,7 +230,7 @@ impl<M: Meaning> RefStore<M> {
         ensures fits { OnOk result (fit_tally self.now.tally tx.now.dones ≡ true) }
         ensures told { IfErr result (λ f. f ≢ commits.Memory) }
     {
-        check_refs(&self.values, tx.dones())?;
+        check_refs(&self.refs, tx.dones())?;
         check_agents(agents, tx.sends())?;
         if !fits_tally(self.tally, tx.dones()) {
             return Err(CommitFault::Foreign(Alien::Tally));
@@ -271,7 +248,7 @@ impl<M: Meaning> RefStore<M> {
         ensures told { IfErr result (λ f. f ≢ commits.Memory) }
     {
         let read_point = tx.read_point();
-        match first_changed(&self.values, &self.lasts, tx) {
+        match first_changed(&self.refs, tx) {
             None => Ok(()),
             Some(r) => Err(CommitFault::Conflict(Conflict {
                 r,
@@ -286,7 +263,7 @@ impl<M: Meaning> RefStore<M> {
         ensures refused { Tells (alien_value self.now.values tx.now) result }
         ensures told { IfErr result (λ f. f ≢ commits.Memory) }
     {
-        match first_differing(&self.values, tx) {
+        match first_differing(&self.refs, tx) {
             None => Ok(()),
             Some(r) => Err(CommitFault::Foreign(Alien::Value(r))),
         }

@@ -12,7 +12,6 @@
 mod checking;
 pub mod committing;
 pub mod faults;
-pub mod lasts;
 mod making;
 mod placing;
 mod rules;

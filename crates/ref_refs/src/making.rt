@@ -83,12 +83,10 @@ impl<M: Meaning> RefStore<M> {
         ensures err { OnErr result (self.new ≡ self.old) }
     {
         let r = self.len() as u32;
-        let values = self.values.with_next(alloc, start)?;
-        let lasts = self.lasts.with_next(alloc, at)?;
+        let refs = self.refs.with_next(alloc, start, at)?;
         self.guards.add(alloc, rule)?;
         // From here on nothing can fail.
-        self.values = values;
-        self.lasts = lasts;
+        self.refs = refs;
         if tally {
             self.tally = Some(r);
         }

@@ -6,72 +6,81 @@ ghost use Rattle.ref_tx.specs.Inner.{inner_value};
 ghost use Rattle.ref_edn.specs.Edn.{Edn};
 ghost use Rattle.ref_log.specs.declared.operations.Done.{Done};
 ghost use Rattle.ref_refs.specs.declared.faults.CommitFault.{CommitFault as Fault};
-ghost use Rattle.ref_refs.specs.Commit.{alien_ref, alien_value, commuted_code, lacking, refused, refused_at};
+ghost use Rattle.ref_refs.specs.Commit.{alien_ref, alien_value, changed_by, changed_by_one, commuted_code, lacking, refused, refused_at};
+ghost use Rattle.ref_refs.specs.Seen.{changed_at};
 ghost use Rattle.ref_refs.specs.declared.faults.CommitFault.TheVariants.{Memory};
 
 use crate::faults::CommitFault;
 use ref_edn::Value;
 use ref_fun::{CallFault, Functions, Meaning};
 use ref_log::Done;
-use ref_pmap::Numbered;
-use ref_tx::Tx;
+use ref_tx::{Snapshot, Tx};
 use std::alloc::Global;
 
-// The values after the operations of a transaction, each made on the latest value of its ref, where nobody else has changed
-// a ref that the transaction protects.
+// The refs after the operations of a transaction, which come at a point. Each is made on the latest value of its ref, where
+// nobody else has changed a ref that the transaction protects.
 pub(crate) fn place_all<M: Meaning, F: Functions<M>>(
     alloc: Global,
     funs: &F,
-    values: &Numbered<Value>,
+    at: u64,
+    refs: &Snapshot,
     tx: &Tx<M>,
-) -> Result<Numbered<Value>, CommitFault>
-    requires here { alien_ref values.now tx.now.dones ≡ None }
+) -> Result<Snapshot, CommitFault>
+    requires here { alien_ref refs.now.values tx.now.dones ≡ None }
     requires served { lacking (F.knows funs.now).funs tx.now.dones ≡ None }
-    requires unchanged { alien_value values.now tx.now ≡ None }
+    requires unchanged { alien_value refs.now.values tx.now ≡ None }
     ensures ok { IfOk result (λ after. (at : ℕ)
-        → after_dones M.means tx.now.dones at tx.now.dones (Ok values.now) ≡ Ok after) }
-    ensures all { IfOk result (λ after. length after ≡ length values.now) }
-    ensures unrefused { OnOk result (refused M.means tx.now.dones values.now ≡ None) }
+        → after_dones M.means tx.now.dones at tx.now.dones (Ok refs.now.values) ≡ Ok after.values) }
+    ensures moved { IfOk result (λ after. (r : ℕ)
+        → changed_at after.lasts r ≡ changed_by refs.now.lasts at tx.now.dones r) }
+    ensures all { IfOk result (λ after. length after.values ≡ length refs.now.values) }
+    ensures unrefused { OnOk result (refused M.means tx.now.dones refs.now.values ≡ None) }
     ensures inner { IfOk result (λ after. (r : ℕ) → is_protected tx.now.dones r ≡ true
-        → slice_get after r ≡ inner_value M.means tx.now r) }
-    ensures fault { IfErr result (λ f. f ≢ Memory → refused M.means tx.now.dones values.now ≡ Some f) }
+        → slice_get after.values r ≡ inner_value M.means tx.now r) }
+    ensures fault { IfErr result (λ f. f ≢ Memory → refused M.means tx.now.dones refs.now.values ≡ Some f) }
 {
     let dones = tx.dones();
-    let mut after = values.share()?;
+    let mut after = refs.share()?;
     for done in dones {
         let is_free = !tx.is_protected(done.r);
-        place_one(alloc, funs, is_free, done, &mut after)?;
+        place_one(alloc, funs, is_free, at, done, &mut after)?;
     }
     Ok(after)
 }
 
-// Makes an operation on the latest value. A protected ref gets the kept answer, which is what the operation makes.
+// Makes an operation on the latest value, at a point. A protected ref gets the kept answer, which is what the operation makes;
+// one that is only ensured stays as it is.
 fn place_one<M: Meaning, F: Functions<M>>(
     alloc: Global,
     funs: &F,
     is_free: bool,
+    at: u64,
     done: &Done,
-    values: &mut Numbered<Value>,
+    refs: &mut Snapshot,
 ) -> Result<(), CommitFault>
-    requires here { done.now.r < length values.old }
+    requires here { done.now.r < length refs.old.values }
     requires served { missing (F.knows funs.now).funs (commuted_code done.now.op) ≡ None }
     requires free { is_free ≡ true → is_commute done.now.op ≡ true }
-    requires kept { is_free ≡ false → option_map (place M.means done.now.op) (slice_get values.old done.now.r)
+    requires kept { is_free ≡ false → option_map (place M.means done.now.op) (slice_get refs.old.values done.now.r)
         ≡ Some (Ok done.now.answer) }
-    ensures ok { OnOk result ((at : ℕ) → after_one M.means is_free at done.now values.old ≡ Ok values.new) }
-    ensures all { length values.new ≡ length values.old }
-    ensures others { (r : ℕ) → (done.now.r == r) ≡ false → slice_get values.new r ≡ slice_get values.old r }
-    ensures answers { OnOk result (is_free ≡ false → slice_get values.new done.now.r ≡ Some done.now.answer) }
+    ensures ok { OnOk result ((at : ℕ) → after_one M.means is_free at done.now refs.old.values ≡ Ok refs.new.values) }
+    ensures moved { OnOk result ((r : ℕ) → changed_at refs.new.lasts r ≡ changed_by_one refs.old.lasts at done.now r) }
+    ensures all { length refs.new.values ≡ length refs.old.values }
+    ensures others { (r : ℕ) → (done.now.r == r) ≡ false → slice_get refs.new.values r ≡ slice_get refs.old.values r }
+    ensures answers { OnOk result (is_free ≡ false → slice_get refs.new.values done.now.r ≡ Some done.now.answer) }
     ensures unrefused { OnOk result ((ds : List Done)
-        → refused M.means (done.now ∷ ds) values.old ≡ refused M.means ds values.new) }
+        → refused M.means (done.now ∷ ds) refs.old.values ≡ refused M.means ds refs.new.values) }
     ensures fault { IfErr result (λ f. f ≢ Memory → (ds : List Done)
-        → refused M.means (done.now ∷ ds) values.old ≡ Some f) }
+        → refused M.means (done.now ∷ ds) refs.old.values ≡ Some f) }
 {
-    let Some(value) = values.get(done.r) else {
+    if done.op.is_ensure() {
+        return Ok(());
+    }
+    let Some(value) = refs.get(done.r) else {
         unreachable!();
     };
     let value = next_value(alloc, funs, is_free, done, value)?;
-    *values = values.with(alloc, done.r, value)?;
+    *refs = refs.with(alloc, done.r, value, at)?;
     Ok(())
 }
 

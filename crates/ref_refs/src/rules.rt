@@ -8,10 +8,9 @@ ghost use Rattle.ref_refs.specs.Rules.{AreKnown};
 ghost use Rattle.ref_refs.specs.declared.faults.CommitFault.TheVariants.{Memory};
 
 use crate::faults::CommitFault;
-use ref_edn::Value;
 use ref_fun::{Functions, Meaning};
 use ref_log::{Done, Guards};
-use ref_pmap::Numbered;
+use ref_tx::Snapshot;
 
 // Tells the first rule of a ref that these operations change whose predicate the table lacks.
 pub(crate) fn check_rules_known<M: Meaning, F: Functions<M>>(
@@ -49,14 +48,14 @@ fn check_rule_known<M: Meaning, F: Functions<M>>(
 pub(crate) fn first_invalid<M: Meaning, F: Functions<M>>(
     funs: &F,
     guards: &Guards,
-    values: &Numbered<Value>,
+    refs: &Snapshot,
     touched: &[u32],
 ) -> Option<u32>
     requires { AreKnown (F.knows funs.now).preds guards.now touched.now }
-    ensures { result ≡ first_invalid M.accepts guards.now values.now touched.now }
+    ensures { result ≡ first_invalid M.accepts guards.now refs.now.values touched.now }
 {
     for r in touched {
-        if !is_accepted(funs, guards, values, *r) {
+        if !is_accepted(funs, guards, refs, *r) {
             return Some(*r);
         }
     }
@@ -67,13 +66,13 @@ pub(crate) fn first_invalid<M: Meaning, F: Functions<M>>(
 fn is_accepted<M: Meaning, F: Functions<M>>(
     funs: &F,
     guards: &Guards,
-    values: &Numbered<Value>,
+    refs: &Snapshot,
     r: u32,
 ) -> bool
     requires { unknown (F.knows funs.now).preds (rule_at guards.now r) ≡ None }
-    ensures { result ≡ is_accepted_at M.accepts guards.now values.now r }
+    ensures { result ≡ is_accepted_at M.accepts guards.now refs.now.values r }
 {
-    match values.get(r) {
+    match refs.get(r) {
         Some(value) => guards.accepts(funs, r, value),
         None => true,
     }

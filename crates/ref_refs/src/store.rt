@@ -11,8 +11,7 @@ use crate::checking::{are_unchanged_since, counted};
 use ref_edn::Value;
 use ref_fun::{Functions, Meaning, Rule};
 use ref_log::{Guards, RuleFault, WatchFault};
-use ref_pmap::Numbered;
-use ref_tx::Tx;
+use ref_tx::{Snapshot, Tx};
 use std::alloc::{AllocError, Global};
 use std::marker::{Model, PhantomData};
 
@@ -22,8 +21,7 @@ use std::marker::{Model, PhantomData};
 /// It is always so that each rule accepts the value of its ref, and that the tally is an integer of 0 or more.
 #[derive(Drop)]
 pub struct RefStore<M: Meaning> {
-    pub(crate) values: Numbered<Value>,
-    pub(crate) lasts: Numbered<u64>,
+    pub(crate) refs: Snapshot,
     pub(crate) tally: Option<u32>,
     pub(crate) guards: Guards,
     of: PhantomData<M>,
@@ -41,11 +39,11 @@ impl<M: Meaning> Model for RefStore<M> {
 
     ghost coded = { Prim.hlevel (codes, edn_code) };
 
-    ghost view = { λ a. record { values = a.values; lasts = a.lasts; tally = a.tally; guards = a.guards } };
+    ghost view = { λ a. record { values = a.refs.values; lasts = a.refs.lasts; tally = a.tally; guards = a.guards } };
 
-    ghost invariant = { λ a. (length a.lasts ≡ length a.values) × (length a.guards ≡ length a.values)
-        × (length a.values ≤ 2 ^ 20) × AreAccepted M.accepts a.guards a.values
-        × IsTally a.tally a.values (tally_value a.tally a.values) };
+    ghost invariant = { λ a. (length a.refs.lasts ≡ length a.refs.values) × (length a.guards ≡ length a.refs.values)
+        × (length a.refs.values ≤ 2 ^ 20) × AreAccepted M.accepts a.guards a.refs.values
+        × IsTally a.tally a.refs.values (tally_value a.tally a.refs.values) };
 }
 
 impl<M: Meaning> RefStore<M> {
@@ -54,8 +52,7 @@ impl<M: Meaning> RefStore<M> {
         ensures { result ≡ record { values = []; lasts = []; tally = None; guards = [] } }
     {
         RefStore {
-            values: Numbered::empty(),
-            lasts: Numbered::empty(),
+            refs: Snapshot::empty(),
             tally: None,
             guards: Guards::empty(alloc),
             of: PhantomData,
@@ -70,20 +67,20 @@ impl<M: Meaning> RefStore<M> {
         ensures lasts { length self.now.lasts ≡ length self.now.values }
         ensures guards { length self.now.guards ≡ length self.now.values }
     {
-        self.values.len()
+        self.refs.len()
     }
 
     pub fn is_empty(&self) -> bool
         ensures { IsTrue result ↔ (self.now.values ≡ []) }
     {
-        self.values.is_empty()
+        self.refs.is_empty()
     }
 
     /// The value of a ref now, if there is such a ref. It takes no memory.
     pub fn value_of(&self, r: u32) -> Option<&Value>
         ensures { option_copied result ≡ slice_get self.now.values r }
     {
-        self.values.get(r)
+        self.refs.get(r)
     }
 
     /// The number of the tally, if there is one.
@@ -112,8 +109,8 @@ impl<M: Meaning> RefStore<M> {
     pub fn changed_at(&self, r: u32) -> u64
         ensures { result ≡ changed_at self.now.lasts r }
     {
-        match self.lasts.get(r) {
-            Some(last) => *last,
+        match self.refs.last_change(r) {
+            Some(last) => last,
             None => 0,
         }
     }
@@ -122,7 +119,7 @@ impl<M: Meaning> RefStore<M> {
     pub fn are_unchanged_since(&self, point: u64) -> bool
         ensures { result ≡ are_unchanged_since self.now.lasts point }
     {
-        are_unchanged_since(&self.lasts, point)
+        are_unchanged_since(&self.refs, point)
     }
 
     /// The rule of a ref, if it has one. It takes no memory.
@@ -154,7 +151,7 @@ impl<M: Meaning> RefStore<M> {
         ensures sets { OnOk result (self.new ≡ with_guards self.old (with_rule self.old.guards r rule)) }
         ensures err { OnErr result (self.new ≡ self.old) }
     {
-        let value = self.values.get(r);
+        let value = self.refs.get(r);
         self.guards.set_rule(funs, r, value, rule)
     }
 
@@ -187,7 +184,7 @@ impl<M: Meaning> RefStore<M> {
         ensures { IfOk result (λ tx. tx
             ≡ record { read_point = point; began = self.now.values; dones = []; sends = []; tally = self.now.tally; agents = agents }) }
     {
-        let values = self.values.share()?;
-        Ok(Tx::start(alloc, point, values, self.tally, agents))
+        let refs = self.refs.share()?;
+        Ok(Tx::start(alloc, point, refs, self.tally, agents))
     }
 }

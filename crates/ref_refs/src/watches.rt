@@ -6,7 +6,7 @@ ghost use Rattle.ref_refs.specs.Watches.{notices, notices_at, notices_if_here, t
 
 use ref_edn::Value;
 use ref_log::{Done, Guards, Notice, Who};
-use ref_pmap::Numbered;
+use ref_tx::Snapshot;
 use std::alloc::{AllocError, Global};
 use std::collections::BTreeSet;
 
@@ -37,11 +37,11 @@ fn in_order(alloc: Global, refs: BTreeSet<u32>) -> Result<Vec<u32>, AllocError>
 pub(crate) fn notices(
     alloc: Global,
     guards: &Guards,
-    before: &Numbered<Value>,
-    after: &Numbered<Value>,
+    before: &Snapshot,
+    after: &Snapshot,
     touched: &[u32],
 ) -> Result<Vec<Notice>, AllocError>
-    ensures { IfOk result (λ ns. ns.items ≡ notices guards.now before.now after.now touched.now) }
+    ensures { IfOk result (λ ns. ns.items ≡ notices guards.now before.now.values after.now.values touched.now) }
 {
     let mut all = Vec::new(alloc);
     for r in touched {
@@ -53,12 +53,12 @@ pub(crate) fn notices(
 // Adds the notices of one ref.
 fn tell(
     guards: &Guards,
-    before: &Numbered<Value>,
-    after: &Numbered<Value>,
+    before: &Snapshot,
+    after: &Snapshot,
     r: u32,
     all: &mut Vec<Notice>,
 ) -> Result<(), AllocError>
-    ensures { OnOk result (all.new.items ≡ all.old.items ++ notices_at guards.now before.now after.now r) }
+    ensures { OnOk result (all.new.items ≡ all.old.items ++ notices_at guards.now before.now.values after.now.values r) }
 {
     tell_if_here(guards, before.get(r), after.get(r), r, all)
 }

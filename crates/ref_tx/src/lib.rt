@@ -11,7 +11,9 @@
 
 pub mod faults;
 mod owns;
+pub mod snapshots;
 pub mod transactions;
 
 pub use faults::TxFault;
+pub use snapshots::{Snapshot, Version};
 pub use transactions::Tx;

@@ -12,10 +12,10 @@ ghost use Rattle.ref_tx.specs.declared.faults.TxFault.TheVariants.{NoSuchRef, Me
 
 use crate::faults::TxFault;
 use crate::owns::Own;
+use crate::snapshots::Snapshot;
 use ref_edn::Value;
 use ref_fun::{Action, CallFault, Functions, Meaning, Rule};
 use ref_log::{Args, Done, Op, Sent};
-use ref_pmap::Numbered;
 use std::alloc::{AllocError, Global};
 use std::collections::BTreeMap;
 use std::marker::{Model, PhantomData};
@@ -27,7 +27,7 @@ use std::marker::{Model, PhantomData};
 #[derive(Drop)]
 pub struct Tx<M: Meaning> {
     read_point: u64,
-    began: Numbered<Value>,
+    began: Snapshot,
     dones: Vec<Done>,
     // The refs that were set, altered or ensured, each once.
     protected: Vec<u32>,
@@ -53,30 +53,30 @@ impl<M: Meaning> Model for Tx<M> {
 
     ghost view = { λ a. record {
       read_point = a.read_point;
-      began = a.began;
+      began = a.began.values;
       dones = a.dones.items;
       sends = a.sends.items;
       tally = a.tally;
       agents = a.agents;
     } };
 
-    ghost invariant = { λ a. IsTx M.means a.began a.dones.items a.tally
-        × IsTableOf M.means a.began a.dones.items (get nat_cmp a.own)
+    ghost invariant = { λ a. IsTx M.means a.began.values a.dones.items a.tally
+        × IsTableOf M.means a.began.values a.dones.items (get nat_cmp a.own)
         × AreProtected a.dones.items a.protected.items };
 }
 
 impl<M: Meaning> Tx<M> {
-    /// A transaction that has done nothing. It reads the values as of this point; the tally is the ref of this number, and
-    /// there are so many agents. It takes no memory.
+    /// A transaction that has done nothing. It reads this snapshot, which is that of this point; the tally is the ref of this
+    /// number, and there are so many agents. It takes no memory.
     pub fn start(
         alloc: Global,
         read_point: u64,
-        began: Numbered<Value>,
+        began: Snapshot,
         tally: Option<u32>,
         agents: usize,
     ) -> Tx<M>
         ensures { result
-            ≡ record { read_point = read_point; began = began; dones = []; sends = []; tally = tally; agents = agents } }
+            ≡ record { read_point = read_point; began = began.values; dones = []; sends = []; tally = tally; agents = agents } }
     {
         Tx {
             read_point,
@@ -98,9 +98,9 @@ impl<M: Meaning> Tx<M> {
         self.read_point
     }
 
-    /// The values of all refs as of the read point, by number.
-    pub fn began(&self) -> &Numbered<Value>
-        ensures { result.now ≡ self.now.began }
+    /// All refs as of the read point.
+    pub fn began(&self) -> &Snapshot
+        ensures { result.now.values ≡ self.now.began }
     {
         &self.began
     }

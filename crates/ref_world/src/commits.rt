@@ -95,11 +95,7 @@ impl<M: Meaning, C: Ledger, A: Ledger> World<M, C, A> {
             Ok(prepared) => prepared,
             Err(fault) => return Err((tx, fault)),
         };
-        let Prepared {
-            values,
-            lasts,
-            landed,
-        } = prepared;
+        let Prepared { refs, landed } = prepared;
         let Landed { entry, notices } = landed;
         let Ok(kept) = entry.share() else {
             return Err((tx, CommitFault::Memory));
@@ -112,7 +108,7 @@ impl<M: Meaning, C: Ledger, A: Ledger> World<M, C, A> {
         }
         // From here on nothing can fail.
         let before = self.refs.tally_value();
-        self.refs.install(at, values, lasts, tx.dones());
+        self.refs.install(at, refs, tx.dones());
         self.log.push_reserved(entry);
         share.receipts.push_reserved(LogReceipt {
             point: at,

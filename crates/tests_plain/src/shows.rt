@@ -9,8 +9,7 @@ use ref_atoms::{Cas, Swapped};
 use ref_edn::{Node, Value};
 use ref_fun::{Action, Args, Core, Rule};
 use ref_log::{AuditFault, Base, Done, Entry, Notice, Op, PlainState, Sent, Transaction};
-use ref_pmap::Numbered;
-use ref_tx::Tx;
+use ref_tx::{Snapshot, Tx};
 use std::alloc::AllocError;
 
 /// What shows something of the model.
@@ -29,14 +28,14 @@ pub fn show<S: Shows<P>, P>(seen: &[S], plain: &[P]) -> bool {
     seen.len() == plain.len()
 }
 
-/// Whether these show just those, in order.
-pub fn show_numbered<S: Shows<P> + Drop, P>(seen: &Numbered<S>, plain: &[P]) -> bool {
-    for (item, wanted) in seen.iter().zip(plain) {
-        if !item.shows(wanted) {
+// Whether the refs of a snapshot have just those values, in order.
+fn have_values(refs: &Snapshot, plain: &[Plain]) -> bool {
+    for (version, wanted) in refs.versions().iter().zip(plain) {
+        if !version.value.shows(wanted) {
             return false;
         }
     }
-    seen.len() == plain.len()
+    refs.len() == plain.len()
 }
 
 /// Whether an answer is that of the model, or the same fault.
@@ -181,7 +180,7 @@ fn are_inner(tx: &Tx<Core>, plain: &PlainTx) -> bool {
 impl Shows<PlainTx> for Tx<Core> {
     fn shows(&self, plain: &PlainTx) -> bool {
         self.read_point() == plain.read_point
-            && show_numbered(self.began(), &plain.began)
+            && have_values(self.began(), &plain.began)
             && show(self.dones(), &plain.dones)
             && show(self.sends(), &plain.sends)
             && are_inner(self, plain)

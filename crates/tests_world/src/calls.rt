@@ -7,7 +7,7 @@ use crate::forms::{
 use crate::jobs::{agents_answer, is_of_agents};
 use crate::subjects::{By, Kind, Open, STAMP, Subject};
 use crate::tables::Tables;
-use crate::words::{name, numbered_form, open_form, told_form, values_form, variant_form, vector};
+use crate::words::{name, open_form, snapshot_form, told_form, values_form, variant_form, vector};
 use ref_atoms::{AtomFault, Swapped};
 use ref_edn::{Node, Value};
 use ref_fun::{Core, Rule};
@@ -120,7 +120,7 @@ fn operation(
         "set" => tx.ref_set(by.alloc, r, value_at(call, 2)?),
         "ensure" => tx.ensure(by.alloc, r),
         "alter" | "commute" | "require" => applied(by, tx, called, r, call),
-        "began" => Ok(numbered_form(by.alloc, tx.began())?),
+        "began" => Ok(snapshot_form(by.alloc, tx.began())?),
         _ => Ok(word(by.alloc, "no-such-call")?),
     }
 }

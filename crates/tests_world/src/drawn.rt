@@ -9,9 +9,8 @@ use crate::whole::Worlds;
 use ref_edn::{Node, Value};
 use ref_fun::{Cause, Core, FunTable};
 use ref_log::{Base, Entry, Share, SharedVec, Transaction, replay_plain};
-use ref_pmap::Numbered;
 use ref_refs::CommitFault;
-use ref_tx::{Tx, TxFault};
+use ref_tx::{Snapshot, Tx, TxFault};
 use std::alloc::{AllocError, Global};
 use std::test::Fail;
 
@@ -132,12 +131,12 @@ struct Counts {
     refused: usize,
 }
 
-fn numbered(alloc: Global, values: &SharedVec<Value>) -> Result<Numbered<Value>, AllocError> {
-    let mut all = Numbered::empty();
+fn snapshot(alloc: Global, values: &SharedVec<Value>) -> Result<Snapshot, AllocError> {
+    let mut refs = Snapshot::empty();
     for value in values {
-        all = all.with_next(alloc, value.share()?)?;
+        refs = refs.with_next(alloc, value.share()?, 0)?;
     }
-    Ok(all)
+    Ok(refs)
 }
 
 // Draws a transaction and counts its operations. Says whether the slow replay gives its values.
@@ -147,7 +146,7 @@ fn is_one_replayed(
     seed: &mut u64,
     counts: &mut Counts,
 ) -> Result<bool, AllocError> {
-    let began = numbered(by.alloc, &base.refs)?;
+    let began = snapshot(by.alloc, &base.refs)?;
     let mut tx: Tx<Core> = Tx::start(by.alloc, 0, began, base.tally, 0);
     let refused = operate_often(by, &mut tx, seed)?;
     counts.refused = counts.refused.saturating_add(refused);

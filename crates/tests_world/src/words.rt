@@ -6,7 +6,7 @@ use ref_agents::Account;
 use ref_edn::{Items, Node, Value, read_one};
 use ref_fun::Rule;
 use ref_log::{Notice, SharedVec, Who};
-use ref_pmap::Numbered;
+use ref_tx::Snapshot;
 use std::alloc::{AllocError, Global};
 use std::fmt::Debug;
 
@@ -74,10 +74,10 @@ pub(crate) fn values_form(alloc: Global, values: &SharedVec<Value>) -> Form {
     vector(alloc, all)
 }
 
-pub(crate) fn numbered_form(alloc: Global, values: &Numbered<Value>) -> Form {
+pub(crate) fn snapshot_form(alloc: Global, refs: &Snapshot) -> Form {
     let mut all = Vec::new(alloc);
-    for value in values {
-        all.push(value.share()?)?;
+    for version in refs.versions() {
+        all.push(version.value.share()?)?;
     }
     vector(alloc, all)
 }

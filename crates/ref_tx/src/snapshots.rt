@@ -1,0 +1,135 @@
+//! The refs at one point.
+ghost use Rattle.std.specs.Prelude.{◌≡◌, ◌<◌, ◌≤◌, ◌^◌, ◌↔◌, ◌++◌, ◌∷◌, [], IfOk, IsTrue, length, option_copied, slice_get, slice_set};
+ghost use Rattle.ref_tx.specs.Snapshots.{changes_of, values_of};
+
+use ref_edn::Value;
+use ref_pmap::Numbered;
+use std::alloc::{AllocError, Global};
+use std::marker::Model;
+
+/// A ref at one point: its value, and the point of its last change.
+#[derive(Drop)]
+pub struct Version {
+    pub value: Value,
+    pub changed_at: u64,
+}
+
+/// The refs at one point, by number. Contracts see their values, and the points of their last changes. It never changes: what
+/// differs in a few refs is another snapshot, which shares all else with this one.
+///
+/// A look-up, and a snapshot with another value, take time logarithmic in the number of refs.
+pub struct Snapshot {
+    refs: Numbered<Version>,
+}
+
+// A derived one would be written out wherever snapshots are let go.
+impl Drop for Snapshot {
+    fn drop(self) {
+        let Snapshot { refs: _refs } = self;
+    }
+}
+
+impl Model for Snapshot {
+    ghost use Rattle.std.specs.Coded.{codes};
+    ghost use Rattle.ref_edn.specs.Code.{edn_code};
+    ghost use Rattle.ref_tx.specs.Snapshots.{SnapshotSeen, changes_of, values_of};
+
+    ghost Value = { SnapshotSeen };
+
+    ghost coded = { Prim.hlevel (codes, edn_code) };
+
+    ghost view = { λ a. record { values = values_of a.refs; lasts = changes_of a.refs } };
+}
+
+impl Snapshot {
+    /// Without refs. It takes no memory.
+    pub fn empty() -> Snapshot
+        ensures { result ≡ record { values = []; lasts = [] } }
+    {
+        Snapshot {
+            refs: Numbered::empty(),
+        }
+    }
+
+    /// How many refs there are.
+    pub fn len(&self) -> usize
+        ensures value { result ≡ length self.now.values }
+        // Each ref has a last change.
+        ensures lasts { length self.now.lasts ≡ length self.now.values }
+        ensures bound { result ≤ 2 ^ 32 }
+    {
+        self.refs.len()
+    }
+
+    pub fn is_empty(&self) -> bool
+        ensures { IsTrue result ↔ (self.now.values ≡ []) }
+    {
+        self.len() == 0
+    }
+
+    /// One more owner of the snapshot. It takes no memory; only a count of owners can refuse.
+    pub fn share(&self) -> Result<Snapshot, AllocError>
+        ensures { IfOk result (λ same. same ≡ self.now) }
+    {
+        Ok(Snapshot {
+            refs: self.refs.share()?,
+        })
+    }
+
+    /// The value of a ref, if there is such a ref.
+    pub fn get(&self, r: u32) -> Option<&Value>
+        ensures { option_copied result ≡ slice_get self.now.values r }
+    {
+        match self.refs.get(r) {
+            Some(version) => Some(&version.value),
+            None => None,
+        }
+    }
+
+    /// The point of a ref's last change, if there is such a ref.
+    pub fn last_change(&self, r: u32) -> Option<u64>
+        ensures { result ≡ slice_get self.now.lasts r }
+    {
+        match self.refs.get(r) {
+            Some(version) => Some(version.changed_at),
+            None => None,
+        }
+    }
+
+    /// The refs from the first on.
+    pub fn versions(&self) -> &Numbered<Version>
+        ensures values { values_of result.now ≡ self.now.values }
+        ensures lasts { changes_of result.now ≡ self.now.lasts }
+    {
+        &self.refs
+    }
+
+    /// The refs with another value of one of them, which changes at this point. Where memory is refused, the value is let go.
+    pub fn with(&self, alloc: Global, r: u32, value: Value, at: u64) -> Result<Snapshot, AllocError>
+        requires { r < length self.now.values }
+        ensures values { IfOk result (λ after. after.values ≡ slice_set self.now.values r value) }
+        ensures lasts { IfOk result (λ after. after.lasts ≡ slice_set self.now.lasts r at) }
+    {
+        let version = Version {
+            value,
+            changed_at: at,
+        };
+        Ok(Snapshot {
+            refs: self.refs.with(alloc, r, version)?,
+        })
+    }
+
+    /// The refs with one more, whose number is the next one. Where memory is refused, its value is let go.
+    pub fn with_next(&self, alloc: Global, value: Value, at: u64) -> Result<Snapshot, AllocError>
+        ensures values { IfOk result (λ after. after.values ≡ self.now.values ++ value ∷ []) }
+        ensures lasts { IfOk result (λ after. after.lasts ≡ self.now.lasts ++ at ∷ []) }
+    {
+        let version = Version {
+            value,
+            changed_at: at,
+        };
+        Ok(Snapshot {
+            refs: self.refs.with_next(alloc, version)?,
+        })
+    }
+}
