@@ -4,9 +4,9 @@ use Rattle.std.specs.Option.{option_map}
 use Rattle.std.specs.Option.{option_or}
 use Rattle.std.specs.Ordering.{eq_by_cmp}
 use Rattle.std.proofs.lemmas.Bool.{eqb-true, eqb-false, eq-eqb, and_from, both_ways, not-true, not-false, false_from_ne_true, true_from_ne_false}
-use Rattle.std.proofs.lemmas.List.{append_assoc, append-nil, take_more}
+use Rattle.std.proofs.lemmas.List.{append_assoc, append-nil, set-get_or, take_more}
 use Rattle.std.proofs.lemmas.List.Folds.{find-append, list_any_at}
-use Rattle.std.proofs.lemmas.Option.{slice_get-get_or}
+use Rattle.std.proofs.lemmas.Option.{get_or_from_slice_get, slice_get-get_or}
 use Rattle.ref_edn.specs.Order.{edn_cmp}
 use Rattle.ref_edn.specs.OrderLaws.{edn_eq}
 use Rattle.ref_edn.specs.Edn.{Edn, nil}
@@ -14,8 +14,9 @@ use Rattle.ref_fun.specs.declared.faults.Cause.{Cause}
 use Rattle.ref_fun.specs.Meaning.{Means}
 use Rattle.ref_log.specs.declared.faults.AuditFault.{AuditFault}
 use Rattle.ref_log.specs.declared.operations.Op.{Op}
+use Rattle.ref_log.specs.declared.operations.Op.TheVariants.{Set, Alter, Commute, Ensure}
 use Rattle.ref_log.specs.declared.operations.Done.{Done}
-use Rattle.ref_log.specs.Replay.{place, is_commute, is_kept, is_protected, after_one, after_done, after_dones, after_place, missing}
+use Rattle.ref_log.specs.Replay.{place, is_commute, is_ensure, is_kept, is_protected, after_one, after_done, after_dones, after_place, missing}
 use Rattle.ref_log.specs.Laws.{is_kept-itself, slice_get-slice_set, slice_get-slice_set-here}
 use Rattle.ref_tx.specs.Inner.{and_place, given, value_after, AreAnswers}
 use Rattle.ref_tx.specs.Laws.{value_after-here, value_after-elsewhere}
@@ -46,6 +47,21 @@ others_stay values i r v other = slice_get-slice_set values i r v (eqb-false i r
 
 pub answered : (free : Bool) (values : List Edn) (i : ℕ) (v answer : Edn) → i < length values → (free ≡ false → v ≡ answer) → free ≡ false → slice_get (slice_set values i v) i ≡ Some answer
 answered free values i v answer here kept protected = slice_get-slice_set-here values i v here ∙ ap Some (kept protected)
+
+-- an operation that only ensures leaves its ref as it is
+pub ensure_keeps : (means : Means) (op : Op) (v : Edn) → is_ensure op ≡ true → place means op v ≡ Ok v
+ensure_keeps means (Set w) v is = absurd cc
+ensure_keeps means (Alter code args) v is = absurd cc
+ensure_keeps means (Commute code args) v is = absurd cc
+ensure_keeps means Ensure v is = refl
+
+pub ensured_stays : (values : List Edn) (i : ℕ) (v : Edn) → slice_get values i ≡ Some v → slice_set values i v ≡ values
+ensured_stays values i v there = ap (slice_set values i) (sym (get_or_from_slice_get values i v nil there)) ∙ set-get_or values i nil
+
+pub ensured_answer : (means : Means) (op : Op) (there : Option Edn) (v answer : Edn) → is_ensure op ≡ true → there ≡ Some v → option_map (place means op) there ≡ Some (Ok answer) → v ≡ answer
+ensured_answer means op there v answer is found kept =
+    let placed = sym (ap (option_map (place means op)) found ∙ ap Some (ensure_keeps means op v is)) ∙ kept in
+    cc
 
 -- ---- all operations, one at a time
 

@@ -2,10 +2,10 @@
 use Rattle.std.proofs.Common.{◌≡◌, ℕ, ◌<◌, ◌==◌, ◌&&◌, ◌||◌, not, nat_lt, cond, Bool, true, false, List, [], ◌∷◌, ◌++◌, length, Option, None, Some, refl, ap, ◌∙◌, get_or, zero, suc, ◌⊎◌, inl, inr, arith}
 use Rattle.std.specs.List.{find, list_any}
 use Rattle.std.specs.Option.{option_map}
-use Rattle.std.proofs.lemmas.Bool.{eqb-true, eq-eqb, or_cases, and_parts, ltb-true}
-use Rattle.std.proofs.lemmas.List.Folds.{list_any-append, list_any_at}
+use Rattle.std.proofs.lemmas.Bool.{eqb-true, or_cases, and_parts, ltb-true}
+use Rattle.std.proofs.lemmas.List.Folds.{list_any-append}
 use Rattle.ref_edn.specs.Edn.{Edn}
-use Rattle.ref_log.specs.Replay.{is_commute, is_ensure, is_protected, is_touched}
+use Rattle.ref_log.specs.Replay.{is_commute, is_protected}
 use Rattle.ref_log.specs.declared.operations.Done.{Done}
 use Rattle.ref_log.specs.Tally.{fit_tally}
 use Rattle.ref_refs.specs.declared.faults.Alien.TheVariants as aliens
@@ -29,9 +29,6 @@ or_false false = refl
 pub among_more : (rs : List ℕ) (x q : ℕ) → among (rs ++ x ∷ []) q ≡ (among rs q || (x == q))
 among_more rs x q = list_any-append (λ y. y == q) rs (x ∷ []) ∙ ap (λ b. among rs q || b) (or_false (x == q))
 
-pub among_at : (rs : List ℕ) (i : ℕ) → i < length rs → among rs (get_or rs i 0) ≡ true
-among_at rs i below = list_any_at (λ y. y == get_or rs i 0) rs i 0 below (eq-eqb (get_or rs i 0) (get_or rs i 0) refl)
-
 -- ---- where no ref is foreign, the ref of each operation is here
 
 abbrev foreign : Done → CommitFault
@@ -50,9 +47,6 @@ here_by p values (d ∷ ds) none r on = at (here_parts (nat_lt d.r (length value
 
 pub all_here : (values : List Edn) (ds : List Done) → alien_ref values ds ≡ None → (r : ℕ) → is_protected ds r ≡ true → r < length values
 all_here = here_by (λ d. not (is_commute d.op))
-
-pub touched_here : (values : List Edn) (ds : List Done) → alien_ref values ds ≡ None → (r : ℕ) → is_touched ds r ≡ true → r < length values
-touched_here = here_by (λ d. not (is_ensure d.op))
 
 pub no_map : {X Y : Type 0} (f : X → Y) (o : Option X) → option_map f o ≡ None → o ≡ None
 no_map f None is = refl

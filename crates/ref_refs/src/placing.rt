@@ -26,6 +26,7 @@ pub(crate) fn place_all<M: Meaning, F: Functions<M>>(
     refs: &Snapshot,
     tx: &Tx<M>,
 ) -> Result<Snapshot, CommitFault>
+    requires all { length refs.now.lasts ≡ length refs.now.values }
     requires here { alien_ref refs.now.values tx.now.dones ≡ None }
     requires served { lacking (F.knows funs.now).funs tx.now.dones ≡ None }
     requires unchanged { alien_value refs.now.values tx.now ≡ None }
@@ -33,7 +34,7 @@ pub(crate) fn place_all<M: Meaning, F: Functions<M>>(
         → after_dones M.means tx.now.dones at tx.now.dones (Ok refs.now.values) ≡ Ok after.values) }
     ensures moved { IfOk result (λ after. (r : ℕ)
         → changed_at after.lasts r ≡ changed_by refs.now.lasts at tx.now.dones r) }
-    ensures all { IfOk result (λ after. length after.values ≡ length refs.now.values) }
+    ensures all { IfOk result (λ after. length after.lasts ≡ length refs.now.lasts) }
     ensures unrefused { OnOk result (refused M.means tx.now.dones refs.now.values ≡ None) }
     ensures inner { IfOk result (λ after. (r : ℕ) → is_protected tx.now.dones r ≡ true
         → slice_get after.values r ≡ inner_value M.means tx.now r) }
@@ -59,6 +60,7 @@ fn place_one<M: Meaning, F: Functions<M>>(
     refs: &mut Snapshot,
 ) -> Result<(), CommitFault>
     requires here { done.now.r < length refs.old.values }
+    requires last { done.now.r < length refs.old.lasts }
     requires served { missing (F.knows funs.now).funs (commuted_code done.now.op) ≡ None }
     requires free { is_free ≡ true → is_commute done.now.op ≡ true }
     requires kept { is_free ≡ false → option_map (place M.means done.now.op) (slice_get refs.old.values done.now.r)
@@ -66,6 +68,7 @@ fn place_one<M: Meaning, F: Functions<M>>(
     ensures ok { OnOk result ((at : ℕ) → after_one M.means is_free at done.now refs.old.values ≡ Ok refs.new.values) }
     ensures moved { OnOk result ((r : ℕ) → changed_at refs.new.lasts r ≡ changed_by_one refs.old.lasts at done.now r) }
     ensures all { length refs.new.values ≡ length refs.old.values }
+    ensures lasts { length refs.new.lasts ≡ length refs.old.lasts }
     ensures others { (r : ℕ) → (done.now.r == r) ≡ false → slice_get refs.new.values r ≡ slice_get refs.old.values r }
     ensures answers { OnOk result (is_free ≡ false → slice_get refs.new.values done.now.r ≡ Some done.now.answer) }
     ensures unrefused { OnOk result ((ds : List Done)
@@ -73,12 +76,12 @@ fn place_one<M: Meaning, F: Functions<M>>(
     ensures fault { IfErr result (λ f. f ≢ Memory → (ds : List Done)
         → refused M.means (done.now ∷ ds) refs.old.values ≡ Some f) }
 {
-    if done.op.is_ensure() {
-        return Ok(());
-    }
     let Some(value) = refs.get(done.r) else {
         unreachable!();
     };
+    if done.op.is_ensure() {
+        return Ok(());
+    }
     let value = next_value(alloc, funs, is_free, done, value)?;
     *refs = refs.with(alloc, done.r, value, at)?;
     Ok(())

@@ -7,8 +7,8 @@ use Rattle.ref_refs.proofs.checking.first_changed.Goals as goal
 pub returns : goal.returns
 returns g c =
     let rs = c.protected-protected.result.now in
-    let holds : ℕ → Bool = changed_after c.args.lasts.now c.args.tx.now.read_point in
+    let holds : ℕ → Bool = changed_after c.args.refs.now.lasts c.args.tx.now.read_point in
     let first = c.loop-r.first in
-    let all = subst (λ l. IsFirst (changed_after c.args.lasts.now c.read_point-read_point.result) l first) (take_all c.loop-r.r-index rs c.loop-r-test.false) c.loop-r.invariant in
-    let is : IsFirst holds rs first = subst (λ h. IsFirst h rs first) (ap (changed_after c.args.lasts.now) c.read_point-read_point.ensures) all in
-    first_protected_is c.args.values.now c.args.tx.now.dones rs holds first c.protected-protected.ensures c.requires is
+    let all = subst (λ l. IsFirst (changed_after c.args.refs.now.lasts c.read_point-read_point.result) l first) (take_all c.loop-r.r-index rs c.loop-r-test.false) c.loop-r.invariant in
+    let is : IsFirst holds rs first = subst (λ h. IsFirst h rs first) (ap (changed_after c.args.refs.now.lasts) c.read_point-read_point.ensures) all in
+    first_protected_is c.args.refs.now.values c.args.tx.now.dones rs holds first c.protected-protected.ensures c.requires is

@@ -4,4 +4,4 @@ use Rattle.ref_refs.proofs.Smallest.{IsFirst}
 use Rattle.ref_refs.proofs.checking.first_changed.Given as goal
 
 abbrev pub invariant-loop-r : goal.invariant-loop-r
-invariant-loop-r g l = IsFirst (changed_after l.lasts l.read_point) (take l.r-index l.protected) l.first
+invariant-loop-r g l = IsFirst (changed_after l.refs.lasts l.read_point) (take l.r-index l.protected) l.first

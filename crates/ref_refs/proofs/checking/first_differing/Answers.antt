@@ -7,8 +7,8 @@ use Rattle.ref_refs.proofs.checking.first_differing.Goals as goal
 pub returns : goal.returns
 returns g c =
     let rs = c.protected-protected.result.now in
-    let holds : ℕ → Bool = differs_at c.args.values.now c.args.tx.now.began in
+    let holds : ℕ → Bool = differs_at c.args.refs.now.values c.args.tx.now.began in
     let first = c.loop-r.first in
-    let all = subst (λ l. IsFirst (differs_at c.args.values.now c.began-began.result.now) l first) (take_all c.loop-r.r-index rs c.loop-r-test.false) c.loop-r.invariant in
-    let is : IsFirst holds rs first = subst (λ h. IsFirst h rs first) (ap (differs_at c.args.values.now) c.began-began.ensures) all in
-    first_protected_is c.args.values.now c.args.tx.now.dones rs holds first c.protected-protected.ensures c.requires is
+    let all = subst (λ l. IsFirst (differs_at c.args.refs.now.values c.began-began.result.now.values) l first) (take_all c.loop-r.r-index rs c.loop-r-test.false) c.loop-r.invariant in
+    let is : IsFirst holds rs first = subst (λ h. IsFirst h rs first) (ap (differs_at c.args.refs.now.values) c.began-began.ensures) all in
+    first_protected_is c.args.refs.now.values c.args.tx.now.dones rs holds first c.protected-protected.ensures c.requires is

@@ -4,4 +4,4 @@ use Rattle.ref_refs.proofs.Smallest.{IsFirst}
 use Rattle.ref_refs.proofs.checking.first_differing.Given as goal
 
 abbrev pub invariant-loop-r : goal.invariant-loop-r
-invariant-loop-r g l = IsFirst (differs_at l.values l.began) (take l.r-index l.protected) l.first
+invariant-loop-r g l = IsFirst (differs_at l.refs.values l.began.values) (take l.r-index l.protected) l.first

@@ -1,23 +1,44 @@
 use Rattle.std.proofs.Common.{Ok, ◌∙◌, ap, slice_get, sym}
 use Rattle.ref_refs.specs.Commit.{refused}
-use Rattle.ref_refs.proofs.Legal.{stepped_one, refused_one, others_stay, answered}
+use Rattle.ref_refs.proofs.Legal.{stepped_one, refused_one, others_stay, answered, ensure_keeps, ensured_answer, ensured_stays}
 use Rattle.ref_refs.proofs.placing.place_one.Goals as goal
 
 pub returns-clause-ok : goal.returns-clause-ok
 returns-clause-ok g c = λ at.
-    stepped_one g.M.Meaning.means c.args.is_free at c.args.done.now c.args.values.now c.in-Some.value.now c.in_ok-value.value (sym c.in-Some.ensures) c.in_ok-value.ensures.ok c.in_ok-value.ensures.answers
-    ∙ ap Ok (sym c.in_ok-values.ensures)
+    stepped_one g.M.Meaning.means c.args.is_free at c.args.done.now c.args.refs.now.values c.in-Some.value.now c.in_ok-value.value (sym c.in-Some.ensures) c.in_ok-value.ensures.ok c.in_ok-value.ensures.answers
+    ∙ ap Ok (sym c.in_ok-refs.ensures.values)
 
 pub returns-clause-others : goal.returns-clause-others
 returns-clause-others g c = λ r other.
-    ap (λ l. slice_get l r) c.in_ok-values.ensures ∙ others_stay c.args.values.now c.args.done.now.r r c.in_ok-value.value other
+    ap (λ l. slice_get l r) c.in_ok-refs.ensures.values ∙ others_stay c.args.refs.now.values c.args.done.now.r r c.in_ok-value.value other
 
 pub returns-clause-answers : goal.returns-clause-answers
 returns-clause-answers g c = λ protected.
-    ap (λ l. slice_get l c.args.done.now.r) c.in_ok-values.ensures
-    ∙ answered c.args.is_free c.args.values.now c.args.done.now.r c.in_ok-value.value c.args.done.now.answer c.requires.here c.in_ok-value.ensures.answers protected
+    ap (λ l. slice_get l c.args.done.now.r) c.in_ok-refs.ensures.values
+    ∙ answered c.args.is_free c.args.refs.now.values c.args.done.now.r c.in_ok-value.value c.args.done.now.answer c.requires.here c.in_ok-value.ensures.answers protected
 
 pub returns-clause-unrefused : goal.returns-clause-unrefused
 returns-clause-unrefused g c = λ ds.
-    refused_one g.M.Meaning.means c.args.done.now ds c.args.values.now c.in-Some.value.now c.in_ok-value.value (sym c.in-Some.ensures) c.in_ok-value.ensures.ok
-    ∙ ap (refused g.M.Meaning.means ds) (sym c.in_ok-values.ensures)
+    refused_one g.M.Meaning.means c.args.done.now ds c.args.refs.now.values c.in-Some.value.now c.in_ok-value.value (sym c.in-Some.ensures) c.in_ok-value.ensures.ok
+    ∙ ap (refused g.M.Meaning.means ds) (sym c.in_ok-refs.ensures.values)
+
+pub returns-then-is_ensure-clause-ok : goal.returns-then-is_ensure-clause-ok
+returns-then-is_ensure-clause-ok g c = λ at.
+    let means = g.M.Meaning.means in
+    let d = c.args.done.now in
+    let old = c.in-Some.value.now in
+    let values = c.args.refs.now.values in
+    let is = sym c.if-is_ensure.ensures in
+    let there = sym c.in-Some.ensures in
+    stepped_one means c.args.is_free at d values old old there (ensure_keeps means d.op old is) (λ protected. ensured_answer means d.op (slice_get values d.r) old d.answer is there (c.requires.kept protected))
+    ∙ ap Ok (ensured_stays values d.r old there)
+
+pub returns-then-is_ensure-clause-unrefused : goal.returns-then-is_ensure-clause-unrefused
+returns-then-is_ensure-clause-unrefused g c = λ ds.
+    let means = g.M.Meaning.means in
+    let d = c.args.done.now in
+    let old = c.in-Some.value.now in
+    let values = c.args.refs.now.values in
+    let there = sym c.in-Some.ensures in
+    refused_one means d ds values old old there (ensure_keeps means d.op old (sym c.if-is_ensure.ensures))
+    ∙ ap (refused means ds) (ensured_stays values d.r old there)

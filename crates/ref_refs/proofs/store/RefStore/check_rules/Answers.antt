@@ -17,6 +17,6 @@ returns-in-None-clause-accepted g c =
     let store = c.args.self.now in
     let guards_are = ap (λ (s : RefsSeen). s.guards) c.self.view_is in
     let touched_are : c.deref.result.now ≡ touched_refs c.args.dones.now = c.deref.ensures.value ∙ c.in_ok-touched.ensures in
-    let none : first_invalid accepts store.guards c.args.values.now (touched_refs c.args.dones.now) ≡ None = rw (← guards_are, ← touched_are) (sym c.first_invalid.ensures ∙ c.in-None.is) in
+    let none : first_invalid accepts store.guards c.args.refs.now.values (touched_refs c.args.dones.now) ≡ None = rw (← guards_are, ← touched_are) (sym c.first_invalid.ensures ∙ c.in-None.is) in
     let before : AreAccepted accepts store.guards store.values = rw (← c.self.view_is) c.self.invariant.3 in
-    accepted_after g.M.Meaning.means accepts store.guards c.args.dones.now 0 store.values c.args.values.now (c.requires.made 0) before none
+    accepted_after g.M.Meaning.means accepts store.guards c.args.dones.now 0 store.values c.args.refs.now.values (c.requires.made 0) before none

@@ -12,9 +12,9 @@ invariant_of-self g c =
     let made = rw (← c.self.view_is) at c.requires.made in
     let accepted = rw (← c.self.view_is) at c.requires.accepted in
     let fits = rw (← c.self.view_is) at c.requires.fits in
-    let same : length c.args.values ≡ length w.values = after_dones-length means dones c.args.at dones w.values c.args.values made in
+    let same : length c.args.refs.values ≡ length w.refs.values = after_dones-length means dones c.args.at dones w.refs.values c.args.refs.values made in
     let was = c.self.invariant in
-    let counts = counts_then means g.met.M.Meaning.adds dones c.args.at dones w.tally w.values c.args.values made fits was.4 in
+    let counts = counts_then means g.met.M.Meaning.adds dones c.args.at dones w.tally w.refs.values c.args.refs.values made fits was.4 in
     let all = rw (← c.self.view_is) at c.requires.all in
     (omega (arith, same, was.0, all), omega (arith, same, was.1), omega (arith, same, was.2), accepted, counts.0)
 
@@ -22,7 +22,7 @@ pub returns-clause-since : goal.returns-clause-since
 returns-clause-since g c =
     let last = rw (← c.self.view_is) at c.requires.last in
     let moved = rw (← c.self.view_is) at c.requires.moved in
-    since_commit c.self.inside.lasts c.args.lasts c.args.at c.args.dones.now last moved
+    since_commit c.self.inside.refs.lasts c.args.refs.lasts c.args.at c.args.dones.now last moved
 
 pub returns-clause-tally : goal.returns-clause-tally
 returns-clause-tally g c =
@@ -31,5 +31,5 @@ returns-clause-tally g c =
     let dones = c.args.dones.now in
     let made = rw (← c.self.view_is) at c.requires.made in
     let fits = rw (← c.self.view_is) at c.requires.fits in
-    let counts = counts_then means g.met.M.Meaning.adds dones c.args.at dones w.tally w.values c.args.values made fits c.self.invariant.4 in
+    let counts = counts_then means g.met.M.Meaning.adds dones c.args.at dones w.tally w.refs.values c.args.refs.values made fits c.self.invariant.4 in
     rw (← c.self.view_is) counts.1
