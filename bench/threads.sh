@@ -8,7 +8,8 @@
 # built in a folder outside of it, $REF_BENCH or ref-bench among the temporary files, over copies of the libraries.
 set -eu
 here=$(cd "$(dirname "$0")" && pwd)
-. "$here/threads/build.sh"
+name=threads library=ref_shared try="try 1"
+. "$here/build.sh"
 
 plain=
 if command -v rustc >/dev/null; then

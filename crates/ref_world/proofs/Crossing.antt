@@ -27,6 +27,9 @@ use Rattle.ref_log.specs.contracts.watches.Watches as Watches
 use Rattle.ref_log.specs.contracts.watches.Watches.TheInside as InWatches
 use Rattle.ref_fun.specs.contracts.rules.Rule as Rule
 use Rattle.ref_log.specs.contracts.states.Base as Base
+use Rattle.ref_tx.specs.contracts.snapshots.Snapshot as Snapshot
+use Rattle.ref_tx.specs.contracts.snapshots.Snapshot.TheInside as InSnapshot
+use Rattle.ref_tx.specs.contracts.snapshots.Version as Version
 use Rattle.ref_refs.specs.contracts.store.RefStore as RefStore
 use Rattle.ref_refs.specs.contracts.store.RefStore.TheInside as InRefStore
 use Rattle.ref_atoms.specs.contracts.atoms.AtomStore as AtomStore
@@ -172,18 +175,24 @@ account_send = search (value_send, handled_send, queued_send, plain) depth 60
 agent_send : IsSend Agent.the_row
 agent_send = search (value_send, account_send, plain) depth 60
 
+version_send : IsSend Version.the_row
+version_send = declared_send Version.the_type (value_send, (search plain depth 60, tt))
+
+version_sync : IsSync Version.the_row
+version_sync = declared_sync Version.the_type (value_sync, (search plain depth 60, tt))
+
+snapshot_send : IsSend Snapshot.the_row
+snapshot_send = view_send _ _ _ _ _ (declared_send InSnapshot.the_type (search (numbered_send, version_send, version_sync, plain) depth 60, tt))
+
 module _ (M : RattleType) (g : Meaning.Ghosts M.Denot) where
   refs_send : IsSend (RefStore.the_row M g)
   refs_send = view_send _ _ _ _ _ (declared_send (InRefStore.the_type M g) (
-    search (numbered_send, value_send, value_sync, plain) depth 60,
+    snapshot_send,
     (
-      search (numbered_send, plain) depth 60,
+      search plain depth 60,
       (
-        search plain depth 60,
-        (
-          guards_send,
-          (search plain depth 60, tt),
-        ),
+        guards_send,
+        (search plain depth 60, tt),
       ),
     ),
   ))

@@ -28,7 +28,7 @@ invariant_of-self-2 g c =
     let items : c.push_reserved.new.self.items ≡ log ++ e ∷ [] = pushed ∙ ap (λ x. log ++ x ∷ []) c.in-Ok.ensures.entry in
     let point : c.point-at.result ≡ point_after w.base log = c.point-at.ensures.value ∙ ap point_of (sym c.self.view_is) in
     let values = c.in-Ok.ensures.values w.atoms.values in
-    let here = subst (λ p. step means (p + 1) e (values_now w.refs w.atoms) ≡ Ok (record { refs = prepared.values; atoms = w.atoms.values })) point values in
+    let here = subst (λ p. step means (p + 1) e (values_now w.refs w.atoms) ≡ Ok (record { refs = prepared.refs.values; atoms = w.atoms.values })) point values in
     let next : step means (point_after w.base log + 1) e (values_now w.refs w.atoms) ≡ Ok (values_now after w.atoms) = here ∙ ap (λ vs. Ok (record { refs = vs; atoms = w.atoms.values })) (sym c.install.ensures.values) in
     let lasts = subst (λ ds. (r : ℕ) → changed_at after.lasts r ≡ changed_by w.refs.lasts (c.point-at.result + 1) ds r) c.dones.ensures.value c.install.ensures.lasts in
     let moved = subst (λ p. (r : ℕ) → changed_at after.lasts r ≡ changed_by w.refs.lasts (p + 1) tx.dones r) point lasts in

@@ -1,16 +1,17 @@
-# Builds the program of threads in a folder of its own. Read by threads.sh and stress.sh, which set `here`; it sets `room`, the
-# folder, and `program`.
+# Builds a program of this folder in a folder of its own. Read by threads.sh, stress.sh and begins.sh, which set `here`, the
+# program's `name`, the highest `library` that it stands on, and what it is told for a short `try`; it sets `room`, the folder,
+# and `program`.
 top=$(dirname "$here")
-room=${REF_BENCH:-${TMPDIR:-/tmp}/ref-bench}/threads
+room=${REF_BENCH:-${TMPDIR:-/tmp}/ref-bench}/$name
 tree=$room/tree
-program=$tree/crates/threads/out/threads
+program=$tree/crates/$name/out/$name
 
 for tool in rt python3; do
   command -v $tool >/dev/null || { echo "bench/$(basename "$0") needs $tool" >&2; exit 2; }
 done
 
-# ref_shared, and all that it stands on.
-libraries=$(awk -F: '
+# The library, and all that it stands on.
+libraries=$(awk -F: -v library="$library" '
   function visit(name,    i, many, names) {
     if (name in seen || !(name in below)) return
     seen[name] = 1
@@ -19,12 +20,12 @@ libraries=$(awk -F: '
     for (i = 1; i <= many; i++) visit(names[i])
   }
   { split($1, head, " "); line[head[1]] = $0; below[head[1]] = $2 }
-  END { visit("ref_shared") }' "$top/crates.txt")
+  END { visit(library) }' "$top/crates.txt")
 
 # What the repository keeps of a library's proof is taken over, where it is another one than was taken before.
-for library in $libraries; do
-  from=$top/crates/$library
-  to=$tree/crates/$library
+for below in $libraries; do
+  from=$top/crates/$below
+  to=$tree/crates/$below
   mkdir -p "$to/out"
   for part in src specs proofs; do
     rm -rf "$to/$part"
@@ -37,20 +38,20 @@ for library in $libraries; do
 done
 
 # The program's files have names that end in .txt, since an .rt or .antt file has to belong to a crate of the repository.
-rm -rf "$tree/crates/threads/src" "$tree/crates/threads/proofs"
-for file in $(cd "$here/threads" && find src proofs -name '*.txt'); do
-  mkdir -p "$tree/crates/threads/$(dirname "$file")"
-  cp "$here/threads/$file" "$tree/crates/threads/${file%.txt}"
+rm -rf "$tree/crates/$name/src" "$tree/crates/$name/proofs"
+for file in $(cd "$here/$name" && find src proofs -name '*.txt'); do
+  mkdir -p "$tree/crates/$name/$(dirname "$file")"
+  cp "$here/$name/$file" "$tree/crates/$name/${file%.txt}"
 done
 cp "$top/HANDLES" "$tree/"
 {
-  for library in $libraries; do grep "^$library[ :]" "$top/crates.txt"; done
-  echo 'threads:' $libraries
+  for below in $libraries; do grep "^$below[ :]" "$top/crates.txt"; done
+  echo "$name:" $libraries
 } > "$tree/crates.txt"
 
 echo "building in $tree"
 # rt also runs what it has built, here on a short try.
-if ! (cd "$tree/crates/threads" && rt run -- try 1 > "$room/build.txt" 2>&1); then
+if ! (cd "$tree/crates/$name" && rt run -- $try > "$room/build.txt" 2>&1); then
   tail -20 "$room/build.txt" >&2
   echo "bench/$(basename "$0"): not built, or a first try failed; all that rt said is in $room/build.txt" >&2
   exit 1
