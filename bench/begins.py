@@ -10,7 +10,7 @@ parser.add_argument("program")
 parser.add_argument("sizes", metavar="REFS", nargs="*", type=int, help="how many refs the worlds have; without any: " + ", ".join(map(str, SIZES)))
 parser.add_argument("--times", type=int, default=200_000, metavar="N", help="transactions on each world (200,000)")
 parser.add_argument("--rounds", type=int, default=5, metavar="N", help="runs for each size, of which the fastest counts (5)")
-asked = parser.parse_args()
+asked = parser.parse_intermixed_args()
 
 
 def nanos(refs):
