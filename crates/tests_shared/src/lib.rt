@@ -6,7 +6,7 @@
 //!
 //! | Modules | |
 //! |---|---|
-//! | `calls`, `conflicts`, `finishing` | by one thread: each call, transactions that are tried again, the end |
+//! | `calls`, `checkpoints`, `conflicts`, `finishing` | by one thread: each call, views and checkpoints, transactions that are tried again, the end |
 //! | `work` | by one thread: agents |
 //! | `threads`, `side_by_side`, `stress` | by several: transactions, agents, all together |
 //! | `faults` | what faults say |
@@ -17,6 +17,8 @@
 
 #[cfg(test)]
 mod calls;
+#[cfg(test)]
+mod checkpoints;
 #[cfg(test)]
 mod conflicts;
 #[cfg(test)]

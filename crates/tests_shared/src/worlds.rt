@@ -7,6 +7,7 @@ use ref_agents::ErrorMode;
 use ref_edn::{Node, Value, read_all, read_one};
 use ref_fun::{Action, Args, Core, CoreFunctions, Rule};
 use ref_log::{Entry, Notice, Stamp, Who};
+use ref_pvec::PVec;
 use ref_shared::Shared;
 use ref_tx::Tx;
 use ref_world::{AgentStart, AtomStart, RefStart, Share, Start, Totals, World};
@@ -181,7 +182,10 @@ pub(crate) fn all_told(alloc: Global, notices: &[Notice]) -> Result<Vec<Told>, A
 }
 
 /// The stamp and the read point of each transaction of a log.
-pub(crate) fn all_commits(alloc: Global, log: &[Entry]) -> Result<Vec<(Stamp, u64)>, AllocError> {
+pub(crate) fn all_commits(
+    alloc: Global,
+    log: &PVec<Entry>,
+) -> Result<Vec<(Stamp, u64)>, AllocError> {
     let mut all = Vec::new(alloc);
     for entry in log {
         if let Entry::Trans(transaction) = entry {
