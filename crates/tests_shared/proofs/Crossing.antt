@@ -6,7 +6,12 @@ use Rattle.ref_shared.proofs.Crossing as shared
 use Rattle.tests_shared.specs.contracts.flags.Flags as Flags
 
 pub flags_sync : IsSync Flags.the_row
-flags_sync = declared_sync Flags.the_type
-    (search (std.crosses, sendable) depth 60, (search (std.crosses, sendable) depth 60, (search (std.crosses, sendable) depth 60, tt)))
+flags_sync = declared_sync Flags.the_type (
+  search (std.crosses, sendable) depth 60,
+  (
+    search (std.crosses, sendable) depth 60,
+    (search (std.crosses, sendable) depth 60, (search (std.crosses, sendable) depth 60, tt)),
+  ),
+)
 
 pub ruleset crosses = (flags_sync, shared.crosses)

@@ -7,6 +7,7 @@ pub struct Flags {
     pub first: AtomicBool,
     pub second: AtomicBool,
     pub third: AtomicBool,
+    pub fourth: AtomicBool,
 }
 
 impl Flags {
@@ -15,6 +16,7 @@ impl Flags {
             first: AtomicBool::new(false),
             second: AtomicBool::new(false),
             third: AtomicBool::new(false),
+            fourth: AtomicBool::new(false),
         }
     }
 }
