@@ -1,49 +1,12 @@
--- The deepest member of a list where one is put in, taken out or replaced.
-use Rattle.std.proofs.Common.{◌≡◌, ◌≤◌, ◌<◌, ℕ, zero, suc, List, [], ◌∷◌, arith, ◌⊎◌, inl, inr, get_or, length}
+-- The deepest member of a list where one is put in, taken out or replaced, and of two lists.
+use Rattle.std.proofs.Common.{◌≡◌, ◌≤◌, ◌<◌, ℕ, zero, suc, List, [], ◌∷◌, ◌++◌, arith, ◌⊎◌, inl, inr, get_or, length}
 use Rattle.std.specs.Prelude.{max, insert, remove, slice_set}
-use Rattle.ref_edn.specs.Edn.{Edn, nesting, items_depth, items_of, entries_depth, entries_of}
-use Rattle.ref_edn.specs.Lawful.{IsLawful, HasLawfulParts, AreLawful, AreLawfulEntries}
-use Rattle.ref_edn.specs.Deepest.{IsDeepest, IsDeepestEntry}
-
--- ---- values
-
-depth_insert : (xs : List Edn) (i : ℕ) (x : Edn) → items_depth (items_of (insert xs i x)) ≡ max (items_depth (items_of xs)) (nesting x)
-depth_insert xs zero x = omega arith
-depth_insert [] (suc i) x = omega arith
-depth_insert (y ∷ ys) (suc i) x = omega (arith, depth_insert ys i x)
-
-lawful_insert : (xs : List Edn) (i : ℕ) (x : Edn) → AreLawful (items_of xs) → HasLawfulParts x → AreLawful (items_of (insert xs i x))
-lawful_insert xs zero x h p = (p, h)
-lawful_insert [] (suc i) x h p = (p, tt)
-lawful_insert (y ∷ ys) (suc i) x h p = (h.0, lawful_insert ys i x h.1 p)
-
-pub insert_deepest : (d : ℕ) (xs : List Edn) (i : ℕ) (x : Edn) → IsDeepest d xs → IsLawful x → IsDeepest (max d (nesting x)) (insert xs i x)
-insert_deepest d xs i x h p = record {
-  value = omega (arith, h.value, depth_insert xs i x);
-  bound = omega (arith, h.bound, p.shallow);
-  lawful = lawful_insert xs i x h.lawful p.parts;
-}
-
-depth_at : (xs : List Edn) (i : ℕ) (d : Edn) → i < length xs → items_depth (items_of xs) ≡ max (nesting (get_or xs i d)) (items_depth (items_of (remove xs i)))
-depth_at [] i d h = absurd (omega arith)
-depth_at (y ∷ ys) zero d h = omega arith
-depth_at (y ∷ ys) (suc i) d h = omega (arith, depth_at ys i d (omega arith))
-
-lawful_remove : (xs : List Edn) (i : ℕ) → AreLawful (items_of xs) → AreLawful (items_of (remove xs i))
-lawful_remove [] zero h = tt
-lawful_remove [] (suc i) h = tt
-lawful_remove (y ∷ ys) zero h = h.1
-lawful_remove (y ∷ ys) (suc i) h = (h.0, lawful_remove ys i h.1)
-
-pub remove_deepest : (d : ℕ) (xs : List Edn) (i : ℕ) (x : Edn) → i < length xs → x ≡ get_or xs i x → (nesting x ≡ 0) ⊎ (nesting x < d) → IsDeepest d xs → IsDeepest d (remove xs i)
-remove_deepest d xs i x less is shallow h =
-    let at : items_depth (items_of xs) ≡ max (nesting (get_or xs i x)) (items_depth (items_of (remove xs i))) = depth_at xs i x less in
-    let depths = rw (← is) at at in
-    record {
-      value = elim shallow [ inl flat ↦ omega (arith, h.value, depths, flat) | inr below ↦ omega (arith, h.value, depths, below) ];
-      bound = h.bound;
-      lawful = lawful_remove xs i h.lawful;
-    }
+use Rattle.ref_edn.specs.Edn.{Edn, nesting, entries_depth, entries_of}
+use Rattle.ref_edn.specs.Lawful.{IsLawful, HasLawfulParts, AreLawfulEntries}
+use Rattle.ref_edn.specs.Deepest.{IsDeepestEntry}
+use Rattle.ref_edn.specs.Members.{twins}
+use Rattle.ref_edn.specs.Most.{depth_both}
+use Rattle.ref_edn.proofs.Pairing.{twins_at, length_twins}
 
 -- ---- pairs
 
@@ -88,6 +51,21 @@ remove_deepest_pair d es i e less is shallow h =
       lawful = lawful_remove_pair es i h.lawful;
     }
 
+-- ---- a value, as a pair with itself
+
+pub insert_deepest_twin : (d : ℕ) (es : List (Edn × Edn)) (i : ℕ) (x : Edn) → IsDeepestEntry d es → IsLawful x → IsDeepestEntry (max d (nesting x)) (insert es i (x, x))
+insert_deepest_twin d es i x h p = record {
+  value = omega (arith, h.value, depth_insert_pair es i (x, x));
+  bound = omega (arith, h.bound, p.shallow);
+  lawful = lawful_insert_pair es i (x, x) h.lawful p.parts p.parts;
+}
+
+pub remove_deepest_twin : (d : ℕ) (xs : List Edn) (i : ℕ) (x : Edn) → i < length (twins xs) → x ≡ get_or xs i x → (nesting x ≡ 0) ⊎ (nesting x < d) → IsDeepestEntry d (twins xs)
+    → IsDeepestEntry d (remove (twins xs) i)
+remove_deepest_twin d xs i x less is shallow h =
+    let same : (deeper (x, x) ≡ 0) ⊎ (deeper (x, x) < d) = elim shallow [ inl flat ↦ inl (omega (arith, flat)) | inr below ↦ inr (omega (arith, below)) ] in
+    remove_deepest_pair d (twins xs) i (x, x) less (twins_at xs i x (omega (arith, length_twins xs)) is) same h
+
 -- ---- a pair in the place of another
 
 depth_set : (es : List (Edn × Edn)) (i : ℕ) (e : Edn × Edn) → i < length es → entries_depth (entries_of (slice_set es i e)) ≡ max (deeper e) (entries_depth (entries_of (remove es i)))
@@ -110,3 +88,16 @@ set_deepest d es i old e less is shallow h p q =
       bound = omega (arith, h.bound, p.shallow, q.shallow);
       lawful = lawful_set es i e h.lawful p.parts q.parts;
     }
+
+-- ---- two lists
+
+lawful_both : (xs ys : List (Edn × Edn)) → AreLawfulEntries (entries_of xs) → AreLawfulEntries (entries_of ys) → AreLawfulEntries (entries_of (xs ++ ys))
+lawful_both [] ys h k = k
+lawful_both (x ∷ xs) ys h k = (h.0, h.1, lawful_both xs ys h.2 k)
+
+pub deepest_both : (a b : ℕ) (xs ys : List (Edn × Edn)) → IsDeepestEntry a xs → IsDeepestEntry b ys → IsDeepestEntry (max a b) (xs ++ ys)
+deepest_both a b xs ys h k = record {
+  value = omega (arith, h.value, k.value, depth_both xs ys);
+  bound = omega (arith, h.bound, k.bound);
+  lawful = lawful_both xs ys h.lawful k.lawful;
+}

@@ -1,6 +1,8 @@
 pub mod Depths
 pub mod Edited
-pub mod Ordered
+pub mod Pairing
+pub mod Pieces
+pub mod Passing
 pub mod Ascending
 pub mod NameParts
 pub mod Taken
@@ -30,6 +32,7 @@ pub mod Bodies
 pub mod Searching
 pub mod Compared
 pub mod Places
+pub mod Searched
 pub mod SetMembers
 pub mod MapKeys
 pub mod PrintedTokens

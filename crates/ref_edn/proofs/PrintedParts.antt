@@ -1,8 +1,7 @@
 -- The text of a value and of what a collection holds, from a place on.
-use Rattle.std.proofs.Common.{◌≡◌, ℕ, zero, suc, ◌+◌, ◌<◌, ◌≤◌, List, [], ◌∷◌, ◌++◌, refl, sym, ap, ◌∙◌, arith, take, drop, get_or, length, drop-cons, add-one, append_assoc, take_all}
-use Rattle.std.specs.Prelude.{true, false, cond, ◌==◌}
+use Rattle.std.proofs.Common.{◌≡◌, ℕ, ◌+◌, ◌<◌, ◌≤◌, List, [], ◌∷◌, ◌++◌, refl, sym, ap, ◌∙◌, arith, take, drop, get_or, length, drop-cons, add-one, append_assoc, take_all}
+use Rattle.std.specs.Prelude.{Bool, true, false, cond}
 use Rattle.std.proofs.lemmas.List.{append-nil, take_more, take-append-drop, take_at, take-take, length-take}
-use Rattle.std.proofs.lemmas.Bool.Decides.{nat_tests}
 use Rattle.std.specs.Fmt.{signed_decimal}
 use Rattle.ref_edn.specs.Edn.{Edn, nil, boolean, int, string, keyword, symbol, vector, map, set, Items, no_items, item, items_of, Entries, no_entries, entry, entries_of}
 use Rattle.ref_edn.specs.Printed.{text, items_text, more_items, entries_text, more_entries, printed, escaped, escaped_byte}
@@ -57,60 +56,36 @@ mutual
 
 -- ---- what stands between elements, and a collection from a place on
 
-abbrev pub tail : ℕ → ℕ → Items → List ℕ
-tail zero close xs = items_text close xs []
-tail (suc i) close xs = more_items close xs []
+abbrev pub tail : Bool → ℕ → Items → List ℕ
+tail false close xs = items_text close xs []
+tail true close xs = more_items close xs []
 
-abbrev pub entries_tail : ℕ → Entries → List ℕ
-entries_tail zero es = entries_text es []
-entries_tail (suc i) es = more_entries es []
+abbrev pub entries_tail : Bool → Entries → List ℕ
+entries_tail false es = entries_text es []
+entries_tail true es = more_entries es []
 
-gap_of_later : (i : ℕ) (g : List ℕ) → cond (suc i == 0) [] g ≡ g
-gap_of_later i g = grind (arith, nat_tests)
+-- the first element, what stands before it, and the rest
+pub tail_first : (close : ℕ) (later : Bool) (x : Edn) (xs : List Edn) → tail later close (items_of (x ∷ xs)) ≡ (cond later (32 ∷ []) [] ++ printed x) ++ tail true close (items_of xs)
+tail_first close false x xs = text_then x (more_items close (items_of xs) [])
+tail_first close true x xs = ap (λ (t : List ℕ). 32 ∷ t) (text_then x (more_items close (items_of xs) []))
 
--- the element at a place, what stands before it, and the rest
-pub tail_at : (close : ℕ) (xs : List Edn) (i : ℕ) (x : Edn) → i < length xs → x ≡ get_or xs i x
-    → tail i close (items_of (drop i xs)) ≡ (cond (i == 0) [] (32 ∷ []) ++ printed x) ++ tail (i + 1) close (items_of (drop (i + 1) xs))
-tail_at close [] zero x h e = absurd (omega arith)
-tail_at close (y ∷ ys) zero x h e = rw e (text_then y (more_items close (items_of ys) []))
-tail_at close xs (suc i) x h e =
-    rw (gap_of_later, add-one, drop-cons xs (suc i) x h, ← e) (ap (λ (t : List ℕ). 32 ∷ t) (text_then x (more_items close (items_of (drop (suc (suc i)) xs)) [])))
-
-pub tail_end : (close : ℕ) (xs : List Edn) (i : ℕ) → length xs ≤ i → tail i close (items_of (drop i xs)) ≡ close ∷ []
-tail_end close [] zero h = refl
-tail_end close [] (suc i) h = refl
-tail_end close (x ∷ xs) zero h = absurd (omega arith)
-tail_end close (x ∷ xs) (suc i) h = over xs i (omega arith)
-  where
-    over : (ys : List Edn) (j : ℕ) → length ys ≤ j → more_items close (items_of (drop j ys)) [] ≡ close ∷ []
-    over [] zero h = refl
-    over [] (suc j) h = refl
-    over (y ∷ ys) zero h = absurd (omega arith)
-    over (y ∷ ys) (suc j) h = over ys j (omega arith)
+pub tail_end : (close : ℕ) (later : Bool) → tail later close (items_of []) ≡ close ∷ []
+tail_end close false = refl
+tail_end close true = refl
 
 entry_then : (k x : Edn) (es : Entries) → text k (32 ∷ text x (more_entries es [])) ≡ (printed k ++ 32 ∷ printed x) ++ more_entries es []
 entry_then k x es =
     text_then k (32 ∷ text x (more_entries es [])) ∙ ap (λ (t : List ℕ). text k [] ++ 32 ∷ t) (text_then x (more_entries es [])) ∙ sym (append_assoc (printed k) (32 ∷ printed x) (more_entries es []))
 
--- the key and the value at a place, what stands before them, and the rest
-pub entries_tail_at : (es : List (Edn × Edn)) (i : ℕ) (k x : Edn) → i < length es → (k, x) ≡ get_or es i (k, x)
-    → entries_tail i (entries_of (drop i es)) ≡ (cond (i == 0) [] (44 ∷ 32 ∷ []) ++ (printed k ++ 32 ∷ printed x)) ++ entries_tail (i + 1) (entries_of (drop (i + 1) es))
-entries_tail_at [] zero k x h e = absurd (omega arith)
-entries_tail_at (y ∷ ys) zero k x h e = rw (← e) (entry_then k x (entries_of ys))
-entries_tail_at es (suc i) k x h e =
-    rw (gap_of_later, add-one, drop-cons es (suc i) (k, x) h, ← e) (ap (λ (t : List ℕ). 44 ∷ 32 ∷ t) (entry_then k x (entries_of (drop (suc (suc i)) es))))
+-- the first key and its value, what stands before them, and the rest
+pub entries_tail_first : (later : Bool) (e : Edn × Edn) (es : List (Edn × Edn))
+    → entries_tail later (entries_of (e ∷ es)) ≡ (cond later (44 ∷ 32 ∷ []) [] ++ (printed e.0 ++ 32 ∷ printed e.1)) ++ entries_tail true (entries_of es)
+entries_tail_first false e es = entry_then e.0 e.1 (entries_of es)
+entries_tail_first true e es = ap (λ (t : List ℕ). 44 ∷ 32 ∷ t) (entry_then e.0 e.1 (entries_of es))
 
-pub entries_tail_end : (es : List (Edn × Edn)) (i : ℕ) → length es ≤ i → entries_tail i (entries_of (drop i es)) ≡ 125 ∷ []
-entries_tail_end [] zero h = refl
-entries_tail_end [] (suc i) h = refl
-entries_tail_end (e ∷ es) zero h = absurd (omega arith)
-entries_tail_end (e ∷ es) (suc i) h = over es i (omega arith)
-  where
-    over : (fs : List (Edn × Edn)) (j : ℕ) → length fs ≤ j → more_entries (entries_of (drop j fs)) [] ≡ 125 ∷ []
-    over [] zero h = refl
-    over [] (suc j) h = refl
-    over (f ∷ fs) zero h = absurd (omega arith)
-    over (f ∷ fs) (suc j) h = over fs j (omega arith)
+pub entries_tail_end : (later : Bool) → entries_tail later (entries_of []) ≡ 125 ∷ []
+entries_tail_end false = refl
+entries_tail_end true = refl
 
 -- ---- strings
 

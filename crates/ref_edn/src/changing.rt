@@ -1,13 +1,24 @@
-//! The members of a collection, and beside them the depth of the deepest: a copy, one more and one less.
-ghost use Rattle.std.specs.Prelude.{◌≡◌, ◌≤◌, ◌<◌, length, slice_set, insert, remove, max, IfOk, OnOk, OnErr};
-ghost use Rattle.ref_edn.specs.Deepest.{IsDeepest, IsDeepestEntry};
+//! The members of a chunk, and beside them the depth of the deepest: a copy, one more, one less and one replaced.
+ghost use Rattle.std.specs.Prelude.{◌≡◌, ◌≤◌, ◌<◌, ◌++◌, length, slice_set, insert, remove, max, IfOk, OnOk, OnErr};
+ghost use Rattle.ref_edn.specs.Deepest.{IsDeepestEntry};
 ghost use Rattle.ref_edn.specs.Edn.{nesting};
 ghost use Rattle.ref_edn.specs.Lawful.{IsLawful};
+ghost use Rattle.ref_edn.specs.Members.{twins};
 
 use crate::data::Value;
 use crate::maps::deepest_of as deepest_entry_of;
 use crate::vectors::{deepest_of, larger};
 use std::alloc::{AllocError, Global};
+
+/// One more owner of each value, behind those of a list.
+pub(crate) fn share_values(values: &[Value], all: &mut Vec<Value>) -> Result<(), AllocError>
+    ensures { OnOk result (all.new.items ≡ all.old.items ++ values.now) }
+{
+    for x in values {
+        all.push(x.share()?)?;
+    }
+    Ok(())
+}
 
 /// One more owner of each value, in a list with room for so many.
 pub(crate) fn shared_values(
@@ -18,24 +29,23 @@ pub(crate) fn shared_values(
     ensures { IfOk result (λ v. v.items ≡ values.now) }
 {
     let mut all = Vec::with_capacity(alloc, capacity)?;
-    for x in values {
-        all.push(x.share()?)?;
-    }
+    share_values(values, &mut all)?;
     Ok(all)
 }
 
 /// Puts one more value at a place.
+#[tactic(auto, using(crate::proofs::Pairing::length_twins, crate::proofs::Pairing::twins_insert))]
 pub(crate) fn insert_value(
     deepest: &mut u8,
     values: &mut Vec<Value>,
     i: usize,
     x: Value,
 ) -> Result<(), AllocError>
-    requires in_range { i ≤ length values.old.items }
-    requires deepest { IsDeepest deepest.old values.old.items }
-    ensures ok { OnOk result (values.new.items ≡ insert values.old.items i x) }
+    requires in_range { i ≤ length (twins values.old.items) }
+    requires deepest { IsDeepestEntry deepest.old (twins values.old.items) }
+    ensures ok { OnOk result (twins values.new.items ≡ insert (twins values.old.items) i (x, x)) }
     ensures err { OnErr result (values.new.items ≡ values.old.items) }
-    ensures deepest { IsDeepest deepest.new values.new.items }
+    ensures deepest { IsDeepestEntry deepest.new (twins values.new.items) }
 {
     let depth = x.depth();
     values.insert(i, x)?;
@@ -44,17 +54,31 @@ pub(crate) fn insert_value(
 }
 
 /// Takes the value at a place out. The others are looked at only where it was the deepest.
+#[tactic(auto, using(crate::proofs::Pairing::length_twins, crate::proofs::Pairing::twins_remove, crate::proofs::Pairing::twins_deepest))]
 pub(crate) fn remove_value(deepest: &mut u8, values: &mut Vec<Value>, i: usize)
-    requires in_range { i < length values.old.items }
-    requires deepest { IsDeepest deepest.old values.old.items }
-    ensures values { values.new.items ≡ remove values.old.items i }
-    ensures deepest { IsDeepest deepest.new values.new.items }
+    requires in_range { i < length (twins values.old.items) }
+    requires deepest { IsDeepestEntry deepest.old (twins values.old.items) }
+    ensures values { twins values.new.items ≡ remove (twins values.old.items) i }
+    ensures deepest { IsDeepestEntry deepest.new (twins values.new.items) }
 {
     let gone = values[i].depth();
     values.remove(i);
     if gone > 0 && gone >= *deepest {
         *deepest = deepest_of(values);
     }
+}
+
+/// One more owner of each key and value, behind those of a list.
+pub(crate) fn share_pairs(
+    pairs: &[(Value, Value)],
+    all: &mut Vec<(Value, Value)>,
+) -> Result<(), AllocError>
+    ensures { OnOk result (all.new.items ≡ all.old.items ++ pairs.now) }
+{
+    for (key, value) in pairs {
+        all.push((key.share()?, value.share()?))?;
+    }
+    Ok(())
 }
 
 /// One more owner of each key and value, in a list with room for so many.
@@ -66,9 +90,7 @@ pub(crate) fn shared_pairs(
     ensures { IfOk result (λ v. v.items ≡ pairs.now) }
 {
     let mut all = Vec::with_capacity(alloc, capacity)?;
-    for (key, value) in pairs {
-        all.push((key.share()?, value.share()?))?;
-    }
+    share_pairs(pairs, &mut all)?;
     Ok(all)
 }
 

@@ -67,7 +67,7 @@ impl Model for Value {
 
     ghost invariant = { λ a. IsLawful (edn a.node) };
 
-    ghost size = { λ v. 20 * nesting v };
+    ghost size = { λ v. 300 * nesting v };
 
     ghost use Rattle.ref_edn.specs.Falls.{falls};
 

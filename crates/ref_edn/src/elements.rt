@@ -15,7 +15,6 @@ ghost use Rattle.ref_edn.specs.ReadParts.{single_at, discarded_at, vector_at, ma
 ghost use Rattle.ref_edn.specs.Reading.{skip as skip_of, read as read_of};
 
 use crate::blanks::{after_spaces, is_discard, line_end, opens_set};
-use crate::building::{Pairs, Values};
 use crate::bytes::{after, is_close, starts_token};
 use crate::data::{Node, Value};
 use crate::faults::{Kind, ReadError};
@@ -270,10 +269,14 @@ fn marked_elements<'a>(
 
 // The elements of a set in value order.
 #[cycle(read)]
-fn elements<'a>(alloc: Global, text: &'a [u8], room: u8) -> Result<(Values, &'a [u8]), ReadError>
+fn elements<'a>(
+    alloc: Global,
+    text: &'a [u8],
+    room: u8,
+) -> Result<(Vec<Value>, &'a [u8]), ReadError>
     requires { room ≤ 64 }
-    ensures value { Gives (λ r. (r.0, r.1.now)) result (set_at room text.now) }
-    ensures ascends { IfOk result (λ r. IsTrue (elements_ascend (items_of r.0))) }
+    ensures value { Gives (λ r. (r.0.items, r.1.now)) result (set_at room text.now) }
+    ensures ascends { IfOk result (λ r. IsTrue (elements_ascend (items_of r.0.items))) }
     ensures shorter { IfOk result (λ r. length r.1.now < length text.now) }
 {
     let mut found = Vec::new(alloc);
@@ -327,10 +330,14 @@ fn marked_entries<'a>(
 
 // The entries of a map in value order.
 #[cycle(read)]
-fn entries<'a>(alloc: Global, text: &'a [u8], room: u8) -> Result<(Pairs, &'a [u8]), ReadError>
+fn entries<'a>(
+    alloc: Global,
+    text: &'a [u8],
+    room: u8,
+) -> Result<(Vec<(Value, Value)>, &'a [u8]), ReadError>
     requires { room ≤ 64 }
-    ensures value { Gives (λ r. (r.0, r.1.now)) result (map_at room text.now) }
-    ensures ascends { IfOk result (λ r. IsTrue (keys_ascend (entries_of r.0))) }
+    ensures value { Gives (λ r. (r.0.items, r.1.now)) result (map_at room text.now) }
+    ensures ascends { IfOk result (λ r. IsTrue (keys_ascend (entries_of r.0.items))) }
     ensures shorter { IfOk result (λ r. length r.1.now < length text.now) }
 {
     let mut found = Vec::new(alloc);

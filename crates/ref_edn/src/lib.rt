@@ -14,13 +14,12 @@
 //! | [`Source`], [`Sink`], [`Counted`], [`read_to_end`], [`write_all`] | readers and writers that tell their bytes and failures |
 //!
 //! Reading costs time linear in the text, and n log n for the n members of a map or a set that isn't in order; printing is linear;
-//! a comparison is linear in the parts that are equal. One more owner and `depth` take constant time. A member more or less is
-//! put in place where the collection has one owner, and else copies the list of members, not the members. Nothing here promises
-//! which values share a block of memory, or reads what the profile leaves out: floats, tags, characters.
+//! a comparison is linear in the parts that are equal. One more owner and `depth` take constant time. A member more or less of n
+//! takes log n steps, in time and in memory, and older versions stay as they are: a collection shares with them what hasn't changed.
+//! Nothing here promises which values share a block of memory, or reads what the profile leaves out: floats, tags, characters.
 #![tactic(auto)]
 
 mod blanks;
-mod building;
 mod bytes;
 mod changing;
 pub mod data;
@@ -32,6 +31,7 @@ pub mod names;
 pub mod order;
 pub mod printer;
 pub mod reader;
+mod sequence;
 pub mod sets;
 mod sort_keys;
 pub mod streams;

@@ -5,16 +5,17 @@ ghost use Rattle.ref_edn.specs.Collections.{value_at, entries_with, entries_with
 ghost use Rattle.ref_edn.specs.Edn.{Edn, entries_of, entries_depth};
 ghost use Rattle.ref_edn.specs.Lawful.{AreLawfulEntries};
 ghost use Rattle.ref_edn.specs.Order.{edn_cmp, keys_ascend};
+ghost use Rattle.ref_edn.specs.Moves.{HavePassed};
 
-use crate::building::Pairs;
-use crate::changing::{insert_pair, remove_pair, replace_pair, shared_pairs};
 use crate::data::Value;
 use crate::order::compare;
+use crate::sequence::chunks::Member;
+use crate::sequence::trees::Tree;
+use crate::sequence::walks::Walk;
 use crate::vectors::larger;
 use std::alloc::{AllocError, Global};
 use std::cmp::Ordering;
 use std::marker::Model;
-use std::sync::Arc;
 
 /// Pairs of a key and its value; they may have several owners. Contracts see a list of pairs.
 ///
@@ -23,15 +24,7 @@ use std::sync::Arc;
 #[cycle(value)]
 #[derive(Drop)]
 pub struct Entries {
-    inside: Arc<Inside>,
-}
-
-#[cycle(value)]
-#[derive(Drop)]
-struct Inside {
-    deepest: u8,
-    ascends: bool,
-    pairs: Vec<(Value, Value)>,
+    tree: Tree,
 }
 
 impl Model for Entries {
@@ -40,22 +33,19 @@ impl Model for Entries {
     ghost use Rattle.std.proofs.Common.{arith};
     ghost use Rattle.ref_edn.specs.Edn.{Edn, entries_of, entries_depth};
     ghost use Rattle.ref_edn.specs.Code.{edn_code};
-    ghost use Rattle.ref_edn.specs.Lawful.{AreLawfulEntries};
-    ghost use Rattle.ref_edn.specs.Most.{most_entries};
     ghost use Rattle.ref_edn.specs.Order.{keys_ascend};
 
     ghost Value = { List (Edn × Edn) };
 
     ghost coded = { coded_list (coded× edn_code edn_code) };
 
-    ghost view = { λ a. a.inside.value.pairs.items };
+    ghost view = { λ a. a.tree.0 };
 
-    ghost invariant = { λ a. (a.inside.value.deepest ≡ entries_depth (entries_of a.inside.value.pairs.items)) × (a.inside.value.deepest ≤ 64)
-        × AreLawfulEntries (entries_of a.inside.value.pairs.items) × (a.inside.value.ascends ≡ keys_ascend (entries_of a.inside.value.pairs.items)) };
+    ghost invariant = { λ a. (a.tree.1 ≤ 255) × (a.tree.2 ≡ keys_ascend (entries_of a.tree.0)) };
 
-    ghost size = { λ es. 20 * entries_depth (entries_of es) + 18 };
+    ghost size = { λ es. 300 * entries_depth (entries_of es) + 299 };
 
-    ghost size_decreases = { λ a h. omega (arith, most_entries a.inside.value.pairs.items) };
+    ghost size_decreases = { λ a h. omega (arith, h.0) };
 }
 
 // The depth of the deepest of these keys and values.
@@ -87,42 +77,34 @@ fn do_keys_ascend(pairs: &[(Value, Value)]) -> bool
 }
 
 impl Entries {
-    /// The entries that a `Vec` holds, which isn't copied, in its order. Linear time.
+    /// The entries that a `Vec` holds, in its order and in linear time; up to 32 of them aren't moved.
     pub fn of(alloc: Global, pairs: Vec<(Value, Value)>) -> Result<Entries, AllocError>
         ensures { IfOk result (λ es. es ≡ pairs.items) }
     {
-        let deepest = deepest_of(&pairs);
         let ascends = do_keys_ascend(&pairs);
-        let inside = Arc::new(
-            alloc,
-            Inside {
-                deepest,
-                ascends,
-                pairs,
-            },
-        )?;
-        Ok(Entries { inside })
+        let tree = Tree::of_pairs(alloc, ascends, pairs)?;
+        let _height = tree.height();
+        Ok(Entries { tree })
     }
 
     pub fn len(&self) -> usize
         ensures { result ≡ length self.now }
     {
-        self.inside.pairs.len()
+        self.tree.len()
     }
 
     pub fn is_empty(&self) -> bool
         ensures { IsTrue result ↔ (self.now ≡ []) }
     {
-        self.inside.pairs.is_empty()
+        self.len() == 0
     }
 
-    /// The key and the value at a place.
+    /// The key and the value at a place. It takes log n steps; for all in order take `iter`.
     pub fn at(&self, i: usize) -> (&Value, &Value)
         requires { i < length self.now }
         ensures { let entry : Edn × Edn = (result.0.now, result.1.now) in entry ≡ slice_index_or self.now i entry }
     {
-        let (key, value) = &self.inside.pairs[i];
-        (key, value)
+        self.tree.pair_at(i)
     }
 
     /// One more owner. It takes no memory; only the count of owners can refuse.
@@ -130,7 +112,7 @@ impl Entries {
         ensures { IfOk result (λ es. es ≡ self.now) }
     {
         Ok(Entries {
-            inside: Arc::try_clone(&self.inside)?,
+            tree: self.tree.share()?,
         })
     }
 
@@ -140,25 +122,23 @@ impl Entries {
         ensures bound { result ≤ 64 }
         ensures lawful { AreLawfulEntries (entries_of self.now) }
     {
-        self.inside.deepest
+        self.tree.deepest()
     }
 
     /// Whether each key stands before the next in value order. Constant time.
     pub fn ascends(&self) -> bool
         ensures { result ≡ keys_ascend (entries_of self.now) }
     {
-        self.inside.ascends
+        self.tree.mark()
     }
 
-    /// The entries from the first on, each as its key and its value.
+    /// The entries from the first on, each as its key and its value, in constant time each, taken over many.
     pub fn iter(&self) -> Iter<'_>
         ensures value { result ≡ self.now }
         ensures fits { length result < 2 ^ 64 }
     {
         Iter {
-            entries: self,
-            at: 0,
-            end: self.len(),
+            walk: self.tree.walk(),
         }
     }
 
@@ -173,8 +153,7 @@ impl Entries {
         }
     }
 
-    /// These entries and this one, which takes the place of one with an equal key. Keys and values are shared; their
-    /// list is copied, in linear time.
+    /// These entries and this one, which takes the place of one with an equal key, as `insert` has them.
     pub fn with(&self, alloc: Global, key: Value, value: Value) -> Result<Entries, AllocError>
         requires { IsTrue (keys_ascend (entries_of self.now)) }
         ensures entries { IfOk result (λ es. es ≡ entries_with self.now key value) }
@@ -186,8 +165,7 @@ impl Entries {
         Ok(all)
     }
 
-    /// The entries of other keys; these themselves where the key isn't there. Keys and values are shared; their list is
-    /// copied, in linear time.
+    /// The entries of other keys, as `remove` leaves them; these themselves where the key isn't there.
     pub fn without(&self, alloc: Global, key: &Value) -> Result<Entries, AllocError>
         requires { IsTrue (keys_ascend (entries_of self.now)) }
         ensures entries { IfOk result (λ es. es ≡ entries_without self.now key.now) }
@@ -199,9 +177,8 @@ impl Entries {
         Ok(all)
     }
 
-    /// Puts this entry among these, in the place of one with an equal key. It takes log n comparisons, and moves what
-    /// stands behind; where it takes the place of the deepest and is less deep, all the others are looked at. Where the
-    /// entries have other owners, which keep the old ones, their list is copied first, in linear time. A refusal
+    /// Puts this entry among these, in the place of one with an equal key. It takes log n comparisons and steps. What has
+    /// other owners, which keep the old entries, is copied along the way: log n nodes and one list of up to 32. A refusal
     /// changes nothing.
     pub fn insert(&mut self, alloc: Global, key: Value, value: Value) -> Result<(), AllocError>
         requires { IsTrue (keys_ascend (entries_of self.old)) }
@@ -216,9 +193,8 @@ impl Entries {
         }
     }
 
-    /// Takes the entry of a key out; where the key isn't there, nothing changes. It takes log n comparisons, and moves
-    /// what stands behind; where the entry was the deepest, all the others are looked at. Where the entries have other
-    /// owners, which keep the old ones, their list is copied first, in linear time. A refusal changes nothing.
+    /// Takes the entry of a key out; where the key isn't there, nothing changes. It takes what `insert` takes. A refusal
+    /// changes nothing.
     pub fn remove(&mut self, alloc: Global, key: &Value) -> Result<(), AllocError>
         requires { IsTrue (keys_ascend (entries_of self.old)) }
         ensures entries { OnOk result (self.new ≡ entries_without self.old key.now) }
@@ -238,9 +214,7 @@ impl Entries {
         ensures found { IfOk result (IsFoundAt (λ e. edn_cmp e.0 key.now) self.now) }
         ensures absent { IfErr result (IsGapAt (λ e. edn_cmp e.0 key.now) self.now) }
     {
-        self.inside
-            .pairs
-            .binary_search_by(|(other, _)| compare(other, key))
+        self.tree.search(key)
     }
 
     fn insert_at(
@@ -256,11 +230,9 @@ impl Entries {
         ensures ok { OnOk result (self.new ≡ insert self.old i (key, value)) }
         ensures err { OnErr result (self.new ≡ self.old) }
     {
-        self.unshare(alloc)?;
-        match Arc::get_mut(&mut self.inside) {
-            Some(inside) => { insert_pair(&mut inside.deepest, &mut inside.pairs, i, (key, value)) }
-            None => Err(AllocError),
-        }
+        self.tree.insert(alloc, i, Member::Two(key, value))?;
+        let _height = self.tree.height();
+        Ok(())
     }
 
     fn replace_at(
@@ -276,14 +248,8 @@ impl Entries {
         ensures ok { OnOk result (self.new ≡ slice_set self.old i (key, value)) }
         ensures err { OnErr result (self.new ≡ self.old) }
     {
-        self.unshare(alloc)?;
-        match Arc::get_mut(&mut self.inside) {
-            Some(inside) => {
-                replace_pair(&mut inside.deepest, &mut inside.pairs, i, (key, value));
-                Ok(())
-            }
-            None => Err(AllocError),
-        }
+        self.tree.replace(alloc, i, key, value)?;
+        Ok(())
     }
 
     fn remove_at(&mut self, alloc: Global, i: usize) -> Result<(), AllocError>
@@ -293,66 +259,29 @@ impl Entries {
         ensures ok { OnOk result (self.new ≡ remove self.old i) }
         ensures err { OnErr result (self.new ≡ self.old) }
     {
-        self.unshare(alloc)?;
-        match Arc::get_mut(&mut self.inside) {
-            Some(inside) => {
-                remove_pair(&mut inside.deepest, &mut inside.pairs, i);
-                Ok(())
-            }
-            None => Err(AllocError),
-        }
-    }
-
-    // Where the list has other owners, copies it, with room for one more.
-    fn unshare(&mut self, alloc: Global) -> Result<(), AllocError>
-        ensures { self.new ≡ self.old }
-    {
-        if let Some(_) = Arc::get_mut(&mut self.inside) {
-            return Ok(());
-        }
-        let old = &*self.inside;
-        let deepest = old.deepest;
-        let ascends = old.ascends;
-        let pairs = shared_pairs(alloc, &old.pairs, old.pairs.len() + 1)?;
-        self.inside = Arc::new(
-            alloc,
-            Inside {
-                deepest,
-                ascends,
-                pairs,
-            },
-        )?;
+        self.tree.remove(alloc, i)?;
         Ok(())
     }
 
     // Members that ascend, as a collection.
-    pub(crate) fn built(alloc: Global, pairs: Pairs) -> Result<Entries, AllocError>
-        requires { IsTrue (keys_ascend (entries_of pairs)) }
-        ensures { IfOk result (λ es. es ≡ pairs) }
+    pub(crate) fn built(alloc: Global, pairs: Vec<(Value, Value)>) -> Result<Entries, AllocError>
+        requires { IsTrue (keys_ascend (entries_of pairs.items)) }
+        ensures { IfOk result (λ es. es ≡ pairs.items) }
     {
-        let (deepest, pairs) = pairs.into_parts();
-        let inside = Arc::new(
-            alloc,
-            Inside {
-                deepest,
-                ascends: true,
-                pairs,
-            },
-        )?;
-        Ok(Entries { inside })
+        let tree = Tree::of_pairs(alloc, true, pairs)?;
+        let _height = tree.height();
+        Ok(Entries { tree })
     }
 }
 
 /// The entries from a place on. Contracts see those that are left.
 #[derive(Drop)]
 pub struct Iter<'a> {
-    entries: &'a Entries,
-    at: usize,
-    end: usize,
+    walk: Walk<'a>,
 }
 
 impl<'a> Model for Iter<'a> {
-    ghost use Rattle.std.specs.Prelude.{List, ◌≡◌, ◌≤◌, length, drop};
+    ghost use Rattle.std.specs.Prelude.{List};
     ghost use Rattle.std.specs.Coded.{coded_list, coded×};
     ghost use Rattle.ref_edn.specs.Edn.{Edn};
     ghost use Rattle.ref_edn.specs.Code.{edn_code};
@@ -361,9 +290,16 @@ impl<'a> Model for Iter<'a> {
 
     ghost coded = { coded_list (coded× edn_code edn_code) };
 
-    ghost view = { λ a. drop a.at a.entries.now };
+    ghost view = { λ a. a.walk };
+}
 
-    ghost invariant = { λ a. (a.at ≤ a.end) × (a.end ≡ length a.entries.now) };
+impl<'a> Iter<'a> {
+    // Goes past integers that come next in both and are the same: as many as can be told at a glance.
+    pub(crate) fn pass_same(&mut self, other: &mut Iter<'_>)
+        ensures { HavePassed self.old other.old self.new other.new }
+    {
+        self.walk.pass_same(&mut other.walk);
+    }
 }
 
 impl<'a> Iterator for Iter<'a> {
@@ -374,12 +310,7 @@ impl<'a> Iterator for Iter<'a> {
     ghost remaining = { item_count (λ s. s) };
 
     fn next(&mut self) -> Option<(&'a Value, &'a Value)> {
-        if self.at >= self.end {
-            return None;
-        }
-        let entry = self.entries.at(self.at);
-        self.at += 1;
-        Some(entry)
+        self.walk.next()
     }
 }
 

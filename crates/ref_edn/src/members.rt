@@ -5,7 +5,6 @@ ghost use Rattle.ref_edn.specs.Edn.{items_of, entries_of};
 ghost use Rattle.ref_edn.specs.Marks.{Falls, elements_of, first_twice, keys_of, pairs_of, twin_left};
 ghost use Rattle.ref_edn.specs.Order.{edn_cmp, elements_ascend, keys_ascend};
 
-use crate::building::{Pairs, Values};
 use crate::data::Value;
 use crate::sort_keys::Keyed;
 use std::alloc::{AllocError, Global};
@@ -71,10 +70,10 @@ pub(crate) fn sort_entries(found: &mut Vec<((Keyed, Reverse<usize>), Value)>) ->
 pub(crate) fn into_values(
     alloc: Global,
     found: Vec<(Keyed, Reverse<usize>)>,
-) -> Result<Values, AllocError>
-    ensures { IfOk result (λ xs. xs ≡ elements_of found.items) }
+) -> Result<Vec<Value>, AllocError>
+    ensures { IfOk result (λ v. v.items ≡ elements_of found.items) }
 {
-    let mut values = Values::with_capacity(alloc, found.len())?;
+    let mut values = Vec::with_capacity(alloc, found.len())?;
     for (x, _) in found {
         values.push(x.into_value())?;
     }
@@ -85,12 +84,12 @@ pub(crate) fn into_values(
 pub(crate) fn into_pairs(
     alloc: Global,
     found: Vec<((Keyed, Reverse<usize>), Value)>,
-) -> Result<Pairs, AllocError>
-    ensures { IfOk result (λ es. es ≡ pairs_of found.items) }
+) -> Result<Vec<(Value, Value)>, AllocError>
+    ensures { IfOk result (λ v. v.items ≡ pairs_of found.items) }
 {
-    let mut pairs = Pairs::with_capacity(alloc, found.len())?;
+    let mut pairs = Vec::with_capacity(alloc, found.len())?;
     for ((key, _), value) in found {
-        pairs.push(key.into_value(), value)?;
+        pairs.push((key.into_value(), value))?;
     }
     Ok(pairs)
 }

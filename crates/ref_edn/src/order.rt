@@ -45,41 +45,62 @@ pub(crate) fn compare(a: &Value, b: &Value) -> Ordering
 }
 
 #[cycle(compare)]
-#[tactic(auto, using(crate::proofs::Ordered::items_cmp_at))]
+#[tactic(auto, using(crate::proofs::Passing::items_passed))]
 fn compare_items(a: &Items, b: &Items) -> Ordering
     ensures { result ≡ items_cmp (items_of a.now) (items_of b.now) }
 {
-    for i in 0..a.len().min(b.len()) {
-        let order = compare(a.at(i), b.at(i));
+    let mut left = a.iter();
+    let mut others = b.iter();
+    while let Some(x) = left.next() {
+        let Some(y) = others.next() else {
+            return Ordering::Greater;
+        };
+        let order = compare(x, y);
         if order != Ordering::Equal {
             return order;
         }
+        left.pass_same(&mut others);
     }
-    a.len().cmp(&b.len())
+    match others.next() {
+        Some(_) => Ordering::Less,
+        None => Ordering::Equal,
+    }
 }
 
 #[cycle(compare)]
-#[tactic(auto, using(crate::proofs::Ordered::items_cmp_at))]
+#[tactic(auto, using(crate::proofs::Passing::items_passed))]
 fn compare_elements(a: &Elements, b: &Elements) -> Ordering
     ensures { result ≡ items_cmp (items_of a.now) (items_of b.now) }
 {
-    for i in 0..a.len().min(b.len()) {
-        let order = compare(a.at(i), b.at(i));
+    let mut left = a.iter();
+    let mut others = b.iter();
+    while let Some(x) = left.next() {
+        let Some(y) = others.next() else {
+            return Ordering::Greater;
+        };
+        let order = compare(x, y);
         if order != Ordering::Equal {
             return order;
         }
+        left.pass_same(&mut others);
     }
-    a.len().cmp(&b.len())
+    match others.next() {
+        Some(_) => Ordering::Less,
+        None => Ordering::Equal,
+    }
 }
 
 #[cycle(compare)]
-#[tactic(auto, using(crate::proofs::Ordered::entries_cmp_at))]
+#[tactic(auto, using(crate::proofs::Passing::entries_passed))]
 fn compare_entries(a: &Entries, b: &Entries) -> Ordering
     ensures { result ≡ entries_cmp (entries_of a.now) (entries_of b.now) }
 {
-    for i in 0..a.len().min(b.len()) {
-        let (key, value) = a.at(i);
-        let (other_key, other_value) = b.at(i);
+    let mut left = a.iter();
+    let mut others = b.iter();
+    while let Some((key, value)) = left.next() {
+        let Some((other_key, other_value)) = others.next() else {
+            return Ordering::Greater;
+        };
         let order = compare(key, other_key);
         if order != Ordering::Equal {
             return order;
@@ -88,8 +109,12 @@ fn compare_entries(a: &Entries, b: &Entries) -> Ordering
         if order != Ordering::Equal {
             return order;
         }
+        left.pass_same(&mut others);
     }
-    a.len().cmp(&b.len())
+    match others.next() {
+        Some(_) => Ordering::Less,
+        None => Ordering::Equal,
+    }
 }
 
 impl Ord for Value {

@@ -8,7 +8,7 @@ ghost use Rattle.ref_edn.specs.Printed.{printed, escaped, escaped_byte, items_te
 
 use crate::bytes::after;
 use crate::data::{Node, Value};
-use crate::maps::Entries;
+use crate::maps::{Entries, Iter};
 use crate::sets::Elements;
 use crate::vectors::Items;
 use itoa::Buffer;
@@ -137,32 +137,32 @@ fn append_string(s: &[u8], out: &mut Vec<u8>) -> Result<(), AllocError>
 }
 
 // What stands between elements goes before each but the first.
-fn append_gap(i: usize, gap: &[u8], out: &mut Vec<u8>) -> Result<(), AllocError>
-    ensures ok { OnOk result (out.new.items ≡ out.old.items ++ (if i == 0 then [] else gap.now)) }
+fn append_gap(later: bool, gap: &[u8], out: &mut Vec<u8>) -> Result<(), AllocError>
+    ensures ok { OnOk result (out.new.items ≡ out.old.items ++ (if later then gap.now else [])) }
     ensures kept { take (length out.old.items) out.new.items ≡ out.old.items }
 {
-    if i == 0 {
+    if !later {
         return Ok(());
     }
     out.extend_from_slice(gap)
 }
 
 #[cycle(append)]
-fn append_element(i: usize, x: &Value, out: &mut Vec<u8>) -> Result<(), AllocError>
-    ensures ok { OnOk result (out.new.items ≡ out.old.items ++ ((if i == 0 then [] else 32 ∷ []) ++ printed x.now)) }
+fn append_element(later: bool, x: &Value, out: &mut Vec<u8>) -> Result<(), AllocError>
+    ensures ok { OnOk result (out.new.items ≡ out.old.items ++ ((if later then 32 ∷ [] else []) ++ printed x.now)) }
     ensures kept { take (length out.old.items) out.new.items ≡ out.old.items }
 {
-    append_gap(i, b" ", out)?;
+    append_gap(later, b" ", out)?;
     append(x, out)
 }
 
 #[cycle(append)]
-fn append_entry(i: usize, key: &Value, x: &Value, out: &mut Vec<u8>) -> Result<(), AllocError>
+fn append_entry(later: bool, key: &Value, x: &Value, out: &mut Vec<u8>) -> Result<(), AllocError>
     ensures ok { OnOk result (out.new.items ≡ out.old.items
-        ++ ((if i == 0 then [] else 44 ∷ 32 ∷ []) ++ (printed key.now ++ 32 ∷ printed x.now))) }
+        ++ ((if later then 44 ∷ 32 ∷ [] else []) ++ (printed key.now ++ 32 ∷ printed x.now))) }
     ensures kept { take (length out.old.items) out.new.items ≡ out.old.items }
 {
-    append_gap(i, b", ", out)?;
+    append_gap(later, b", ", out)?;
     append(key, out)?;
     out.push(b' ')?;
     append(x, out)
@@ -174,8 +174,10 @@ fn append_vector(items: &Items, out: &mut Vec<u8>) -> Result<(), AllocError>
     ensures kept { take (length out.old.items) out.new.items ≡ out.old.items }
 {
     out.push(b'[')?;
-    for i in 0..items.len() {
-        append_element(i, items.at(i), out)?;
+    let mut later = false;
+    for x in items {
+        append_element(later, x, out)?;
+        later = true;
     }
     out.push(b']')?;
     Ok(())
@@ -187,8 +189,10 @@ fn append_set(elements: &Elements, out: &mut Vec<u8>) -> Result<(), AllocError>
     ensures kept { take (length out.old.items) out.new.items ≡ out.old.items }
 {
     out.extend_from_slice(b"#{")?;
-    for i in 0..elements.len() {
-        append_element(i, elements.at(i), out)?;
+    let mut later = false;
+    for x in elements {
+        append_element(later, x, out)?;
+        later = true;
     }
     out.push(b'}')?;
     Ok(())
@@ -204,15 +208,18 @@ fn text_len(value: &Value) -> usize {
 
 // Asks, at each 16th entry, for room for the keys of the next 16. A key's text lies anywhere in memory, and the processor
 // fetches those of 16 keys at the same time, where one after the other would be waited for.
-fn make_room(entries: &Entries, i: usize, out: &mut Vec<u8>) -> Result<(), AllocError>
+fn make_room(ahead: &mut Iter<'_>, i: usize, out: &mut Vec<u8>) -> Result<(), AllocError>
     ensures { out.new.items ≡ out.old.items }
 {
     if i % AHEAD != 0 {
         return Ok(());
     }
     let mut room = 0usize;
-    for j in i..entries.len().min(i.saturating_add(AHEAD)) {
-        room = room.saturating_add(text_len(entries.at(j).0));
+    for _ in 0..AHEAD {
+        let Some((key, _)) = ahead.next() else {
+            break;
+        };
+        room = room.saturating_add(text_len(key));
     }
     out.reserve(room)
 }
@@ -223,10 +230,14 @@ fn append_map(entries: &Entries, out: &mut Vec<u8>) -> Result<(), AllocError>
     ensures kept { take (length out.old.items) out.new.items ≡ out.old.items }
 {
     out.push(b'{')?;
-    for i in 0..entries.len() {
-        make_room(entries, i, out)?;
-        let (key, x) = entries.at(i);
-        append_entry(i, key, x, out)?;
+    let mut ahead = entries.iter();
+    let mut i = 0usize;
+    let mut later = false;
+    for (key, x) in entries {
+        make_room(&mut ahead, i, out)?;
+        append_entry(later, key, x, out)?;
+        i = i.wrapping_add(1);
+        later = true;
     }
     out.push(b'}')?;
     Ok(())

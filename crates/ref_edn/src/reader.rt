@@ -1,5 +1,5 @@
 //! The reader of EDN text.
-ghost use Rattle.std.specs.Prelude.{◌≡◌, ◌≢◌, ℕ, List, IfOk, IfErr};
+ghost use Rattle.std.specs.Prelude.{◌≡◌, ◌≢◌, ℕ, List, IfOk, IfErr, IsUtf8};
 ghost use Rattle.ref_edn.specs.Edn.{Edn};
 ghost use Rattle.ref_edn.specs.Faults.{Answers, Gives};
 ghost use Rattle.ref_edn.specs.Grammar.{IsText, AreTexts};
@@ -22,6 +22,8 @@ pub fn read_one(alloc: Global, text: &[u8]) -> Result<Value, ReadFault>
     ensures none { IfErr result (λ e. e ≢ ReadFault.Memory → (v : Edn) → IsText text.now v → ⊥) }
     // Which fault it is, and where: the first one from the left.
     ensures fault { Answers text.now (λ v. v) result (one text.now) }
+    // What is no UTF-8 is refused before memory is asked for.
+    ensures memory { IfErr result (λ e. e ≡ ReadFault.Memory → IsUtf8 text.now) }
 {
     if let Err(error) = std::str::from_utf8(text) {
         return Err(ReadFault::NotUtf8(error.valid_up_to()));
@@ -37,6 +39,8 @@ pub fn read_all(alloc: Global, text: &[u8]) -> Result<Vec<Value>, ReadFault>
     ensures found { IfOk result (λ v. AreTexts text.now v.items) }
     ensures none { IfErr result (λ e. e ≢ ReadFault.Memory → (v : List Edn) → AreTexts text.now v → ⊥) }
     ensures fault { Answers text.now (λ v. v.items) result (all text.now) }
+    // What is no UTF-8 is refused before memory is asked for.
+    ensures memory { IfErr result (λ e. e ≡ ReadFault.Memory → IsUtf8 text.now) }
 {
     if let Err(error) = std::str::from_utf8(text) {
         return Err(ReadFault::NotUtf8(error.valid_up_to()));

@@ -6,16 +6,16 @@ ghost use Rattle.ref_edn.specs.Collections.{has_element, elements_with, elements
 ghost use Rattle.ref_edn.specs.Edn.{Edn, items_of, items_depth};
 ghost use Rattle.ref_edn.specs.Lawful.{AreLawful};
 ghost use Rattle.ref_edn.specs.Order.{edn_cmp, elements_ascend};
+ghost use Rattle.ref_edn.specs.Moves.{HavePassed};
 
-use crate::building::Values;
-use crate::changing::{insert_value, remove_value, shared_values};
 use crate::data::Value;
 use crate::order::compare;
-use crate::vectors::deepest_of;
+use crate::sequence::chunks::Member;
+use crate::sequence::trees::Tree;
+use crate::sequence::walks::Walk;
 use std::alloc::{AllocError, Global};
 use std::cmp::Ordering;
 use std::marker::Model;
-use std::sync::Arc;
 
 /// Elements; they may have several owners. Contracts see a list.
 ///
@@ -24,15 +24,7 @@ use std::sync::Arc;
 #[cycle(value)]
 #[derive(Drop)]
 pub struct Elements {
-    inside: Arc<Inside>,
-}
-
-#[cycle(value)]
-#[derive(Drop)]
-struct Inside {
-    deepest: u8,
-    ascends: bool,
-    values: Vec<Value>,
+    tree: Tree,
 }
 
 impl Model for Elements {
@@ -41,22 +33,21 @@ impl Model for Elements {
     ghost use Rattle.std.proofs.Common.{arith};
     ghost use Rattle.ref_edn.specs.Edn.{Edn, items_of, items_depth};
     ghost use Rattle.ref_edn.specs.Code.{edn_code};
-    ghost use Rattle.ref_edn.specs.Lawful.{AreLawful};
-    ghost use Rattle.ref_edn.specs.Most.{most_items};
+    ghost use Rattle.ref_edn.specs.Members.{singles, AreTwins};
+    ghost use Rattle.ref_edn.specs.Most.{depth_of_twins};
     ghost use Rattle.ref_edn.specs.Order.{elements_ascend};
 
     ghost Value = { List Edn };
 
     ghost coded = { coded_list edn_code };
 
-    ghost view = { λ a. a.inside.value.values.items };
+    ghost view = { λ a. singles a.tree.0 };
 
-    ghost invariant = { λ a. (a.inside.value.deepest ≡ items_depth (items_of a.inside.value.values.items)) × (a.inside.value.deepest ≤ 64)
-        × AreLawful (items_of a.inside.value.values.items) × (a.inside.value.ascends ≡ elements_ascend (items_of a.inside.value.values.items)) };
+    ghost invariant = { λ a. AreTwins a.tree.0 × (a.tree.1 ≤ 255) × (a.tree.2 ≡ elements_ascend (items_of (singles a.tree.0))) };
 
-    ghost size = { λ xs. 20 * items_depth (items_of xs) + 18 };
+    ghost size = { λ xs. 300 * items_depth (items_of xs) + 299 };
 
-    ghost size_decreases = { λ a h. omega (arith, most_items a.inside.value.values.items) };
+    ghost size_decreases = { λ a h. omega (arith, h.1, depth_of_twins a.tree.0 h.0) };
 }
 
 #[tactic(auto, using(crate::proofs::Ascending::ascending_at, crate::proofs::Ascending::ascending_end))]
@@ -72,40 +63,37 @@ fn do_elements_ascend(values: &[Value]) -> bool
 }
 
 impl Elements {
-    /// The elements that a `Vec` holds, which isn't copied, in its order. Linear time.
+    /// The elements that a `Vec` holds, in its order and in linear time; up to 32 of them aren't moved.
+    #[tactic(auto, using(crate::proofs::Pairing::singles_twins, crate::proofs::Pairing::twins_are))]
     pub fn of(alloc: Global, values: Vec<Value>) -> Result<Elements, AllocError>
         ensures { IfOk result (λ xs. xs ≡ values.items) }
     {
-        let deepest = deepest_of(&values);
         let ascends = do_elements_ascend(&values);
-        let inside = Arc::new(
-            alloc,
-            Inside {
-                deepest,
-                ascends,
-                values,
-            },
-        )?;
-        Ok(Elements { inside })
+        let tree = Tree::of_values(alloc, ascends, values)?;
+        let _height = tree.height();
+        Ok(Elements { tree })
     }
 
+    #[tactic(auto, using(crate::proofs::Pairing::length_singles))]
     pub fn len(&self) -> usize
         ensures { result ≡ length self.now }
     {
-        self.inside.values.len()
+        self.tree.len()
     }
 
     pub fn is_empty(&self) -> bool
         ensures { IsTrue result ↔ (self.now ≡ []) }
     {
-        self.inside.values.is_empty()
+        self.len() == 0
     }
 
+    /// It takes log n steps; for all in order take `iter`.
+    #[tactic(auto, using(crate::proofs::Pairing::length_singles, crate::proofs::Pairing::singles_at))]
     pub fn at(&self, i: usize) -> &Value
         requires { i < length self.now }
         ensures { result.now ≡ slice_index_or self.now i result.now }
     {
-        &self.inside.values[i]
+        self.tree.pair_at(i).0
     }
 
     /// One more owner. It takes no memory; only the count of owners can refuse.
@@ -113,42 +101,47 @@ impl Elements {
         ensures { IfOk result (λ xs. xs ≡ self.now) }
     {
         Ok(Elements {
-            inside: Arc::try_clone(&self.inside)?,
+            tree: self.tree.share()?,
         })
     }
 
     /// The depth of the deepest element, 0 where there is none. Constant time.
+    #[tactic(auto, using(crate::proofs::Pairing::singles_deepest))]
     pub fn deepest(&self) -> u8
         ensures value { result ≡ items_depth (items_of self.now) }
         ensures bound { result ≤ 64 }
         ensures lawful { AreLawful (items_of self.now) }
     {
-        self.inside.deepest
+        self.tree.deepest()
     }
 
     /// Whether each element stands before the next in value order. Constant time.
     pub fn ascends(&self) -> bool
         ensures { result ≡ elements_ascend (items_of self.now) }
     {
-        self.inside.ascends
+        self.tree.mark()
     }
 
+    #[tactic(auto, using(crate::proofs::Pieces::get_some, crate::proofs::Pieces::get_none))]
     pub fn get(&self, i: usize) -> Option<&Value>
         ensures value { option_copied result ≡ slice_get self.now i }
         ensures item { IsItemAt self.now i result }
     {
-        self.inside.values.get(i)
+        if i < self.len() {
+            Some(self.at(i))
+        } else {
+            None
+        }
     }
 
-    /// The elements from the first on.
+    /// The elements from the first on, in constant time each, taken over many.
+    #[tactic(auto, using(crate::proofs::Pairing::length_singles))]
     pub fn iter(&self) -> Iter<'_>
         ensures value { result ≡ self.now }
         ensures fits { length result < 2 ^ 64 }
     {
         Iter {
-            elements: self,
-            at: 0,
-            end: self.len(),
+            walk: self.tree.walk(),
         }
     }
 
@@ -160,8 +153,7 @@ impl Elements {
         self.search(x).is_ok()
     }
 
-    /// These elements and this one; themselves where an equal one is there. The elements are shared; their list is
-    /// copied, in linear time.
+    /// These elements and this one, as `insert` has them; themselves where an equal one is there.
     pub fn with(&self, alloc: Global, x: Value) -> Result<Elements, AllocError>
         requires { IsTrue (elements_ascend (items_of self.now)) }
         ensures elements { IfOk result (λ xs. xs ≡ elements_with self.now x) }
@@ -173,8 +165,7 @@ impl Elements {
         Ok(all)
     }
 
-    /// These elements without this one; themselves where no equal one is there. The elements are shared; their list is
-    /// copied, in linear time.
+    /// These elements without this one, as `remove` leaves them; themselves where no equal one is there.
     pub fn without(&self, alloc: Global, x: &Value) -> Result<Elements, AllocError>
         requires { IsTrue (elements_ascend (items_of self.now)) }
         ensures elements { IfOk result (λ xs. xs ≡ elements_without self.now x.now) }
@@ -186,9 +177,9 @@ impl Elements {
         Ok(all)
     }
 
-    /// Puts this element among these; where an equal one is there, nothing changes. It takes log n comparisons, and
-    /// moves what stands behind. Where the elements have other owners, which keep the old ones, their list is copied
-    /// first, in linear time. A refusal changes nothing.
+    /// Puts this element among these; where an equal one is there, nothing changes. It takes log n comparisons and
+    /// steps. What has other owners, which keep the old elements, is copied along the way: log n nodes and one list of up
+    /// to 32. A refusal changes nothing.
     pub fn insert(&mut self, alloc: Global, x: Value) -> Result<(), AllocError>
         requires { IsTrue (elements_ascend (items_of self.old)) }
         ensures elements { OnOk result (self.new ≡ elements_with self.old x) }
@@ -202,9 +193,8 @@ impl Elements {
         }
     }
 
-    /// Takes this element out; where no equal one is there, nothing changes. It takes log n comparisons, and moves what
-    /// stands behind; where the element was the deepest, all the others are looked at. Where the elements have other
-    /// owners, which keep the old ones, their list is copied first, in linear time. A refusal changes nothing.
+    /// Takes this element out; where no equal one is there, nothing changes. It takes what `insert` takes. A refusal
+    /// changes nothing.
     pub fn remove(&mut self, alloc: Global, x: &Value) -> Result<(), AllocError>
         requires { IsTrue (elements_ascend (items_of self.old)) }
         ensures elements { OnOk result (self.new ≡ elements_without self.old x.now) }
@@ -219,14 +209,16 @@ impl Elements {
     }
 
     // Where the element is, or where it would go.
+    #[tactic(auto, using(crate::proofs::Pairing::singles_ascend))]
     fn search(&self, x: &Value) -> Result<usize, usize>
         requires { IsTrue (elements_ascend (items_of self.now)) }
         ensures found { IfOk result (IsFoundAt (λ y. edn_cmp y x.now) self.now) }
         ensures absent { IfErr result (IsGapAt (λ y. edn_cmp y x.now) self.now) }
     {
-        self.inside.values.binary_search(x)
+        self.tree.search(x)
     }
 
+    #[tactic(auto, using(crate::proofs::Pairing::length_singles, crate::proofs::Pairing::singles_insert, crate::proofs::Pairing::are_twins_insert))]
     fn insert_at(&mut self, alloc: Global, i: usize, x: Value) -> Result<(), AllocError>
         requires in_range { i ≤ length self.old }
         requires sorted { IsTrue (elements_ascend (items_of self.old)) }
@@ -234,13 +226,12 @@ impl Elements {
         ensures ok { OnOk result (self.new ≡ insert self.old i x) }
         ensures err { OnErr result (self.new ≡ self.old) }
     {
-        self.unshare(alloc)?;
-        match Arc::get_mut(&mut self.inside) {
-            Some(inside) => insert_value(&mut inside.deepest, &mut inside.values, i, x),
-            None => Err(AllocError),
-        }
+        self.tree.insert(alloc, i, Member::One(x))?;
+        let _height = self.tree.height();
+        Ok(())
     }
 
+    #[tactic(auto, using(crate::proofs::Pairing::length_singles, crate::proofs::Pairing::singles_remove, crate::proofs::Pairing::are_twins_remove))]
     fn remove_at(&mut self, alloc: Global, i: usize) -> Result<(), AllocError>
         requires in_range { i < length self.old }
         requires sorted { IsTrue (elements_ascend (items_of self.old)) }
@@ -248,77 +239,50 @@ impl Elements {
         ensures ok { OnOk result (self.new ≡ remove self.old i) }
         ensures err { OnErr result (self.new ≡ self.old) }
     {
-        self.unshare(alloc)?;
-        match Arc::get_mut(&mut self.inside) {
-            Some(inside) => {
-                remove_value(&mut inside.deepest, &mut inside.values, i);
-                Ok(())
-            }
-            None => Err(AllocError),
-        }
-    }
-
-    // Where the list has other owners, copies it, with room for one more.
-    fn unshare(&mut self, alloc: Global) -> Result<(), AllocError>
-        ensures { self.new ≡ self.old }
-    {
-        if let Some(_) = Arc::get_mut(&mut self.inside) {
-            return Ok(());
-        }
-        let old = &*self.inside;
-        let deepest = old.deepest;
-        let ascends = old.ascends;
-        let values = shared_values(alloc, &old.values, old.values.len() + 1)?;
-        self.inside = Arc::new(
-            alloc,
-            Inside {
-                deepest,
-                ascends,
-                values,
-            },
-        )?;
+        self.tree.remove(alloc, i)?;
         Ok(())
     }
 
     // Members that ascend, as a collection.
-    pub(crate) fn built(alloc: Global, values: Values) -> Result<Elements, AllocError>
-        requires { IsTrue (elements_ascend (items_of values)) }
-        ensures { IfOk result (λ xs. xs ≡ values) }
+    #[tactic(auto, using(crate::proofs::Pairing::singles_twins, crate::proofs::Pairing::twins_are))]
+    pub(crate) fn built(alloc: Global, values: Vec<Value>) -> Result<Elements, AllocError>
+        requires { IsTrue (elements_ascend (items_of values.items)) }
+        ensures { IfOk result (λ xs. xs ≡ values.items) }
     {
-        let (deepest, values) = values.into_parts();
-        let inside = Arc::new(
-            alloc,
-            Inside {
-                deepest,
-                ascends: true,
-                values,
-            },
-        )?;
-        Ok(Elements { inside })
+        let tree = Tree::of_values(alloc, true, values)?;
+        let _height = tree.height();
+        Ok(Elements { tree })
     }
 }
 
 /// The elements from a place on. Contracts see those that are left.
 #[derive(Drop)]
 pub struct Iter<'a> {
-    elements: &'a Elements,
-    at: usize,
-    end: usize,
+    walk: Walk<'a>,
 }
 
 impl<'a> Model for Iter<'a> {
-    ghost use Rattle.std.specs.Prelude.{List, ◌≡◌, ◌≤◌, length, drop};
+    ghost use Rattle.std.specs.Prelude.{List};
     ghost use Rattle.std.specs.Coded.{coded_list};
     ghost use Rattle.ref_edn.specs.Edn.{Edn};
     ghost use Rattle.ref_edn.specs.Code.{edn_code};
+    ghost use Rattle.ref_edn.specs.Members.{singles};
 
     ghost Value = { List Edn };
 
     ghost coded = { coded_list edn_code };
 
-    ghost view = { λ a. drop a.at a.elements.now };
+    ghost view = { λ a. singles a.walk };
+}
 
-    ghost invariant = { λ a. (a.at ≤ a.end) × (a.end ≡ length a.elements.now) };
+impl<'a> Iter<'a> {
+    // Goes past integers that come next in both and are the same: as many as can be told at a glance.
+    #[tactic(auto, using(crate::proofs::Passing::singles_passed))]
+    pub(crate) fn pass_same(&mut self, other: &mut Iter<'_>)
+        ensures { HavePassed self.old other.old self.new other.new }
+    {
+        self.walk.pass_same(&mut other.walk);
+    }
 }
 
 impl<'a> Iterator for Iter<'a> {
@@ -329,12 +293,10 @@ impl<'a> Iterator for Iter<'a> {
     ghost remaining = { item_count (λ s. s) };
 
     fn next(&mut self) -> Option<&'a Value> {
-        if self.at >= self.end {
-            return None;
+        match self.walk.next() {
+            Some((x, _)) => Some(x),
+            None => None,
         }
-        let x = self.elements.at(self.at);
-        self.at += 1;
-        Some(x)
     }
 }
 

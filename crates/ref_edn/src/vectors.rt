@@ -4,25 +4,20 @@ ghost use Rattle.std.specs.Slice.{IsItemAt};
 ghost use Rattle.std.specs.Iterator.{YieldsFirstRef, item_count};
 ghost use Rattle.ref_edn.specs.Edn.{Edn, items_of, items_depth};
 ghost use Rattle.ref_edn.specs.Lawful.{AreLawful};
+ghost use Rattle.ref_edn.specs.Moves.{HavePassed};
 
-use crate::changing::{insert_value, shared_values};
 use crate::data::Value;
+use crate::sequence::chunks::Member;
+use crate::sequence::trees::Tree;
+use crate::sequence::walks::Walk;
 use std::alloc::{AllocError, Global};
 use std::marker::Model;
-use std::sync::Arc;
 
 /// Values in the order in which they were put there; they may have several owners. Contracts see a list.
 #[cycle(value)]
 #[derive(Drop)]
 pub struct Items {
-    inside: Arc<Inside>,
-}
-
-#[cycle(value)]
-#[derive(Drop)]
-struct Inside {
-    deepest: u8,
-    values: Vec<Value>,
+    tree: Tree,
 }
 
 impl Model for Items {
@@ -31,20 +26,20 @@ impl Model for Items {
     ghost use Rattle.std.proofs.Common.{arith};
     ghost use Rattle.ref_edn.specs.Edn.{Edn, items_of, items_depth};
     ghost use Rattle.ref_edn.specs.Code.{edn_code};
-    ghost use Rattle.ref_edn.specs.Lawful.{AreLawful};
-    ghost use Rattle.ref_edn.specs.Most.{most_items};
+    ghost use Rattle.ref_edn.specs.Members.{singles, AreTwins};
+    ghost use Rattle.ref_edn.specs.Most.{depth_of_twins};
 
     ghost Value = { List Edn };
 
     ghost coded = { coded_list edn_code };
 
-    ghost view = { λ a. a.inside.value.values.items };
+    ghost view = { λ a. singles a.tree.0 };
 
-    ghost invariant = { λ a. (a.inside.value.deepest ≡ items_depth (items_of a.inside.value.values.items)) × (a.inside.value.deepest ≤ 64) × AreLawful (items_of a.inside.value.values.items) };
+    ghost invariant = { λ a. AreTwins a.tree.0 × (a.tree.1 ≤ 255) };
 
-    ghost size = { λ xs. 20 * items_depth (items_of xs) + 18 };
+    ghost size = { λ xs. 300 * items_depth (items_of xs) + 299 };
 
-    ghost size_decreases = { λ a h. omega (arith, most_items a.inside.value.values.items) };
+    ghost size_decreases = { λ a h. omega (arith, h.1, depth_of_twins a.tree.0 h.0) };
 }
 
 pub(crate) fn larger(a: u8, b: u8) -> u8
@@ -68,50 +63,58 @@ pub(crate) fn deepest_of(values: &[Value]) -> u8
 }
 
 impl Items {
-    /// The elements that a `Vec` holds, which isn't copied. Linear time, for the deepest of them.
+    /// The elements that a `Vec` holds, in linear time; up to 32 of them aren't moved.
+    #[tactic(auto, using(crate::proofs::Pairing::singles_twins, crate::proofs::Pairing::twins_are))]
     pub fn of(alloc: Global, values: Vec<Value>) -> Result<Items, AllocError>
         ensures { IfOk result (λ xs. xs ≡ values.items) }
     {
-        let deepest = deepest_of(&values);
-        let inside = Arc::new(alloc, Inside { deepest, values })?;
-        Ok(Items { inside })
+        let tree = Tree::of_values(alloc, false, values)?;
+        let _height = tree.height();
+        Ok(Items { tree })
     }
 
+    #[tactic(auto, using(crate::proofs::Pairing::length_singles))]
     pub fn len(&self) -> usize
         ensures { result ≡ length self.now }
     {
-        self.inside.values.len()
+        self.tree.len()
     }
 
     pub fn is_empty(&self) -> bool
         ensures { IsTrue result ↔ (self.now ≡ []) }
     {
-        self.inside.values.is_empty()
+        self.len() == 0
     }
 
+    /// It takes log n steps; for all in order take `iter`.
+    #[tactic(auto, using(crate::proofs::Pairing::length_singles, crate::proofs::Pairing::singles_at))]
     pub fn at(&self, i: usize) -> &Value
         requires { i < length self.now }
         ensures { result.now ≡ slice_index_or self.now i result.now }
     {
-        &self.inside.values[i]
+        self.tree.pair_at(i).0
     }
 
+    #[tactic(auto, using(crate::proofs::Pieces::get_some, crate::proofs::Pieces::get_none))]
     pub fn get(&self, i: usize) -> Option<&Value>
         ensures value { option_copied result ≡ slice_get self.now i }
         ensures item { IsItemAt self.now i result }
     {
-        self.inside.values.get(i)
+        if i < self.len() {
+            Some(self.at(i))
+        } else {
+            None
+        }
     }
 
-    /// The elements from the first on.
+    /// The elements from the first on, in constant time each, taken over many.
+    #[tactic(auto, using(crate::proofs::Pairing::length_singles))]
     pub fn iter(&self) -> Iter<'_>
         ensures value { result ≡ self.now }
         ensures fits { length result < 2 ^ 64 }
     {
         Iter {
-            items: self,
-            at: 0,
-            end: self.len(),
+            walk: self.tree.walk(),
         }
     }
 
@@ -120,20 +123,21 @@ impl Items {
         ensures { IfOk result (λ xs. xs ≡ self.now) }
     {
         Ok(Items {
-            inside: Arc::try_clone(&self.inside)?,
+            tree: self.tree.share()?,
         })
     }
 
     /// The depth of the deepest element, 0 where there is none. Constant time.
+    #[tactic(auto, using(crate::proofs::Pairing::singles_deepest))]
     pub fn deepest(&self) -> u8
         ensures value { result ≡ items_depth (items_of self.now) }
         ensures bound { result ≤ 64 }
         ensures lawful { AreLawful (items_of self.now) }
     {
-        self.inside.deepest
+        self.tree.deepest()
     }
 
-    /// These elements and one more behind them. The elements are shared; their list is copied, in linear time.
+    /// These elements and one more behind them, as `push` has them.
     pub fn with(&self, alloc: Global, x: Value) -> Result<Items, AllocError>
         ensures { IfOk result (λ xs. xs ≡ self.now ++ x ∷ []) }
     {
@@ -142,33 +146,16 @@ impl Items {
         Ok(all)
     }
 
-    /// Puts one more element behind these, in constant time, taken over many calls. Where they have other owners,
-    /// which keep the old ones, their list is copied first, in linear time. A refusal changes nothing.
+    /// Puts one more element behind these, in log n steps. What has other owners, which keep the old elements, is copied
+    /// along the way: log n nodes and one list of up to 32. A refusal changes nothing.
+    #[tactic(auto, using(crate::proofs::Pairing::length_singles, crate::proofs::Pairing::singles_insert, crate::proofs::Pairing::are_twins_insert, crate::proofs::Pieces::insert_end))]
     pub fn push(&mut self, alloc: Global, x: Value) -> Result<(), AllocError>
         ensures ok { OnOk result (self.new ≡ self.old ++ x ∷ []) }
         ensures err { OnErr result (self.new ≡ self.old) }
     {
-        self.unshare(alloc)?;
-        match Arc::get_mut(&mut self.inside) {
-            Some(inside) => {
-                let end = inside.values.len();
-                insert_value(&mut inside.deepest, &mut inside.values, end, x)
-            }
-            None => Err(AllocError),
-        }
-    }
-
-    // Where the list has other owners, copies it, with room for one more.
-    fn unshare(&mut self, alloc: Global) -> Result<(), AllocError>
-        ensures { self.new ≡ self.old }
-    {
-        if let Some(_) = Arc::get_mut(&mut self.inside) {
-            return Ok(());
-        }
-        let old = &*self.inside;
-        let deepest = old.deepest;
-        let values = shared_values(alloc, &old.values, old.values.len() + 1)?;
-        self.inside = Arc::new(alloc, Inside { deepest, values })?;
+        let end = self.tree.len();
+        self.tree.insert(alloc, end, Member::One(x))?;
+        let _height = self.tree.height();
         Ok(())
     }
 }
@@ -176,24 +163,31 @@ impl Items {
 /// The elements from a place on. Contracts see those that are left.
 #[derive(Drop)]
 pub struct Iter<'a> {
-    items: &'a Items,
-    at: usize,
-    end: usize,
+    walk: Walk<'a>,
 }
 
 impl<'a> Model for Iter<'a> {
-    ghost use Rattle.std.specs.Prelude.{List, ◌≡◌, ◌≤◌, length, drop};
+    ghost use Rattle.std.specs.Prelude.{List};
     ghost use Rattle.std.specs.Coded.{coded_list};
     ghost use Rattle.ref_edn.specs.Edn.{Edn};
     ghost use Rattle.ref_edn.specs.Code.{edn_code};
+    ghost use Rattle.ref_edn.specs.Members.{singles};
 
     ghost Value = { List Edn };
 
     ghost coded = { coded_list edn_code };
 
-    ghost view = { λ a. drop a.at a.items.now };
+    ghost view = { λ a. singles a.walk };
+}
 
-    ghost invariant = { λ a. (a.at ≤ a.end) × (a.end ≡ length a.items.now) };
+impl<'a> Iter<'a> {
+    // Goes past integers that come next in both and are the same: as many as can be told at a glance.
+    #[tactic(auto, using(crate::proofs::Passing::singles_passed))]
+    pub(crate) fn pass_same(&mut self, other: &mut Iter<'_>)
+        ensures { HavePassed self.old other.old self.new other.new }
+    {
+        self.walk.pass_same(&mut other.walk);
+    }
 }
 
 impl<'a> Iterator for Iter<'a> {
@@ -204,12 +198,10 @@ impl<'a> Iterator for Iter<'a> {
     ghost remaining = { item_count (λ s. s) };
 
     fn next(&mut self) -> Option<&'a Value> {
-        if self.at >= self.end {
-            return None;
+        match self.walk.next() {
+            Some((x, _)) => Some(x),
+            None => None,
         }
-        let x = self.items.at(self.at);
-        self.at += 1;
-        Some(x)
     }
 }
 

@@ -1,5 +1,5 @@
 -- Which codes are functions and predicates of Core.
-use Rattle.std.proofs.Common.{◌≡◌, ℕ, ◌≤◌, ◌&&◌, Bool, true, nat_le, refl, arith}
+use Rattle.std.proofs.Common.{◌≡◌, ℕ, ◌≤◌, ◌&&◌, true, nat_le, refl, arith}
 use Rattle.std.proofs.lemmas.Bool.Decides.{nat_tests}
 use Rattle.ref_fun.specs.Calls.{HasCore}
 use Rattle.ref_fun.specs.Names.{is_function, is_predicate}

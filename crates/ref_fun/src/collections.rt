@@ -1,7 +1,7 @@
 //! The functions of vectors, maps and sets.
 //!
-//! Each shares the state's collection and changes the share, so that the elements are copied once however many
-//! arguments there are, and not at all where nothing changes.
+//! Each shares the state's collection and changes the share: log n steps for an argument, or for two of `assoc`. What the
+//! share and the state have in common stays shared.
 ghost use Rattle.std.specs.Prelude.{◌≡◌, ◌<◌, ◌++◌, false, IfOk, IfErr, IsTrue, fold};
 ghost use Rattle.ref_edn.specs.Collections.{elements_without, entries_without};
 ghost use Rattle.ref_edn.specs.Edn.{vector, map, set, items_of, items_depth, entries_of, entries_depth};

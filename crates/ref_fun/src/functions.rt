@@ -10,9 +10,8 @@ use crate::integers::{dec, greatest, inc, least, minus, plus};
 use ref_edn::Value;
 use std::alloc::Global;
 
-/// Calls the function of Core that has this code. A function of a collection copies the list of its members once where
-/// something changes, however many arguments there are; the members themselves are shared. The others take constant time
-/// for each argument.
+/// Calls the function of Core that has this code. A function of a collection of n members takes log n steps for each argument, in
+/// time and in memory, and what it answers shares the rest with the state. The others take constant time for each argument.
 #[tactic(auto, unfolding(crate::specs::Core::core_means))]
 pub fn core_fun(alloc: Global, code: u32, state: &Value, args: &[Value]) -> Result<Value, FunFault>
     requires { length args.now ≤ 8 }

@@ -10,8 +10,8 @@
 //! [`FunTable`] holds at most 64 of each kind. Generic code asks a table through the trait [`Functions`], for any meaning.
 //!
 //! A look-up is logarithmic in the table. A function of integers takes constant time for each argument and no memory; one of
-//! collections copies the list of members once where something changes, and shares the members. A closure may take what time it
-//! likes; no contract speaks of that.
+//! collections takes log n steps for each argument, in time and in memory, and what it answers shares the rest with the state. A
+//! closure may take what time it likes; no contract speaks of that.
 #![tactic(auto)]
 
 pub mod actions;

@@ -4,6 +4,7 @@
 
 #[cfg(test)]
 mod changes;
+pub mod drawing;
 #[cfg(test)]
 mod members;
 #[cfg(test)]
@@ -19,3 +20,5 @@ mod streams;
 mod texts;
 #[cfg(test)]
 mod tokens;
+#[cfg(test)]
+mod versions;

@@ -177,11 +177,11 @@ vector-of_lawful-requires t c =
 pub mapping-of_lawful-requires : goal.mapping-of_lawful-requires
 mapping-of_lawful-requires t c =
     let below : c.args.room - 1 < 64 = omega arith in
-    let lawful : AreLawfulEntries (entries_of c.in_ok-pairs.pairs) = rw (← c.in_ok-entries.ensures) c.deepest-deepest.ensures.lawful in
-    rw c.in_ok-entries.ensures (map_lawful (c.args.room - 1) c.after.result.now c.in_ok-pairs.pairs c.in_ok-pairs.rest.now below c.in_ok-pairs.ensures.value lawful)
+    let lawful : AreLawfulEntries (entries_of c.in_ok-pairs.pairs.items) = rw (← c.in_ok-entries.ensures) c.deepest-deepest.ensures.lawful in
+    rw c.in_ok-entries.ensures (map_lawful (c.args.room - 1) c.after.result.now c.in_ok-pairs.pairs.items c.in_ok-pairs.rest.now below c.in_ok-pairs.ensures.value lawful)
 
 pub collection-of_lawful-requires : goal.collection-of_lawful-requires
 collection-of_lawful-requires t c =
     let below : c.args.room - 1 < 64 = omega arith in
-    let lawful : AreLawful (items_of c.in_ok-values.values) = rw (← c.in_ok-elements.ensures) c.deepest-deepest.ensures.lawful in
-    rw c.in_ok-elements.ensures (set_lawful (c.args.room - 1) c.after.result.now c.in_ok-values.values c.in_ok-values.rest.now below c.in_ok-values.ensures.value lawful)
+    let lawful : AreLawful (items_of c.in_ok-values.values.items) = rw (← c.in_ok-elements.ensures) c.deepest-deepest.ensures.lawful in
+    rw c.in_ok-elements.ensures (set_lawful (c.args.room - 1) c.after.result.now c.in_ok-values.values.items c.in_ok-values.rest.now below c.in_ok-values.ensures.value lawful)

@@ -3,4 +3,4 @@ use Rattle.ref_edn.specs.Marks.{pairs_of}
 use Rattle.ref_edn.proofs.members.into_pairs.Given as goal
 
 abbrev pub invariant-loop-key : goal.invariant-loop-key
-invariant-loop-key l = l.pairs ≡ pairs_of l.yielded
+invariant-loop-key l = l.pairs.items ≡ pairs_of l.yielded

@@ -1,24 +1,26 @@
-use Rattle.std.proofs.Common.{arith}
-use Rattle.ref_edn.proofs.Ordered.{nesting_at, entry_nesting_at, items_cmp_end, entries_cmp_end}
+use Rattle.std.proofs.Common.{rules, arith, ◌≡◌, ◌≤◌, ◌∙◌}
+use Rattle.ref_edn.specs.Edn.{items_of, items_depth, entries_of, entries_depth}
+use Rattle.ref_edn.specs.Order.{items_cmp, entries_cmp}
+use Rattle.ref_edn.proofs.Passing.{items_passed, entries_passed}
 use Rattle.ref_edn.proofs.order.+compare.Goals as goal
 
-pub compare_items-compare-order-requires : goal.compare_items-compare-order-requires
-compare_items-compare-order-requires t c = let h = rw (← c.at.ensures) at (nesting_at c.args.a.now c.loop-i.i c.at.result.now (omega arith)) in (omega (arith, h), tt)
+pub compare_items-loop-x-preserved : goal.compare_items-loop-x-preserved
+compare_items-loop-x-preserved t c =
+    let passed = items_passed c.next.new.self c.next-in-Some.new.self c.pass_same.new.self c.pass_same.new.other c.pass_same.ensures in
+    let rest : items_cmp (items_of c.next.new.self) (items_of c.next-in-Some.new.self) ≡ items_cmp (items_of c.args.a.now) (items_of c.args.b.now) = search rules in
+    let shallow : items_depth (items_of c.next.new.self) ≤ items_depth (items_of c.args.a.now) = search rules in
+    record { rest = passed.0 ∙ rest; shallow = omega (arith, passed.1, shallow) }
 
-pub compare_items-returns : goal.compare_items-returns
-compare_items-returns t c = let e = items_cmp_end c.args.a.now c.args.b.now c.loop-i.i (omega arith) (omega arith) (omega arith) in cc
+pub compare_elements-loop-x-preserved : goal.compare_elements-loop-x-preserved
+compare_elements-loop-x-preserved t c =
+    let passed = items_passed c.next.new.self c.next-in-Some.new.self c.pass_same.new.self c.pass_same.new.other c.pass_same.ensures in
+    let rest : items_cmp (items_of c.next.new.self) (items_of c.next-in-Some.new.self) ≡ items_cmp (items_of c.args.a.now) (items_of c.args.b.now) = search rules in
+    let shallow : items_depth (items_of c.next.new.self) ≤ items_depth (items_of c.args.a.now) = search rules in
+    record { rest = passed.0 ∙ rest; shallow = omega (arith, passed.1, shallow) }
 
-pub compare_elements-compare-order-requires : goal.compare_elements-compare-order-requires
-compare_elements-compare-order-requires t c = let h = rw (← c.at.ensures) at (nesting_at c.args.a.now c.loop-i.i c.at.result.now (omega arith)) in (omega (arith, h), tt)
-
-pub compare_elements-returns : goal.compare_elements-returns
-compare_elements-returns t c = let e = items_cmp_end c.args.a.now c.args.b.now c.loop-i.i (omega arith) (omega arith) (omega arith) in cc
-
-pub compare_entries-compare-order-requires : goal.compare_entries-compare-order-requires
-compare_entries-compare-order-requires t c = let h = rw (← c.at.ensures) at ((entry_nesting_at c.args.a.now c.loop-i.i (c.at.result.0.now, c.at.result.1.now) (omega arith)).0) in (omega (arith, h), tt)
-
-pub compare_entries-compare-order-requires-in-loop-i : goal.compare_entries-compare-order-requires-in-loop-i
-compare_entries-compare-order-requires-in-loop-i t c = let h = rw (← c.at.ensures) at ((entry_nesting_at c.args.a.now c.loop-i.i (c.at.result.0.now, c.at.result.1.now) (omega arith)).1) in (omega (arith, h), tt)
-
-pub compare_entries-returns : goal.compare_entries-returns
-compare_entries-returns t c = let e = entries_cmp_end c.args.a.now c.args.b.now c.loop-i.i (omega arith) (omega arith) (omega arith) in cc
+pub compare_entries-loop-key-preserved : goal.compare_entries-loop-key-preserved
+compare_entries-loop-key-preserved t c =
+    let passed = entries_passed c.next.new.self c.next-in-Some.new.self c.pass_same.new.self c.pass_same.new.other c.pass_same.ensures in
+    let rest : entries_cmp (entries_of c.next.new.self) (entries_of c.next-in-Some.new.self) ≡ entries_cmp (entries_of c.args.a.now) (entries_of c.args.b.now) = search rules in
+    let shallow : entries_depth (entries_of c.next.new.self) ≤ entries_depth (entries_of c.args.a.now) = search rules in
+    record { rest = passed.0 ∙ rest; shallow = omega (arith, passed.1, shallow) }

@@ -1,8 +1,8 @@
-use Rattle.std.proofs.Common.{◌≡◌}
-use Rattle.ref_edn.proofs.Searching.{element_missed}
+use Rattle.ref_edn.proofs.Searched.{singles_all_found, singles_all_missed}
 use Rattle.ref_edn.proofs.sets.Elements.search.Goals as goal
 
+pub returns-clause-found : goal.returns-clause-found
+returns-clause-found c = rw (← c.self.view_is) (singles_all_found c.self.inside.tree.0 c.args.x.now c.search.result c.search.ensures.found)
+
 pub returns-clause-absent : goal.returns-clause-absent
-returns-clause-absent c =
-    let same : c.deref-2.result.now ≡ c.args.self.now = cc in
-    rw (← same) (element_missed c.deref-2.result.now c.args.x.now c.binary_search.result (rw same c.requires) c.binary_search.ensures.bound c.binary_search.ensures.position)
+returns-clause-absent c = rw (← c.self.view_is) (singles_all_missed c.self.inside.tree.0 c.args.x.now c.search.result c.search.ensures.absent)

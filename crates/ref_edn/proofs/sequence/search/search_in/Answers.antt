@@ -1,0 +1,15 @@
+use Rattle.std.proofs.Common.{◌≡◌}
+use Rattle.ref_edn.specs.Chunks.{members_of}
+use Rattle.ref_edn.specs.Members.{twins}
+use Rattle.ref_edn.proofs.Searched.{twins_all_found, twins_all_missed}
+use Rattle.ref_edn.proofs.sequence.search.search_in.Goals as goal
+
+pub returns-in-Values-clause-found : goal.returns-in-Values-clause-found
+returns-in-Values-clause-found c =
+    let same : twins c.deref.result.now ≡ members_of c.args.chunk.now = cc in
+    rw same at (twins_all_found c.deref.result.now c.args.key.now c.search_values.result c.search_values.ensures.found)
+
+pub returns-in-Values-clause-absent : goal.returns-in-Values-clause-absent
+returns-in-Values-clause-absent c =
+    let same : twins c.deref.result.now ≡ members_of c.args.chunk.now = cc in
+    rw same at (twins_all_missed c.deref.result.now c.args.key.now c.search_values.result c.search_values.ensures.absent)

@@ -1,0 +1,33 @@
+-- Members on their way into a tree, as pairs.
+use Rattle.std.specs.Prelude.{◌≡◌, ℕ, List, take, drop}
+use Rattle.std.specs.Vec.Iter.{into_iter_items, into_iter_len}
+use Rattle.ref_edn.specs.Edn.{Edn}
+use Rattle.ref_edn.specs.Members.{twins}
+use Rattle.ref_edn.specs.declared.sequence.chunks.Member.{Member}
+use Rattle.ref_edn.specs.declared.sequence.chunks.Member.TheVariants.{One, Two}
+use Rattle.ref_edn.specs.declared.sequence.chunks.Rest.{Rest}
+use Rattle.ref_edn.specs.declared.sequence.chunks.Rest.TheVariants.{Values, Pairs}
+use Rattle.ref_edn.specs.declared.sequence.chunks.Run.{Run}
+use Rattle.ref_edn.specs.declared.sequence.chunks.Run.TheVariants as runs
+
+abbrev pub member_of : Member → Edn × Edn
+member_of (One x) = (x, x)
+member_of (Two k x) = (k, x)
+
+-- what is left to take
+abbrev pub rest_of : Rest → List (Edn × Edn)
+rest_of (Values it) = twins (into_iter_items it)
+rest_of (Pairs it) = into_iter_items it
+
+abbrev pub rest_len : Rest → ℕ
+rest_len (Values it) = into_iter_len it
+rest_len (Pairs it) = into_iter_len it
+
+-- some members of a chunk, side by side
+abbrev pub run_of : Run → List (Edn × Edn)
+run_of (runs.Values xs) = twins xs.now
+run_of (runs.Pairs es) = es.now
+
+-- Two lists after as many steps, over members that are the same.
+abbrev pub HavePassed : {T : Type 0} (xs ys xs-left ys-left : List T) → Type 0
+HavePassed xs ys xs-left ys-left = (n : ℕ) × (take n xs ≡ take n ys) × (xs-left ≡ drop n xs) × (ys-left ≡ drop n ys)

@@ -1,0 +1,259 @@
+//! Trees of chunks.
+ghost use Rattle.std.specs.Prelude.{◌≡◌, ◌+◌, ◌<◌, ◌≤◌, List, [], ◌++◌, length, slice_index_or, take, drop, IfOk, OnOk};
+ghost use Rattle.ref_edn.specs.Edn.{Edn};
+ghost use Rattle.ref_edn.specs.Chunks.{members_of};
+ghost use Rattle.ref_edn.specs.Deepest.{IsDeepestEntry};
+ghost use Rattle.ref_edn.specs.Members.{twins};
+ghost use Rattle.ref_edn.specs.Moves.{rest_of, rest_len, run_of};
+
+use crate::data::Value;
+use crate::sequence::chunks::{Chunk, Rest, Run, WIDTH};
+use crate::vectors::larger;
+use std::alloc::{AllocError, Global};
+use std::marker::Model;
+use std::sync::Arc;
+
+/// Members in order. Contracts see them as pairs, with the height and the mark.
+///
+/// A mark is what whoever has the tree wants to keep with it; it stays the same in each change.
+#[cycle(value)]
+#[derive(Drop)]
+pub(crate) struct Tree {
+    pub(super) limb: Arc<Limb>,
+}
+
+/// A node: how deep the deepest member is and the mark; for a fork also its height and how many members it has.
+#[cycle(value)]
+#[derive(Drop)]
+pub(super) enum Limb {
+    Leaf(u8, bool, Chunk),
+    Fork(u8, bool, u8, usize, Tree, Tree),
+}
+
+impl Model for Tree {
+    ghost use Rattle.std.specs.Prelude.{List, ℕ, Bool, ◌*◌, ◌+◌};
+    ghost use Rattle.ref_edn.specs.Edn.{Edn, entries_of, entries_depth};
+    ghost use Rattle.ref_edn.specs.TreeCode.{tree_code};
+
+    ghost Value = { List (Edn × Edn) × ℕ × Bool };
+
+    ghost coded = { tree_code };
+
+    ghost use Rattle.ref_edn.specs.Trees.{tree_of, IsTree};
+
+    ghost view = { λ a. tree_of a.limb.value };
+
+    ghost invariant = { λ a. IsTree a.limb.value };
+
+    ghost size = { λ t. 300 * entries_depth (entries_of t.0) + t.1 + 1 };
+
+    ghost use Rattle.ref_edn.specs.TreeFalls.{tree_falls};
+
+    ghost size_decreases = { λ a h. tree_falls a.limb.value };
+}
+
+pub(super) fn leaf(alloc: Global, mark: bool, chunk: Chunk) -> Result<Tree, AllocError>
+    ensures members { IfOk result (λ t. t.0 ≡ members_of chunk) }
+    ensures mark { IfOk result (λ t. t.2 ≡ mark) }
+{
+    let deepest = chunk.deepest();
+    Ok(Tree {
+        limb: Arc::new(alloc, Limb::Leaf(deepest, mark, chunk))?,
+    })
+}
+
+/// A tree of two, with the mark of the first.
+#[tactic(auto, using(crate::proofs::Pieces::length_both, crate::proofs::Edited::deepest_both))]
+pub(super) fn fork(alloc: Global, left: Tree, right: Tree) -> Result<Tree, AllocError>
+    ensures members { IfOk result (λ t. t.0 ≡ left.0 ++ right.0) }
+    ensures mark { IfOk result (λ t. t.2 ≡ left.2) }
+{
+    let Some(len) = left.len().checked_add(right.len()) else {
+        return Err(AllocError);
+    };
+    let Some(height) = larger(left.height(), right.height()).checked_add(1) else {
+        return Err(AllocError);
+    };
+    let deepest = larger(left.deepest(), right.deepest());
+    let mark = left.mark();
+    Ok(Tree {
+        limb: Arc::new(alloc, Limb::Fork(deepest, mark, height, len, left, right))?,
+    })
+}
+
+// The next members, as a tree whose chunks are full, but for the last.
+#[tactic(auto, using(crate::proofs::Pieces::append_assoc_named))]
+fn built(alloc: Global, mark: bool, rest: &mut Rest, n: usize) -> Result<Tree, AllocError>
+    requires { n ≤ rest_len rest.old }
+    ensures members { IfOk result (λ t. rest_of rest.old ≡ t.0 ++ rest_of rest.new) }
+    ensures mark { IfOk result (λ t. t.2 ≡ mark) }
+    ensures len { OnOk result (rest_len rest.new + n ≡ rest_len rest.old) }
+{
+    if n <= WIDTH {
+        let chunk = rest.chunk(alloc, n)?;
+        return leaf(alloc, mark, chunk);
+    }
+    let chunks = n / WIDTH;
+    let first = ((chunks + 1) / 2) * WIDTH;
+    let left = built(alloc, mark, rest, first)?;
+    let right = built(alloc, mark, rest, n - first)?;
+    fork(alloc, left, right)
+}
+
+impl Tree {
+    /// The values of a `Vec`, each with itself. Up to a chunk's width the `Vec` itself is the chunk, without the room
+    /// that it has left.
+    pub(crate) fn of_values(
+        alloc: Global,
+        mark: bool,
+        values: Vec<Value>,
+    ) -> Result<Tree, AllocError>
+        ensures members { IfOk result (λ t. t.0 ≡ twins values.items) }
+        ensures mark { IfOk result (λ t. t.2 ≡ mark) }
+    {
+        let n = values.len();
+        if n <= WIDTH {
+            let mut values = values;
+            values.shrink_to_fit();
+            return leaf(alloc, mark, Chunk::Values(values));
+        }
+        let mut rest = Rest::Values(values.into_iter());
+        built(alloc, mark, &mut rest, n)
+    }
+
+    /// The pairs of a `Vec`, as `of_values` has values.
+    pub(crate) fn of_pairs(
+        alloc: Global,
+        mark: bool,
+        pairs: Vec<(Value, Value)>,
+    ) -> Result<Tree, AllocError>
+        ensures members { IfOk result (λ t. t.0 ≡ pairs.items) }
+        ensures mark { IfOk result (λ t. t.2 ≡ mark) }
+    {
+        let n = pairs.len();
+        if n <= WIDTH {
+            let mut pairs = pairs;
+            pairs.shrink_to_fit();
+            return leaf(alloc, mark, Chunk::Pairs(pairs));
+        }
+        let mut rest = Rest::Pairs(pairs.into_iter());
+        built(alloc, mark, &mut rest, n)
+    }
+
+    pub(crate) fn len(&self) -> usize
+        ensures { result ≡ length self.now.0 }
+    {
+        match &*self.limb {
+            Limb::Leaf(_, _, chunk) => chunk.len(),
+            Limb::Fork(_, _, _, len, _, _) => *len,
+        }
+    }
+
+    pub(crate) fn height(&self) -> u8
+        ensures { result ≡ self.now.1 }
+    {
+        match &*self.limb {
+            Limb::Leaf(_, _, _) => 0,
+            Limb::Fork(_, _, height, _, _, _) => *height,
+        }
+    }
+
+    pub(crate) fn mark(&self) -> bool
+        ensures { result ≡ self.now.2 }
+    {
+        match &*self.limb {
+            Limb::Leaf(_, mark, _) => *mark,
+            Limb::Fork(_, mark, _, _, _, _) => *mark,
+        }
+    }
+
+    /// The depth of the deepest member.
+    pub(crate) fn deepest(&self) -> u8
+        ensures { IsDeepestEntry result self.now.0 }
+    {
+        match &*self.limb {
+            Limb::Leaf(deepest, _, _) => *deepest,
+            Limb::Fork(deepest, _, _, _, _, _) => *deepest,
+        }
+    }
+
+    /// One more owner. It takes no memory; only the count of owners can refuse.
+    pub(crate) fn share(&self) -> Result<Tree, AllocError>
+        ensures { IfOk result (λ t. t ≡ self.now) }
+    {
+        Ok(Tree {
+            limb: Arc::try_clone(&self.limb)?,
+        })
+    }
+
+    #[tactic(auto, using(crate::proofs::Pieces::at_left, crate::proofs::Pieces::at_right, crate::proofs::Pieces::length_both))]
+    pub(crate) fn pair_at(&self, i: usize) -> (&Value, &Value)
+        requires { i < length self.now.0 }
+        ensures { let entry : Edn × Edn = (result.0.now, result.1.now) in entry ≡ slice_index_or self.now.0 i entry }
+    {
+        match &*self.limb {
+            Limb::Leaf(_, _, chunk) => chunk.pair_at(i),
+            Limb::Fork(_, _, _, _, left, right) => {
+                let before = left.len();
+                if i < before {
+                    left.pair_at(i)
+                } else {
+                    right.pair_at(i - before)
+                }
+            }
+        }
+    }
+
+    /// The members from a place on to the end of their chunk.
+    #[tactic(auto, using(crate::proofs::Pieces::run_whole, crate::proofs::Pieces::run_some, crate::proofs::Pieces::run_left, crate::proofs::Pieces::run_right, crate::proofs::Pieces::length_both))]
+    pub(crate) fn run_from(&self, i: usize) -> Run<'_>
+        requires { i < length self.now.0 }
+        ensures some { 0 < length (run_of result) }
+        ensures members { run_of result ≡ take (length (run_of result)) (drop i self.now.0) }
+    {
+        match &*self.limb {
+            Limb::Leaf(_, _, chunk) => chunk.run_from(i),
+            Limb::Fork(_, _, _, _, left, right) => {
+                let before = left.len();
+                if i < before {
+                    left.run_from(i)
+                } else {
+                    right.run_from(i - before)
+                }
+            }
+        }
+    }
+
+    // The same tree in a block of its own, whose children are shared.
+    fn copied(&self, alloc: Global) -> Result<Tree, AllocError>
+        ensures { IfOk result (λ t. t ≡ self.now) }
+    {
+        let limb = match &*self.limb {
+            Limb::Leaf(deepest, mark, chunk) => Limb::Leaf(*deepest, *mark, chunk.copied(alloc)?),
+            Limb::Fork(deepest, mark, height, len, left, right) => {
+                Limb::Fork(
+                    *deepest,
+                    *mark,
+                    *height,
+                    *len,
+                    left.share()?,
+                    right.share()?,
+                )
+            }
+        };
+        Ok(Tree {
+            limb: Arc::new(alloc, limb)?,
+        })
+    }
+
+    // Where the node has other owners, copies it.
+    pub(super) fn unshare(&mut self, alloc: Global) -> Result<(), AllocError>
+        ensures { self.new ≡ self.old }
+    {
+        if let Some(_) = Arc::get_mut(&mut self.limb) {
+            return Ok(());
+        }
+        *self = self.copied(alloc)?;
+        Ok(())
+    }
+}

@@ -1,0 +1,314 @@
+//! Drawn changes of vectors, maps and sets, in all of whose versions everything is right at the end.
+use crate::drawing::draw;
+use ref_edn::{Elements, Entries, Items, Node, Value};
+use std::alloc::{AllocError, Global};
+use std::collections::BTreeMap;
+use std::test::Fail;
+
+// How many changes are drawn, after how many a version is kept, and about how many members a collection has at most.
+const CHANGES: usize = 100_000;
+
+const KEPT_AFTER: usize = 1_000;
+
+const MOST: usize = 5_000;
+
+// A vector, a map and a set, and what they are to hold. A number below 0 stands for a vector of it.
+#[derive(Drop)]
+struct Version {
+    items: Items,
+    list: Vec<i64>,
+    entries: Entries,
+    map: BTreeMap<i64, i64>,
+    elements: Elements,
+    set: BTreeMap<i64, i64>,
+}
+
+fn value_of(node: Node) -> Result<Value, Fail> {
+    match Value::of(node) {
+        Ok(value) => Ok(value),
+        Err(_) => Err(Fail::from("not lawful")),
+    }
+}
+
+fn member(alloc: Global, n: i64) -> Result<Value, Fail> {
+    let number = value_of(Node::Int(n))?;
+    if n >= 0 {
+        return Ok(number);
+    }
+    value_of(Node::Vector(Items::of(alloc, vec![in alloc; number]?)?))
+}
+
+// Whether a value is the one that stands for a number.
+fn stands_for(value: &Value, n: i64) -> bool {
+    match value.node() {
+        Node::Int(m) => *m == n && n >= 0,
+        Node::Vector(items) => match items.get(0) {
+            Some(first) => items.len() == 1 && n < 0 && is_number(first, n),
+            None => false,
+        },
+        _ => false,
+    }
+}
+
+fn is_number(value: &Value, n: i64) -> bool {
+    match value.node() {
+        Node::Int(m) => *m == n,
+        _ => false,
+    }
+}
+
+// A number below a bound, and now and then one below 0.
+fn drawn_number(seed: &mut u64, below: usize) -> i64 {
+    let n = i64::try_from(draw(seed, below)).unwrap_or(0);
+    if draw(seed, 500) == 0 {
+        n.saturating_sub(100_000)
+    } else {
+        n
+    }
+}
+
+// ---- changes
+
+fn push(alloc: Global, version: &mut Version, n: i64) -> Result<(), Fail> {
+    if version.list.len() >= MOST {
+        version.items = Items::of(alloc, Vec::new(alloc))?;
+        version.list = Vec::new(alloc);
+    }
+    version.items.push(alloc, member(alloc, n)?)?;
+    version.list.push(n)?;
+    Ok(())
+}
+
+fn change_map(alloc: Global, version: &mut Version, key: i64, n: Option<i64>) -> Result<(), Fail> {
+    if !version.entries.ascends() {
+        return Err(Fail::from("not in order"));
+    }
+    match n {
+        Some(n) => {
+            let value = member(alloc, n)?;
+            version.entries.insert(alloc, member(alloc, key)?, value)?;
+            version.map.insert(key, n)?;
+        }
+        None => {
+            version.entries.remove(alloc, &member(alloc, key)?)?;
+            version.map.remove(&key);
+        }
+    }
+    Ok(())
+}
+
+fn change_set(alloc: Global, version: &mut Version, n: i64, comes: bool) -> Result<(), Fail> {
+    if !version.elements.ascends() {
+        return Err(Fail::from("not in order"));
+    }
+    if comes {
+        version.elements.insert(alloc, member(alloc, n)?)?;
+        version.set.insert(n, n)?;
+    } else {
+        version.elements.remove(alloc, &member(alloc, n)?)?;
+        version.set.remove(&n);
+    }
+    Ok(())
+}
+
+// In one change of two a member comes while a collection grows, and in one of nine while it shrinks.
+fn does_come(seed: &mut u64, grows: bool) -> bool {
+    draw(seed, 9) < if grows { 8 } else { 2 }
+}
+
+fn change(alloc: Global, seed: &mut u64, version: &mut Version, grows: bool) -> Result<(), Fail> {
+    let kind = draw(seed, 5);
+    let n = drawn_number(seed, 2 * MOST);
+    let comes = does_come(seed, grows);
+    match kind {
+        0 => push(alloc, version, n),
+        1 | 2 => {
+            let x = if comes {
+                Some(drawn_number(seed, 10))
+            } else {
+                None
+            };
+            change_map(alloc, version, n, x)
+        }
+        _ => change_set(alloc, version, n, comes),
+    }
+}
+
+fn share(version: &Version) -> Result<Version, AllocError> {
+    Ok(Version {
+        items: version.items.share()?,
+        list: version.list.clone()?,
+        entries: version.entries.share()?,
+        map: version.map.clone()?,
+        elements: version.elements.share()?,
+        set: version.set.clone()?,
+    })
+}
+
+// ---- what is to hold
+
+// How deep numbers are: those below 0 stand for vectors.
+fn depth_of(n: i64) -> u8 {
+    if n < 0 { 1 } else { 0 }
+}
+
+fn is_right_vector(version: &Version) -> bool {
+    let mut left = version.items.iter();
+    let mut deepest = 0;
+    for n in &version.list {
+        let Some(x) = left.next() else {
+            return false;
+        };
+        if !stands_for(x, *n) {
+            return false;
+        }
+        deepest = depth_of(*n).max(deepest);
+    }
+    left.next().is_none()
+        && version.items.len() == version.list.len()
+        && version.items.deepest() == deepest
+}
+
+// Values stand in order as numbers do, but those below 0 behind all others.
+fn is_right_map(entries: &Entries, map: &BTreeMap<i64, i64>) -> bool {
+    let mut left = entries.iter();
+    let mut deepest = 0;
+    for nested in [false, true] {
+        for (key, n) in map {
+            if (*key < 0) != nested {
+                continue;
+            }
+            let Some((k, x)) = left.next() else {
+                return false;
+            };
+            if !stands_for(k, *key) || !stands_for(x, *n) {
+                return false;
+            }
+            deepest = depth_of(*key).max(depth_of(*n)).max(deepest);
+        }
+    }
+    left.next().is_none() && entries.ascends() && entries.deepest() == deepest
+}
+
+fn is_right_set(elements: &Elements, set: &BTreeMap<i64, i64>) -> bool {
+    let mut left = elements.iter();
+    let mut deepest = 0;
+    for nested in [false, true] {
+        for (n, _) in set {
+            if (*n < 0) != nested {
+                continue;
+            }
+            let Some(x) = left.next() else {
+                return false;
+            };
+            if !stands_for(x, *n) {
+                return false;
+            }
+            deepest = depth_of(*n).max(deepest);
+        }
+    }
+    left.next().is_none() && elements.ascends() && elements.deepest() == deepest
+}
+
+// Whether one member is found, or not, as it should be: by its place in the vector, and by itself in the map and the set.
+fn is_found(alloc: Global, version: &Version, n: i64) -> Result<bool, Fail> {
+    let x = member(alloc, n)?;
+    if !version.entries.ascends() || !version.elements.ascends() {
+        return Ok(false);
+    }
+    let in_map = match (version.entries.get(&x), version.map.get(&n)) {
+        (Some(value), Some(m)) => stands_for(value, *m),
+        (None, None) => true,
+        _ => false,
+    };
+    let i = n.unsigned_abs() as usize;
+    let in_vector = match (version.items.get(i), version.list.get(i)) {
+        (Some(value), Some(m)) => stands_for(value, *m),
+        (None, None) => true,
+        _ => false,
+    };
+    let in_set = version.elements.contains(&x) == version.set.contains_key(&n);
+    Ok(in_map && in_vector && in_set)
+}
+
+fn is_right(alloc: Global, seed: &mut u64, version: &Version) -> Result<bool, Fail> {
+    for _ in 0..100 {
+        let n = drawn_number(seed, 2 * MOST);
+        if !is_found(alloc, version, n)? {
+            return Ok(false);
+        }
+    }
+    Ok(
+        is_right_vector(version)
+            && is_right_map(&version.entries, &version.map)
+            && is_right_set(&version.elements, &version.set),
+    )
+}
+
+// ---- the run
+
+// Some thousand members in each, made at once.
+fn start(alloc: Global) -> Result<Version, Fail> {
+    let mut values = Vec::new(alloc);
+    let mut list = Vec::new(alloc);
+    let mut pairs = Vec::new(alloc);
+    let mut map = BTreeMap::new(alloc);
+    let mut elements = Vec::new(alloc);
+    let mut set = BTreeMap::new(alloc);
+    for n in 0..3_000 {
+        values.push(member(alloc, n)?)?;
+        list.push(n)?;
+        pairs.push((member(alloc, n)?, member(alloc, 7)?))?;
+        map.insert(n, 7)?;
+        elements.push(member(alloc, n)?)?;
+        set.insert(n, n)?;
+    }
+    Ok(Version {
+        items: Items::of(alloc, values)?,
+        list,
+        entries: Entries::of(alloc, pairs)?,
+        map,
+        elements: Elements::of(alloc, elements)?,
+        set,
+    })
+}
+
+// Changes the last version so often, from one of the kept ones on now and then.
+fn go_on(
+    alloc: Global,
+    seed: &mut u64,
+    versions: &mut Vec<Version>,
+    grows: bool,
+) -> Result<(), Fail> {
+    let count = versions.len();
+    let place = match draw(seed, 4) {
+        0 => draw(seed, count),
+        _ => count.saturating_sub(1),
+    };
+    let Some(version) = versions.get(place) else {
+        return Err(Fail::from("no version"));
+    };
+    let mut next = share(version)?;
+    for _ in 0..KEPT_AFTER {
+        change(alloc, seed, &mut next, grows)?;
+    }
+    versions.push(next)?;
+    Ok(())
+}
+
+#[test]
+fn old_versions_stay(rt: HostRuntime) -> Result<(), Fail> {
+    let alloc = rt.alloc();
+    let mut versions = vec![in alloc; start(alloc)?]?;
+    let mut seed: u64 = 17;
+    for round in 0..CHANGES / KEPT_AFTER {
+        go_on(alloc, &mut seed, &mut versions, round % 20 < 10)?;
+    }
+    let mut longest: usize = 0;
+    for (i, version) in versions.iter().enumerate() {
+        assert!(rt; is_right(alloc, &mut seed, version)?, "version {i}");
+        longest = longest.max(version.map.len()).max(version.set.len());
+    }
+    assert!(rt; longest > 4_000, "{longest} members");
+    Ok(())
+}
