@@ -18,7 +18,10 @@ use std::sync::Wait;
 use std::sync::ledger::{Blank, Ledger};
 use std::test::Fail;
 
-const OTHER: Stamp = Stamp { worker: 1, step: 0 };
+// The stamp of another caller's commit.
+fn other(step: u32) -> Stamp {
+    Stamp { worker: 1, step }
+}
 
 // A gate that lets another caller set a to 10 after the first bodies, and counts the bodies.
 #[derive(Drop)]
@@ -28,6 +31,7 @@ struct Between<'a, 'b, R: Wait, C: Ledger, A: Ledger> {
     alloc: Global,
     share: Share<C, A>,
     left: u32,
+    step: u32,
     bodies: u32,
 }
 
@@ -38,7 +42,9 @@ impl<'a, 'b, R: Wait, C: Ledger, A: Ledger> Gate for Between<'a, 'b, R, C, A> {
             Spot::AfterBody => {
                 if self.left > 0 {
                     self.left -= 1;
-                    let _ = set_ten(self.rt, self.alloc, self.shared, &mut self.share);
+                    let stamp = other(self.step);
+                    let _ = set_ten(self.rt, self.alloc, self.shared, &mut self.share, stamp);
+                    self.step = self.step.saturating_add(1);
                 }
             }
             _ => {}
@@ -51,10 +57,11 @@ fn set_ten<R: Wait, C: Ledger, A: Ledger>(
     alloc: Global,
     shared: &Shared<Core, C, A>,
     share: &mut Share<C, A>,
+    stamp: Stamp,
 ) -> Result<(), Stop> {
     let mut tx = shared.begin(rt, alloc)?;
     let _ = done(tx.ref_set(alloc, 0, value(alloc, "10")?))?;
-    let _ = done(shared.commit(rt, alloc, &CoreFunctions, share, OTHER, tx))?;
+    let _ = done(shared.commit(rt, alloc, &CoreFunctions, share, stamp, tx))?;
     Ok(())
 }
 
@@ -148,6 +155,7 @@ fn try_beside<C: Ledger, A: Ledger, R: Wait>(
         alloc,
         share: other,
         left: case.between,
+        step: 0,
         bodies: 0,
     };
     let (answer, calls) = transact(rt, alloc, case, shared, share, &mut gate);
@@ -215,8 +223,40 @@ fn a_caller_gives_up_after_the_last_conflict(rt: HostRuntime) -> Result<(), Fail
     let wanted = Tried {
         tries,
         value: Some(10),
-        log: vec![in alloc; (OTHER, 0)]?,
+        log: vec![in alloc; (other(0), 0)]?,
         commits: 1,
+    };
+    assert_eq!(rt; tried, wanted);
+    Ok(())
+}
+
+// The conflict that is told is the last one.
+#[test]
+fn a_caller_gives_up_after_as_many_tries_as_it_said(rt: HostRuntime) -> Result<(), Fail> {
+    let alloc = rt.alloc();
+    let case = Case {
+        code: PLUS,
+        refuses: false,
+        tries: 3,
+        between: 3,
+    };
+    let (commits, added) = (Blank::new(ALL_PARTS), Blank::new(ALL_PARTS));
+    let tried = try_case::<Brand, Brand, _>(&rt, alloc, case, commits, added)?;
+    let conflict = Conflict {
+        r: 0,
+        read_point: 2,
+        changed_at: 3,
+    };
+    let tries = Tries {
+        answer: Err(TransactFault::GaveUp { tries: 3, conflict }),
+        bodies: (3, 3),
+        receipts: 0,
+    };
+    let wanted = Tried {
+        tries,
+        value: Some(10),
+        log: vec![in alloc; (other(0), 0), (other(1), 1), (other(2), 2)]?,
+        commits: 3,
     };
     assert_eq!(rt; tried, wanted);
     Ok(())
@@ -241,7 +281,7 @@ fn after_a_conflict_the_body_reads_the_new_value(rt: HostRuntime) -> Result<(), 
     let wanted = Tried {
         tries,
         value: Some(11),
-        log: vec![in alloc; (OTHER, 0), (STAMP, 1)]?,
+        log: vec![in alloc; (other(0), 0), (STAMP, 1)]?,
         commits: 2,
     };
     assert_eq!(rt; tried, wanted);

@@ -1,4 +1,5 @@
-//! How far threads have come.
+//! How far threads have come, and where one waits.
+use ref_shared::Spot;
 use std::sync::atomic::AtomicBool;
 
 /// How far threads have come, each of which sets some of these for the others.
@@ -7,6 +8,7 @@ pub struct Flags {
     pub first: AtomicBool,
     pub second: AtomicBool,
     pub third: AtomicBool,
+    pub fourth: AtomicBool,
 }
 
 impl Flags {
@@ -15,6 +17,16 @@ impl Flags {
             first: AtomicBool::new(false),
             second: AtomicBool::new(false),
             third: AtomicBool::new(false),
+            fourth: AtomicBool::new(false),
         }
     }
+}
+
+/// Where one thread waits until the other has looked.
+#[derive(Clone, Copy, Debug, Drop, PartialEq)]
+pub enum Place {
+    At(Spot),
+    Body,
+    Action,
+    Told,
 }

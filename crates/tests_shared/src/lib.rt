@@ -9,6 +9,8 @@
 //! | `calls`, `conflicts`, `finishing` | by one thread: each call, transactions that are tried again, the end |
 //! | `work` | by one thread: agents |
 //! | `threads`, `side_by_side`, `stress` | by several: transactions, agents, all together |
+//! | `looks` | by two: at each step between, the lock is free |
+//! | `waking` | by two or three: who waits for an agent is woken |
 //! | `faults` | what faults say |
 //! | `worlds` | making worlds and values, and what is read of them |
 //! | [`flags`] | how far threads have come. It stands outside of the tests, since the proof of what crosses threads names it |
@@ -24,6 +26,8 @@ mod faults;
 #[cfg(test)]
 mod finishing;
 pub mod flags;
+#[cfg(test)]
+mod looks;
 pub mod numbers;
 #[cfg(test)]
 mod side_by_side;
@@ -31,6 +35,8 @@ mod side_by_side;
 mod stress;
 #[cfg(test)]
 mod threads;
+#[cfg(test)]
+mod waking;
 #[cfg(test)]
 mod work;
 #[cfg(test)]

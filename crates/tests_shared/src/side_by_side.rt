@@ -1,11 +1,11 @@
-//! Agents and two threads: who waits for an action is woken, actions of two agents run side by side, those of one agent in turn.
+//! Agents and two threads: actions of two agents run side by side, those of one agent in turn.
 ghost use Rattle.std.specs.Prelude.{◌≡◌};
 ghost use Rattle.ref_world.specs.Shares.{all_parts};
 
 use crate::flags::Flags;
-use crate::work::{CLOSED, Work, send_four, two_agents, work};
-use crate::worlds::{PLUS, STAMP, Stop, action, done, int_at, opened, wait_for};
-use ref_fun::{Action, Core, CoreFunctions};
+use crate::work::{Work, two_agents, work};
+use crate::worlds::{PLUS, Stop, action, done, int_at, opened, wait_for};
+use ref_fun::{Core, CoreFunctions, Functions};
 use ref_log::Who;
 use ref_shared::{Gate, Quiet, Shared, Spot, Worked};
 use ref_world::ALL_PARTS;
@@ -19,115 +19,11 @@ use std::thread;
 use std::thread::Threads;
 use std::time::{Clock, Duration};
 
-// Works three times, and says before each that it comes.
-fn work_thrice<R: Wait, C: Ledger, A: Ledger>(
-    rt: &R,
-    alloc: Global,
-    shared: &Shared<Core, C, A>,
-    flags: &Flags,
-) -> (Work, Work, Work) {
-    flags.first.store(true, Ordering::SeqCst);
-    let one = work(rt, alloc, shared);
-    flags.second.store(true, Ordering::SeqCst);
-    let two = work(rt, alloc, shared);
-    flags.third.store(true, Ordering::SeqCst);
-    (one, two, work(rt, alloc, shared))
-}
-
 // Waits for a flag, and then some time more, in which whoever set it has begun to wait.
-fn wait_past<R: Clock>(rt: &R, flag: &AtomicBool) -> bool {
+pub(crate) fn wait_past<R: Clock>(rt: &R, flag: &AtomicBool) -> bool {
     let is_set = wait_for(rt, flag);
     thread::sleep(rt, Duration::from_millis(20));
     is_set
-}
-
-// Sends to g, lets out what a commit sent to h, and closes, each while the other waits. It answers whether the other was there in
-// time, and nothing was refused.
-fn wake<R: Wait + Clock, C: Ledger, A: Ledger>(
-    rt: &R,
-    alloc: Global,
-    shared: &Shared<Core, C, A>,
-    action: Action,
-    point: u64,
-    flags: &Flags,
-) -> bool {
-    let was_first = wait_past(rt, &flags.first);
-    let sent = shared.send(rt, alloc, 0, action);
-    let was_second = wait_past(rt, &flags.second);
-    let released = shared.release(rt, point);
-    let was_third = wait_past(rt, &flags.third);
-    shared.close(rt);
-    was_first && was_second && was_third && sent.is_ok() && released
-}
-
-// What one thread did that another woke.
-#[derive(Debug, Drop, PartialEq)]
-struct Woken {
-    works: (Work, Work, Work),
-    woke: bool,
-    values: (Option<i64>, Option<i64>),
-}
-
-// One thread's work, and the other's waking of it.
-fn work_and_wake<
-    C: Ledger + Send + Sync,
-    A: Ledger + Send + Sync,
-    R: Threads + Wait + Clock + Sync,
->(
-    rt: &R,
-    alloc: Global,
-    shared: &Shared<Core, C, A>,
-    action: Action,
-    point: u64,
-) -> ((Work, Work, Work), bool) {
-    let flags = Flags::new();
-    let lent = &flags;
-    let (works, woke) = thread::join(
-        rt,
-        move || work_thrice(rt, alloc, shared, lent),
-        move || wake(rt, alloc, shared, action, point, lent),
-    );
-    (works, woke)
-}
-
-fn try_waking<C: Ledger + Send + Sync, A: Ledger + Send + Sync, R: Threads + Wait + Clock + Sync>(
-    rt: &R,
-    alloc: Global,
-    commits: Blank,
-    added: Blank,
-) -> Result<Woken, Stop>
-    requires commits { (commits.name ≡ C.name) × (commits.parts ≡ C.parts) × (commits.parts ≡ all_parts) }
-    requires added { (added.name ≡ A.name) × (added.parts ≡ A.parts) × (added.parts ≡ all_parts) }
-{
-    let (shared, mut share) = opened::<C, A>(alloc, two_agents(alloc)?, commits, added)?;
-    let mut tx = shared.begin(rt, alloc)?;
-    send_four(alloc, &mut tx)?;
-    let receipt = done(shared.commit(rt, alloc, &CoreFunctions, &mut share, STAMP, tx))?;
-    let point = receipt.point;
-    let plus_one = action(alloc, PLUS, "1")?;
-    let (works, woke) = work_and_wake(rt, alloc, &shared, plus_one, point);
-    Ok(Woken {
-        works,
-        woke,
-        values: (
-            int_at(rt, &shared, Who::Agent(0)),
-            int_at(rt, &shared, Who::Agent(1)),
-        ),
-    })
-}
-
-#[test]
-fn who_waits_for_an_agent_is_woken(rt: HostRuntime) -> Result<(), Fail> {
-    let alloc = rt.alloc();
-    let (commits, added) = (Blank::new(ALL_PARTS), Blank::new(ALL_PARTS));
-    let woken = try_waking::<Brand, Brand, _>(&rt, alloc, commits, added)?;
-    let wanted = Woken {
-        works: (Ok(Worked::Did(0)), Ok(Worked::Did(1)), CLOSED),
-        woke: true,
-        values: (Some(1), Some(4)),
-    };
-    assert_eq!(rt; woken, wanted);
-    Ok(())
 }
 
 // A gate that holds an action until another thread has come so far, and some time more.
@@ -149,7 +45,7 @@ impl<'a, 'b, 'c, R: Clock> Gate for Meet<'a, 'b, 'c, R> {
 }
 
 // Runs one action, and answers whether it met the other.
-fn work_and_meet<R: AllocGlobal + Wait + Clock, C: Ledger, A: Ledger>(
+pub(crate) fn work_and_meet<R: AllocGlobal + Wait + Clock, C: Ledger, A: Ledger>(
     rt: &R,
     shared: &Shared<Core, C, A>,
     here: &AtomicBool,
@@ -226,11 +122,12 @@ fn actions_of_two_agents_run_side_by_side(rt: HostRuntime) -> Result<(), Fail> {
     Ok(())
 }
 
-// Runs one action, which is held until the other waits for the next one, and closes once that one was run.
-fn work_first<R: Wait + Clock, C: Ledger, A: Ledger>(
+// Runs one action by a table, held until the other waits for the next one, and closes once that one was run.
+pub(crate) fn work_first<R: Wait + Clock, C: Ledger, A: Ledger, F: Functions<Core>>(
     rt: &R,
     alloc: Global,
     shared: &Shared<Core, C, A>,
+    funs: &F,
     flags: &Flags,
 ) -> (Work, bool) {
     let mut gate = Meet {
@@ -239,14 +136,14 @@ fn work_first<R: Wait + Clock, C: Ledger, A: Ledger>(
         there: &flags.second,
         met: false,
     };
-    let worked = shared.work_once(rt, alloc, &CoreFunctions, &mut gate, &mut Quiet);
+    let worked = shared.work_once(rt, alloc, funs, &mut gate, &mut Quiet);
     let in_time = gate.met && wait_for(rt, &flags.third);
     shared.close(rt);
     (worked, in_time)
 }
 
 // Waits for the next action while the first is on its way, and runs it.
-fn work_next<R: Wait + Clock, C: Ledger, A: Ledger>(
+pub(crate) fn work_next<R: Wait + Clock, C: Ledger, A: Ledger>(
     rt: &R,
     alloc: Global,
     shared: &Shared<Core, C, A>,
@@ -278,7 +175,7 @@ fn take_turns<C: Ledger + Send + Sync, A: Ledger + Send + Sync, R: Threads + Wai
     let (next, first) = thread::join(
         rt,
         move || work_next(rt, alloc, shared, lent),
-        move || work_first(rt, alloc, shared, lent),
+        move || work_first(rt, alloc, shared, &CoreFunctions, lent),
     );
     (next, first)
 }

@@ -3,6 +3,7 @@ ghost use Rattle.std.specs.Prelude.{◌≡◌};
 ghost use Rattle.ref_world.specs.Shares.{all_parts};
 
 use crate::flags::Flags;
+use crate::numbers::int_of;
 use crate::worlds::{
     STAMP, Stop, Told, add, all_commits, all_told, closed, done, int_at, opened, plain_start,
     told_of, value, wait_for,
@@ -138,15 +139,22 @@ impl<'a, 'b, 'c, R: Clock> Gate for Hold<'a, 'b, 'c, R> {
     }
 }
 
-// Adds 1 to a beside a gate, and answers the commit's point.
+// Adds 1 to a, and answers what it was in the transaction before.
+fn read_and_add(alloc: Global, tx: &mut Tx<Core>) -> Result<Option<i64>, Stop> {
+    let read = int_of(done(tx.deref(0))?);
+    add(alloc, tx, 0, "1")?;
+    Ok(read)
+}
+
+// Adds 1 to a beside a gate, and answers the commit's point, and what the last body read.
 fn add_beside<R: Wait, C: Ledger, A: Ledger, G: Gate>(
     rt: &R,
     alloc: Global,
     shared: &Shared<Core, C, A>,
     share: &mut Share<C, A>,
     gate: &mut G,
-) -> Result<u64, Stop> {
-    let (_, receipt) = done(shared.transact(
+) -> Result<(u64, Option<i64>), Stop> {
+    let (read, receipt) = done(shared.transact(
         rt,
         alloc,
         &CoreFunctions,
@@ -155,18 +163,26 @@ fn add_beside<R: Wait, C: Ledger, A: Ledger, G: Gate>(
         10,
         gate,
         &mut Quiet,
-        |tx: &mut Tx<Core>| add(alloc, tx, 0, "1"),
+        |tx: &mut Tx<Core>| read_and_add(alloc, tx),
     ))?;
-    Ok(receipt.point)
+    Ok((receipt.point, read))
 }
 
-// Adds 1 to a, held after its first body. It answers the share, and the commit's point, with how many bodies were begun.
+// What came of the held commit: its point, how many bodies it took, and what the last one read.
+#[derive(Clone, Copy, Debug, Drop, PartialEq)]
+struct Held {
+    point: u64,
+    bodies: u32,
+    read: Option<i64>,
+}
+
+// Adds 1 to a, held after its first body.
 fn add_held<R: AllocGlobal + Wait + Clock, C: Ledger, A: Ledger>(
     rt: &R,
     shared: &Shared<Core, C, A>,
     mut share: Share<C, A>,
     flags: &Flags,
-) -> (Share<C, A>, Result<(u64, u32), Stop>) {
+) -> (Share<C, A>, Result<Held, Stop>) {
     let alloc = rt.alloc();
     let mut gate = Hold {
         rt,
@@ -179,7 +195,13 @@ fn add_held<R: AllocGlobal + Wait + Clock, C: Ledger, A: Ledger>(
     if !gate.in_time {
         return (share, Err(Stop::Late));
     }
-    (share, committed.map(|point| (point, gate.bodies)))
+    let bodies = gate.bodies;
+    let held = committed.map(|(point, read)| Held {
+        point,
+        bodies,
+        read,
+    });
+    (share, held)
 }
 
 // Adds 10 to a while the other is held. It answers the share, and the commit's point.
@@ -215,8 +237,7 @@ fn add_meanwhile<R: AllocGlobal + Wait + Clock, C: Ledger, A: Ledger>(
 // What came of two commits, the first of them held until the second was there.
 #[derive(Debug, Drop, PartialEq)]
 struct Overtaken {
-    // The held one's point, and how many bodies it took.
-    held: Result<(u64, u32), Stop>,
+    held: Result<Held, Stop>,
     meanwhile: Result<u64, Stop>,
     value: Option<i64>,
     log: Vec<(Stamp, u64)>,
@@ -234,7 +255,7 @@ fn overtake<
     share: Share<C, A>,
     other: Share<C, A>,
 ) -> (
-    (Share<C, A>, Result<(u64, u32), Stop>),
+    (Share<C, A>, Result<Held, Stop>),
     (Share<C, A>, Result<u64, Stop>),
 ) {
     let flags = Flags::new();
@@ -279,7 +300,11 @@ fn who_is_overtaken_begins_anew(rt: HostRuntime) -> Result<(), Fail> {
     let (commits, added) = (Blank::new(ALL_PARTS), Blank::new(ALL_PARTS));
     let overtaken = try_overtaking::<Brand, Brand, _>(&rt, alloc, commits, added)?;
     let wanted = Overtaken {
-        held: Ok((2, 2)),
+        held: Ok(Held {
+            point: 2,
+            bodies: 2,
+            read: Some(10),
+        }),
         meanwhile: Ok(1),
         value: Some(11),
         log: vec![in alloc; (OTHER, 0), (STAMP, 1)]?,

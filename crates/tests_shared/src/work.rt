@@ -3,15 +3,15 @@ ghost use Rattle.std.specs.Prelude.{◌≡◌};
 ghost use Rattle.ref_world.specs.Shares.{all_parts};
 
 use crate::worlds::{
-    MINUS, PLUS, STAMP, Stop, action, agent, at_least, done, int_at, one_arg, opened, plain_start,
-    value,
+    Listener, MINUS, PLUS, STAMP, Stop, Told, action, agent, at_least, closed, done, int_at,
+    one_arg, opened, plain_start, value,
 };
 use ref_agents::{AgentError, RestartFault, SendFault};
 use ref_fun::{Core, CoreFunctions};
 use ref_log::Who;
 use ref_shared::{Open, Quiet, Shared, WorkFault, Worked};
 use ref_tx::Tx;
-use ref_world::{ALL_PARTS, Start};
+use ref_world::{ALL_PARTS, Share, Start};
 use std::alloc::{AllocError, Global};
 use std::marker::Brand;
 use std::sync::Wait;
@@ -63,6 +63,31 @@ fn where_no_agent_is_ready_a_closed_world_says_so(rt: HostRuntime) -> Result<(),
     Ok(())
 }
 
+fn try_closed<C: Ledger, A: Ledger, R: Wait>(
+    rt: &R,
+    alloc: Global,
+    commits: Blank,
+    added: Blank,
+) -> Result<(Result<(), SendFault>, Work, Work), Stop>
+    requires commits { (commits.name ≡ C.name) × (commits.parts ≡ C.parts) × (commits.parts ≡ all_parts) }
+    requires added { (added.name ≡ A.name) × (added.parts ≡ A.parts) × (added.parts ≡ all_parts) }
+{
+    let (shared, _share) = opened::<C, A>(alloc, two_agents(alloc)?, commits, added)?;
+    shared.close(rt);
+    let sent = shared.send(rt, alloc, 1, action(alloc, PLUS, "1")?);
+    let first = work(rt, alloc, &shared);
+    Ok((sent, first, work(rt, alloc, &shared)))
+}
+
+#[test]
+fn a_closed_world_still_takes_what_is_sent(rt: HostRuntime) -> Result<(), Fail> {
+    let alloc = rt.alloc();
+    let (commits, added) = (Blank::new(ALL_PARTS), Blank::new(ALL_PARTS));
+    let worked = try_closed::<Brand, Brand, _>(&rt, alloc, commits, added)?;
+    assert_eq!(rt; worked, (Ok(()), Ok(Worked::Did(1)), CLOSED));
+    Ok(())
+}
+
 // What came of an agent that fails and is restarted.
 #[derive(Debug, Drop, PartialEq)]
 struct Failing {
@@ -75,9 +100,61 @@ struct Failing {
     error_then: Option<AgentError>,
     worked_then: (Work, Work),
     value_then: Option<i64>,
+    // How many actions wait at the end.
+    waiting: Option<usize>,
 }
 
-// `+ 1`, `- 5`, which fails g, and `+ 2`. Then it is restarted with 10.
+// `+ 1`, `- 5`, which fails g, and `+ 2`. What the first two came to is answered.
+fn send_and_fail<C: Ledger, A: Ledger, R: Wait>(
+    rt: &R,
+    alloc: Global,
+    shared: &Shared<Core, C, A>,
+) -> Result<(Work, Work), Stop> {
+    done(shared.send(rt, alloc, 0, action(alloc, PLUS, "1")?))?;
+    done(shared.send(rt, alloc, 0, action(alloc, MINUS, "5")?))?;
+    done(shared.send(rt, alloc, 0, action(alloc, PLUS, "2")?))?;
+    let first = work(rt, alloc, shared);
+    Ok((first, work(rt, alloc, shared)))
+}
+
+// How many actions of g wait in the world that a shared world ends with.
+fn waiting_at_end<C: Ledger, A: Ledger>(
+    alloc: Global,
+    shared: Shared<Core, C, A>,
+    share: Share<C, A>,
+) -> Result<Option<usize>, Stop> {
+    let (world, _) = closed(alloc, shared, share)?;
+    match world.account(0) {
+        Some(account) => Ok(Some(account.waiting())),
+        None => Ok(None),
+    }
+}
+
+fn try_held<C: Ledger, A: Ledger, R: Wait>(
+    rt: &R,
+    alloc: Global,
+    commits: Blank,
+    added: Blank,
+) -> Result<((Work, Work), Option<usize>), Stop>
+    requires commits { (commits.name ≡ C.name) × (commits.parts ≡ C.parts) × (commits.parts ≡ all_parts) }
+    requires added { (added.name ≡ A.name) × (added.parts ≡ A.parts) × (added.parts ≡ all_parts) }
+{
+    let (shared, share) = opened::<C, A>(alloc, two_agents(alloc)?, commits, added)?;
+    let worked = send_and_fail(rt, alloc, &shared)?;
+    Ok((worked, waiting_at_end(alloc, shared, share)?))
+}
+
+#[test]
+fn a_failed_agent_holds_its_queue(rt: HostRuntime) -> Result<(), Fail> {
+    let alloc = rt.alloc();
+    let (commits, added) = (Blank::new(ALL_PARTS), Blank::new(ALL_PARTS));
+    let held = try_held::<Brand, Brand, _>(&rt, alloc, commits, added)?;
+    let did = Ok(Worked::Did(0));
+    assert_eq!(rt; held, ((did, did), Some(1)));
+    Ok(())
+}
+
+// Then it is restarted with 10.
 fn try_failing<C: Ledger, A: Ledger, R: Wait>(
     rt: &R,
     alloc: Global,
@@ -88,11 +165,8 @@ fn try_failing<C: Ledger, A: Ledger, R: Wait>(
     requires commits { (commits.name ≡ C.name) × (commits.parts ≡ C.parts) × (commits.parts ≡ all_parts) }
     requires added { (added.name ≡ A.name) × (added.parts ≡ A.parts) × (added.parts ≡ all_parts) }
 {
-    let (shared, _share) = opened::<C, A>(alloc, two_agents(alloc)?, commits, added)?;
-    done(shared.send(rt, alloc, 0, action(alloc, PLUS, "1")?))?;
-    done(shared.send(rt, alloc, 0, action(alloc, MINUS, "5")?))?;
-    done(shared.send(rt, alloc, 0, action(alloc, PLUS, "2")?))?;
-    let worked = (work(rt, alloc, &shared), work(rt, alloc, &shared));
+    let (shared, share) = opened::<C, A>(alloc, two_agents(alloc)?, commits, added)?;
+    let worked = send_and_fail(rt, alloc, &shared)?;
     let error = shared.error_of(rt, 0);
     let now = int_at(rt, &shared, Who::Agent(0));
     let send = shared.send(rt, alloc, 0, action(alloc, PLUS, "3")?);
@@ -101,6 +175,8 @@ fn try_failing<C: Ledger, A: Ledger, R: Wait>(
     let restarted = shared.restart(rt, alloc, &CoreFunctions, 0, value(alloc, "10")?, clear);
     let error_then = shared.error_of(rt, 0);
     let worked_then = (work(rt, alloc, &shared), work(rt, alloc, &shared));
+    let value_then = int_at(rt, &shared, Who::Agent(0));
+    let waiting = waiting_at_end(alloc, shared, share)?;
     Ok(Failing {
         worked,
         error,
@@ -110,7 +186,8 @@ fn try_failing<C: Ledger, A: Ledger, R: Wait>(
         restarted,
         error_then,
         worked_then,
-        value_then: int_at(rt, &shared, Who::Agent(0)),
+        value_then,
+        waiting,
     })
 }
 
@@ -129,6 +206,7 @@ fn a_restarted_agent_takes_what_was_held(rt: HostRuntime) -> Result<(), Fail> {
         error_then: None,
         worked_then: (Ok(Worked::Did(0)), CLOSED),
         value_then: Some(12),
+        waiting: Some(0),
     };
     assert_eq!(rt; failing, wanted);
     Ok(())
@@ -149,6 +227,7 @@ fn an_agent_restarted_with_clear_takes_nothing(rt: HostRuntime) -> Result<(), Fa
         error_then: None,
         worked_then: (CLOSED, CLOSED),
         value_then: Some(10),
+        waiting: Some(0),
     };
     assert_eq!(rt; failing, wanted);
     Ok(())
@@ -177,6 +256,41 @@ fn an_action_without_its_function_waits_again(rt: HostRuntime) -> Result<(), Fai
     let lacking = try_lacking::<Brand, Brand, _>(&rt, alloc, commits, added)?;
     let no_such: Work = Err(WorkFault::NoSuchFun(999));
     assert_eq!(rt; lacking, (no_such, no_such, Some(0)));
+    Ok(())
+}
+
+fn try_told<C: Ledger, A: Ledger, R: Wait>(
+    rt: &R,
+    alloc: Global,
+    commits: Blank,
+    added: Blank,
+) -> Result<(Work, Vec<Told>), Stop>
+    requires commits { (commits.name ≡ C.name) × (commits.parts ≡ C.parts) × (commits.parts ≡ all_parts) }
+    requires added { (added.name ≡ A.name) × (added.parts ≡ A.parts) × (added.parts ≡ all_parts) }
+{
+    let (shared, _share) = opened::<C, A>(alloc, two_agents(alloc)?, commits, added)?;
+    let _ = done(shared.add_watch(rt, alloc, Who::Agent(1), value(alloc, ":k")?))?;
+    let _ = done(shared.add_watch(rt, alloc, Who::Agent(1), value(alloc, ":j")?))?;
+    done(shared.send(rt, alloc, 1, action(alloc, PLUS, "4")?))?;
+    let mut sink = Listener {
+        told: Vec::new(alloc),
+    };
+    let worked = shared.work_once(rt, alloc, &CoreFunctions, &mut Open, &mut sink);
+    Ok((worked, sink.told))
+}
+
+// In the order of adding.
+#[test]
+fn a_sink_is_told_what_an_action_changed(rt: HostRuntime) -> Result<(), Fail> {
+    let alloc = rt.alloc();
+    let (commits, added) = (Blank::new(ALL_PARTS), Blank::new(ALL_PARTS));
+    let (worked, told) = try_told::<Brand, Brand, _>(&rt, alloc, commits, added)?;
+    let wanted = vec![in alloc;
+        (Who::Agent(1), true, Some(0), Some(4)),
+        (Who::Agent(1), false, Some(0), Some(4)),
+    ]?;
+    assert_eq!(rt; worked, Ok(Worked::Did(1)));
+    assert_eq!(rt; told, wanted);
     Ok(())
 }
 

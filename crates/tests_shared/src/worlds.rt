@@ -7,7 +7,7 @@ use ref_agents::ErrorMode;
 use ref_edn::{Node, Value, read_all, read_one};
 use ref_fun::{Action, Args, Core, CoreFunctions, Rule};
 use ref_log::{Entry, Notice, Stamp, Who};
-use ref_shared::Shared;
+use ref_shared::{Shared, WatchSink};
 use ref_tx::Tx;
 use ref_world::{AgentStart, AtomStart, RefStart, Share, Start, Totals, World};
 use std::alloc::{AllocError, AllocFailed, Global};
@@ -178,6 +178,18 @@ pub(crate) fn all_told(alloc: Global, notices: &[Notice]) -> Result<Vec<Told>, A
         all.push(told_of(notice))?;
     }
     Ok(all)
+}
+
+/// A sink that keeps what it is told, up to where there is no memory.
+#[derive(Drop)]
+pub(crate) struct Listener {
+    pub(crate) told: Vec<Told>,
+}
+
+impl WatchSink for Listener {
+    fn told(&mut self, notice: &Notice) {
+        let _ = self.told.push(told_of(notice));
+    }
 }
 
 /// The stamp and the read point of each transaction of a log.

@@ -7,6 +7,7 @@
 //! |---|---|
 //! | `transactions`, `conflicts`, `rules`, `atoms`, `agents`, `makings` | the rows |
 //! | `shares` | shares of a world |
+//! | `versions` | what a transaction reads while others commit |
 //! | `limits`, `pieces`, `replay`, `drawn` | full stores and the last point, small types, logs by hand, drawn transactions |
 //! | `rows`, `calls`, `jobs` | what runs rows: the calls of transactions, refs and atoms, and those of agents |
 //! | `forms`, `words`, `tables` | reading what a row is written with, writing what is answered, tables of functions |
@@ -51,6 +52,8 @@ mod subjects;
 mod tables;
 #[cfg(test)]
 mod transactions;
+#[cfg(test)]
+mod versions;
 #[cfg(test)]
 mod whole;
 #[cfg(test)]

@@ -11,7 +11,7 @@ use ref_agents::{AgentStore, ErrorMode};
 use ref_atoms::AtomStore;
 use ref_edn::{Node, Value};
 use ref_fun::{Core, FunTable};
-use ref_log::MakeFault;
+use ref_log::{MakeFault, check_make};
 use ref_refs::RefStore;
 use std::alloc::{AllocError, Global};
 use std::test::Fail;
@@ -43,13 +43,54 @@ fn refs_of(alloc: Global, funs: &FunTable, count: u32) -> Result<Option<Unchange
 }
 
 #[test]
+fn a_store_takes_a_thousand_refs(rt: HostRuntime) -> Result<(), Fail> {
+    let alloc = rt.alloc();
+    let refs = refs_of(alloc, &FunTable::empty(alloc), 1024)?.ok_or("a ref wasn't made")?;
+    assert_eq!(rt; refs.store.len(), 1024);
+    assert_eq!(rt; refs.store.tally(), None);
+    Ok(())
+}
+
+// How many refs there are, whether one more would be a tally that can't be one, a point and a rule, and what is told. Each kind
+// asks this in the one place that is asked here: to make so many refs takes minutes, since each making is a version of its own.
+const COUNTS: &[(usize, bool, &str)] = &[
+    (0, false, "0 nil :ok"),
+    (1_048_575, false, "0 nil :ok"),
+    (1_048_576, false, "0 nil :full"),
+    (1_048_577, false, "0 nil :full"),
+    (1_048_576, false, "0 [<= 0] [:no-such-fun 102]"),
+    (1_048_576, false, "0 [>= 0] :full"),
+    (1_048_576, false, "4611686018427387905 nil :full"),
+    (1_048_575, true, "0 nil :bad-tally"),
+    (1_048_576, true, "0 nil :full"),
+];
+
+// Whether what is asked of one more tells what a row says.
+fn tells(
+    alloc: Global,
+    funs: &FunTable,
+    count: usize,
+    is_bad_tally: bool,
+    row: &str,
+) -> Result<bool, AllocError> {
+    let row = read(alloc, row)?;
+    let (at, rule) = (number_at(&row, 0), rule_at(alloc, &row, 1)?);
+    let start = form(alloc, "nil")?;
+    let told = match check_make::<Core, FunTable>(funs, count, is_bad_tally, at, &start, &rule) {
+        Ok(()) => form(alloc, ":ok")?,
+        Err(fault) => variant_form(alloc, &fault)?,
+    };
+    Ok(row.last() == Some(&told))
+}
+
+#[test]
 fn a_full_store_takes_no_ref(rt: HostRuntime) -> Result<(), Fail> {
     let alloc = rt.alloc();
-    let funs = FunTable::empty(alloc);
-    let mut refs = refs_of(alloc, &funs, 1 << 20)?.ok_or("a ref wasn't made")?;
-    assert_eq!(rt; refs.add(alloc, &funs), Err(MakeFault::Full));
-    assert_eq!(rt; refs.store.len(), 1048576);
-    assert_eq!(rt; refs.store.tally(), None);
+    let funs = table_of(alloc, &[], &[101])?;
+    for (count, is_bad_tally, row) in COUNTS {
+        let told = tells(alloc, &funs, *count, *is_bad_tally, row)?;
+        assert!(rt; told, "{count} {row}");
+    }
     Ok(())
 }
 

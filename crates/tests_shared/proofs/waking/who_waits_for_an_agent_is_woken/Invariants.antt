@@ -1,4 +1,4 @@
-use Rattle.tests_shared.proofs.side_by_side.who_waits_for_an_agent_is_woken.Given as goal
+use Rattle.tests_shared.proofs.waking.who_waits_for_an_agent_is_woken.Given as goal
 
 abbrev pub ghosts-try_waking-C-Ledger : goal.ghosts-try_waking-C-Ledger
 ghosts-try_waking-C-Ledger g a = record { name = a.commits.name; parts = a.commits.parts }
