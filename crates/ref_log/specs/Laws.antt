@@ -1,12 +1,13 @@
 -- Laws of the replay, for whoever adds to a log.
 use Rattle.std.specs.Prelude.{◌≡◌, ℕ, zero, suc, ◌+◌, ◌<◌, ◌==◌, ◌&&◌, ◌||◌, not, true, false, Bool, Result, Ok, Err, Option, None, Some, List, [], ◌∷◌, ◌++◌, length, slice_get, slice_index_or, slice_set, if◌then◌else◌, refl}
 use Rattle.std.proofs.Common.{◌∙◌, ap, sym, arith}
-use Rattle.std.specs.Ordering.{is_eq}
+use Rattle.std.specs.Ordering.{eq_by_cmp, is_eq}
 use Rattle.std.proofs.lemmas.Bool.{eqb-false, or_parts}
 use Rattle.std.proofs.lemmas.Cmp.{tied_itself}
 use Rattle.std.proofs.lemmas.List.{length-set}
 use Rattle.ref_edn.specs.Edn.{Edn}
-use Rattle.ref_edn.specs.OrderLaws.{edn_cmp_total}
+use Rattle.ref_edn.specs.Order.{edn_cmp}
+use Rattle.ref_edn.specs.OrderLaws.{edn_cmp_total, edn_eq}
 use Rattle.ref_fun.specs.declared.faults.Cause.{Cause}
 use Rattle.ref_fun.specs.Meaning.{Means}
 use Rattle.ref_log.specs.declared.faults.AuditFault.{AuditFault}
@@ -49,6 +50,10 @@ after_dones-Err means all point (d ∷ ds) fault = after_dones-Err means all poi
 pub replay_from-Err : (means : Means) (point : ℕ) (es : List Entry) (fault : AuditFault) → replay_from means point es (Err fault) ≡ Err fault
 replay_from-Err means point [] fault = refl
 replay_from-Err means point (e ∷ es) fault = replay_from-Err means (point + 1) es fault
+
+-- Values that are equal by their order are the same.
+pub same_value : (v w : Edn) → eq_by_cmp edn_cmp v w ≡ true → v ≡ w
+same_value v w same = (edn_eq v w true (sym same)).0 refl
 
 -- An operation that keeps what its function gave on the ref's value sets the ref to it.
 pub is_kept-itself : (d : Done) → is_kept d d.answer ≡ true

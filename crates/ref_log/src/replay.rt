@@ -167,9 +167,14 @@ fn apply_op<M: Meaning, F: Functions<M>>(
         Err(CallFault::Refused(_)) => return Err(AuditFault::Refuses(point)),
         Err(CallFault::Memory) => return Err(AuditFault::Memory),
     };
-    if !is_free && value != *answer {
+    if is_free {
+        values[at] = value;
+        return Ok(());
+    }
+    if value != *answer {
         return Err(AuditFault::Answer(point));
     }
-    values[at] = value;
+    // It goes on from the answer that is kept, so that what is made of it next shares its parts with the entries.
+    values[at] = answer.share()?;
     Ok(())
 }

@@ -158,6 +158,7 @@ impl<M: Meaning> RefStore<M> {
     /// Puts the refs after a prepared commit in the place of those before it. It can't fail.
     pub fn install(&mut self, at: u64, refs: Snapshot, dones: &[Done])
         requires new { 1 ≤ at }
+        requires limit { at ≤ 2 ^ 62 }
         requires last { are_unchanged_since self.old.lasts (at - 1) ≡ true }
         requires moved { (r : ℕ) → changed_at refs.lasts r ≡ changed_by self.old.lasts at dones.now r }
         requires all { length refs.lasts ≡ length self.old.lasts }
