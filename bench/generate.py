@@ -1,13 +1,15 @@
 #!/usr/bin/env python3
 """Writes the texts that the measurements read: generate.py FOLDER [--bytes N] [--members N] [SHAPE..]
 
-ints      a vector of small integers, mostly of 1 to 4 digits
-map       a map of distinct keywords of 8 bytes in random order, with small integers as values
-set       a set of distinct integers in random order
-row       a vector of the same integers in the same order
-maps      a vector of small nested maps with keywords and strings
-strings   a vector of strings, half of them with escapes
-remarks   a vector of small integers between comments and discards
+ints            a vector of small integers, mostly of 1 to 4 digits
+map             a map of distinct keywords of 8 bytes in random order, with small integers as values
+set             a set of distinct integers in random order
+row             a vector of the same integers in the same order
+maps            a vector of small nested maps with keywords and strings
+small-vectors   a vector of vectors, up to four levels deep, of up to four members each: small integers and further such vectors
+small-maps      a vector of maps, up to four levels deep, of up to three keywords each, with small integers and further such maps
+strings         a vector of strings, half of them with escapes
+remarks         a vector of small integers between comments and discards
 
 A map, a set and a row have --members members (200,000), and the others are --bytes long (16 MiB) or a few bytes less.
 Each shape is written as SHAPE.edn and, but for remarks, as the same data in SHAPE.json. The seeds are fixed, so that
@@ -22,6 +24,7 @@ ALL_MEMBERS = 200_000
 
 NAMES = ["ann", "bob", "carla", "dmitri", "eve", "françois", "grace", "henry the 8th"]
 TAGS = ["a", "b", "c/d", "left", "right", "app.core/on-load", "x?"]
+KEYS = "abcdefgh"
 WORDS = "the quick brown fox jumps over a lazy dog while nobody in town looks up".split()
 # What these mean is the same in EDN and in JSON.
 ESCAPES = ["\\n", '\\"', "\\\\", "\\t", "\\u00e9", "\\r", "é"]
@@ -63,6 +66,29 @@ def small_map(rand):
         edn.append(":live? " + ["true", "false", "nil"][live])
         json.append('"live?":' + ["true", "false", "null"][live])
     return "{" + ", ".join(edn) + "}", "{" + ",".join(json) + "}"
+
+
+def nested_or_small(rand, levels, nested):
+    """A further collection, where there are levels left, or an integer, in EDN and in JSON."""
+    if levels > 1 and rand.random() < 0.4:
+        return nested(rand, levels - 1)
+    text = str(rand.randrange(100))
+    return text, text
+
+
+def nested_vector(rand, levels=4):
+    """A vector of up to so many levels, in EDN and in JSON."""
+    items = [nested_or_small(rand, levels, nested_vector) for _ in range(rand.randrange(5))]
+    return "[" + " ".join(edn for edn, _ in items) + "]", "[" + ",".join(json for _, json in items) + "]"
+
+
+def nested_map(rand, levels=4):
+    """A map of up to so many levels, in EDN and in JSON."""
+    keys = rand.sample(KEYS, rand.randrange(4))
+    entries = [(key, *nested_or_small(rand, levels, nested_map)) for key in keys]
+    edn = ", ".join(f":{key} {value}" for key, value, _ in entries)
+    json = ",".join(f'"{key}":{value}' for key, _, value in entries)
+    return "{" + edn + "}", "{" + json + "}"
 
 
 def remark(rand):
@@ -116,6 +142,8 @@ SHAPES = {
     "set": lambda _, members: integer_set(members),
     "row": lambda _, members: integer_row(members),
     "maps": lambda size, _: vector(random.Random(5), small_map, size),
+    "small-vectors": lambda size, _: vector(random.Random(8), nested_vector, size),
+    "small-maps": lambda size, _: vector(random.Random(9), nested_map, size),
     "strings": lambda size, _: vector(random.Random(6), string, size),
     "remarks": lambda size, _: (vector(random.Random(7), remark, size)[0], None),
 }

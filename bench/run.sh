@@ -1,7 +1,8 @@
 #!/bin/sh
-# Measures how fast ref_edn reads and prints EDN, beside Clojure and jq where they are installed:
+# Measures how fast ref_edn reads and prints EDN, beside serde_json, Clojure and jq where they are installed, and beside an older
+# build of the same program where one is named:
 #
-#   bench/run.sh [--rounds N] [--seconds S] [--bytes N] [--members N] [SHAPE..]
+#   bench/run.sh [--against PROGRAM] [--quick] [--rounds N] [--seconds S] [--bytes N] [--members N] [SHAPE..]
 #
 # README.md beside this says what the figures mean. The program that is measured is no crate of the repository, so that
 # the gate needs no time for it: this copies ref_edn into a folder of its own, adds the program there, and has rt prove
@@ -31,12 +32,24 @@ cp "$here/edn_bench.rt.txt" "$tree/crates/edn_bench/src/main.rt"
 
 echo "building in $tree"
 program=$tree/crates/edn_bench/out/edn_bench
-rm -f "$program"
 # rt also runs what it has built, here on a text that any reader takes.
 if ! (cd "$tree/crates/edn_bench" && echo '[1 2 3]' | rt run > "$room/build.txt" 2>&1); then
   tail -20 "$room/build.txt" >&2
   echo "bench/run.sh: not built, or [1 2 3] was not read; all that rt said is in $room/build.txt" >&2
   exit 1
+fi
+# The same with serde_json, where cargo is there, and the crate in the registry of Debian's package librust-serde-json-dev, so
+# that nothing is fetched.
+registry=/usr/share/cargo/registry
+if command -v cargo >/dev/null && [ -n "$(find "$registry" -maxdepth 1 -name 'serde_json-*' 2>/dev/null)" ]; then
+  mkdir -p "$room/json/.cargo"
+  cp "$here/json/Cargo.toml" "$here/json/main.rs" "$room/json/"
+  printf '[source.crates-io]\nreplace-with = "debian"\n[source.debian]\ndirectory = "%s"\n' "$registry" > "$room/json/.cargo/config.toml"
+  if (cd "$room/json" && cargo build --release --offline --target-dir target > "$room/json.txt" 2>&1); then
+    set -- --json "$room/json/target/release/json_bench" "$@"
+  else
+    echo "bench/run.sh: the program with serde_json is not built; all that cargo said is in $room/json.txt" >&2
+  fi
 fi
 # Where refrun is built its `print` is measured beside jq too.
 refrun=$top/crates/refrun/out/refrun

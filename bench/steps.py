@@ -6,6 +6,7 @@ steps.sh calls this: steps.py REFRUN [--steps N] [--rounds N] [SHAPE..]. The sha
 sum       an integer, and `+` of 1 in each step
 vector    a vector, which gets one element more by `conj` in each step
 map       a map, which gets a new key by `assoc` in each step, the keys in random order from a fixed seed
+set       a set, which gets a new element by `conj` in each step, those keys in that order
 """
 import argparse
 import os
@@ -20,6 +21,7 @@ SHAPES = {
     "sum": ("0", lambda steps: ("+ 1" for _ in range(steps))),
     "vector": ("[]", lambda steps: (f"conj {i}" for i in range(steps))),
     "map": ("{}", lambda steps: (f"assoc {key} {i}" for i, key in enumerate(keys(steps)))),
+    "set": ("#{}", lambda steps: (f"conj {key}" for key in keys(steps))),
 }
 # A worker has no more.
 MOST_STEPS = 10_000
