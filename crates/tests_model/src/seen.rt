@@ -6,7 +6,8 @@ use ref_world::World;
 use std::alloc::{AllocError, Global};
 use std::sync::ledger::Ledger;
 use tests_plain::model::{Model, Reference};
-use tests_plain::shows::{Shows, is_base, is_lacking, is_log, is_rule, is_state, show};
+use tests_plain::shows;
+use tests_plain::shows::{Shows, is_base, is_lacking, is_log, is_rule, is_state};
 use tests_plain::tables::Table;
 
 // ---- References
@@ -65,7 +66,7 @@ fn are_accounts<C: Ledger, A: Ledger>(world: &World<Core, C, A>, model: &Model) 
 
 /// Whether all entries are the same.
 pub(crate) fn is_whole_log<C: Ledger, A: Ledger>(world: &World<Core, C, A>, model: &Model) -> bool {
-    show(world.log(), &model.log)
+    shows::is_whole_log(world.log(), &model.log)
 }
 
 /// Whether the replay of the log gives these values of refs and atoms, or lacks the first function that the table lacks.
