@@ -11,6 +11,8 @@ pub mod Outcomes
 pub mod Utf8
 pub mod Runs
 pub mod Tokens
+pub mod Tails
+pub mod Numerals
 pub mod Strings
 pub mod SortedLists
 pub mod SortKeys

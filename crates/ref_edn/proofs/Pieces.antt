@@ -14,6 +14,14 @@ module _ {T : Type 0} where
   pub append_assoc_named : (xs ys zs : List T) → xs ++ ys ++ zs ≡ xs ++ (ys ++ zs)
   append_assoc_named xs ys zs = append_assoc xs ys zs
 
+  pub cut_at : (n : ℕ) (xs : List T) → take n xs ++ drop n xs ≡ xs
+  cut_at n xs = take-append-drop n xs
+
+  pub alone_is : (xs : List T) (x : T) → length xs ≡ 1 → x ≡ get_or xs 0 x → xs ≡ x ∷ []
+  alone_is [] x h e = absurd (omega arith)
+  alone_is (y ∷ []) x h e = ap (λ z. z ∷ []) (sym e)
+  alone_is (y ∷ z ∷ xs) x h e = absurd (omega arith)
+
   pub insert_left : (xs ys : List T) (i : ℕ) (y : T) → i ≤ length xs → insert (xs ++ ys) i y ≡ insert xs i y ++ ys
   insert_left xs ys i y h = insert-append_left xs ys i y h
 

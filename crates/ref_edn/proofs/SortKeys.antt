@@ -1,14 +1,15 @@
 -- Of two values the one with the smaller sort key stands first.
 use Rattle.std.proofs.Common.{◌≡◌, ℕ, zero, suc, ◌+◌, ◌*◌, ◌-◌, ◌<◌, ◌≤◌, Bool, true, false, nat_lt, List, [], ◌∷◌, get_or, drop, Fits, w8, refl, sym, ap, ◌∙◌, arith}
 use Rattle.std.proofs.Math.Seq.{drop-nil}
-use Rattle.std.specs.Ordering.{nat_cmp, ordering_then, ordering_reverse}
+use Rattle.std.specs.Prelude.{ℤ, pos, negsuc}
+use Rattle.std.specs.Ordering.{nat_cmp, int_cmp, ordering_then, ordering_reverse}
 use Rattle.std.specs.declared.cmp.Ordering.TheVariants.{Less, Equal, Greater}
 use Rattle.std.specs.Cmp.Lexicographic.{slice_cmp}
 use Rattle.std.proofs.lemmas.Bool.Decides.{nat_tests}
 use Rattle.ref_edn.specs.Edn.{Edn, nil, boolean, int, string, keyword, symbol, vector, map, set}
 use Rattle.ref_edn.specs.Order.{rank, edn_cmp}
 use Rattle.ref_edn.specs.OrderLaws.{edn_cmp_total}
-use Rattle.ref_edn.specs.SortKeys.{AreBytes, spelled, text_of, sort_key}
+use Rattle.ref_edn.specs.SortKeys.{AreBytes, spelled, text_of, int_key, sort_key}
 
 less : (a b : ℕ) → a < b → nat_cmp a b ≡ Less
 less a b h = grind (arith, nat_tests)
@@ -78,12 +79,63 @@ by_kinds (map a) (map b) h = absurd (omega (arith, h))
 by_kinds (set a) (set b) h = absurd (omega (arith, h))
 by_kinds v w h = less (rank v) (rank w) h
 
-by_sort_keys : (v w : Edn) → AreBytes (text_of v) → AreBytes (text_of w) → sort_key v < sort_key w → edn_cmp v w ≡ Less
-by_sort_keys v w p q h = by (nat_lt (rank v) (rank w)) refl
+-- ---- integers
+
+ints_in_order : (a b : ℤ) → int_key a < int_key b → int_cmp a b ≡ Less
+ints_in_order (pos m) (pos n) h = let lower : m < n = omega (arith, h) in grind (arith, nat_tests)
+ints_in_order (pos m) (negsuc n) h = absurd (omega (arith, h))
+ints_in_order (negsuc m) (pos n) h = refl
+ints_in_order (negsuc m) (negsuc n) h = let lower : n < m = omega (arith, h) in grind (arith, nat_tests)
+
+least_of_ints : (a : ℤ) → 144115188075855872 ≤ int_key a
+least_of_ints (pos n) = omega arith
+least_of_ints (negsuc n) = omega arith
+
+most_of_ints : (a : ℤ) → int_key a < 216172782113783808
+most_of_ints (pos n) = omega arith
+most_of_ints (negsuc n) = omega arith
+
+-- a text only makes a number greater
+spelled_least : (k m n : ℕ) (bs : List ℕ) → m ≤ n → spelled k m [] ≤ spelled k n bs
+spelled_least zero m n bs h = h
+spelled_least (suc k) m n [] h = spelled_least k (m * 256) (n * 256) [] (omega (arith, h))
+spelled_least (suc k) m n (b ∷ bs) h = spelled_least k (m * 256) (n * 256 + b) bs (omega (arith, h))
+
+no_text_before : (n : ℕ) (s : List ℕ) (b : ℤ) → 3 ≤ n → spelled 7 n s < int_key b → ⊥
+no_text_before n s b l h =
+    let least : 216172782113783808 ≤ spelled 7 n s = spelled_least 7 3 n s l in
+    omega (arith, h, least, most_of_ints b)
+
+after_int : (a : ℤ) (w : Edn) → int_key a < sort_key w → edn_cmp (int a) w ≡ Less
+after_int a nil h = absurd (omega (arith, h))
+after_int a (boolean b) h = absurd (omega (arith, h, least_of_ints a))
+after_int a (int b) h = ints_in_order a b h
+after_int a w h = refl
+
+before_int : (v : Edn) (b : ℤ) → sort_key v < int_key b → edn_cmp v (int b) ≡ Less
+before_int nil b h = refl
+before_int (boolean a) b h = refl
+before_int (int a) b h = ints_in_order a b h
+before_int (string s) b h = absurd (no_text_before 3 s b (omega arith) h)
+before_int (keyword s) b h = absurd (no_text_before 4 s b (omega arith) h)
+before_int (symbol s) b h = absurd (no_text_before 5 s b (omega arith) h)
+before_int (vector xs) b h = absurd (omega (arith, h, most_of_ints b))
+before_int (map es) b h = absurd (omega (arith, h, most_of_ints b))
+before_int (set xs) b h = absurd (omega (arith, h, most_of_ints b))
+
+-- ---- all values
+
+others : (v w : Edn) → AreBytes (text_of v) → AreBytes (text_of w) → spelled 7 (rank v) (text_of v) < spelled 7 (rank w) (text_of w) → edn_cmp v w ≡ Less
+others v w p q h = by (nat_lt (rank v) (rank w)) refl
   where
     by : (r : Bool) → nat_lt (rank v) (rank w) ≡ r → edn_cmp v w ≡ Less
     by true t = by_kinds v w (below (rank v) (rank w) t)
     by false t = let e = first 7 (rank v) (rank w) (text_of v) (text_of w) p q (not_below (rank v) (rank w) t) h in by_texts v w e.0 e.1
+
+by_sort_keys : (v w : Edn) → AreBytes (text_of v) → AreBytes (text_of w) → sort_key v < sort_key w → edn_cmp v w ≡ Less
+by_sort_keys (int a) w p q h = after_int a w h
+by_sort_keys v (int b) p q h = before_int v b h
+by_sort_keys v w p q h = others v w p q h
 
 -- the numbers that a byte and i more spell are less than this
 abbrev pub room : ℕ → ℕ

@@ -1,15 +1,18 @@
 -- The turns of the reader's loops over blanks and over what stands inside collections.
-use Rattle.std.proofs.Common.{◌≡◌, ℕ, zero, suc, ◌<◌, ◌≤◌, Bool, true, false, cond, List, [], ◌∷◌, length, get_or, drop, Result, Ok, Err, refl, sym, ◌∙◌, arith, sub-one}
-use Rattle.std.specs.Prelude.{◌==◌, ⊤}
+use Rattle.std.proofs.Common.{◌≡◌, ℕ, zero, suc, ◌<◌, ◌≤◌, Bool, true, false, cond, List, [], ◌∷◌, length, get_or, take, drop, ◌-◌, Result, Ok, Err, refl, sym, ap, ◌∙◌, arith, sub-one}
+use Rattle.std.specs.Prelude.{◌==◌, ◌||◌, ⊤}
+use Rattle.std.proofs.lemmas.Bool.{or_parts}
 use Rattle.std.proofs.lemmas.Bool.Decides.{nat_tests}
 use Rattle.ref_edn.specs.declared.faults.Fault.{Fault}
 use Rattle.ref_edn.specs.declared.faults.Kind.TheVariants.{TooDeep}
 use Rattle.ref_edn.specs.declared.faults.ReadError.{ReadError}
 use Rattle.ref_edn.specs.declared.faults.ReadError.TheVariants as errors
 use Rattle.ref_edn.specs.Bytes.{is_space}
+use Rattle.ref_edn.specs.Fronts.{may_be_blank}
 use Rattle.ref_edn.specs.Grammar.{from_newline}
 use Rattle.ref_edn.specs.Faults.{◌>>=◌, Fails, fault}
 use Rattle.ref_edn.specs.ReadParts.{after_spaces, front_is_discard, discarded_at, vector_at, mapping_at, collection_at, single_at}
+use Rattle.ref_edn.proofs.Tails.{tail_is}
 use Rattle.ref_edn.specs.Reading.{is_discard, opens_set, skip_with, skip, read, read_with, vector_with, mapping_with, collection_with}
 
 nonzero : (n : ℕ) → (suc n == 0) ≡ false
@@ -105,6 +108,31 @@ passes room (b ∷ text) total (suc turns) enough same = by (is_space b) refl (�
 
 pub skips_start : (room : ℕ) (text : List ℕ) → Skips room (after_spaces text) (skip room text)
 skips_start room text = passes room text (skip room text) (length text) (omega arith) (sym (skip_is room text))
+
+-- where no blank begins, and behind one space
+no_discard : (b : ℕ) (text : List ℕ) → (b == 35) ≡ false → is_discard b text ≡ false
+no_discard b [] is = refl
+no_discard b (c ∷ text) is = rw is refl
+
+pub skips_none : (room : ℕ) (text : List ℕ) → may_be_blank text ≡ false → skip room text ≡ Ok text
+unfolding skip_with
+skips_none room [] none = skip_is room []
+skips_none room (b ∷ text) none =
+    let hash = or_parts (is_space b || b == 59) (b == 35) none in
+    let two = or_parts (is_space b) (b == 59) hash.0 in
+    skip_is room (b ∷ text) ∙ step room (length text) b text ∙ rw (two.0, two.1, no_discard b text hash.1) refl
+
+space_passed : (room : ℕ) (text : List ℕ) → skip room (32 ∷ text) ≡ skip room text
+space_passed room text = skip_is room (32 ∷ text) ∙ step room (length text) 32 text ∙ sym (skip_is room text)
+
+behind_space : (room : ℕ) (text : List ℕ) → 0 < length text → get_or text 0 0 ≡ 32 → may_be_blank (drop 1 text) ≡ false → skip room text ≡ Ok (drop 1 text)
+behind_space room [] some is none = absurd (omega arith)
+behind_space room (b ∷ text) some is none = ap (λ (c : ℕ). skip room (c ∷ text)) is ∙ space_passed room text ∙ skips_none room text none
+
+pub skips_space : (room : ℕ) (text : List ℕ) → 0 < length text → get_or text 0 0 ≡ 32 → may_be_blank (take (length text - 1) (drop 1 text)) ≡ false → skip room text ≡ Ok (take (length text - 1) (drop 1 text))
+skips_space room text some is none =
+    let tail = tail_is text some in
+    rw tail (behind_space room text some is (ap may_be_blank (sym tail) ∙ none))
 
 pub from_newline_shorter : (text : List ℕ) → length (from_newline text) ≤ length text
 from_newline_shorter [] = omega arith

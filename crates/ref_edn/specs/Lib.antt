@@ -1,6 +1,6 @@
 -- To be read and believed: Edn (values), Lawful, Names, Order, Collections, Bytes, Grammar, Printed, Faults, Streams, View, Texts.
 -- What the reader answers, fault by fault, is told in Reading, ReadTokens and ReadParts; Grammar doesn't depend on it.
--- OrderLaws are proved. The others are for private functions and proofs: Code, Most, Falls, SortKeys, Sorting, Marks, and, for the
+-- OrderLaws are proved. The others are for private functions and proofs: Code, Most, Falls, Fronts, SortKeys, Sorting, Marks, and, for the
 -- tree of members, Deepest, Members, Chunks, Trees, TreeCode, TreeFalls, Moves, Sides.
 pub mod Edn
 pub mod Code
@@ -17,6 +17,7 @@ pub mod Lawful
 pub mod Grammar
 pub mod Printed
 pub mod Faults
+pub mod Fronts
 pub mod ReadTokens
 pub mod Reading
 pub mod Streams

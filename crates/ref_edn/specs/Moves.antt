@@ -1,6 +1,5 @@
 -- Members on their way into a tree, as pairs.
-use Rattle.std.specs.Prelude.{◌≡◌, ℕ, List, take, drop}
-use Rattle.std.specs.Vec.Iter.{into_iter_items, into_iter_len}
+use Rattle.std.specs.Prelude.{◌≡◌, ℕ, List, length, take, drop}
 use Rattle.ref_edn.specs.Edn.{Edn}
 use Rattle.ref_edn.specs.Members.{twins}
 use Rattle.ref_edn.specs.declared.sequence.chunks.Member.{Member}
@@ -16,12 +15,12 @@ member_of (Two k x) = (k, x)
 
 -- what is left to take
 abbrev pub rest_of : Rest → List (Edn × Edn)
-rest_of (Values it) = twins (into_iter_items it)
-rest_of (Pairs it) = into_iter_items it
+rest_of (Values xs) = twins xs.items
+rest_of (Pairs es) = es.items
 
 abbrev pub rest_len : Rest → ℕ
-rest_len (Values it) = into_iter_len it
-rest_len (Pairs it) = into_iter_len it
+rest_len (Values xs) = length xs.items
+rest_len (Pairs es) = length es.items
 
 -- some members of a chunk, side by side
 abbrev pub run_of : Run → List (Edn × Edn)

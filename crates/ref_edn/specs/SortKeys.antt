@@ -1,7 +1,7 @@
--- A number that stands for most of a value in a sort: its kind, and the front of its text.
-use Rattle.std.specs.Prelude.{ℕ, zero, suc, ◌+◌, ◌*◌, ◌≤◌, List, [], ◌∷◌}
+-- A number that stands for most of a value in a sort: its kind, and an integer or the front of its text.
+use Rattle.std.specs.Prelude.{ℕ, zero, suc, ◌+◌, ◌-◌, ◌*◌, ◌≤◌, min, ℤ, pos, negsuc, List, [], ◌∷◌}
 use Rattle.std.specs.List.{AllByRecursion}
-use Rattle.ref_edn.specs.Edn.{Edn, string, keyword, symbol}
+use Rattle.ref_edn.specs.Edn.{Edn, int, string, keyword, symbol}
 use Rattle.ref_edn.specs.Order.{rank}
 
 -- what k bytes spell behind n, the greatest first, with 0 where there are no more
@@ -17,7 +17,14 @@ text_of (keyword s) = s
 text_of (symbol s) = s
 text_of v = []
 
+-- Behind the number of their kind there are 56 bits for integers, in order. Those that need more have the last number
+-- of their side, as have those that are the last with 56.
+abbrev pub int_key : ℤ → ℕ
+int_key (pos n) = 180143985094819840 + min n 36028797018963967
+int_key (negsuc n) = 180143985094819839 - min n 36028797018963967
+
 abbrev pub sort_key : Edn → ℕ
+sort_key (int n) = int_key n
 sort_key v = spelled 7 (rank v) (text_of v)
 
 abbrev pub AreBytes : List ℕ → Type 0

@@ -1,5 +1,6 @@
 //! What stands between elements: whitespace and comments; and what the bytes at the front of a text begin.
 ghost use Rattle.std.specs.Prelude.{◌≡◌, ◌≤◌, length, IsTrue};
+ghost use Rattle.ref_edn.specs.Fronts.{may_be_blank as front_may_be_blank};
 ghost use Rattle.ref_edn.specs.Grammar.{from_newline};
 ghost use Rattle.ref_edn.specs.ReadParts.{after_spaces as after_spaces_of, front_is_discard, front_opens_set};
 
@@ -27,6 +28,17 @@ pub(crate) fn line_end(text: &[u8]) -> &[u8]
     match memchr(b'\n', text) {
         Some(i) => after(text, i),
         None => after(text, text.len()),
+    }
+}
+
+// Whether a blank may begin here.
+#[inline(always)]
+pub(crate) fn may_be_blank(text: &[u8]) -> bool
+    ensures { result ≡ front_may_be_blank text.now }
+{
+    match text {
+        [] => false,
+        [b, ..] => is_space(*b) || *b == b';' || *b == b'#',
     }
 }
 

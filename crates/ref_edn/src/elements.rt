@@ -5,7 +5,7 @@
 //!
 //! The members of a map and a set are kept in the order of reading, each with its place, and sorted at the closing
 //! bracket or at a fault. Then equals stand side by side, so that the first one that is there already is known.
-ghost use Rattle.std.specs.Prelude.{◌≡◌, ◌<◌, ◌≤◌, [], length, IsTrue, IfOk};
+ghost use Rattle.std.specs.Prelude.{◌≡◌, ◌<◌, ◌≤◌, [], ◌∷◌, ◌++◌, length, IsTrue, IfOk, OnOk};
 ghost use Rattle.ref_edn.specs.Edn.{items_of, entries_of};
 ghost use Rattle.ref_edn.specs.Faults.{Gives};
 ghost use Rattle.ref_edn.specs.Marks.{Falls, elements_of, first_twice, keys_of, pairs_of};
@@ -14,7 +14,7 @@ ghost use Rattle.ref_edn.specs.Sorting.{inserts, inserts_entries};
 ghost use Rattle.ref_edn.specs.ReadParts.{single_at, discarded_at, vector_at, mapping_at, collection_at, items_at, set_at, map_at, next_at, value_at};
 ghost use Rattle.ref_edn.specs.Reading.{skip as skip_of, read as read_of};
 
-use crate::blanks::{after_spaces, is_discard, line_end, opens_set};
+use crate::blanks::{after_spaces, is_discard, line_end, may_be_blank, opens_set};
 use crate::bytes::{after, is_close, starts_token};
 use crate::data::{Node, Value};
 use crate::faults::{Kind, ReadError};
@@ -25,10 +25,11 @@ use crate::sort_keys::Keyed;
 use crate::string_reader::string;
 use crate::token_reader::token;
 use crate::vectors::Items;
-use std::alloc::Global;
+use std::alloc::{AllocError, Global};
 use std::cmp::Reverse;
 
 // The element at the front, where it is no collection.
+#[inline(always)]
 #[tactic(auto, unfolding(crate::specs::ReadParts::single_at))]
 fn single(alloc: Global, text: &[u8]) -> Result<(Value, &[u8]), ReadError>
     requires { 0 < length text.now }
@@ -49,9 +50,30 @@ fn single(alloc: Global, text: &[u8]) -> Result<(Value, &[u8]), ReadError>
     }
 }
 
-// What stands behind whitespace, comments and discards.
+// What stands behind whitespace, comments and discards. Most often there is none, or one space.
+#[inline(always)]
 #[cycle(read)]
+#[tactic(auto, using(crate::proofs::Turns::skips_none))]
 pub(crate) fn skip<'a>(alloc: Global, text: &'a [u8], room: u8) -> Result<&'a [u8], ReadError>
+    requires { room ≤ 64 }
+    ensures value { Gives (λ r. r.now) result (skip_of room text.now) }
+    ensures shorter { IfOk result (λ r. length r.now ≤ length text.now) }
+{
+    if !may_be_blank(text) {
+        return Ok(text);
+    }
+    if let [b' ', rest @ ..] = text {
+        if !may_be_blank(rest) {
+            return Ok(rest);
+        }
+    }
+    pass(alloc, text, room)
+}
+
+// The same, turn by turn.
+#[inline(never)]
+#[cycle(read)]
+fn pass<'a>(alloc: Global, text: &'a [u8], room: u8) -> Result<&'a [u8], ReadError>
     requires { room ≤ 64 }
     ensures value { Gives (λ r. r.now) result (skip_of room text.now) }
     ensures shorter { IfOk result (λ r. length r.now ≤ length text.now) }
@@ -172,6 +194,7 @@ fn collection<'a>(alloc: Global, text: &'a [u8], room: u8) -> Result<(Value, &'a
 
 // Where the next element of a collection begins, the element, and what is behind it. Where the closing bracket stands
 // there, it is that, nothing, and what is behind it.
+#[inline(always)]
 #[cycle(read)]
 #[tactic(auto, unfolding(crate::specs::ReadParts::next_at, crate::specs::ReadParts::next_step))]
 fn next<'a>(
@@ -214,6 +237,18 @@ fn value<'a>(alloc: Global, text: &'a [u8], room: u8) -> Result<(Value, &'a [u8]
     read(alloc, start, room)
 }
 
+// Puts an element behind those that were found. There is room for two at first, since most small collections have no more.
+#[inline(always)]
+fn keep(found: &mut Vec<Value>, item: Value) -> Result<(), AllocError>
+    ensures { OnOk result (found.new.items ≡ found.old.items ++ item ∷ []) }
+{
+    if found.is_empty() {
+        found.reserve_exact(2)?;
+    }
+    found.push(item)?;
+    Ok(())
+}
+
 // The elements up to what closes them.
 #[cycle(read)]
 fn items<'a>(
@@ -233,7 +268,7 @@ fn items<'a>(
         let Some(item) = item else {
             return Ok((found, behind));
         };
-        found.push(item)?;
+        keep(&mut found, item)?;
         rest = behind;
     }
 }

@@ -77,7 +77,7 @@ fn do_keys_ascend(pairs: &[(Value, Value)]) -> bool
 }
 
 impl Entries {
-    /// The entries that a `Vec` holds, in its order and in linear time; up to 32 of them aren't moved.
+    /// The entries that a `Vec` holds, in its order and in linear time; up to 32 of them aren't moved where the `Vec` has no room left.
     pub fn of(alloc: Global, pairs: Vec<(Value, Value)>) -> Result<Entries, AllocError>
         ensures { IfOk result (λ es. es ≡ pairs.items) }
     {

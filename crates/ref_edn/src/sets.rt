@@ -63,7 +63,7 @@ fn do_elements_ascend(values: &[Value]) -> bool
 }
 
 impl Elements {
-    /// The elements that a `Vec` holds, in its order and in linear time; up to 32 of them aren't moved.
+    /// The elements that a `Vec` holds, in its order and in linear time; up to 32 of them aren't moved where the `Vec` has no room left.
     #[tactic(auto, using(crate::proofs::Pairing::singles_twins, crate::proofs::Pairing::twins_are))]
     pub fn of(alloc: Global, values: Vec<Value>) -> Result<Elements, AllocError>
         ensures { IfOk result (λ xs. xs ≡ values.items) }

@@ -2,7 +2,7 @@
 ghost use Rattle.std.specs.Prelude.{◌≡◌, get_or};
 ghost use Rattle.ref_edn.specs.Edn.{Edn};
 ghost use Rattle.ref_edn.specs.Order.{edn_cmp, rank as rank_of};
-ghost use Rattle.ref_edn.specs.SortKeys.{AreBytes, spelled, text_of, sort_key};
+ghost use Rattle.ref_edn.specs.SortKeys.{AreBytes, spelled, text_of, int_key as int_key_of, sort_key};
 ghost use Rattle.ref_edn.specs.View.{edn};
 
 use crate::data::{Node, Value};
@@ -10,8 +10,9 @@ use crate::order::{compare, rank};
 use std::cmp::Ordering;
 use std::marker::Model;
 
-/// A value with its sort key: its kind and the first seven bytes of its text as one number. Most texts differ there, so
-/// that a sort seldom looks at the texts, which lie elsewhere in memory. Contracts see the value.
+/// A value with its sort key: its kind and an integer, or the first seven bytes of its text, as one number. Most integers
+/// and texts differ there, so that a sort seldom looks at the values, and at texts, which lie elsewhere in memory.
+/// Contracts see the value.
 #[derive(Drop)]
 pub(crate) struct Keyed {
     key: u64,
@@ -65,11 +66,32 @@ fn key_of(node: &Node) -> u64
     ensures bytes { AreBytes (text_of (edn node.now)) }
 {
     match node {
+        Node::Int(n) => int_key(*n),
         Node::Str(text) | Node::Keyword(text) | Node::Symbol(text) => spell(
             rank(node),
             text.as_bytes(),
         ),
-        _ => spell(rank(node), &[]),
+        Node::Nil | Node::Bool(_) | Node::Vector(_) | Node::Map(_) | Node::Set(_) => spell(
+            rank(node),
+            &[],
+        ),
+    }
+}
+
+// The number of 0 among the numbers of values.
+const ZERO: u64 = 180_143_985_094_819_840;
+
+// How far from 0 integers have numbers of their own.
+const FARTHEST: u64 = 36_028_797_018_963_967;
+
+// The kind of integers as the first of eight bytes, and behind it the integer, as far as seven bytes hold it.
+fn int_key(n: i64) -> u64
+    ensures { result ≡ int_key_of n }
+{
+    if n < 0 {
+        ZERO - 1 - (n.unsigned_abs() - 1).min(FARTHEST)
+    } else {
+        ZERO + n.unsigned_abs().min(FARTHEST)
     }
 }
 

@@ -1,12 +1,16 @@
 //! Tokens: integers, keywords, symbols, and the words `nil`, `true` and `false`.
-ghost use Rattle.std.specs.Prelude.{◌≡◌, ◌<◌, ◌≤◌, ◌^◌, length, drop, IfOk, IfSome, IfNone, IsTrue, IsUtf8};
+ghost use Rattle.std.specs.Prelude.{◌≡◌, ◌<◌, ◌≤◌, ◌^◌, length, drop, Ok, pos, FitsSigned, IfOk, IfSome, IfNone, IsTrue, IsUtf8};
+ghost use Rattle.std.specs.Int.{w64};
+ghost use Rattle.std.proofs.Math.IntN.{neg_ℤ};
 ghost use Rattle.std.specs.Option.{SomeIff};
-ghost use Rattle.ref_edn.specs.Edn.{nesting};
+ghost use Rattle.ref_edn.specs.Edn.{int, nesting};
 ghost use Rattle.ref_edn.specs.Bytes.{all_digits, is_numeral as is_numeral_text, is_integer as is_integer_text, digits_value, integer_value};
 ghost use Rattle.ref_edn.specs.Faults.{Gives};
+ghost use Rattle.ref_edn.specs.Fronts.{front_value, StandsFirst};
+ghost use Rattle.ref_edn.specs.Grammar.{Ends};
 ghost use Rattle.ref_edn.specs.ReadTokens.{starts_number as starts_number_text, after_digits as after_digits_text, after_numeral as after_numeral_text, after_integer as after_integer_text, marks_left_out as marks_left_out_text, fits_i64, number_value, keyword_value, word_value, token_value as value_of_token, token_at};
 
-use crate::bytes::{after, is_digit, token_end};
+use crate::bytes::{after, is_delimiter, is_digit, token_end};
 use crate::data::{Node, Value};
 use crate::faults::{Kind, ReadError};
 use crate::names::{is_keyword, is_same, is_symbol};
@@ -62,6 +66,108 @@ fn integer(word: &[u8]) -> Option<i64>
         [b'-', digits @ ..] => 0i64.checked_sub_unsigned(magnitude(digits)?),
         [b'+', digits @ ..] => 0i64.checked_add_unsigned(magnitude(digits)?),
         _ => 0i64.checked_add_unsigned(magnitude(word)?),
+    }
+}
+
+// The greatest number that has room for one more digit in 64 bits with a sign.
+const MOST_BEFORE_A_DIGIT: u64 = 922_337_203_685_477_579;
+
+// The number that the digits at the front write, and what follows them; none where they may take too many bits.
+#[tactic(auto, using(crate::proofs::Runs::after_digits_at, crate::proofs::Runs::after_digits_all, crate::proofs::Numerals::front_value_at, crate::proofs::Numerals::front_value_all))]
+fn front_number(text: &[u8]) -> Option<(u64, &[u8])>
+    ensures number { IfSome result (λ r. r.0 ≡ front_value 0 text.now) }
+    ensures rest { IfSome result (λ r. r.1.now ≡ after_digits_text text.now) }
+{
+    let mut n: u64 = 0;
+    for (i, b) in text.iter().enumerate() {
+        if !is_digit(*b) {
+            return Some((n, after(text, i)));
+        }
+        if n > MOST_BEFORE_A_DIGIT {
+            return None;
+        }
+        n = n * 10 + u64::from(*b - b'0');
+    }
+    Some((n, after(text, text.len())))
+}
+
+fn ends_token(rest: &[u8]) -> bool
+    ensures { IsTrue result → Ends rest.now }
+{
+    match rest {
+        [] => true,
+        [b, ..] => is_delimiter(*b),
+    }
+}
+
+// The number of a numeral at the front that ends its token, and what follows it. It looks at each byte once, and leaves
+// what isn't told by that to others.
+#[inline(always)]
+#[tactic(auto, using(crate::proofs::Numerals::numeral_0, crate::proofs::Numerals::numeral_front, crate::proofs::Numerals::first_shorter))]
+fn front_numeral(text: &[u8]) -> Option<(u64, &[u8])>
+    ensures value { IfSome result (λ r. StandsFirst r.0 text.now r.1.now) }
+    ensures shorter { IfSome result (λ r. length r.1.now < length text.now) }
+{
+    match text {
+        [] => None,
+        [b'0', rest @ ..] => {
+            if ends_token(rest) {
+                Some((0, rest))
+            } else {
+                None
+            }
+        }
+        [b, ..] => {
+            if !is_digit(*b) {
+                return None;
+            }
+            let (n, rest) = front_number(text)?;
+            if ends_token(rest) {
+                Some((n, rest))
+            } else {
+                None
+            }
+        }
+    }
+}
+
+fn positive(n: u64) -> Option<i64>
+    ensures value { IfSome result (λ z. z ≡ pos n) }
+    ensures fits { IfSome result (λ z. FitsSigned w64 z) }
+{
+    0i64.checked_add_unsigned(n)
+}
+
+fn negative(n: u64) -> Option<i64>
+    ensures value { IfSome result (λ z. z ≡ neg_ℤ (pos n)) }
+    ensures fits { IfSome result (λ z. FitsSigned w64 z) }
+{
+    0i64.checked_sub_unsigned(n)
+}
+
+// The integer at the front, and what follows it, where one look at each byte tells: most integers are such.
+#[tactic(auto, using(crate::proofs::Numerals::unsigned_at, crate::proofs::Numerals::plus_at, crate::proofs::Numerals::minus_at))]
+fn front_integer(text: &[u8]) -> Option<(i64, &[u8])>
+    ensures value { IfSome result (λ r. token_at text.now ≡ Ok (int r.0, r.1.now)) }
+    ensures fits { IfSome result (λ r. FitsSigned w64 r.0) }
+    ensures shorter { IfSome result (λ r. length r.1.now < length text.now) }
+{
+    match text {
+        [b'-', digits @ ..] => {
+            let (n, rest) = front_numeral(digits)?;
+            let z = negative(n)?;
+            Some((z, rest))
+        }
+        [b'+', digits @ ..] => {
+            let (n, rest) = front_numeral(digits)?;
+            let z = positive(n)?;
+            Some((z, rest))
+        }
+        _ => {
+            let (n, rest) = front_numeral(text)?;
+            let z = positive(n)?;
+            Some((z, rest))
+        }
     }
 }
 
@@ -189,6 +295,9 @@ pub(crate) fn token(alloc: Global, text: &[u8]) -> Result<(Value, &[u8]), ReadEr
     ensures shorter { IfOk result (λ r. length r.1.now < length text.now) }
     ensures depth { IfOk result (λ r. nesting r.0 ≡ 0) }
 {
+    if let Some((n, rest)) = front_integer(text) {
+        return Ok((Value::of_lawful(Node::Int(n)), rest));
+    }
     let (word, rest) = text.split_at(token_end(text));
     match token_value(alloc, word)? {
         Ok(value) => Ok((value, rest)),

@@ -63,7 +63,7 @@ pub(crate) fn deepest_of(values: &[Value]) -> u8
 }
 
 impl Items {
-    /// The elements that a `Vec` holds, in linear time; up to 32 of them aren't moved.
+    /// The elements that a `Vec` holds, in linear time; up to 32 of them aren't moved where the `Vec` has no room left.
     #[tactic(auto, using(crate::proofs::Pairing::singles_twins, crate::proofs::Pairing::twins_are))]
     pub fn of(alloc: Global, values: Vec<Value>) -> Result<Items, AllocError>
         ensures { IfOk result (λ xs. xs ≡ values.items) }

@@ -220,7 +220,7 @@ impl Tree {
         };
         match limb {
             Limb::Leaf(deepest, _, chunk) => {
-                remove_in(deepest, chunk, i);
+                remove_in(deepest, chunk, i)?;
             }
             Limb::Fork(deepest, _, height, len, left, right) => {
                 // The type says that it fits.

@@ -1,6 +1,5 @@
 //! Chunks: a few members side by side, either values or pairs of a key and its value.
 ghost use Rattle.std.specs.Prelude.{◌≡◌, ◌+◌, ◌-◌, ◌<◌, ◌≤◌, List, [], ◌∷◌, ◌++◌, length, insert, remove, slice_set, slice_index_or, take, drop, IsTrue, IfOk, IfErr, IfSome, OnOk, OnErr};
-ghost use Rattle.std.specs.Vec.Iter.{into_iter_items, into_iter_len};
 ghost use Rattle.ref_edn.specs.Edn.{Edn, entries_of};
 ghost use Rattle.ref_edn.specs.Chunks.{members_of};
 ghost use Rattle.ref_edn.specs.Collections.{IsFoundAt, IsGapAt};
@@ -18,17 +17,19 @@ use crate::maps::deepest_of as deepest_pair_of;
 use crate::order::compare;
 use crate::vectors::deepest_of as deepest_value_of;
 use std::alloc::{AllocError, Global};
-use std::vec::IntoIter;
+use std::slice::from_ref;
 
 /// How many members a chunk has room for. No contract names it: another width makes the same lists.
 pub(crate) const WIDTH: usize = 32;
 
-/// Members side by side. A tree has chunks of one kind alone.
+/// Members side by side. A tree has chunks of one kind alone, but that the only value of a tree may be a chunk without a
+/// block of its own. Such a chunk isn't changed: its copy can be.
 #[cycle(value)]
 #[derive(Drop)]
 pub(crate) enum Chunk {
     Values(Vec<Value>),
     Pairs(Vec<(Value, Value)>),
+    One(Value),
 }
 
 /// A member on its way into a chunk of its kind.
@@ -38,11 +39,11 @@ pub(crate) enum Member {
     Two(Value, Value),
 }
 
-/// Members that are moved into chunks.
+/// Members that are moved into chunks, the last ones first.
 #[derive(Drop)]
 pub(crate) enum Rest {
-    Values(IntoIter<Value>),
-    Pairs(IntoIter<(Value, Value)>),
+    Values(Vec<Value>),
+    Pairs(Vec<(Value, Value)>),
 }
 
 /// Some members of a chunk, side by side.
@@ -60,6 +61,7 @@ impl Chunk {
         match self {
             Chunk::Values(values) => values.len(),
             Chunk::Pairs(pairs) => pairs.len(),
+            Chunk::One(_) => 1,
         }
     }
 
@@ -71,6 +73,7 @@ impl Chunk {
         match self {
             Chunk::Values(values) => deepest_value_of(values),
             Chunk::Pairs(pairs) => deepest_pair_of(pairs),
+            Chunk::One(x) => deepest_value_of(from_ref(x)),
         }
     }
 
@@ -88,6 +91,7 @@ impl Chunk {
                 let (key, x) = &pairs[i];
                 (key, x)
             }
+            Chunk::One(x) => (x, x),
         }
     }
 
@@ -100,6 +104,7 @@ impl Chunk {
         match self {
             Chunk::Values(values) => Run::Values(&values[i..]),
             Chunk::Pairs(pairs) => Run::Pairs(&pairs[i..]),
+            Chunk::One(x) => Run::Values(&from_ref(x)[i..]),
         }
     }
 
@@ -117,6 +122,7 @@ impl Chunk {
         Ok(match self {
             Chunk::Values(values) => Chunk::Values(shared_values(alloc, &values[..n], capacity)?),
             Chunk::Pairs(pairs) => Chunk::Pairs(shared_pairs(alloc, &pairs[..n], capacity)?),
+            Chunk::One(x) => Chunk::Values(shared_values(alloc, &from_ref(x)[..n], capacity)?),
         })
     }
 
@@ -129,6 +135,7 @@ impl Chunk {
         Ok(match self {
             Chunk::Values(values) => Chunk::Values(shared_values(alloc, &values[n..], capacity)?),
             Chunk::Pairs(pairs) => Chunk::Pairs(shared_pairs(alloc, &pairs[n..], capacity)?),
+            Chunk::One(x) => Chunk::Values(shared_values(alloc, &from_ref(x)[n..], capacity)?),
         })
     }
 
@@ -143,10 +150,11 @@ impl Chunk {
             Chunk::Pairs(pairs) => {
                 Chunk::Pairs(shared_pairs(alloc, pairs, pairs.len().saturating_add(1))?)
             }
+            Chunk::One(x) => Chunk::Values(shared_values(alloc, from_ref(x), 2)?),
         })
     }
 
-    /// The members of both, shared.
+    /// The members of both, shared. One that is alone in its tree stands beside no other.
     #[tactic(auto, using(crate::proofs::Pairing::twins_append))]
     pub(crate) fn joined(alloc: Global, a: &Chunk, b: &Chunk) -> Result<Chunk, AllocError>
         ensures { IfOk result (λ c. members_of c ≡ members_of a.now ++ members_of b.now) }
@@ -168,6 +176,7 @@ impl Chunk {
                 share_pairs(others, &mut all)?;
                 Ok(Chunk::Pairs(all))
             }
+            Chunk::One(_) => Err(AllocError),
         }
     }
 }
@@ -198,6 +207,7 @@ pub(crate) fn insert_in(
             };
             insert_pair(deepest, pairs, i, (key, x))
         }
+        Chunk::One(_) => Err(AllocError),
     }
 }
 
@@ -217,7 +227,7 @@ pub(crate) fn replace_in(
     ensures deepest { IsDeepestEntry deepest.new (members_of chunk.new) }
 {
     match chunk {
-        Chunk::Values(_) => Err(AllocError),
+        Chunk::Values(_) | Chunk::One(_) => Err(AllocError),
         Chunk::Pairs(pairs) => {
             replace_pair(deepest, pairs, i, (key, x));
             Ok(())
@@ -226,51 +236,65 @@ pub(crate) fn replace_in(
 }
 
 /// Takes the member at a place out.
-pub(crate) fn remove_in(deepest: &mut u8, chunk: &mut Chunk, i: usize)
+pub(crate) fn remove_in(deepest: &mut u8, chunk: &mut Chunk, i: usize) -> Result<(), AllocError>
     requires in_range { i < length (members_of chunk.old) }
     requires deepest { IsDeepestEntry deepest.old (members_of chunk.old) }
-    ensures members { members_of chunk.new ≡ remove (members_of chunk.old) i }
+    ensures ok { OnOk result (members_of chunk.new ≡ remove (members_of chunk.old) i) }
+    ensures err { OnErr result (members_of chunk.new ≡ members_of chunk.old) }
     ensures deepest { IsDeepestEntry deepest.new (members_of chunk.new) }
 {
     match chunk {
-        Chunk::Values(values) => remove_value(deepest, values, i),
-        Chunk::Pairs(pairs) => remove_pair(deepest, pairs, i),
+        Chunk::Values(values) => {
+            remove_value(deepest, values, i);
+            Ok(())
+        }
+        Chunk::Pairs(pairs) => {
+            remove_pair(deepest, pairs, i);
+            Ok(())
+        }
+        Chunk::One(_) => Err(AllocError),
     }
 }
 
-// The first items that an iterator gives, in a `Vec` with no more room.
-fn first_of<T: Drop>(alloc: Global, rest: &mut IntoIter<T>, n: usize) -> Result<Vec<T>, AllocError>
-    requires { n ≤ into_iter_len rest.old }
-    ensures items { IfOk result (λ v. into_iter_items rest.old ≡ v.items ++ into_iter_items rest.new) }
-    ensures len { OnOk result (into_iter_len rest.new + n ≡ into_iter_len rest.old) }
+// The last items of a `Vec`, in one with no more room.
+#[tactic(auto, using(crate::proofs::Pieces::cut_at, crate::proofs::Pieces::length_taken))]
+fn last_of<T: Drop>(items: &mut Vec<T>, n: usize) -> Result<Vec<T>, AllocError>
+    requires { n ≤ length items.old.items }
+    ensures items { IfOk result (λ v. items.old.items ≡ items.new.items ++ v.items) }
+    ensures len { OnOk result (length items.new.items + n ≡ length items.old.items) }
 {
-    let mut items = Vec::with_capacity(alloc, n)?;
-    for i in 0..n {
-        let Some(x) = rest.next() else {
-            return Err(AllocError);
-        };
-        items.push(x)?;
-    }
-    Ok(items)
+    let at = items.len() - n;
+    items.split_off(at)
 }
 
 impl Rest {
-    /// The next members, as a chunk with no more room.
+    /// The last members, as a chunk with no more room.
     #[tactic(auto, using(crate::proofs::Pairing::twins_append))]
-    pub(crate) fn chunk(&mut self, alloc: Global, n: usize) -> Result<Chunk, AllocError>
+    pub(crate) fn chunk(&mut self, n: usize) -> Result<Chunk, AllocError>
         requires { n ≤ rest_len self.old }
-        ensures members { IfOk result (λ c. rest_of self.old ≡ members_of c ++ rest_of self.new) }
+        ensures members { IfOk result (λ c. rest_of self.old ≡ rest_of self.new ++ members_of c) }
         ensures len { OnOk result (rest_len self.new + n ≡ rest_len self.old) }
     {
         match self {
             Rest::Values(values) => {
-                let values = first_of(alloc, values, n)?;
+                let values = last_of(values, n)?;
                 Ok(Chunk::Values(values))
             }
             Rest::Pairs(pairs) => {
-                let pairs = first_of(alloc, pairs, n)?;
+                let pairs = last_of(pairs, n)?;
                 Ok(Chunk::Pairs(pairs))
             }
+        }
+    }
+
+    /// Gives back the room that is left behind the members.
+    pub(crate) fn trim(&mut self)
+        ensures members { rest_of self.new ≡ rest_of self.old }
+        ensures len { rest_len self.new ≡ rest_len self.old }
+    {
+        match self {
+            Rest::Values(values) => values.shrink_to_fit(),
+            Rest::Pairs(pairs) => pairs.shrink_to_fit(),
         }
     }
 }

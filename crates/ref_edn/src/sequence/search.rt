@@ -11,6 +11,7 @@ use crate::order::compare;
 use crate::sequence::chunks::Chunk;
 use crate::sequence::trees::{Limb, Tree};
 use std::cmp::Ordering;
+use std::slice::from_ref;
 
 // By halves of a chunk of values.
 fn search_values(values: &[Value], key: &Value) -> Result<usize, usize>
@@ -39,6 +40,7 @@ fn search_in(chunk: &Chunk, key: &Value) -> Result<usize, usize>
     match chunk {
         Chunk::Values(values) => search_values(values, key),
         Chunk::Pairs(pairs) => search_pairs(pairs, key),
+        Chunk::One(x) => search_values(from_ref(x), key),
     }
 }
 

@@ -81,28 +81,59 @@ pub(super) fn fork(alloc: Global, left: Tree, right: Tree) -> Result<Tree, Alloc
     })
 }
 
-// The next members, as a tree whose chunks are full, but for the last.
+// The same items without room for more. They move into a block of just their size, and the other one is let go whole, so
+// that the next collection can be read into it; cut to size, it would leave a piece that is of use to nobody.
+fn fitted<T: Drop>(items: Vec<T>) -> Result<Vec<T>, AllocError>
+    ensures { IfOk result (λ v. v.items ≡ items.items) }
+{
+    if items.capacity() == items.len() {
+        return Ok(items);
+    }
+    let mut items = items;
+    items.split_off(0)
+}
+
+// Up to a chunk's width of values, as a chunk without room for more.
+#[tactic(auto, using(crate::proofs::Pieces::alone_is))]
+fn value_chunk(values: Vec<Value>) -> Result<Chunk, AllocError>
+    ensures { IfOk result (λ c. members_of c ≡ twins values.items) }
+{
+    if values.len() != 1 {
+        return Ok(Chunk::Values(fitted(values)?));
+    }
+    let mut values = values;
+    Ok(Chunk::One(values.remove(0)))
+}
+
+// Where so many members are cut into chunks, what has become chunks is given back on the way, so that they don't take their
+// room twice.
+const MANY: usize = 65_536;
+
+// The last members, as a tree whose chunks are full, but for the last.
 #[tactic(auto, using(crate::proofs::Pieces::append_assoc_named))]
 fn built(alloc: Global, mark: bool, rest: &mut Rest, n: usize) -> Result<Tree, AllocError>
     requires { n ≤ rest_len rest.old }
-    ensures members { IfOk result (λ t. rest_of rest.old ≡ t.0 ++ rest_of rest.new) }
+    ensures members { IfOk result (λ t. rest_of rest.old ≡ rest_of rest.new ++ t.0) }
     ensures mark { IfOk result (λ t. t.2 ≡ mark) }
     ensures len { OnOk result (rest_len rest.new + n ≡ rest_len rest.old) }
 {
     if n <= WIDTH {
-        let chunk = rest.chunk(alloc, n)?;
+        let chunk = rest.chunk(n)?;
         return leaf(alloc, mark, chunk);
     }
     let chunks = n / WIDTH;
     let first = ((chunks + 1) / 2) * WIDTH;
-    let left = built(alloc, mark, rest, first)?;
     let right = built(alloc, mark, rest, n - first)?;
+    if n > MANY {
+        rest.trim();
+    }
+    let left = built(alloc, mark, rest, first)?;
     fork(alloc, left, right)
 }
 
 impl Tree {
-    /// The values of a `Vec`, each with itself. Up to a chunk's width the `Vec` itself is the chunk, without the room
-    /// that it has left.
+    /// The values of a `Vec`, each with itself. Up to a chunk's width the `Vec` itself is the chunk where it has no room
+    /// left.
     pub(crate) fn of_values(
         alloc: Global,
         mark: bool,
@@ -113,11 +144,10 @@ impl Tree {
     {
         let n = values.len();
         if n <= WIDTH {
-            let mut values = values;
-            values.shrink_to_fit();
-            return leaf(alloc, mark, Chunk::Values(values));
+            let chunk = value_chunk(values)?;
+            return leaf(alloc, mark, chunk);
         }
-        let mut rest = Rest::Values(values.into_iter());
+        let mut rest = Rest::Values(values);
         built(alloc, mark, &mut rest, n)
     }
 
@@ -132,11 +162,9 @@ impl Tree {
     {
         let n = pairs.len();
         if n <= WIDTH {
-            let mut pairs = pairs;
-            pairs.shrink_to_fit();
-            return leaf(alloc, mark, Chunk::Pairs(pairs));
+            return leaf(alloc, mark, Chunk::Pairs(fitted(pairs)?));
         }
-        let mut rest = Rest::Pairs(pairs.into_iter());
+        let mut rest = Rest::Pairs(pairs);
         built(alloc, mark, &mut rest, n)
     }
 
@@ -246,12 +274,22 @@ impl Tree {
         })
     }
 
-    // Where the node has other owners, copies it.
+    // Whether it is a value without a block of its own.
+    fn is_one(&self) -> bool {
+        match &*self.limb {
+            Limb::Leaf(_, _, Chunk::One(_)) => true,
+            _ => false,
+        }
+    }
+
+    // Copies the node where it has other owners, or is a chunk that isn't changed.
     pub(super) fn unshare(&mut self, alloc: Global) -> Result<(), AllocError>
         ensures { self.new ≡ self.old }
     {
-        if let Some(_) = Arc::get_mut(&mut self.limb) {
-            return Ok(());
+        if !self.is_one() {
+            if let Some(_) = Arc::get_mut(&mut self.limb) {
+                return Ok(());
+            }
         }
         *self = self.copied(alloc)?;
         Ok(())

@@ -1,30 +1,38 @@
-use Rattle.std.proofs.Common.{◌≡◌, ◌<◌, ◌-◌, true, false, sym, ◌∙◌, arith, length, get_or}
+use Rattle.std.proofs.Common.{◌≡◌, ◌<◌, ◌-◌, true, false, sym, ◌∙◌, arith, length, get_or, take, drop}
 use Rattle.std.specs.Prelude.{◌==◌}
 use Rattle.std.proofs.lemmas.Result.{err_from_is_err_and}
 use Rattle.std.proofs.lemmas.Bool.Decides.{nat_tests}
 use Rattle.ref_edn.specs.Edn.{items_of, entries_of}
 use Rattle.ref_edn.specs.Lawful.{AreLawful, AreLawfulEntries}
+use Rattle.ref_edn.specs.Fronts.{may_be_blank}
 use Rattle.ref_edn.specs.ReadParts.{items_at, set_at, map_at, front_is_discard}
 use Rattle.ref_edn.specs.Reading.{skip}
-use Rattle.ref_edn.proofs.Turns.{skips_start, skips_comment, skips_discard, skips_fails, skips_end, skips_stop, comment_shorter, single_is}
+use Rattle.ref_edn.proofs.Turns.{skips_space, skips_start, skips_comment, skips_discard, skips_fails, skips_end, skips_stop, comment_shorter, single_is}
 use Rattle.ref_edn.proofs.Loops.{items_start, items_fails, items_closed, items_more}
 use Rattle.ref_edn.proofs.Marked.{marks_set_start, marks_set_more, set_stopped, set_ended, set_in_order, marks_map_start, marks_map_more, marks_map_last, map_stopped, map_ended, map_in_order}
 use Rattle.ref_edn.proofs.ReadLawful.{vector_lawful, set_lawful, map_lawful}
 use Rattle.ref_edn.proofs.elements.+read.Goals as goal
 
-pub skip-loop-alloc-init : goal.skip-loop-alloc-init
-skip-loop-alloc-init t c = record { reads = rw c.after_spaces-rest.ensures.value (skips_start c.args.room c.args.text.now); shorter = omega arith }
+pub skip-returns-then-not-may_be_blank-2-clause-value : goal.skip-returns-then-not-may_be_blank-2-clause-value
+skip-returns-then-not-may_be_blank-2-clause-value t c =
+    let some : 0 < length c.args.text.now = omega arith in
+    let is : get_or c.args.text.now 0 0 ≡ 32 = omega arith in
+    let none : may_be_blank (take (length c.args.text.now - 1) (drop 1 c.args.text.now)) ≡ false = cc in
+    skips_space c.args.room c.args.text.now some is none
 
-pub skip-loop-alloc-smaller-then-rest-eq59 : goal.skip-loop-alloc-smaller-then-rest-eq59
-skip-loop-alloc-smaller-then-rest-eq59 t c =
+pub pass-loop-alloc-init : goal.pass-loop-alloc-init
+pass-loop-alloc-init t c = record { reads = rw c.after_spaces-rest.ensures.value (skips_start c.args.room c.args.text.now); shorter = omega arith }
+
+pub pass-loop-alloc-smaller-then-rest-eq59 : goal.pass-loop-alloc-smaller-then-rest-eq59
+pass-loop-alloc-smaller-then-rest-eq59 t c =
     let some : 0 < length c.loop-alloc.rest.now = grind (arith, nat_tests) in
     let is : (get_or c.loop-alloc.rest.now 0 0 == 59) ≡ true = grind (arith, nat_tests) in
     let line : length c.line_end.result.now < length c.loop-alloc.rest.now = rw c.line_end.ensures.value (comment_shorter c.loop-alloc.rest.now some is) in
     let smaller : length c.after_spaces-rest-then-rest-eq59.result.now < length c.loop-alloc.rest.now = omega arith in
     smaller
 
-pub skip-loop-alloc-preserved-then-rest-eq59 : goal.skip-loop-alloc-preserved-then-rest-eq59
-skip-loop-alloc-preserved-then-rest-eq59 t c =
+pub pass-loop-alloc-preserved-then-rest-eq59 : goal.pass-loop-alloc-preserved-then-rest-eq59
+pass-loop-alloc-preserved-then-rest-eq59 t c =
     let some : 0 < length c.loop-alloc.rest.now = grind (arith, nat_tests) in
     let is : (get_or c.loop-alloc.rest.now 0 0 == 59) ≡ true = grind (arith, nat_tests) in
     record {
@@ -32,15 +40,15 @@ skip-loop-alloc-preserved-then-rest-eq59 t c =
       shorter = omega arith;
     }
 
-pub skip-returns-in_err-discarded-clause-value : goal.skip-returns-in_err-discarded-clause-value
-skip-returns-in_err-discarded-clause-value t c =
+pub pass-returns-in_err-discarded-clause-value : goal.pass-returns-in_err-discarded-clause-value
+pass-returns-in_err-discarded-clause-value t c =
     let p = err_from_is_err_and c.from_residual.result c.from_residual.ensures.1 in
     let isnt : (get_or c.loop-alloc.rest.now 0 0 == 59) ≡ false = grind (arith, nat_tests) in
     let is : front_is_discard c.loop-alloc.rest.now ≡ true = cc in
     rw (p.1, p.2) (skips_fails c.args.room c.loop-alloc.rest.now (skip c.args.room c.args.text.now) c.in_err-discarded.field-0.0 isnt is c.in_err-discarded.ensures.value c.loop-alloc.invariant.reads)
 
-pub skip-loop-alloc-preserved : goal.skip-loop-alloc-preserved
-skip-loop-alloc-preserved t c =
+pub pass-loop-alloc-preserved : goal.pass-loop-alloc-preserved
+pass-loop-alloc-preserved t c =
     let isnt : (get_or c.loop-alloc.rest.now 0 0 == 59) ≡ false = grind (arith, nat_tests) in
     let is : front_is_discard c.loop-alloc.rest.now ≡ true = cc in
     record {
@@ -48,15 +56,15 @@ skip-loop-alloc-preserved t c =
       shorter = omega (arith, c.in_ok-discarded.ensures.shorter);
     }
 
-pub skip-returns-else-is_discard-clause-value : goal.skip-returns-else-is_discard-clause-value
-skip-returns-else-is_discard-clause-value t c =
+pub pass-returns-else-is_discard-clause-value : goal.pass-returns-else-is_discard-clause-value
+pass-returns-else-is_discard-clause-value t c =
     let some : 0 < length c.loop-alloc.rest.now = grind (arith, nat_tests) in
     let isnt : (get_or c.loop-alloc.rest.now 0 0 == 59) ≡ false = grind (arith, nat_tests) in
     let nor : front_is_discard c.loop-alloc.rest.now ≡ false = cc in
     skips_stop c.args.room c.loop-alloc.rest.now (skip c.args.room c.args.text.now) some isnt nor c.loop-alloc.invariant.reads
 
-pub skip-returns-clause-value : goal.skip-returns-clause-value
-skip-returns-clause-value t c =
+pub pass-returns-clause-value : goal.pass-returns-clause-value
+pass-returns-clause-value t c =
     let none : length c.loop-alloc.rest.now ≡ 0 = grind (arith, nat_tests) in
     skips_end c.args.room c.loop-alloc.rest.now (skip c.args.room c.args.text.now) none c.loop-alloc.invariant.reads
 
@@ -77,7 +85,7 @@ pub items-loop-found-preserved : goal.items-loop-found-preserved
 items-loop-found-preserved t c =
     let at = rw c.in-Some.is at c.in_ok-item.ensures.value in
     let shorter : length c.in_ok-item.behind.now < length c.loop-found.rest.now = omega (arith, c.in_ok-item.ensures.shorter, c.in_ok-item.ensures.start) in
-    rw c.in_ok-push.ensures.items (record {
+    rw c.in_ok-keep.ensures (record {
       reads = items_more c.args.room c.args.close c.loop-found.found.items c.loop-found.rest.now c.in_ok-item.field-0-0.now c.in-Some.item c.in_ok-item.behind.now (items_at c.args.room c.args.close c.args.text.now) at shorter c.loop-found.invariant.reads;
       shorter = omega (arith, shorter);
     })

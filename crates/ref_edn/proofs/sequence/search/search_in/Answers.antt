@@ -13,3 +13,7 @@ pub returns-in-Values-clause-absent : goal.returns-in-Values-clause-absent
 returns-in-Values-clause-absent c =
     let same : twins c.deref.result.now ≡ members_of c.args.chunk.now = cc in
     rw same at (twins_all_missed c.deref.result.now c.args.key.now c.search_values.result c.search_values.ensures.absent)
+
+pub returns-in-One-clause-found : goal.returns-in-One-clause-found
+returns-in-One-clause-found c =
+    rw c.in-One.is (rw c.from_ref.ensures.value at (twins_all_found c.from_ref.result.now c.args.key.now c.search_values-in-One.result c.search_values-in-One.ensures.found))
