@@ -1,12 +1,11 @@
 -- What a world tells of the reference of a number.
-use Rattle.std.proofs.Common.{◌≡◌, ℕ, zero, suc, List, [], ◌∷◌, Option, None, Some, map, refl, ap}
+use Rattle.std.proofs.Common.{◌≡◌, ℕ, zero, suc, List, [], ◌∷◌, Option, None, Some, map, refl}
 use Rattle.std.specs.Prelude.{slice_get}
 use Rattle.ref_edn.specs.Edn.{Edn}
 use Rattle.ref_agents.specs.Account.{AccountSeen}
 use Rattle.ref_agents.specs.Agents.{account_at, account_if_here}
 use Rattle.ref_agents.specs.declared.agents.Agent.{Agent}
 use Rattle.ref_log.specs.Guards as guards
-use Rattle.ref_log.specs.declared.notices.Who.TheVariants as whos
 use Rattle.ref_world.specs.Seen.{WorldSeen}
 use Rattle.ref_world.specs.References.{guards_of, rule_at, value_at, values_of}
 use Rattle.ref_audit.specs.Made.{who_of}

@@ -45,10 +45,7 @@ pub fn audit_own_dump<F: Functions<Core>, C: Ledger, A: Ledger>(
     ensures refused { TellsOrMemory faults.Memory (unnamed_refusal world.now) (dump_refusal world.now) result }
 {
     own_dump_is_ok(world);
-    let value = match dump(alloc, world) {
-        Ok(value) => value,
-        Err(fault) => return Err(fault),
-    };
+    let value = dump(alloc, world)?;
     match audit(alloc, funs, &value) {
         Ok(verdict) => Ok(verdict),
         // The value is a dump, so that only memory was refused.

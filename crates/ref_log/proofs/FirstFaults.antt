@@ -1,8 +1,7 @@
 -- The first fault of a part is that of the whole, and so is the first code that a table lacks.
-use Rattle.std.proofs.Common.{◌≡◌, ℕ, ◌+◌, ◌<◌, Bool, not, Result, Ok, Err, Option, None, Some, List, [], ◌∷◌, ◌++◌, drop, length, get_or, refl, sym, ◌∙◌, ap, suc, add-one, drop-cons}
+use Rattle.std.proofs.Common.{◌≡◌, ℕ, ◌+◌, Bool, not, Result, Ok, Err, Option, None, Some, List, [], ◌∷◌, ◌++◌, refl, sym, ◌∙◌, ap}
 use Rattle.std.specs.Option.{option_or}
 use Rattle.std.proofs.lemmas.List.Folds.{find-append}
-use Rattle.std.proofs.Common.{arith}
 use Rattle.ref_edn.specs.Edn.{Edn}
 use Rattle.ref_fun.specs.Meaning.{Means}
 use Rattle.ref_log.specs.declared.faults.AuditFault.{AuditFault}
@@ -12,10 +11,6 @@ use Rattle.ref_log.specs.declared.entries.Entry.{Entry}
 use Rattle.ref_log.specs.declared.states.PlainState.{PlainState}
 use Rattle.ref_log.specs.Replay.{is_protected, after_one, after_done, after_dones, step, replay_from, missing, needed_of_done, needed_of_dones, needed_of_step, needed_from, FaultComes}
 use Rattle.ref_log.specs.Laws.{after_dones-Err, replay_from-Err}
-
-first_left : (es : List Entry) (i : ℕ) (e : Entry) → i < length es → e ≡ get_or es i e → drop i es ≡ e ∷ drop (i + 1) es
-first_left es i e below is =
-    rw (add-one) (drop-cons es i e below ∙ ap (λ x. x ∷ drop (suc i) es) (sym is))
 
 module _ (means : Means) where
   -- ---- nothing is needed behind a fault
@@ -28,11 +23,10 @@ module _ (means : Means) where
   needed_from-Err point [] fault = refl
   needed_from-Err point (e ∷ es) fault = needed_from-Err (point + 1) es fault
 
-  -- an entry that doesn't fail, in its log
-  pub replay_of_later : (b : ℕ) (es : List Entry) (i : ℕ) (e : Entry) (state after : PlainState) → i < length es → e ≡ get_or es i e → step means (b + i + 1) e state ≡ Ok after → replay_from means (b + i) (drop i es) (Ok state) ≡ replay_from means (b + (i + 1)) (drop (i + 1) es) (Ok after)
-  replay_of_later b es i e state after below is ok =
-      let next : b + i + 1 ≡ b + (i + 1) = omega arith in
-      ap (λ l. replay_from means (b + i) l (Ok state)) (first_left es i e below is) ∙ (ap (replay_from means (b + i + 1) (drop (i + 1) es)) ok ∙ ap (λ p. replay_from means p (drop (i + 1) es) (Ok after)) next)
+  -- an entry that doesn't fail, before those that are left
+  pub replay_of_later : (point : ℕ) (left es : List Entry) (e : Entry) (state after : PlainState) → left ≡ e ∷ es → step means (point + 1) e state ≡ Ok after → replay_from means point left (Ok state) ≡ replay_from means (point + 1) es (Ok after)
+  replay_of_later point left es e state after first ok =
+      ap (λ l. replay_from means point l (Ok state)) first ∙ ap (replay_from means (point + 1) es) ok
 
 module _ (knows : ℕ → Bool) where
   -- ---- codes that are missing, in two lists of codes
@@ -73,19 +67,16 @@ module _ (knows : ℕ → Bool) where
         let done : after_done means all point d values ≡ Ok after = ap (λ b. after_one means b point d values) (sym is) ∙ ok in
         ap (λ l. missing knows (needed_of_dones means all point l (Ok values))) first ∙ (missing-append (needed_of_done d (Ok values)) (needed_of_dones means all point ds (after_done means all point d values)) none ∙ ap (λ v. missing knows (needed_of_dones means all point ds v)) done)
 
-    -- an entry that fails, in its log
-    pub log_fails : (b : ℕ) (es : List Entry) (i : ℕ) (e : Entry) (state : PlainState) (whole : Result PlainState AuditFault) (lacks : Option ℕ) (fault : AuditFault) → replay_from means (b + i) (drop i es) (Ok state) ≡ whole → missing knows (needed_from means (b + i) (drop i es) (Ok state)) ≡ lacks → i < length es → e ≡ get_or es i e → FaultComes (missing knows (needed_of_step means (b + i + 1) e state)) (step means (b + i + 1) e state) fault → FaultComes lacks whole fault
-    log_fails b es i e state whole lacks fault so_far lacks_so_far below is here =
-        let first : drop i es ≡ e ∷ drop (i + 1) es = first_left es i e below is in
-        let rest = drop (i + 1) es in
-        let point = b + i + 1 in
-        fault_lifts (needed_of_step means point e state) (needed_from means point rest (step means point e state)) (step means point e state) whole lacks fault
-        (ap (λ l. missing knows (needed_from means (b + i) l (Ok state))) (sym first) ∙ lacks_so_far)
-        (λ f p. (ap (needed_from means point rest) p ∙ needed_from-Err means point rest f, sym so_far ∙ (ap (λ l. replay_from means (b + i) l (Ok state)) first ∙ (ap (replay_from means point rest) p ∙ replay_from-Err means point rest f)))) here
+    -- an entry that fails, before those that are left
+    pub log_fails : (p : ℕ) (left es : List Entry) (e : Entry) (state : PlainState) (whole : Result PlainState AuditFault) (lacks : Option ℕ) (fault : AuditFault) → replay_from means p left (Ok state) ≡ whole → missing knows (needed_from means p left (Ok state)) ≡ lacks → left ≡ e ∷ es → FaultComes (missing knows (needed_of_step means (p + 1) e state)) (step means (p + 1) e state) fault → FaultComes lacks whole fault
+    log_fails p left es e state whole lacks fault so_far lacks_so_far first here =
+        let point = p + 1 in
+        fault_lifts (needed_of_step means point e state) (needed_from means point es (step means point e state)) (step means point e state) whole lacks fault
+        (ap (λ l. missing knows (needed_from means p l (Ok state))) (sym first) ∙ lacks_so_far)
+        (λ f q. (ap (needed_from means point es) q ∙ needed_from-Err means point es f, sym so_far ∙ (ap (λ l. replay_from means p l (Ok state)) first ∙ (ap (replay_from means point es) q ∙ replay_from-Err means point es f)))) here
 
     -- and one that doesn't
-    pub needed_of_later : (b : ℕ) (es : List Entry) (i : ℕ) (e : Entry) (state after : PlainState) → i < length es → e ≡ get_or es i e → step means (b + i + 1) e state ≡ Ok after → missing knows (needed_of_step means (b + i + 1) e state) ≡ None → missing knows (needed_from means (b + i) (drop i es) (Ok state)) ≡ missing knows (needed_from means (b + (i + 1)) (drop (i + 1) es) (Ok after))
-    needed_of_later b es i e state after below is ok none =
-        let rest = drop (i + 1) es in
-        let next : b + i + 1 ≡ b + (i + 1) = omega arith in
-        ap (λ l. missing knows (needed_from means (b + i) l (Ok state))) (first_left es i e below is) ∙ (missing-append (needed_of_step means (b + i + 1) e state) (needed_from means (b + i + 1) rest (step means (b + i + 1) e state)) none ∙ (ap (λ v. missing knows (needed_from means (b + i + 1) rest v)) ok ∙ ap (λ p. missing knows (needed_from means p rest (Ok after))) next))
+    pub needed_of_later : (p : ℕ) (left es : List Entry) (e : Entry) (state after : PlainState) → left ≡ e ∷ es → step means (p + 1) e state ≡ Ok after → missing knows (needed_of_step means (p + 1) e state) ≡ None → missing knows (needed_from means p left (Ok state)) ≡ missing knows (needed_from means (p + 1) es (Ok after))
+    needed_of_later p left es e state after first ok none =
+        let point = p + 1 in
+        ap (λ l. missing knows (needed_from means p l (Ok state))) first ∙ (missing-append (needed_of_step means point e state) (needed_from means point es (step means point e state)) none ∙ ap (λ v. missing knows (needed_from means point es v)) ok)

@@ -122,6 +122,14 @@ impl From<AllocError> for MakeFault {
     }
 }
 
+impl<T: Drop> From<AllocFailed<T>> for MakeFault {
+    ghost from_gives = { λ _ f. f ≡ makes.Memory };
+
+    fn from(_e: AllocFailed<T>) -> MakeFault {
+        MakeFault::Memory
+    }
+}
+
 impl RuleFault {
     /// The number of the fault.
     pub fn number(&self) -> u8

@@ -3,7 +3,8 @@
 //! An [`Entry`] is one committed change, of refs by a transaction or of one atom, or the making of a reference. It has a
 //! point: the entries after a [`Base`] have the points after the base's, one by one. [`replay_plain`] applies the entries
 //! to the base's values, slowly and plainly, and so tells what the values at the end of a log are, or the first entry whose
-//! kept answers can't be right.
+//! kept answers can't be right. [`fold`] makes a base of a base and the entries that are the first after it, so that the others
+//! stand on that one.
 //!
 //! Beside that stands what all kinds of references have in common, as Clojure's refs, atoms and agents have: a validator,
 //! called a rule here, and watches. [`Guards`] keeps them for the references of a kind; [`check_make`] asks what a making has to
@@ -24,9 +25,12 @@
 //! faster code is held against.
 #![tactic(auto)]
 
+mod counting;
 pub mod entries;
 pub mod faults;
+pub mod folding;
 pub mod guards;
+mod lasts;
 pub mod lists;
 pub mod making;
 pub mod notices;
@@ -39,8 +43,9 @@ pub mod watches;
 
 pub use entries::{Entry, Stamp, Transaction};
 pub use faults::{AuditFault, MakeFault, RuleFault, WatchFault};
+pub use folding::fold;
 pub use guards::{Guard, Guards};
-pub use lists::{Share, SharedVec, share_all};
+pub use lists::{Share, SharedVec, share_all, vector_of};
 pub use making::{LAST_POINT, MOST_REFERENCES, check_make};
 pub use notices::{Notice, Who};
 pub use operations::{Done, Op, protected_refs};

@@ -4,6 +4,7 @@ ghost use Rattle.std.specs.Slice.{IsItemAt};
 ghost use Rattle.std.specs.Iterator.{YieldsFirstRef, item_count};
 
 use ref_edn::Value;
+use ref_pvec::PVec;
 use std::alloc::{AllocError, Global};
 use std::marker::Model;
 use std::sync::Arc;
@@ -22,6 +23,17 @@ pub fn share_all<T: Share>(alloc: Global, items: &[T]) -> Result<Vec<T>, AllocEr
     let mut all = Vec::with_capacity(alloc, items.len())?;
     for item in items {
         all.push(item.share()?)?;
+    }
+    Ok(all)
+}
+
+/// One more owner of each of these, in a list that keeps its old versions.
+pub fn vector_of<T: Share>(alloc: Global, items: &[T]) -> Result<PVec<T>, AllocError>
+    ensures { IfOk result (λ all. all ≡ items.now) }
+{
+    let mut all = PVec::empty();
+    for item in items {
+        all.push(alloc, item.share()?)?;
     }
     Ok(all)
 }

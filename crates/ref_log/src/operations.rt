@@ -1,8 +1,7 @@
 //! What a transaction does to a ref.
-ghost use Rattle.std.specs.Bool.{OnFalse, OnTrue};
 ghost use Rattle.std.specs.BTreeSet.{contains};
 ghost use Rattle.std.specs.Ordering.{nat_cmp};
-ghost use Rattle.std.specs.Prelude.{◌≡◌, ◌≢◌, ℕ, None, IfOk, IfErr};
+ghost use Rattle.std.specs.Prelude.{◌≡◌, ℕ, IfOk, IfErr};
 ghost use Rattle.ref_fun.specs.declared.faults.CallFault.TheVariants.{Memory};
 ghost use Rattle.ref_log.specs.Replay.{PlaceAnswers, codes_of, is_commute, is_ensure, is_protected, is_set, missing, place};
 ghost use Rattle.ref_log.specs.Tally.{fits_tally, is_count};
@@ -63,17 +62,6 @@ impl Op {
                 funs.call(alloc, *code, value, args.as_slice())
             }
             Op::Ensure => shared(value),
-        }
-    }
-
-    /// Whether a table has the function that the operation calls, if it calls one.
-    pub fn is_served<M: Meaning, F: Functions<M>>(&self, funs: &F) -> bool
-        ensures yes { OnTrue result (missing (F.knows funs.now).funs (codes_of self.now) ≡ None) }
-        ensures no { OnFalse result (missing (F.knows funs.now).funs (codes_of self.now) ≢ None) }
-    {
-        match self {
-            Op::Alter(code, _) | Op::Commute(code, _) => funs.has_fun(*code),
-            Op::Set(_) | Op::Ensure => true,
         }
     }
 

@@ -9,6 +9,7 @@ use crate::operations::{Done, Op, protected_refs};
 use crate::states::{Base, PlainState};
 use ref_edn::Value;
 use ref_fun::{CallFault, Functions, Meaning};
+use ref_pvec::PVec;
 use std::alloc::{AllocError, Global};
 use std::marker::Model;
 
@@ -19,7 +20,7 @@ pub fn replay_plain<M: Meaning, F: Functions<M>>(
     alloc: Global,
     funs: &F,
     base: &Base,
-    entries: &[Entry],
+    entries: &PVec<Entry>,
 ) -> Result<PlainState, AuditFault>
     requires { point_after base.now entries.now < 2 ^ 64 }
     ensures ok { IfOk result (λ state. replay M.means base.now entries.now ≡ Ok state) }
@@ -29,8 +30,9 @@ pub fn replay_plain<M: Meaning, F: Functions<M>>(
         (replay M.means base.now entries.now) fault) }
 {
     let mut values = Values::of(alloc, base)?;
-    for (i, entry) in entries.iter().enumerate() {
-        let point = base.point + i as u64 + 1;
+    let mut point = base.point;
+    for entry in entries {
+        point += 1;
         values.apply(alloc, funs, point, entry)?;
     }
     Ok(values.into_state(alloc)?)

@@ -102,3 +102,46 @@ module _ {T : Type 0} where
         parts = drop_behind xs ys i (i - length xs) (omega arith) ∙ r.parts
             ∙ ap (λ zs. values run ++ zs) (sym (drop_behind xs ys (i + length run) (i - length xs + length run) (omega arith)));
       }
+
+  -- what is left of both parts behind an index into the first, or into the second
+  pub rest_in_front : (xs ys : List T) (i : ℕ) → i ≤ length xs → drop i (xs ++ ys) ≡ drop i xs ++ ys
+  rest_in_front xs ys i h = drop-append-le i xs ys h
+
+  pub rest_in_back : (xs ys : List T) (i : ℕ) → length xs ≤ i → drop i (xs ++ ys) ≡ drop (i - length xs) ys
+  rest_in_back xs ys i h = drop_behind xs ys i (i - length xs) (omega arith)
+
+  pub rest_is_none : (xs : List T) (i : ℕ) → length xs ≤ i → drop i xs ≡ []
+  rest_is_none xs i h = drop_of_length-le xs h
+
+  pub length_rest : (xs : List T) (i : ℕ) → length (drop i xs) ≡ length xs - i
+  length_rest xs i = length-drop i xs
+
+  -- the first of both parts end in the first, or in the second
+  pub first_in_front : (xs ys : List T) (n : ℕ) → n ≤ length xs → take n (xs ++ ys) ≡ take n xs
+  first_in_front xs ys zero h = refl
+  first_in_front [] ys (suc n) h = absurd (omega arith)
+  first_in_front (x ∷ xs) ys (suc n) h = ap (λ zs. x ∷ zs) (first_in_front xs ys n (omega arith))
+
+  first_behind : (xs ys : List T) (n m : ℕ) → n ≡ length xs + m → take n (xs ++ ys) ≡ xs ++ take m ys
+  first_behind [] ys n m e = let same : n ≡ m = omega arith in ap (λ k. take k ys) same
+  first_behind (x ∷ xs) ys zero m e = absurd (omega arith)
+  first_behind (x ∷ xs) ys (suc n) m e = ap (λ zs. x ∷ zs) (first_behind xs ys n m (omega arith))
+
+  pub first_in_back : (xs ys : List T) (n : ℕ) → length xs ≤ n → take n (xs ++ ys) ≡ xs ++ take (n - length xs) ys
+  first_in_back xs ys n h = first_behind xs ys n (n - length xs) (omega arith)
+
+  pub first_is_all : (xs : List T) (n : ℕ) → length xs ≤ n → take n xs ≡ xs
+  first_is_all [] zero h = refl
+  first_is_all [] (suc n) h = refl
+  first_is_all (x ∷ xs) zero h = absurd (omega arith)
+  first_is_all (x ∷ xs) (suc n) h = ap (λ zs. x ∷ zs) (first_is_all xs n (omega arith))
+
+  pub length_first : (xs : List T) (n : ℕ) → n ≤ length xs → length (take n xs) ≡ n
+  length_first xs zero h = refl
+  length_first [] (suc n) h = absurd (omega arith)
+  length_first (x ∷ xs) (suc n) h = ap suc (length_first xs n (omega arith))
+
+  pub values_first : (n : ℕ) (xs : List (Arc T Global)) → values (take n xs) ≡ take n (values xs)
+  values_first zero xs = refl
+  values_first (suc n) [] = refl
+  values_first (suc n) (x ∷ xs) = ap (λ zs. x.value ∷ zs) (values_first n xs)

@@ -1,5 +1,5 @@
 //! Chunks: a few items side by side.
-ghost use Rattle.std.specs.Prelude.{◌≡◌, ◌+◌, ◌<◌, ◌≤◌, [], ◌∷◌, ◌++◌, length, drop, slice_get, option_copied, IfOk, IfErr, OnOk, OnErr};
+ghost use Rattle.std.specs.Prelude.{◌≡◌, ◌+◌, ◌<◌, ◌≤◌, [], ◌∷◌, ◌++◌, length, take, drop, slice_get, option_copied, IfOk, IfErr, OnOk, OnErr};
 ghost use Rattle.ref_pvec.specs.Chunks.{values, chunk_items, IsRun};
 
 use std::alloc::{AllocError, AllocFailed, Global};
@@ -43,14 +43,44 @@ pub(crate) fn run_of_chunk<T>(chunk: &Chunk<T>, index: usize) -> &[Arc<T>]
 
 // The same items, shared, with room for a whole chunk.
 #[tactic(auto, using(crate::proofs::Lists::values_push, crate::proofs::Lists::values_more, crate::proofs::Lists::values_whole))]
-fn shared_items<T: Drop>(alloc: Global, chunk: &Chunk<T>) -> Result<Vec<Arc<T>>, AllocError>
-    ensures { IfOk result (λ items. values items.items ≡ chunk_items chunk.now) }
+fn shared_items<T: Drop>(alloc: Global, owners: &[Arc<T>]) -> Result<Vec<Arc<T>>, AllocError>
+    ensures { IfOk result (λ items. values items.items ≡ values owners.now) }
 {
     let mut items = Vec::with_capacity(alloc, WIDTH)?;
-    for item in chunk.iter() {
+    for item in owners {
         items.push(Arc::try_clone(item)?)?;
     }
     Ok(items)
+}
+
+/// A chunk of the items from an index on.
+#[tactic(auto, using(crate::proofs::Lists::values_rest, crate::proofs::Lists::length_values))]
+pub(crate) fn rest_of_chunk<T: Drop>(
+    alloc: Global,
+    chunk: &Chunk<T>,
+    index: usize,
+) -> Result<Chunk<T>, AllocError>
+    requires { index < length (chunk_items chunk.now) }
+    ensures { IfOk result (λ rest. chunk_items rest ≡ drop index (chunk_items chunk.now)) }
+{
+    let items = shared_items(alloc, &chunk[index..])?;
+    let rest = Arc::new(alloc, items)?;
+    Ok(rest)
+}
+
+/// A chunk of the first items, so many.
+#[tactic(auto, using(crate::proofs::Lists::values_first, crate::proofs::Lists::length_values))]
+pub(crate) fn first_of_chunk<T: Drop>(
+    alloc: Global,
+    chunk: &Chunk<T>,
+    count: usize,
+) -> Result<Chunk<T>, AllocError>
+    requires { count ≤ length (chunk_items chunk.now) }
+    ensures { IfOk result (λ first. chunk_items first ≡ take count (chunk_items chunk.now)) }
+{
+    let items = shared_items(alloc, &chunk[..count])?;
+    let first = Arc::new(alloc, items)?;
+    Ok(first)
 }
 
 /// Puts a copy in the place of a chunk that has other owners. They keep the old one.
@@ -60,7 +90,7 @@ pub(crate) fn unshare<T: Drop>(alloc: Global, chunk: &mut Chunk<T>) -> Result<()
     if let Some(_) = Arc::get_mut(chunk) {
         return Ok(());
     }
-    let items = shared_items(alloc, chunk)?;
+    let items = shared_items(alloc, chunk.as_slice())?;
     *chunk = Arc::new(alloc, items)?;
     Ok(())
 }

@@ -1,9 +1,9 @@
 //! Trees of chunks.
-ghost use Rattle.std.specs.Prelude.{◌≡◌, ◌+◌, ◌<◌, ◌≤◌, ◌++◌, length, slice_get, option_copied, IfOk};
+ghost use Rattle.std.specs.Prelude.{◌≡◌, ◌+◌, ◌<◌, ◌≤◌, ◌++◌, take, drop, length, slice_get, option_copied, IfOk};
 ghost use Rattle.ref_pvec.specs.Chunks.{chunk_items, IsRun};
 ghost use Rattle.ref_pvec.specs.declared.trees.Branch.TheVariants.{Sides};
 
-use crate::chunks::{Chunk, item_at, run_of_chunk};
+use crate::chunks::{Chunk, first_of_chunk, item_at, rest_of_chunk, run_of_chunk};
 use std::alloc::{AllocError, Global};
 use std::marker::Model;
 use std::sync::Arc;
@@ -144,8 +144,57 @@ impl<T: Drop> Tree<T> {
         }
     }
 
-    /// These items and those of a chunk behind them. The left side of a fork is full, so a fork whose sides are of
-    /// one length is full: it becomes the left side of a new one.
+    /// The first items, so many. All chunks but the last of them are shared.
+    #[tactic(auto, using(crate::proofs::Lists::first_in_front, crate::proofs::Lists::first_in_back, crate::proofs::Lists::length_both))]
+    pub(crate) fn first(&self, alloc: Global, count: usize) -> Result<Tree<T>, AllocError>
+        requires { count ≤ length self.now.0 }
+        ensures { IfOk result (λ tree. tree.0 ≡ take count self.now.0) }
+    {
+        match &self.node {
+            Node::Leaf(chunk) => {
+                let first = first_of_chunk(alloc, chunk, count)?;
+                Ok(leaf(first))
+            }
+            Node::Fork(branch) => {
+                let (left_len, _, left, right) = sides(branch);
+                if count <= left_len {
+                    left.first(alloc, count)
+                } else {
+                    let left = left.share()?;
+                    let ended = right.first(alloc, count - left_len)?;
+                    fork(alloc, left, ended)
+                }
+            }
+        }
+    }
+
+    /// The items from an index on. All chunks but the one that has the index are shared.
+    #[tactic(auto, using(crate::proofs::Lists::rest_in_front, crate::proofs::Lists::rest_in_back, crate::proofs::Lists::length_both))]
+    pub(crate) fn rest(&self, alloc: Global, index: usize) -> Result<Tree<T>, AllocError>
+        requires { index < length self.now.0 }
+        ensures { IfOk result (λ tree. tree.0 ≡ drop index self.now.0) }
+    {
+        match &self.node {
+            Node::Leaf(chunk) => {
+                let rest = rest_of_chunk(alloc, chunk, index)?;
+                Ok(leaf(rest))
+            }
+            Node::Fork(branch) => {
+                let (left_len, _, left, right) = sides(branch);
+                if index < left_len {
+                    let begun = left.rest(alloc, index)?;
+                    let right = right.share()?;
+                    fork(alloc, begun, right)
+                } else {
+                    right.rest(alloc, index - left_len)
+                }
+            }
+        }
+    }
+
+    /// These items and those of a chunk behind them. In a tree that grew from nothing the left side of each fork is full, so
+    /// a fork whose sides are of one length is full: it becomes the left side of a new one. In a rest the leftmost sides are
+    /// shorter, and no tree is made higher by that.
     #[tactic(auto, using(crate::proofs::Lists::append_associates, crate::proofs::Lists::length_both))]
     pub(crate) fn append(&self, alloc: Global, chunk: Chunk<T>) -> Result<Tree<T>, AllocError>
         ensures { IfOk result (λ tree. tree.0 ≡ self.now.0 ++ chunk_items chunk) }

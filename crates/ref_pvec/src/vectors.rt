@@ -1,8 +1,11 @@
 //! The vector: a tree of whole chunks, and the last chunk beside it.
-ghost use Rattle.std.specs.Prelude.{◌≡◌, ◌+◌, ◌<◌, ◌≤◌, ◌↔◌, ◌^◌, [], ◌∷◌, ◌++◌, length, slice_get, option_copied, IsTrue, IfOk, IfErr, OnOk, OnErr};
-ghost use Rattle.ref_pvec.specs.Chunks.{tail_items, IsRun};
+ghost use Rattle.std.specs.Prelude.{◌≡◌, ◌+◌, ◌<◌, ◌≤◌, ◌↔◌, ◌^◌, [], ◌∷◌, ◌++◌, length, take, drop, slice_get, option_copied, IsTrue, IfOk, IfErr, OnOk, OnErr};
+ghost use Rattle.ref_pvec.specs.Chunks.{front_items, tail_items, IsRun};
 
-use crate::chunks::{Chunk, WIDTH, empty_chunk, item_at, push_in_place, run_of_chunk, unshare};
+use crate::chunks::{
+    Chunk, WIDTH, empty_chunk, first_of_chunk, item_at, push_in_place, rest_of_chunk, run_of_chunk,
+    unshare,
+};
 use crate::iterators::Iter;
 use crate::trees::{Tree, leaf};
 use std::alloc::{AllocError, AllocFailed, Global};
@@ -57,6 +60,64 @@ fn push_to_tail<T: Drop>(
     match tail {
         None => Err(AllocFailed { value: item }),
         Some(chunk) => push_in_place(alloc, chunk, item),
+    }
+}
+
+// One more owner of the tail, if there is one.
+fn share_tail<T: Drop>(tail: &Option<Chunk<T>>) -> Result<Option<Chunk<T>>, AllocError>
+    ensures { IfOk result (λ same. tail_items same ≡ tail_items tail.now) }
+{
+    Ok(match tail {
+        None => None,
+        Some(chunk) => Some(Arc::try_clone(chunk)?),
+    })
+}
+
+// The first items of the tree, so many.
+#[tactic(auto, using(crate::proofs::Lists::length_first, crate::proofs::Lists::append_none))]
+fn first_of_front<T: Drop>(
+    alloc: Global,
+    front: &Option<Tree<T>>,
+    count: usize,
+) -> Result<PVec<T>, AllocError>
+    requires { count ≤ length (front_items front.now) }
+    ensures { IfOk result (λ first. first ≡ take count (front_items front.now)) }
+{
+    match front {
+        None => Ok(PVec::empty()),
+        Some(tree) => {
+            let first = tree.first(alloc, count)?;
+            Ok(PVec {
+                front_len: count,
+                len: count,
+                front: Some(first),
+                tail: None,
+            })
+        }
+    }
+}
+
+// The items from an index of the tail on.
+#[tactic(auto, using(crate::proofs::Lists::length_values))]
+fn rest_of_tail<T: Drop>(
+    alloc: Global,
+    tail: &Option<Chunk<T>>,
+    index: usize,
+) -> Result<PVec<T>, AllocError>
+    requires { index < length (tail_items tail.now) }
+    ensures { IfOk result (λ rest. rest ≡ drop index (tail_items tail.now)) }
+{
+    match tail {
+        None => unreachable!(),
+        Some(chunk) => {
+            let rest = rest_of_chunk(alloc, chunk, index)?;
+            Ok(PVec {
+                front_len: 0,
+                len: rest.len(),
+                front: None,
+                tail: Some(rest),
+            })
+        }
     }
 }
 
@@ -137,10 +198,7 @@ impl<T: Drop> PVec<T> {
             None => None,
             Some(tree) => Some(tree.share()?),
         };
-        let tail = match &self.tail {
-            None => None,
-            Some(chunk) => Some(Arc::try_clone(chunk)?),
-        };
+        let tail = share_tail(&self.tail)?;
         Ok(PVec {
             front_len: self.front_len,
             len: self.len,
@@ -166,6 +224,70 @@ impl<T: Drop> PVec<T> {
         push_to_tail(alloc, &mut self.tail, item)?;
         self.len = len;
         Ok(())
+    }
+
+    /// The list with one item more, which stands behind the others. This list stays as it is. Where memory is refused the item
+    /// is handed back.
+    pub fn pushed(&self, alloc: Global, item: T) -> Result<PVec<T>, AllocFailed<T>>
+        ensures ok { IfOk result (λ longer. longer ≡ self.now ++ item ∷ []) }
+        ensures back { IfErr result (λ failed. failed.value ≡ item) }
+    {
+        let Ok(mut longer) = self.share() else {
+            return Err(AllocFailed { value: item });
+        };
+        longer.push(alloc, item)?;
+        Ok(longer)
+    }
+
+    /// The first items, so many: all, where there are no more. This list stays as it is.
+    #[tactic(auto, using(crate::proofs::Lists::first_in_front, crate::proofs::Lists::first_in_back, crate::proofs::Lists::first_is_all, crate::proofs::Lists::append_none, crate::proofs::Lists::length_both, crate::proofs::Lists::length_first))]
+    pub fn first(&self, alloc: Global, count: usize) -> Result<PVec<T>, AllocError>
+        ensures { IfOk result (λ first. first ≡ take count self.now) }
+    {
+        if count >= self.len {
+            return self.share();
+        }
+        if count <= self.front_len {
+            return first_of_front(alloc, &self.front, count);
+        }
+        let front = match &self.front {
+            None => None,
+            Some(tree) => Some(tree.share()?),
+        };
+        let tail = match &self.tail {
+            None => None,
+            Some(chunk) => Some(first_of_chunk(alloc, chunk, count - self.front_len)?),
+        };
+        Ok(PVec {
+            front_len: self.front_len,
+            len: count,
+            front,
+            tail,
+        })
+    }
+
+    /// The items from an index on: none where there are no more than so many. This list stays as it is.
+    #[tactic(auto, using(crate::proofs::Lists::rest_in_front, crate::proofs::Lists::rest_in_back, crate::proofs::Lists::rest_is_none, crate::proofs::Lists::length_both, crate::proofs::Lists::length_rest))]
+    pub fn rest(&self, alloc: Global, index: usize) -> Result<PVec<T>, AllocError>
+        ensures { IfOk result (λ rest. rest ≡ drop index self.now) }
+    {
+        if index >= self.len {
+            return Ok(PVec::empty());
+        }
+        if index >= self.front_len {
+            return rest_of_tail(alloc, &self.tail, index - self.front_len);
+        }
+        let front = match &self.front {
+            None => None,
+            Some(tree) => Some(tree.rest(alloc, index)?),
+        };
+        let tail = share_tail(&self.tail)?;
+        Ok(PVec {
+            front_len: self.front_len - index,
+            len: self.len - index,
+            front,
+            tail,
+        })
     }
 
     // Leaves a tail that may be pushed to and isn't full. The list stays as it is, also where memory is refused.

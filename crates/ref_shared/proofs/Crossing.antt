@@ -1,11 +1,11 @@
--- What of a shared world crosses threads, as a set for `search`: it may be lent to them, and shares and worlds may be given to them.
+-- What of a shared world crosses threads, as a set for `search`: it may be lent to them, and shares, views and worlds may be given to them.
 use denote.RattleType.{RattleType}
 use denote.Param.Send.{IsSend, IsSync, sendable}
 use denote.Param.SendFields.{declared_send, declared_sync}
 use Rattle.std.proofs.Crossing.{crosses as std_crosses}
 use Rattle.std.specs.declared.sync.ledger.Ledger as Ledger
 use Rattle.ref_fun.specs.declared.meanings.Meaning as Meaning
-use Rattle.ref_world.proofs.Crossing.{share_send, world_send}
+use Rattle.ref_world.proofs.Crossing.{seen_send, share_send, world_send}
 use Rattle.ref_shared.specs.contracts.shared.Held as Held
 use Rattle.ref_shared.specs.contracts.shared.Shared as Shared
 
@@ -16,4 +16,4 @@ module _ (M C A : RattleType) (gM : Meaning.Ghosts M.Denot) (gC : Ledger.Ghosts 
   pub shared_sync : IsSync (Shared.the_row M C A gM gC gA)
   shared_sync = declared_sync (Shared.the_type M C A gM gC gA) (search (held_send, std_crosses, sendable) depth 60, (search (std_crosses, sendable) depth 60, tt))
 
-pub ruleset crosses = (share_send, world_send, shared_sync)
+pub ruleset crosses = (share_send, seen_send, world_send, shared_sync)

@@ -1,7 +1,7 @@
-use Rattle.std.proofs.Common.{slice_index_or, Less, Greater, ◌≡◌, ℕ, ◌+◌, ◌<◌, ◌≤◌, Bool, true, false, List, length, Option, None, Some, IfSome, slice_get, nat_lt, ne_eqb, inl, inr, ◌⊎◌, ◌∙◌, ap, arith, refl, subst, sym}
+use Rattle.std.proofs.Common.{Less, Greater, ◌≡◌, ℕ, ◌+◌, ◌<◌, ◌≤◌, Bool, true, false, List, length, Option, None, Some, IfSome, slice_get, nat_lt, ne_eqb, inl, inr, ◌⊎◌, ◌∙◌, ap, arith, refl, subst, sym}
 use Rattle.std.specs.Ordering.{is_eq, nat_cmp}
 use Rattle.std.proofs.lemmas.Bool.{cases_eq, cases_lt}
-use Rattle.std.proofs.lemmas.Option.{slice_get_past, slice_get-get_or}
+use Rattle.std.proofs.lemmas.Option.{slice_get_past}
 use Rattle.ref_log.specs.declared.entries.Entry.TheVariants.{Trans, Atom, MadeRef, MadeAtom}
 use mathlib.Core.Bool.{cond}
 use Rattle.ref_shared.specs.Gather.{InOrder, transaction_of}
@@ -144,8 +144,8 @@ pub other_key : (k q : ℕ) → (q ≡ k → ⊥) → is_eq (nat_cmp k q) ≡ fa
 other_key k q n = rw (ne_eqb k q (λ e. n (sym e))) (either_way (nat_lt k q))
 
 pub trans_at : (log : List Entry) (i : ℕ) (e : Entry) (t : Transaction)
-    → i < length log → e ≡ slice_index_or log i e → e ≡ Trans t → transaction_of (slice_get log i) ≡ Some t
-trans_at log i e t within is h = ap transaction_of (slice_get-get_or log i e within ∙ ap Some (sym is ∙ h))
+    → slice_get log i ≡ Some e → e ≡ Trans t → transaction_of (slice_get log i) ≡ Some t
+trans_at log i e t here h = ap transaction_of (here ∙ ap Some h)
 
 no_trans : (e : Entry) → ((t : Transaction) → e ≡ Trans t → ⊥) → transaction_of (Some e) ≡ None
 no_trans (Trans t) n = absurd (n t refl)
@@ -154,5 +154,5 @@ no_trans (MadeRef v) n = refl
 no_trans (MadeAtom v) n = refl
 
 pub no_trans_at : (log : List Entry) (i : ℕ) (e : Entry)
-    → i < length log → e ≡ slice_index_or log i e → ((t : Transaction) → e ≡ Trans t → ⊥) → transaction_of (slice_get log i) ≡ None
-no_trans_at log i e within is n = ap transaction_of (slice_get-get_or log i e within ∙ ap Some (sym is)) ∙ no_trans e n
+    → slice_get log i ≡ Some e → ((t : Transaction) → e ≡ Trans t → ⊥) → transaction_of (slice_get log i) ≡ None
+no_trans_at log i e here n = ap transaction_of here ∙ no_trans e n

@@ -6,6 +6,7 @@ use crate::faults::GatherFault;
 use crate::matching::receipts_match;
 use crate::order::in_order;
 use ref_log::Entry;
+use ref_pvec::PVec;
 use ref_world::LogReceipt;
 use std::alloc::Global;
 
@@ -14,12 +15,12 @@ use std::alloc::Global;
 /// of one worker the later in the log has the later step, and was begun when the earlier was there. Receipts up to the base's
 /// point are passed over, and their order says nothing.
 ///
-/// Linear in the sizes of log and receipts, which are compared whole, but for a logarithm of the number of workers. It takes a
-/// byte for each entry, and some for each worker.
+/// Linear in the sizes of log and receipts, which are compared whole, but for a logarithm of the number of workers, and one of the
+/// number of entries. It takes a byte for each entry, and some for each worker.
 pub fn match_receipts(
     alloc: Global,
     base_point: u64,
-    log: &[Entry],
+    log: &PVec<Entry>,
     receipts: &[LogReceipt],
 ) -> Result<(), GatherFault>
     requires { base_point + length log.now < 2 ^ 63 }

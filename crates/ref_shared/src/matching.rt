@@ -5,6 +5,7 @@ ghost use Rattle.ref_shared.specs.Gather.{ReceiptsMatch, has_receipt};
 ghost use Rattle.ref_shared.specs.Marks.{AllMarked, Fits};
 
 use ref_log::{Entry, Same};
+use ref_pvec::PVec;
 use ref_world::LogReceipt;
 use std::alloc::{AllocError, Global};
 
@@ -12,7 +13,7 @@ use std::alloc::{AllocError, Global};
 pub(crate) fn receipts_match(
     alloc: Global,
     base_point: u64,
-    log: &[Entry],
+    log: &PVec<Entry>,
     receipts: &[LogReceipt],
 ) -> Result<bool, AllocError>
     requires { base_point + length log.now < 2 ^ 63 }
@@ -32,7 +33,7 @@ pub(crate) fn receipts_match(
 }
 
 // Marks the entry that stands at i, where it is this one, has a receipt and isn't marked yet.
-fn mark(log: &[Entry], met: &mut Vec<bool>, i: usize, entry: &Entry) -> bool
+fn mark(log: &PVec<Entry>, met: &mut Vec<bool>, i: usize, entry: &Entry) -> bool
     requires { vec_len met.old ≡ length log.now }
     ensures yes { OnTrue result (Fits log.now met.old.items i entry.now
         × (met.new.items ≡ slice_set met.old.items i true)) }
@@ -49,13 +50,16 @@ fn mark(log: &[Entry], met: &mut Vec<bool>, i: usize, entry: &Entry) -> bool
 }
 
 // Whether each entry that has a receipt is marked.
-fn all_marked(log: &[Entry], met: &[bool]) -> bool
+fn all_marked(log: &PVec<Entry>, met: &[bool]) -> bool
     requires { length met.now ≡ length log.now }
     ensures yes { OnTrue result (AllMarked log.now met.now) }
     ensures no { OnFalse result (AllMarked log.now met.now → ⊥) }
 {
     for i in 0..log.len() {
-        if has_receipt(&log[i]) && !met[i] {
+        let Some(entry) = log.get(i) else {
+            unreachable!()
+        };
+        if has_receipt(entry) && !met[i] {
             return false;
         }
     }

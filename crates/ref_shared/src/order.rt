@@ -7,6 +7,7 @@ ghost use Rattle.ref_shared.specs.Gather.{InOrder};
 ghost use Rattle.ref_shared.specs.Latest.{Follows, turn_of};
 
 use ref_log::{Entry, Transaction};
+use ref_pvec::PVec;
 use std::alloc::{AllocError, Global};
 use std::collections::BTreeMap;
 
@@ -18,14 +19,21 @@ pub(crate) struct Turn {
 }
 
 // Whether the steps of each worker rise along the log, with no read point before the point of its entry before.
-pub(crate) fn in_order(alloc: Global, base_point: u64, log: &[Entry]) -> Result<bool, AllocError>
+pub(crate) fn in_order(
+    alloc: Global,
+    base_point: u64,
+    log: &PVec<Entry>,
+) -> Result<bool, AllocError>
     requires { base_point + length log.now < 2 ^ 63 }
     ensures yes { IfOk result (λ b. OnTrue b (InOrder base_point log.now)) }
     ensures no { IfOk result (λ b. OnFalse b (InOrder base_point log.now → ⊥)) }
 {
     let mut latest = BTreeMap::new(alloc);
     for i in 0..log.len() {
-        if let Entry::Trans(transaction) = &log[i] {
+        let Some(entry) = log.get(i) else {
+            unreachable!()
+        };
+        if let Entry::Trans(transaction) = entry {
             if !follow(&mut latest, transaction, base_point + 1 + i as u64)? {
                 return Ok(false);
             }

@@ -18,7 +18,7 @@ use ref_fun::{Action, Args, Functions, Meaning, Rule};
 use ref_log::{MakeFault, RuleFault, Stamp, WatchFault, Who};
 use ref_refs::CommitFault;
 use ref_tx::Tx;
-use ref_world::{Receipt, Share, Totals, World};
+use ref_world::{CheckpointFault, Receipt, Share, Totals, View, World};
 use std::alloc::{AllocError, Global};
 use std::sync::ledger::Ledger;
 use std::sync::{Condvar, Mutex, MutexGuard, Wait};
@@ -288,9 +288,29 @@ impl<M: Meaning, C: Ledger, A: Ledger> Shared<M, C, A> {
         self.lock(rt).world.error_of(g)
     }
 
+    /// The base and the log as they are now, kept: see [`World::view`]. The lock is held for a few steps, whatever the length of
+    /// the log; the view is read with the lock free.
+    pub fn view<R: Wait>(&self, rt: &R) -> Result<View<M>, AllocError> {
+        self.lock(rt).world.view()
+    }
+
+    /// Folds the entries up to this point into the base, and answers how many these were: see [`World::checkpoint`]. The lock is held
+    /// while these entries are replayed, for a step for each ref and atom, and for a logarithm of the entries that are left: so
+    /// not for longer than the entries since the last checkpoint take. Whoever calls it often holds it for a short time each.
+    pub fn checkpoint<R: Wait, F: Functions<M>>(
+        &self,
+        rt: &R,
+        alloc: Global,
+        funs: &F,
+        point: u64,
+    ) -> Result<u64, CheckpointFault> {
+        self.lock(rt).world.checkpoint(alloc, funs, point)
+    }
+
     /// Takes the world out, with the totals of all its shares, which have to be joined again. It takes no lock and waits for
     /// nobody: whoever has all of the shared world is alone with it. The receipts are compared with the log by
-    /// [`match_receipts`]; where they don't fit, or there is no memory to compare them, world and share come back.
+    /// [`match_receipts`]; where they don't fit, or there is no memory to compare them, world and share come back. Of entries that a
+    /// checkpoint folded nothing is compared.
     pub fn finish(
         self,
         alloc: Global,

@@ -13,7 +13,6 @@ use Rattle.ref_fun.specs.contracts.actions.Action as Action
 use Rattle.ref_fun.specs.contracts.arguments.Args as Args
 use Rattle.ref_fun.specs.contracts.rules.Rule as Rule
 use Rattle.ref_log.proofs.lists.SharedVec.TheSendSync as lists
-use Rattle.ref_log.specs.contracts.entries.Stamp as Stamp
 use Rattle.ref_log.specs.contracts.operations.Op as Op
 use Rattle.ref_log.specs.contracts.sends.Sent as Sent
 use Rattle.ref_audit.specs.contracts.reports.Reason as Reason

@@ -1,6 +1,7 @@
 -- What the passes over refused steps, log and plan keep, and what they say together.
+use denote.Bor.{Bor}
 use Rattle.std.proofs.Common.{◌≡◌, ℕ, ◌+◌, ◌<◌, ◌==◌, Bool, true, false, ◌&&◌, ◌||◌, if◌then◌else◌, Option, None, Some, List, [], ◌∷◌, ◌++◌, length, slice_get, get_or, subst, refl, sym, ap, ◌∙◌, zero, suc, arith, map, take, replicate}
-use Rattle.std.specs.List.{All, IsDistinct, list_any}
+use Rattle.std.specs.List.{IsDistinct, list_any}
 use Rattle.std.specs.Cmp.{IsEquivalence}
 use Rattle.std.proofs.lemmas.Bool.Decides.{nat_tests}
 use Rattle.std.proofs.lemmas.List.{take_more}
@@ -120,6 +121,14 @@ refused_more workers ys r board board' was t = record {
 -- The next of all refusals, by whatever stands for one past their end.
 pub refused_next : (workers : List (List Step)) (all : List Refusal) (i : ℕ) (d : Refusal) (board board' : List (List Mark)) → i < length all → RefusedStand workers (take i all) board → Takes board (get_or all i d).stamp Refused board' → RefusedStand workers (take (i + 1) all) board'
 refused_next workers all i d board board' below was t = rw (take_more all i d below) (refused_more workers (take i all) (get_or all i d) board board' was t)
+
+-- the entries that a loop has passed
+abbrev pub passed : List (Bor Entry) → List Entry
+passed entries = map (λ entry. entry.now) entries
+
+pub passed_more : (entries : List (Bor Entry)) (entry : Bor Entry) → passed (entries ++ entry ∷ []) ≡ passed entries ++ entry.now ∷ []
+passed_more [] entry = refl
+passed_more (first ∷ entries) entry = ap (λ rest. first.now ∷ rest) (passed_more entries entry)
 
 pub entries_none : (workers : List (List Step)) (refused : List Refusal) (board : List (List Mark)) → AreMarks workers refused [] board → EntriesStand workers refused [] board
 entries_none workers refused board m = record { marks = m; entries = All-nil (IsPlanned workers refused) }

@@ -26,14 +26,8 @@ pub fn plan(alloc: Global, value: &Value) -> Result<Plan, PlanFault>
         return Err(PlanFault::NotWorkload);
     };
     let empty = Items::of(alloc, Vec::new(alloc))?;
-    let parts = match parts_of(entries, &empty) {
-        Ok(parts) => parts,
-        Err(fault) => return Err(fault),
-    };
-    let (declared, start) = match declarations(alloc, parts.refs, parts.atoms, parts.agents) {
-        Ok(found) => found,
-        Err(fault) => return Err(fault),
-    };
+    let parts = parts_of(entries, &empty)?;
+    let (declared, start) = declarations(alloc, parts.refs, parts.atoms, parts.agents)?;
     match workers(alloc, &declared, parts.workers) {
         Ok(workers) => Ok(Plan::of(declared.into_names(), start, workers, parts.pool)),
         Err(fault) => Err(fault),

@@ -22,7 +22,7 @@ use ref_audit::{DumpFault, DumpMakeFault, Verdict, audit, dump, report};
 use ref_edn::{Sink, Source, Value, print, read_one};
 use ref_fun::{Core, Functions};
 use ref_shared::Open;
-use ref_world::World;
+use ref_world::{ALL_PARTS, World};
 use std::alloc::Global;
 use std::marker::Brand;
 use std::sync::Wait;
@@ -130,7 +130,7 @@ fn output_of<F: Functions<Core> + Sync, R: Threads + Wait + Sync>(
     let plan = plan(alloc, &value)?;
     // A run needs its memory.
     drop(value);
-    let (commits, added) = (Blank::new(4_294_967_296), Blank::new(4_294_967_296));
+    let (commits, added) = (Blank::new(ALL_PARTS), Blank::new(ALL_PARTS));
     match output_of_plan::<F, Brand, Brand, R>(
         rt, alloc, funs, &plan, options, progress, commits, added,
     ) {
@@ -173,10 +173,7 @@ where
         commits,
         added,
     );
-    let out = match ran {
-        Ok(out) => out,
-        Err(fault) => return Err(fault),
-    };
+    let out = ran?;
     let dumped = audited(alloc, funs, &out.world)?;
     if options.dump {
         line_of(alloc, &dumped)

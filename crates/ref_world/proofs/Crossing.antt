@@ -1,16 +1,17 @@
--- A world may go to another thread, and so may a share.
+-- A world may go to another thread, and so may a share and a view.
 --
 -- `search` alone finds no proof of it: an enum of four variants and a struct of some fields are beyond its steps. So each type's fact
 -- stands on those of its fields, in the order of the crates below.
 use denote.RattleType.{RattleType}
 use denote.Param.Send.{IsSend, IsSync, sendable, view_send}
 use denote.Param.SendFields.{declared_send, declared_sync, variants_send, variants_sync}
-use Rattle.std.proofs.Crossing.{crosses}
+use Rattle.std.proofs.Crossing.{crosses, Arc-send}
 use Rattle.std.proofs.MapsCrossingOver as over
 use Rattle.std.specs.declared.sync.ledger.Ledger as Ledger
 use Rattle.ref_edn.proofs.data.Value.TheLaws.TheKnot as knot
 use Rattle.ref_log.proofs.lists.SharedVec.TheSendSync as lists
 use Rattle.ref_pmap.proofs.Crossing.{numbered_send}
+use Rattle.ref_pvec.proofs.Crossing.{vector_send}
 use Rattle.ref_edn.specs.contracts.data.Value as Value
 use Rattle.ref_fun.specs.contracts.arguments.Args as Args
 use Rattle.ref_fun.specs.declared.meanings.Meaning as Meaning
@@ -47,6 +48,8 @@ use Rattle.ref_world.specs.contracts.books.Books.TheInside as InBooks
 use Rattle.ref_world.specs.contracts.shares.LogReceipt as LogReceipt
 use Rattle.ref_world.specs.contracts.shares.Share as Share
 use Rattle.ref_world.specs.contracts.shares.Share.TheInside as InShare
+use Rattle.ref_world.specs.contracts.views.View as View
+use Rattle.ref_world.specs.contracts.views.View.TheInside as InView
 use Rattle.ref_world.specs.contracts.worlds.World as World
 use Rattle.ref_world.specs.contracts.worlds.World.TheInside as InWorld
 
@@ -109,6 +112,33 @@ sent_sync = search plain depth 60
 stamp_send : IsSend Stamp.the_row
 stamp_send = search plain depth 60
 
+stamp_sync : IsSync Stamp.the_row
+stamp_sync = search plain depth 60
+
+trans_sync : IsSync Transaction.the_row
+trans_sync = declared_sync Transaction.the_type (
+  stamp_sync,
+  (
+    search plain depth 60,
+    (
+      search (done_send, done_sync, lists.the_sync, plain) depth 60,
+      (search (sent_send, sent_sync, lists.the_sync, plain) depth 60, tt),
+    ),
+  ),
+)
+
+entry_sync : IsSync Entry.the_row
+entry_sync = variants_sync Entry.enum (
+  (trans_sync, tt),
+  (
+    (search plain depth 60, (op_sync, (value_sync, tt))),
+    (
+      (value_sync, tt),
+      ((value_sync, tt), tt),
+    ),
+  ),
+)
+
 trans_send : IsSend Transaction.the_row
 trans_send = declared_send Transaction.the_type (
   stamp_send,
@@ -157,6 +187,21 @@ base_send = declared_send Base.the_type (
       search (lists.the_send, plain) depth 60,
       (
         search (value_send, value_sync, lists.the_send, plain) depth 60,
+        (search plain depth 60, (search plain depth 60, (search plain depth 60, tt))),
+      ),
+    ),
+  ),
+)
+
+base_sync : IsSync Base.the_row
+base_sync = declared_sync Base.the_type (
+  search plain depth 60,
+  (
+    search (value_send, value_sync, lists.the_sync, plain) depth 60,
+    (
+      search (lists.the_sync, plain) depth 60,
+      (
+        search (value_send, value_sync, lists.the_sync, plain) depth 60,
         (search plain depth 60, (search plain depth 60, (search plain depth 60, tt))),
       ),
     ),
@@ -218,6 +263,12 @@ module _ (M : RattleType) (g : Meaning.Ghosts M.Denot) where
     ),
   ))
 
+  pub seen_send : IsSend (View.the_row M g)
+  seen_send = view_send _ _ _ _ _ (declared_send (InView.the_type M g) (
+    Arc-send _ base_send base_sync,
+    (vector_send _ entry_send entry_sync, (search plain depth 60, tt)),
+  ))
+
 module _ (C A : RattleType) (gC : Ledger.Ghosts C.Denot) (gA : Ledger.Ghosts A.Denot) where
   pub share_send : IsSend (Share.the_row C A gC gA)
   share_send = view_send _ _ _ _ _ (declared_send (InShare.the_type C A gC gA) (
@@ -249,9 +300,9 @@ module _ (C A : RattleType) (gC : Ledger.Ghosts C.Denot) (gA : Ledger.Ghosts A.D
   module _ (M : RattleType) (gM : Meaning.Ghosts M.Denot) where
     pub world_send : IsSend (World.the_row M C A gM gC gA)
     world_send = view_send _ _ _ _ _ (declared_send (InWorld.the_type M C A gM gC gA) (
-      base_send,
+      Arc-send _ base_send base_sync,
       (
-        search (entry_send, plain) depth 60,
+        vector_send _ entry_send entry_sync,
         (
           refs_send M gM,
           (

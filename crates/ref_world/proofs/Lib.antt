@@ -2,3 +2,4 @@ pub mod Entered
 pub mod Booked
 pub mod Starting
 pub mod Crossing
+pub mod Folded

@@ -4,3 +4,5 @@ pub mod World
 pub mod References
 pub mod Shares
 pub mod Starts
+pub mod Checkpoint
+pub mod Faults

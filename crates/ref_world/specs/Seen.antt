@@ -22,6 +22,11 @@ pub record WorldSeen : Type 0 where
   pub agents : AgentsSeen
   pub books : BooksSeen
 
+-- a base, and the log of the entries after it
+pub record ViewSeen : Type 0 where
+  pub base : Base
+  pub log : List Entry
+
 -- of 2^32 parts these, and what was done with them: so many commits, so much added to the tally, and the receipts in order
 pub record ShareSeen : Type 0 where
   pub parts : ℕ

@@ -1,6 +1,7 @@
 -- What is always so in a world, and what a call adds.
 use Rattle.std.specs.Prelude.{◌≡◌, ◌≤◌, ℕ, ◌^◌, ◌+◌, nat_lt, not, Bool, true, List, [], ◌∷◌, ◌++◌, if◌then◌else◌, length, Option, Ok}
 use Rattle.std.specs.List.{list_all}
+use Rattle.std.specs.Result.{is_ok}
 use Rattle.ref_edn.specs.Edn.{Edn}
 use Rattle.ref_fun.specs.Meaning.{Means}
 use Rattle.ref_log.specs.Replay.{last_change, point_after, replay, sets_atom}
@@ -28,6 +29,10 @@ point_of world = point_after world.base world.log
 -- give with the kept answers.
 abbrev pub IsReplayed : Means → Base → List Entry → RefsSeen → AtomsSeen → Type 0
 IsReplayed means base log refs atoms = replay means base log ≡ Ok (values_now refs atoms)
+
+-- The log has a replay on the base.
+abbrev pub HasReplay : Means → Base → List Entry → Type 0
+HasReplay means base log = is_ok (replay means base log) ≡ true
 
 -- The point of each ref's last change is that of the last entry which made or touched it.
 abbrev pub HasLastChanges : Base → List Entry → RefsSeen → Type 0

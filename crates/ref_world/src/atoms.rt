@@ -58,7 +58,7 @@ impl<M: Meaning, C: Ledger, A: Ledger> World<M, C, A> {
         let change = self
             .atoms
             .prepare(alloc, funs, at, a, Op::Alter(code, args))?;
-        Ok(self.enter(share, a, change)?)
+        Ok(self.enter(alloc, share, a, change)?)
     }
 
     /// Sets an atom to a value regardless of the one that it has, as Clojure's `reset!`, and adds one entry. The atom's rule
@@ -90,7 +90,7 @@ impl<M: Meaning, C: Ledger, A: Ledger> World<M, C, A> {
     {
         let at = self.point() + 1;
         let change = self.atoms.prepare(alloc, funs, at, a, Op::Set(value))?;
-        Ok(self.enter(share, a, change)?)
+        Ok(self.enter(alloc, share, a, change)?)
     }
 
     /// Sets an atom to a new value where it has the old one that is given, as Clojure's `compare-and-set!`, and answers
@@ -134,16 +134,17 @@ impl<M: Meaning, C: Ledger, A: Ledger> World<M, C, A> {
                 notices: Vec::new(alloc),
             });
         };
-        let swapped = self.enter(share, a, change)?;
+        let swapped = self.enter(alloc, share, a, change)?;
         Ok(Cas {
             done: true,
             notices: swapped.notices,
         })
     }
 
-    // Puts a change of an atom in its place, with its entry, and answers what it answers. The growth comes first.
+    // Puts a change of an atom in its place, with its entry, and answers what it answers. The growths come first.
     fn enter(
         &mut self,
+        alloc: Global,
         share: &mut Share<C, A>,
         a: u32,
         change: Change,
@@ -169,10 +170,9 @@ impl<M: Meaning, C: Ledger, A: Ledger> World<M, C, A> {
     {
         let point = self.point() + 1;
         let entry = change.entry.share()?;
-        self.log.reserve(1)?;
         share.receipts.reserve(1)?;
+        self.log.push(alloc, change.entry)?;
         self.atoms.install(a, change.value);
-        self.log.push_reserved(change.entry);
         share.receipts.push_reserved(LogReceipt { point, entry });
         Ok(change.swapped)
     }

@@ -1,6 +1,6 @@
 //! Transactions: where they begin, and the world's only commit.
 ghost use Rattle.ref_log.specs.Told.{TellsBack};
-ghost use Rattle.std.specs.Prelude.{◌≡◌, ◌+◌, ℕ, [], true, Ok, IfOk, IfErr, OnErr, OnOk, length, slice_get};
+ghost use Rattle.std.specs.Prelude.{◌≡◌, ◌+◌, ◌++◌, ◌∷◌, ℕ, [], true, Ok, IfOk, IfErr, OnErr, OnOk, length, slice_get};
 ghost use Rattle.ref_log.specs.Replay.{is_protected, step};
 ghost use Rattle.ref_refs.specs.Commit.{changed_by, commit_refusal, early_refusal, entry_of};
 ghost use Rattle.ref_refs.specs.Conflicts.{ConflictFits};
@@ -9,13 +9,16 @@ ghost use Rattle.ref_refs.specs.Watches.{notices, touched_refs};
 ghost use Rattle.ref_refs.specs.declared.faults.CommitFault.TheVariants as commits;
 ghost use Rattle.ref_log.specs.Tally.{added_by_dones};
 ghost use Rattle.ref_tx.specs.Inner.{inner_value};
+ghost use Rattle.ref_agents.specs.Agents as queues;
 ghost use Rattle.ref_world.specs.Shares as shares;
 ghost use Rattle.ref_world.specs.World.{point_of, values_now, with_commit};
 
 use crate::shares::{LogReceipt, Share};
 use crate::worlds::World;
+use ref_agents::AgentStore;
 use ref_fun::{Functions, Meaning};
-use ref_log::{Notice, Share as _, Stamp};
+use ref_log::{Entry, Notice, Sent, Share as _, Stamp};
+use ref_pvec::PVec;
 use ref_refs::{CommitFault, Landed, Prepared};
 use ref_tx::Tx;
 use std::alloc::{AllocError, Global};
@@ -53,8 +56,9 @@ impl<M: Meaning, C: Ledger, A: Ledger> World<M, C, A> {
     /// A refused commit changes nothing and hands the transaction back. The tests are made in this order: what is foreign,
     /// functions and predicates that the table lacks, the conflict, a foreign value, a refusal over the latest values, a rule
     /// that doesn't accept, the end of points. All growths come before the first change, but for the sends, which are taken back
-    /// where there is no memory for all of them. The cost is that of the store's commit, logarithmic in the number of refs for each operation, and a
-    /// step for each send, logarithmic in the number of agents with actions that wait.
+    /// where there is no memory for all of them. The cost is that of the store's commit, logarithmic in the number of refs for
+    /// each operation; that of one entry more, as [`PVec::push`] or, where it sends, [`PVec::pushed`] has it; and a step for each
+    /// send, logarithmic in the number of agents with actions that wait.
     pub fn commit_with<F: Functions<M>>(
         &mut self,
         alloc: Global,
@@ -100,16 +104,17 @@ impl<M: Meaning, C: Ledger, A: Ledger> World<M, C, A> {
         let Ok(kept) = entry.share() else {
             return Err((tx, CommitFault::Memory));
         };
-        if self.log.reserve(1).is_err() || share.receipts.reserve(1).is_err() {
+        if share.receipts.reserve(1).is_err() {
             return Err((tx, CommitFault::Memory));
         }
-        if self.agents.send_held(alloc, at, tx.sends()).is_err() {
+        let sends = tx.sends();
+        let written = write(alloc, &mut self.log, &mut self.agents, at, entry, sends);
+        if written.is_err() {
             return Err((tx, CommitFault::Memory));
         }
         // From here on nothing can fail.
         let before = self.refs.tally_value();
         self.refs.install(at, refs, tx.dones());
-        self.log.push_reserved(entry);
         share.receipts.push_reserved(LogReceipt {
             point: at,
             entry: kept,
@@ -120,5 +125,33 @@ impl<M: Meaning, C: Ledger, A: Ledger> World<M, C, A> {
             stamp,
             notices,
         })
+    }
+}
+
+// Puts an entry behind the others, and what it sends at the ends of the queues, or leaves both. Where it sends nothing the entry
+// is put in place; else it is put into a version of its own, which is let go where there is no memory for the sends.
+fn write<M: Meaning>(
+    alloc: Global,
+    log: &mut PVec<Entry>,
+    agents: &mut AgentStore<M>,
+    at: u64,
+    entry: Entry,
+    sends: &[Sent],
+) -> Result<(), AllocError>
+    ensures entry { OnOk result (log.new ≡ log.old ++ entry ∷ []) }
+    ensures sends { OnOk result (agents.new ≡ queues.with_commit agents.old at sends.now) }
+    ensures err { OnErr result ((log.new ≡ log.old) × (agents.new ≡ agents.old)) }
+{
+    if sends.is_empty() {
+        log.push(alloc, entry)?;
+        match agents.send_held(alloc, at, sends) {
+            Ok(()) => Ok(()),
+            Err(_) => unreachable!(),
+        }
+    } else {
+        let longer = log.pushed(alloc, entry)?;
+        agents.send_held(alloc, at, sends)?;
+        *log = longer;
+        Ok(())
     }
 }

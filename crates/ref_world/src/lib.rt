@@ -14,6 +14,9 @@
 //! what they did; shares are split and joined, and where one is whole again, it has just what stands in the world's books
 //! ([`World::commits`], [`World::added`], [`World::totals`]).
 //!
+//! [`World::view`] keeps base and log as they are now, for whoever reads them while the world goes on; [`World::checkpoint`] folds
+//! the first entries into the base, so that the log doesn't grow for ever.
+//!
 //! Agents have no entries. [`World::send`] lets an action wait in an agent's queue; what a transaction sends waits there from its
 //! commit on, in the same step, and may be taken once [`World::release`] is called with the commit's point, which is for when
 //! the watches were told. [`World::take`] hands out a job; it is run with no world at hand, and comes back to
@@ -23,15 +26,20 @@
 mod agents;
 mod atoms;
 mod books;
+mod checkpoints;
 mod commits;
 mod declared;
+pub mod faults;
 mod making;
 mod references;
 pub mod shares;
 pub mod starts;
+pub mod views;
 pub mod worlds;
 
 pub use commits::Receipt;
+pub use faults::CheckpointFault;
 pub use shares::{ALL_PARTS, LogReceipt, Share};
 pub use starts::{AgentStart, AtomStart, RefStart, Start};
+pub use views::View;
 pub use worlds::{Totals, World};

@@ -1,18 +1,20 @@
 //! Making references.
 ghost use Rattle.ref_log.specs.Told.{TellsThenMemory};
-ghost use Rattle.std.specs.Prelude.{◌≡◌, ◌+◌, false, IfOk, OnErr, OnOk, length};
+ghost use Rattle.std.specs.Prelude.{◌≡◌, ◌+◌, false, if◌then◌else◌, Some, IfOk, OnErr, OnOk, length};
 ghost use Rattle.ref_atoms.specs.Atoms as atoms;
 ghost use Rattle.ref_log.specs.Make as made;
 ghost use Rattle.ref_log.specs.declared.entries.Entry.TheVariants as entries;
 ghost use Rattle.ref_log.specs.declared.faults.MakeFault.TheVariants as makes;
 ghost use Rattle.ref_refs.specs.Make as refs;
-ghost use Rattle.ref_world.specs.World.{point_of, with_entry, with_made_ref};
+ghost use Rattle.ref_world.specs.World.{point_of, with_entry, with_made_ref, with_tally};
 
 use crate::worlds::World;
 use ref_edn::Value;
 use ref_fun::{Functions, Meaning, Rule};
-use ref_log::{Entry, MakeFault};
-use std::alloc::Global;
+use ref_log::{Base, Entry, MakeFault};
+use ref_refs::RefStore;
+use std::alloc::{AllocError, Global};
+use std::sync::Arc;
 use std::sync::ledger::Ledger;
 
 impl<M: Meaning, C: Ledger, A: Ledger> World<M, C, A> {
@@ -38,10 +40,12 @@ impl<M: Meaning, C: Ledger, A: Ledger> World<M, C, A> {
         let at = self.point() + 1;
         self.refs.check_make(funs, at, &value, &rule, tally)?;
         let entry = Entry::MadeRef(value.share()?);
-        self.log.reserve(1)?;
+        let log = self.log.pushed(alloc, entry)?;
+        let next = next_tally(&self.refs, tally);
+        let base = with_tally(alloc, &self.base, next)?;
         let r = self.refs.add(alloc, at, value, rule, tally)?;
-        self.log.push_reserved(entry);
-        self.base.tally = self.refs.tally();
+        self.log = log;
+        self.base = base;
         self.books.start(tally, self.refs.tally_value());
         Ok(r)
     }
@@ -66,9 +70,40 @@ impl<M: Meaning, C: Ledger, A: Ledger> World<M, C, A> {
         let at = self.point() + 1;
         self.atoms.check_make(funs, at, &value, &rule)?;
         let entry = Entry::MadeAtom(value.share()?);
-        self.log.reserve(1)?;
+        let log = self.log.pushed(alloc, entry)?;
         let a = self.atoms.add(alloc, value, rule)?;
-        self.log.push_reserved(entry);
+        self.log = log;
         Ok(a)
     }
+}
+
+// The number of the tally when one ref more is made, as the tally or not.
+fn next_tally<M: Meaning>(refs: &RefStore<M>, tally: bool) -> Option<u32>
+    ensures { result ≡ (if tally then Some (length refs.now.values) else refs.now.tally) }
+{
+    if tally {
+        Some(refs.len() as u32)
+    } else {
+        refs.tally()
+    }
+}
+
+// The base where it names this tally: itself, where it does so already, and else one with the same values and last changes.
+fn with_tally(alloc: Global, base: &Arc<Base>, tally: Option<u32>) -> Result<Arc<Base>, AllocError>
+    ensures { IfOk result (λ named. named.value ≡ with_tally tally base.now.value) }
+{
+    if base.tally == tally {
+        return Arc::try_clone(base);
+    }
+    let named = Base {
+        point: base.point,
+        refs: base.refs.share()?,
+        last: base.last.share()?,
+        atoms: base.atoms.share()?,
+        tally,
+        commits: base.commits,
+        added: base.added,
+    };
+    let named = Arc::new(alloc, named)?;
+    Ok(named)
 }

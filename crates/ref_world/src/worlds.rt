@@ -18,9 +18,11 @@ use ref_agents::AgentStore;
 use ref_atoms::AtomStore;
 use ref_fun::{Functions, Meaning};
 use ref_log::{Base, Entry, MakeFault, Who};
+use ref_pvec::PVec;
 use ref_refs::RefStore;
 use std::alloc::Global;
 use std::marker::Model;
+use std::sync::Arc;
 use std::sync::ledger::{Blank, Ledger};
 
 /// Refs and atoms with a base and a log, agents, and books. Contracts see plain data.
@@ -35,8 +37,9 @@ use std::sync::ledger::{Blank, Ledger};
 /// books is what all of its shares have together.
 #[derive(Drop)]
 pub struct World<M: Meaning, C: Ledger, A: Ledger> {
-    pub(crate) base: Base,
-    pub(crate) log: Vec<Entry>,
+    // It may have several owners, and so may the log: views.
+    pub(crate) base: Arc<Base>,
+    pub(crate) log: PVec<Entry>,
     pub(crate) refs: RefStore<M>,
     pub(crate) atoms: AtomStore<M>,
     pub(crate) agents: AgentStore<M>,
@@ -54,16 +57,16 @@ impl<M: Meaning, C: Ledger, A: Ledger> Model for World<M, C, A> {
     ghost coded = { Prim.hlevel (codes, edn_code) };
 
     ghost view = { λ a. record {
-      base = a.base;
-      log = a.log.items;
+      base = a.base.value;
+      log = a.log;
       refs = a.refs;
       atoms = a.atoms;
       agents = a.agents;
       books = a.books;
     } };
 
-    ghost invariant = { λ a. IsWorld M.means a.base a.log.items a.refs a.atoms a.agents.unreleased
-        × AreBooks a.base a.log.items a.refs.tally a.refs.values a.books };
+    ghost invariant = { λ a. IsWorld M.means a.base.value a.log a.refs a.atoms a.agents.unreleased
+        × AreBooks a.base.value a.log a.refs.tally a.refs.values a.books };
 }
 
 impl<M: Meaning, C: Ledger, A: Ledger> World<M, C, A> {
@@ -99,10 +102,13 @@ impl<M: Meaning, C: Ledger, A: Ledger> World<M, C, A> {
         let Ok(base) = base_of(alloc, &refs, &atoms) else {
             return Err((Who::Ref(0), MakeFault::Memory));
         };
+        let Ok(base) = Arc::new(alloc, base) else {
+            return Err((Who::Ref(0), MakeFault::Memory));
+        };
         let (books, commit_parts, added_parts) = Books::open(refs.tally_value(), commits, added);
         let world = World {
             base,
-            log: Vec::new(alloc),
+            log: PVec::empty(),
             refs,
             atoms,
             agents,
@@ -137,13 +143,13 @@ impl<M: Meaning, C: Ledger, A: Ledger> World<M, C, A> {
         &self.base
     }
 
-    /// The entries after the base, the first of them at the point after its.
-    pub fn log(&self) -> &[Entry]
+    /// The entries after the base, the first of them at the point after its. [`World::view`] keeps them as they are now.
+    pub fn log(&self) -> &PVec<Entry>
         ensures log { result.now ≡ self.now.log }
         // An atom's entry is `reset!` or `swap!`.
         ensures sets { list_all sets_atom self.now.log ≡ true }
     {
-        self.log.as_slice()
+        &self.log
     }
 
     /// How many transactions were committed.

@@ -50,6 +50,24 @@ fn two_transactions(rt: HostRuntime) -> Result<(), Fail> {
     Ok(())
 }
 
+// What is folded is in the base, and the log has what is left.
+#[test]
+fn a_checkpoint(rt: HostRuntime) -> Result<(), Fail> {
+    let one = [Call::Alter(0, 1, "[1]")];
+    let steps = [
+        Step::Commit(&one),
+        Step::Commit(&one),
+        Step::Commit(&one),
+        Step::Checkpoint(2),
+    ];
+    let seen = seen(rt.alloc(), &ONE_REF, &steps)?;
+    assert_eq!(rt;
+        seen.dumped?.as_slice(),
+        b"{:added 0, :agents [], :atoms [], :base-atoms [], :base-refs [[2 2]], :commits 3, :dump 1, :entries [[:tx 0 2 2 [[:alter 0 + [1] 3]] []]], :folded [2 0], :point 2, :refs [[3 nil]], :tally nil}".as_slice()
+    );
+    Ok(())
+}
+
 // The walk of docs/DUMPS.md.
 #[test]
 fn most_forms(rt: HostRuntime) -> Result<(), Fail> {

@@ -56,6 +56,8 @@ pub(crate) enum Step<'a> {
     Release(u64),
     /// The action of some agent is taken, run and finished.
     Act,
+    /// The entries up to this point are folded.
+    Checkpoint(u64),
 }
 
 /// What is seen of a world at the end.
@@ -172,6 +174,10 @@ fn take_step<C: Ledger, A: Ledger>(
             }
         }
         Step::Act => act(alloc, funs, world),
+        Step::Checkpoint(point) => {
+            let _folded = world.checkpoint(alloc, funs, *point)?;
+            Ok(())
+        }
     }
 }
 

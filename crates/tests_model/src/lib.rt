@@ -9,13 +9,15 @@
 //! |---|---|
 //! | `seen`, `books` | what a world shows, its books and its share, and whether they are as in the model |
 //! | `sides`, `declared` | a world beside its model; what a new one begins with |
-//! | `references`, `commits`, `jobs` | the calls, each on both: of atoms and references, of transactions, of agents |
+//! | `references`, `commits`, `jobs`, `checkpoints` | the calls, each on both: of atoms and references, of transactions, of agents, of the log |
 //! | [`receipts`] | whether a receipt is that of the model. It stands outside of the tests, so that a wrong body of it can be tried |
 //! | `stages`, `playing` | two worlds at once; lists of calls |
 #![tactic(auto)]
 
 #[cfg(test)]
 mod books;
+#[cfg(test)]
+mod checkpoints;
 #[cfg(test)]
 mod commits;
 #[cfg(test)]

@@ -1,4 +1,5 @@
-//! Calls on atoms, makings, rules and watches, each on a world and on its model.
+//! Calls on atoms, makings, rules and watches, each on a world and on its model; now and then a checkpoint.
+use crate::checkpoints::checkpoint;
 use crate::sides::Side;
 use ref_atoms::{AtomFault, Cas, Swapped};
 use ref_fun::Cause;
@@ -265,12 +266,13 @@ pub(crate) fn call_on_references<C: Ledger, A: Ledger>(
     player: &mut Player,
     side: &mut Side<C, A>,
 ) -> Played {
-    match player.draws.below(16) {
+    match player.draws.below(18) {
         0..=4 => swap_or_reset(player, side),
         5 | 6 => compare_and_set(player, side),
         7..=9 => make(player, side),
         10..=12 => set_validator(player, side),
         13 | 14 => add_watch(player, side),
-        _ => remove_watch(player, side),
+        15 => remove_watch(player, side),
+        _ => checkpoint(player, side),
     }
 }

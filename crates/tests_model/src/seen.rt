@@ -6,7 +6,8 @@ use ref_world::World;
 use std::alloc::{AllocError, Global};
 use std::sync::ledger::Ledger;
 use tests_plain::model::{Model, Reference};
-use tests_plain::shows::{Shows, is_base, is_lacking, is_log, is_rule, is_state, show};
+use tests_plain::shows;
+use tests_plain::shows::{Shows, is_base, is_lacking, is_log, is_rule, is_state};
 use tests_plain::tables::Table;
 
 // ---- References
@@ -65,7 +66,7 @@ fn are_accounts<C: Ledger, A: Ledger>(world: &World<Core, C, A>, model: &Model) 
 
 /// Whether all entries are the same.
 pub(crate) fn is_whole_log<C: Ledger, A: Ledger>(world: &World<Core, C, A>, model: &Model) -> bool {
-    show(world.log(), &model.log)
+    shows::is_whole_log(world.log(), model.left())
 }
 
 /// Whether the replay of the log gives these values of refs and atoms, or lacks the first function that the table lacks.
@@ -75,11 +76,8 @@ pub(crate) fn is_replayed<C: Ledger, A: Ledger>(
     model: &Model,
     table: Table,
 ) -> Result<bool, AllocError> {
-    let (base, log) = (world.base(), world.log());
-    if base.point > 0 {
-        return Ok(false);
-    }
-    match replay_plain(alloc, &table, base, log) {
+    let view = world.view()?;
+    match replay_plain(alloc, &table, view.base(), view.log()) {
         Ok(state) => is_state(&state, model, table),
         Err(fault) => Ok(is_lacking(fault, model.lacked_in_log(table))),
     }
@@ -96,7 +94,7 @@ pub(crate) fn difference<C: Ledger, A: Ledger>(
     if !are_accounts(world, model) {
         return Some("an account or an error");
     }
-    if world.point() != model.point() || !is_log(world.log(), &model.log) {
+    if world.point() != model.point() || !is_log(world.log(), model.left()) {
         return Some("the log");
     }
     if !is_base(world.base(), model) {

@@ -34,6 +34,18 @@ fn share(version: &Version) -> Result<Version, AllocError> {
     })
 }
 
+// The items from an index on.
+fn rest(alloc: Global, version: &Version, from: usize) -> Result<Version, AllocError> {
+    let mut model = Vec::new(alloc);
+    for item in version.model.iter().skip(from) {
+        model.push(*item)?;
+    }
+    Ok(Version {
+        list: version.list.rest(alloc, from)?,
+        model,
+    })
+}
+
 fn agrees_by_get(version: &Version) -> bool {
     for (i, item) in version.model.iter().enumerate() {
         if version.list.get(i) != Some(item) {
@@ -99,6 +111,56 @@ fn items_that_own_memory(rt: HostRuntime) -> Result<(), Fail> {
     Ok(())
 }
 
+#[test]
+fn a_rest_begins_at_its_index(rt: HostRuntime) -> Result<(), Fail> {
+    for len in LENGTHS {
+        let made = list_of(rt.alloc(), len)?;
+        for from in LENGTHS {
+            let mut rest = rest(rt.alloc(), &made, from as usize)?;
+            assert!(rt; agrees(&rest), "{from} of {len} items");
+            for i in 0..70 {
+                push(rt.alloc(), &mut rest, i)?;
+            }
+            assert!(rt; agrees(&rest), "{from} of {len} items and more");
+        }
+        assert!(rt; agrees(&made), "{len} items");
+    }
+    Ok(())
+}
+
+#[test]
+fn the_first_items(rt: HostRuntime) -> Result<(), Fail> {
+    for len in LENGTHS {
+        let made = list_of(rt.alloc(), len)?;
+        for count in LENGTHS {
+            let mut first = list_of(rt.alloc(), count.min(len))?;
+            first.list = made.list.first(rt.alloc(), count as usize)?;
+            assert!(rt; agrees(&first), "{count} of {len} items");
+            for i in 0..70 {
+                push(rt.alloc(), &mut first, i)?;
+            }
+            assert!(rt; agrees(&first), "{count} of {len} items and more");
+        }
+        assert!(rt; agrees(&made), "{len} items");
+    }
+    Ok(())
+}
+
+#[test]
+fn a_version_with_one_item_more(rt: HostRuntime) -> Result<(), Fail> {
+    for len in LENGTHS {
+        let mut made = list_of(rt.alloc(), len)?;
+        let Ok(longer) = made.list.pushed(rt.alloc(), 9) else {
+            return Ok(());
+        };
+        assert!(rt; agrees(&made), "{len} items");
+        push(rt.alloc(), &mut made, 9)?;
+        made.list = longer;
+        assert!(rt; agrees(&made), "one more than {len} items");
+    }
+    Ok(())
+}
+
 // ---- Drawn steps on versions that are all kept
 
 // Mostly the newest version goes on, and sometimes an older one.
@@ -109,10 +171,11 @@ fn drawn_place(seed: &mut u64, count: usize) -> usize {
     }
 }
 
-// One item more in a version, or one more version of the same items.
+// One item more in a version, or one more version of the same items, or of all but some of the first.
 fn step(alloc: Global, seed: &mut u64, versions: &mut Vec<Version>) -> Result<(), AllocError> {
     let place = drawn_place(seed, versions.len());
     let shares = draw(seed, 60) == 0;
+    let rests = draw(seed, 400) == 0;
     let item = draw(seed, 1000) as u64;
     let Some(version) = versions.get_mut(place) else {
         return Ok(());
@@ -120,6 +183,12 @@ fn step(alloc: Global, seed: &mut u64, versions: &mut Vec<Version>) -> Result<()
     if shares {
         let same = share(version)?;
         versions.push(same)?;
+        return Ok(());
+    }
+    if rests {
+        let from = draw(seed, version.model.len().min(99) + 1);
+        let fewer = rest(alloc, version, from)?;
+        versions.push(fewer)?;
         return Ok(());
     }
     push(alloc, version, item)
@@ -136,8 +205,8 @@ fn longest(versions: &[Version]) -> usize {
 #[test]
 fn old_versions_stay(rt: HostRuntime) -> Result<(), Fail> {
     let mut versions = vec![in rt.alloc(); empty(rt.alloc())]?;
-    let mut seed: u64 = 11;
-    for _ in 0..9000 {
+    let mut seed: u64 = 15;
+    for _ in 0..12000 {
         step(rt.alloc(), &mut seed, &mut versions)?;
     }
     for (i, version) in versions.iter().enumerate() {

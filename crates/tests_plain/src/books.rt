@@ -4,9 +4,9 @@ use crate::plain::{Given, Plain, PlainOp};
 use crate::transactions::PlainDone;
 
 // What an operation adds to the tally.
-fn added_by(model: &Model, done: &PlainDone) -> u64 {
+fn added_by(tally: Option<u32>, done: &PlainDone) -> u64 {
     match done.op {
-        PlainOp::Commute(call) if model.tally == Some(done.r) => match call.given {
+        PlainOp::Commute(call) if tally == Some(done.r) => match call.given {
             Given::One(Plain::Int(n)) => n.unsigned_abs(),
             _ => 0,
         },
@@ -14,10 +14,11 @@ fn added_by(model: &Model, done: &PlainDone) -> u64 {
     }
 }
 
-fn added_in(model: &Model, dones: &[PlainDone]) -> u64 {
+/// What the operations of a transaction add to the tally.
+pub fn added_in(tally: Option<u32>, dones: &[PlainDone]) -> u64 {
     let mut added = 0u64;
     for done in dones {
-        added = added.wrapping_add(added_by(model, done));
+        added = added.wrapping_add(added_by(tally, done));
     }
     added
 }
@@ -39,7 +40,7 @@ impl Model {
         let mut added = 0u64;
         for entry in &self.log {
             if let PlainEntry::Trans(_, tx) = entry {
-                added = added.wrapping_add(added_in(self, tx.dones.as_slice()));
+                added = added.wrapping_add(added_in(self.tally, tx.dones.as_slice()));
             }
         }
         added

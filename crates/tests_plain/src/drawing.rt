@@ -198,6 +198,16 @@ impl Draws {
         }
     }
 
+    /// A point from the base's on, now and then one before it or after the last.
+    pub fn log_point(&mut self, model: &Model) -> u64 {
+        if self.once_in(6) {
+            self.below(model.log.len().saturating_add(2)) as u64
+        } else {
+            let ahead = self.below(model.left().len().saturating_add(1)) as u64;
+            model.base.point().saturating_add(ahead)
+        }
+    }
+
     /// Mostly an agent that is failed.
     pub fn failed(&mut self, model: &Model) -> u32 {
         match model.first_failed() {

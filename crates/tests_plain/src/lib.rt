@@ -2,13 +2,14 @@
 //!
 //! | Modules | |
 //! |---|---|
-//! | `plain`, `model`, `transactions`, `agents`, `books` | the model, from its values and functions to the books |
+//! | `plain`, `model`, `transactions`, `agents`, `books`, `bases` | the model, from its values and functions to the books and the base |
 //! | `making`, `shows` | values made from the model's, and whether what is seen is what the model has |
 //! | `drawing`, `outcomes`, `player`, `tables` | what is drawn, what came of it, what does both, and with which functions |
 //! | `starts`, `open`, `held` | what worlds begin with, and the calls that need no world: those of open transactions and of jobs |
 #![tactic(auto)]
 
 pub mod agents;
+pub mod bases;
 pub mod books;
 pub mod drawing;
 pub mod held;

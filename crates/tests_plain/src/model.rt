@@ -1,5 +1,6 @@
-//! The model of a world: lists of references, and the log.
+//! The model of a world: lists of references, and all entries that there ever were.
 use crate::agents::PlainAccount;
+use crate::bases::PlainBase;
 use crate::plain::{Plain, PlainCall, PlainOp, passes, place};
 use crate::tables::Table;
 use crate::transactions::PlainTx;
@@ -74,8 +75,8 @@ pub struct Model {
     pub agents: Vec<Reference>,
     pub accounts: Vec<PlainAccount>,
     pub tally: Option<u32>,
-    pub declared_refs: Vec<Plain>,
-    pub declared_atoms: Vec<Plain>,
+    pub base: PlainBase,
+    /// All entries, those that are folded into the base too.
     pub log: Vec<PlainEntry>,
     /// The points of the commits with sends that aren't released.
     pub held: Vec<u64>,
@@ -91,8 +92,7 @@ impl Drop for Model {
             agents: _agents,
             accounts: _accounts,
             tally: _,
-            declared_refs: _declared_refs,
-            declared_atoms: _declared_atoms,
+            base: _base,
             log: _log,
             held: _held,
         } = self;
@@ -111,8 +111,7 @@ impl Model {
             agents: Vec::new(alloc),
             accounts: Vec::new(alloc),
             tally: None,
-            declared_refs: Vec::new(alloc),
-            declared_atoms: Vec::new(alloc),
+            base: PlainBase::empty(alloc),
             log: Vec::new(alloc),
             held: Vec::new(alloc),
         }
@@ -207,8 +206,8 @@ impl Model {
         start: PlainStart,
     ) -> Answer<u32, MakeFault> {
         match kind {
-            Kind::Ref => self.declared_refs.push(start.value)?,
-            Kind::Atom => self.declared_atoms.push(start.value)?,
+            Kind::Ref => self.base.add_ref(start.value, 0)?,
+            Kind::Atom => self.base.atoms.push(start.value)?,
             Kind::Agent => {}
         }
         self.made(table, kind, start)

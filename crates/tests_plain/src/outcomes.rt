@@ -66,6 +66,7 @@ pub enum Row {
     ForeignJob,
     Restart,
     SetErrorMode,
+    Checkpoint,
     ReplayPlain,
 }
 
@@ -135,6 +136,10 @@ const ROWS: &[(&str, &str)] = &[
         "ok NoSuchAgent NotFailed Invalid keeps clears - - - NoSuchFun",
     ),
     ("set_error_mode", "ok NoSuchAgent failed"),
+    (
+        "checkpoint",
+        "folds NoSuchPoint - nothing - - - - - NoSuchFun",
+    ),
     ("replay_plain", "ok - - - - - - - - NoSuchFun"),
 ];
 

@@ -9,6 +9,7 @@ use ref_atoms::{Cas, Swapped};
 use ref_edn::{Node, Value};
 use ref_fun::{Action, Args, Core, Rule};
 use ref_log::{AuditFault, Base, Done, Entry, Notice, Op, PlainState, Sent, Transaction};
+use ref_pvec::PVec;
 use ref_tx::{Snapshot, Tx};
 use std::alloc::AllocError;
 
@@ -231,24 +232,37 @@ impl Shows<PlainEntry> for Entry {
 }
 
 /// Whether there are as many entries, and the last is the same.
-pub fn is_log(seen: &[Entry], wanted: &[PlainEntry]) -> bool {
-    match (seen.last(), wanted.last()) {
-        (Some(entry), Some(plain)) => seen.len() == wanted.len() && entry.shows(plain),
-        (None, None) => true,
-        _ => false,
+pub fn is_log(seen: &PVec<Entry>, wanted: &[PlainEntry]) -> bool {
+    match wanted.split_last() {
+        Some((plain, others)) => match seen.get(others.len()) {
+            Some(entry) => seen.len() == wanted.len() && entry.shows(plain),
+            None => false,
+        },
+        None => seen.is_empty(),
     }
 }
 
-/// Whether a base has what the model declared.
+/// Whether all entries are the same.
+pub fn is_whole_log(seen: &PVec<Entry>, wanted: &[PlainEntry]) -> bool {
+    for (i, plain) in wanted.iter().enumerate() {
+        match seen.get(i) {
+            Some(entry) if entry.shows(plain) => {}
+            _ => return false,
+        }
+    }
+    seen.len() == wanted.len()
+}
+
+/// Whether a base is that of the model.
 pub fn is_base(base: &Base, model: &Model) -> bool {
-    base.point == 0
-        && base.commits == 0
-        && base.added == 0
+    let plain = &model.base;
+    base.point == plain.point()
+        && base.commits == plain.commits
+        && base.added == plain.added
         && base.tally == model.tally
-        && base.last.iter().all(|last| *last == 0)
-        && base.last.len() == model.declared_refs.len()
-        && show(base.refs.as_slice(), &model.declared_refs)
-        && show(base.atoms.as_slice(), &model.declared_atoms)
+        && base.last.as_slice() == plain.lasts.as_slice()
+        && show(base.refs.as_slice(), &plain.refs)
+        && show(base.atoms.as_slice(), &plain.atoms)
 }
 
 /// Whether a replay by a table gave these values of refs and atoms, and the table lacks no function of the log.

@@ -88,8 +88,8 @@ impl PlainTx {
         self.dones.iter().any(|done| done.r == r && !matches!(done.op, PlainOp::Commute(_)))
     }
 
-    // Whether it set, altered or commuted a ref.
-    fn touches(&self, r: u32) -> bool {
+    /// Whether it set, altered or commuted a ref.
+    pub fn touches(&self, r: u32) -> bool {
         self.dones
             .iter()
             .any(|done| done.r == r && done.op != PlainOp::Ensure)
@@ -318,8 +318,8 @@ impl Model {
     }
 }
 
-// Makes the operations one at a time.
-fn step(values: &mut Vec<Plain>, dones: &[PlainDone]) -> Result<(), CommitFault> {
+/// Makes the operations one at a time.
+pub fn step(values: &mut Vec<Plain>, dones: &[PlainDone]) -> Result<(), CommitFault> {
     for done in dones {
         if let Some(value) = values.get_mut(done.r as usize) {
             match place(done.op, *value) {
@@ -392,20 +392,14 @@ impl Model {
 
 // ---- The log
 
-impl Model {
-    /// The code of the first function in the log that the table lacks.
-    pub fn lacked_in_log(&self, table: Table) -> Option<u32> {
-        for entry in &self.log {
-            let code = match entry {
-                PlainEntry::Trans(_, tx) => tx.lacked(table),
-                PlainEntry::Atom(_, op, _) => table.lacked(*op),
-                PlainEntry::MadeRef(_, _) | PlainEntry::MadeAtom(_) => None,
-            };
-            if code.is_some() {
-                return code;
-            }
+impl PlainEntry {
+    /// The code of the first function that it calls and that the table lacks.
+    pub fn lacked(&self, table: Table) -> Option<u32> {
+        match self {
+            PlainEntry::Trans(_, tx) => tx.lacked(table),
+            PlainEntry::Atom(_, op, _) => table.lacked(*op),
+            PlainEntry::MadeRef(_, _) | PlainEntry::MadeAtom(_) => None,
         }
-        None
     }
 }
 

@@ -10,6 +10,7 @@ use crate::worlds::{
 use ref_agents::ErrorMode;
 use ref_fun::{Core, CoreFunctions};
 use ref_log::{Entry, MakeFault, RuleFault, Stamp, Who};
+use ref_pvec::PVec;
 use ref_shared::Open;
 use ref_tx::Tx;
 use ref_world::{ALL_PARTS, RefStart, Start, Totals};
@@ -82,7 +83,10 @@ fn count(alloc: Global, tx: &mut Tx<Core>, n: &str) -> Result<Option<i64>, Stop>
 }
 
 // Of each transaction of a log its stamp, and the kept answer of its first operation.
-fn first_answers(alloc: Global, log: &[Entry]) -> Result<Vec<(Stamp, Option<i64>)>, AllocError> {
+fn first_answers(
+    alloc: Global,
+    log: &PVec<Entry>,
+) -> Result<Vec<(Stamp, Option<i64>)>, AllocError> {
     let mut all = Vec::new(alloc);
     for entry in log {
         if let Entry::Trans(transaction) = entry {

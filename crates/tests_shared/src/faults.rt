@@ -2,6 +2,7 @@
 use ref_refs::{CommitFault, Conflict};
 use ref_shared::{GatherFault, TransactFault, WorkFault};
 use ref_tx::TxFault;
+use ref_world::CheckpointFault;
 use std::fmt::Display;
 use std::process::Abort;
 use std::test::Fail;
@@ -64,6 +65,16 @@ const GATHER_FAULTS: &[(GatherFault, u8, &str)] = &[
     (GatherFault::Memory, 3, "out of memory"),
 ];
 
+const CHECKPOINT_FAULTS: &[(CheckpointFault, u8, &str)] = &[
+    (
+        CheckpointFault::NoSuchPoint,
+        1,
+        "there is no such point in the log",
+    ),
+    (CheckpointFault::Memory, 2, "out of memory"),
+    (CheckpointFault::NoSuchFun(7), 9, "no function has code 7"),
+];
+
 #[test]
 fn faults_of_shared_worlds_say_what_they_are(rt: HostRuntime) -> Result<(), Fail> {
     for (fault, number, words) in TRANSACT_FAULTS {
@@ -73,6 +84,9 @@ fn faults_of_shared_worlds_say_what_they_are(rt: HostRuntime) -> Result<(), Fail
         check(&rt, fault, fault.number(), *number, words)?;
     }
     for (fault, number, words) in GATHER_FAULTS {
+        check(&rt, fault, fault.number(), *number, words)?;
+    }
+    for (fault, number, words) in CHECKPOINT_FAULTS {
         check(&rt, fault, fault.number(), *number, words)?;
     }
     Ok(())

@@ -4,7 +4,7 @@ ghost use Rattle.ref_world.specs.Shares.{all_parts};
 
 use crate::worlds::{Stop, done, opened, plain_start, value};
 use ref_fun::{Core, CoreFunctions};
-use ref_log::{Done, Entry, Op, SharedVec, Stamp, Transaction};
+use ref_log::{Done, Entry, Op, SharedVec, Stamp, Transaction, vector_of};
 use ref_shared::{GatherFault, Shared, match_receipts};
 use ref_world::{ALL_PARTS, LogReceipt, Share};
 use std::alloc::{AllocError, Global};
@@ -185,6 +185,7 @@ fn matched(
     if log.len() > 8 {
         return Err(AllocError);
     }
+    let log = vector_of(alloc, &log)?;
     Ok(match_receipts(alloc, u64::from(base), &log, &kept))
 }
 

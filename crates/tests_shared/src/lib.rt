@@ -6,7 +6,7 @@
 //!
 //! | Modules | |
 //! |---|---|
-//! | `calls`, `conflicts`, `finishing` | by one thread: each call, transactions that are tried again, the end |
+//! | `calls`, `checkpoints`, `conflicts`, `finishing` | by one thread: each call, views and checkpoints, transactions that are tried again, the end |
 //! | `work` | by one thread: agents |
 //! | `threads`, `side_by_side`, `stress` | by several: transactions, agents, all together |
 //! | `looks` | by two: at each step between, the lock is free |
@@ -19,6 +19,8 @@
 
 #[cfg(test)]
 mod calls;
+#[cfg(test)]
+mod checkpoints;
 #[cfg(test)]
 mod conflicts;
 #[cfg(test)]

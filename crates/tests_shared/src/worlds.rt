@@ -7,6 +7,7 @@ use ref_agents::ErrorMode;
 use ref_edn::{Node, Value, read_all, read_one};
 use ref_fun::{Action, Args, Core, CoreFunctions, Rule};
 use ref_log::{Entry, Notice, Stamp, Who};
+use ref_pvec::PVec;
 use ref_shared::{Shared, WatchSink};
 use ref_tx::Tx;
 use ref_world::{AgentStart, AtomStart, RefStart, Share, Start, Totals, World};
@@ -193,7 +194,10 @@ impl WatchSink for Listener {
 }
 
 /// The stamp and the read point of each transaction of a log.
-pub(crate) fn all_commits(alloc: Global, log: &[Entry]) -> Result<Vec<(Stamp, u64)>, AllocError> {
+pub(crate) fn all_commits(
+    alloc: Global,
+    log: &PVec<Entry>,
+) -> Result<Vec<(Stamp, u64)>, AllocError> {
     let mut all = Vec::new(alloc);
     for entry in log {
         if let Entry::Trans(transaction) = entry {

@@ -8,6 +8,7 @@ use ref_audit::{Verdict, audit, dump, report};
 use ref_edn::read_one;
 use ref_fun::has_core;
 use ref_log::{Entry, Stamp};
+use ref_pvec::PVec;
 use ref_workload::plan::plan;
 use ref_workload::{Plan, RunFault, RunOut, run_plan};
 use ref_world::ALL_PARTS;
@@ -150,7 +151,7 @@ fn verdict_of<C: Ledger, A: Ledger>(
 }
 
 // The stamp and the read point of each transaction of a log.
-fn all_commits(alloc: Global, log: &[Entry]) -> Result<Vec<(Stamp, u64)>, AllocError> {
+fn all_commits(alloc: Global, log: &PVec<Entry>) -> Result<Vec<(Stamp, u64)>, AllocError> {
     let mut all = Vec::new(alloc);
     for entry in log {
         if let Entry::Trans(transaction) = entry {

@@ -12,6 +12,7 @@ use ref_atoms::{AtomFault, AtomStore, Cas, Swapped};
 use ref_edn::Value;
 use ref_fun::{Action, Args, Core, Rule};
 use ref_log::{Base, Entry, MakeFault, Op, RuleFault, SharedVec, WatchFault, Who};
+use ref_pvec::PVec;
 use ref_refs::RefStore;
 use ref_world::Receipt;
 use std::alloc::{AllocError, Global};
@@ -23,7 +24,7 @@ pub(crate) struct Apart {
     agents: AgentStore<Core>,
     base: Base,
     point: u64,
-    log: Vec<Entry>,
+    log: PVec<Entry>,
 }
 
 fn values_of(alloc: Global, starts: &[Start]) -> Result<SharedVec<Value>, AllocError> {
@@ -61,7 +62,7 @@ impl Apart {
                 added: 0,
             },
             point: 0,
-            log: Vec::new(alloc),
+            log: PVec::empty(),
         })
     }
 
@@ -121,8 +122,8 @@ impl Apart {
         self.point.saturating_add(1)
     }
 
-    fn enter(&mut self, entry: Entry) -> Result<(), AllocError> {
-        self.log.push(entry)?;
+    fn enter(&mut self, alloc: Global, entry: Entry) -> Result<(), AllocError> {
+        self.log.push(alloc, entry)?;
         self.point = self.next_point();
         Ok(())
     }
@@ -175,7 +176,7 @@ impl Subject for Apart {
             self.agents
                 .send_held(alloc, at, transaction.sends.as_slice())?;
         }
-        self.enter(landed.entry)?;
+        self.enter(by.alloc, landed.entry)?;
         Ok(Ok(Receipt {
             point: at,
             stamp: STAMP,
@@ -186,14 +187,14 @@ impl Subject for Apart {
     fn swap(&mut self, by: By, a: u32, code: u32, args: Args) -> Result<Swapped, AtomFault> {
         let (at, op) = (self.next_point(), Op::Alter(code, args.share()?));
         let swapped = self.atoms.swap(by.alloc, by.funs, at, a, code, args)?;
-        self.enter(Entry::Atom(a, op, swapped.new.share()?))?;
+        self.enter(by.alloc, Entry::Atom(a, op, swapped.new.share()?))?;
         Ok(swapped)
     }
 
     fn reset(&mut self, by: By, a: u32, value: Value) -> Result<Swapped, AtomFault> {
         let (at, op) = (self.next_point(), Op::Set(value.share()?));
         let swapped = self.atoms.reset(by.alloc, by.funs, at, a, value)?;
-        self.enter(Entry::Atom(a, op, swapped.new.share()?))?;
+        self.enter(by.alloc, Entry::Atom(a, op, swapped.new.share()?))?;
         Ok(swapped)
     }
 
@@ -202,7 +203,7 @@ impl Subject for Apart {
         let entry = Entry::Atom(a, Op::Set(new.share()?), new.share()?);
         let cas = self.atoms.compare_and_set(alloc, funs, at, a, old, new)?;
         if cas.done {
-            self.enter(entry)?;
+            self.enter(by.alloc, entry)?;
         }
         Ok(cas)
     }
@@ -212,12 +213,12 @@ impl Subject for Apart {
         match kind {
             Kind::Ref => {
                 let r = self.make_ref(by, at, start)?;
-                self.enter(Entry::MadeRef(value))?;
+                self.enter(by.alloc, Entry::MadeRef(value))?;
                 Ok(Who::Ref(r))
             }
             Kind::Atom => {
                 let a = self.make_atom(by, at, start)?;
-                self.enter(Entry::MadeAtom(value))?;
+                self.enter(by.alloc, Entry::MadeAtom(value))?;
                 Ok(Who::Atom(a))
             }
             Kind::Agent => Ok(Who::Agent(self.make_agent(by, start)?)),
@@ -284,8 +285,8 @@ impl Subject for Apart {
         }
     }
 
-    fn log(&self) -> Option<(&Base, &[Entry])> {
-        Some((&self.base, self.log.as_slice()))
+    fn log(&self) -> Option<(&Base, &PVec<Entry>)> {
+        Some((&self.base, &self.log))
     }
 
     fn set_point(&mut self, point: u64) -> bool {

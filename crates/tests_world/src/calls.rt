@@ -12,6 +12,7 @@ use ref_atoms::{AtomFault, Swapped};
 use ref_edn::{Node, Value};
 use ref_fun::{Core, Rule};
 use ref_log::{Base, Done, Entry, Notice, Who};
+use ref_pvec::PVec;
 use ref_refs::CommitFault;
 use ref_tx::{Tx, TxFault};
 use ref_world::Receipt;
@@ -307,7 +308,7 @@ fn base_form(alloc: Global, base: &Base) -> Form {
 }
 
 // The answer of an operation of an entry, both counted from 1, where the entry is a commit with the stamp of each.
-fn kept_answer(alloc: Global, log: &[Entry], call: &[Value]) -> Form {
+fn kept_answer(alloc: Global, log: &PVec<Entry>, call: &[Value]) -> Form {
     let (entry, op) = (number_at(call, 1) as usize, number_at(call, 2) as usize);
     let Some(Entry::Trans(transaction)) = log.get(entry.wrapping_sub(1)) else {
         return word(alloc, "no-such-commit");

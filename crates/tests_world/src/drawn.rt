@@ -9,6 +9,7 @@ use crate::whole::Worlds;
 use ref_edn::{Node, Value};
 use ref_fun::{Cause, Core, FunTable};
 use ref_log::{Base, Entry, Share, SharedVec, Transaction, replay_plain};
+use ref_pvec::PVec;
 use ref_refs::CommitFault;
 use ref_tx::{Snapshot, Tx, TxFault};
 use std::alloc::{AllocError, Global};
@@ -109,7 +110,8 @@ fn entry_of(alloc: Global, tx: &Tx<Core>) -> Result<Entry, AllocError> {
 
 // Whether the slow replay of the operations, on the values of the beginning, gives the in-transaction values.
 fn agrees(by: By, base: &Base, tx: &Tx<Core>) -> Result<bool, AllocError> {
-    let entries = vec![in by.alloc; entry_of(by.alloc, tx)?]?;
+    let mut entries = PVec::empty();
+    entries.push(by.alloc, entry_of(by.alloc, tx)?)?;
     if base.point > 0 {
         return Ok(false);
     }

@@ -25,6 +25,8 @@ mod atoms;
 #[cfg(test)]
 mod calls;
 #[cfg(test)]
+mod checkpoints;
+#[cfg(test)]
 mod conflicts;
 #[cfg(test)]
 mod drawn;

@@ -14,6 +14,7 @@ use ref_edn::Value;
 use ref_fun::FunTable;
 use ref_log::{
     AuditFault, Base, Done, Entry, Op, PlainState, SharedVec, Stamp, Transaction, replay_plain,
+    vector_of,
 };
 use std::alloc::{AllocError, Global};
 use std::process::Abort;
@@ -103,7 +104,8 @@ fn entries_of(alloc: Global, forms: &[Value]) -> Result<Vec<Entry>, AllocError> 
 fn replayed(alloc: Global, point: u32, entries: &[Entry]) -> Form {
     let funs = table_of(alloc, &[1, 3], &[])?;
     let base = base_of(alloc, point)?;
-    answer_form(alloc, replay_plain(alloc, &funs, &base, entries))
+    let entries = vector_of(alloc, entries)?;
+    answer_form(alloc, replay_plain(alloc, &funs, &base, &entries))
 }
 
 // Whether the replay gives what a row wants, on a base at the point that it begins with.

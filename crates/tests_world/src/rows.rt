@@ -85,7 +85,7 @@ pub(crate) fn is_replayed<S: Subject>(by: By, subject: &S) -> Result<bool, Alloc
     let Some((base, log)) = subject.log() else {
         return Ok(true);
     };
-    if base.point > LAST_POINT {
+    if base.point > LAST_POINT || log.len() as u64 > LAST_POINT {
         return Ok(false);
     }
     let Ok(state) = replay_plain::<Core, FunTable>(alloc, by.funs, base, log) else {

@@ -11,6 +11,7 @@ use ref_atoms::{AtomFault, Cas, Swapped};
 use ref_edn::Value;
 use ref_fun::{Action, Args, Core, FunTable, Rule};
 use ref_log::{Base, Entry, MakeFault, RuleFault, Stamp, WatchFault, Who};
+use ref_pvec::PVec;
 use ref_refs::CommitFault;
 use ref_tx::Tx;
 use ref_world::Receipt;
@@ -173,7 +174,7 @@ pub(crate) trait Subject: Drop + Sized {
     fn extent(&self) -> Extent;
 
     /// The base, and the entries after it, if the subject can lend them.
-    fn log(&self) -> Option<(&Base, &[Entry])>;
+    fn log(&self) -> Option<(&Base, &PVec<Entry>)>;
 
     /// Sets the present point by hand, where the subject lets it be set and no ref has changed after it.
     fn set_point(&mut self, point: u64) -> bool;

@@ -12,6 +12,7 @@ use ref_atoms::{AtomFault, Cas, Swapped};
 use ref_edn::Value;
 use ref_fun::{Action, Args, Core, Rule};
 use ref_log::{Base, Entry, MakeFault, RuleFault, Transaction, WatchFault, Who};
+use ref_pvec::PVec;
 use ref_world::{ALL_PARTS, AgentStart, AtomStart, RefStart, Share, World};
 use std::alloc::{AllocError, Global};
 use std::marker::Brand;
@@ -100,7 +101,7 @@ fn touches(transaction: &Transaction, r: u32) -> bool {
 }
 
 // The point of the last entry that made or touched a ref; where none did, the base's.
-fn last_change(base: &Base, log: &[Entry], r: u32) -> u64 {
+fn last_change(base: &Base, log: &PVec<Entry>, r: u32) -> u64 {
     let mut last = base.last.get(r as usize).copied().unwrap_or(0);
     let mut refs = base.refs.len();
     let mut point = base.point;
@@ -220,7 +221,7 @@ impl<C: Ledger, A: Ledger> Subject for Whole<C, A> {
         extent
     }
 
-    fn log(&self) -> Option<(&Base, &[Entry])> {
+    fn log(&self) -> Option<(&Base, &PVec<Entry>)> {
         Some((self.world.base(), self.world.log()))
     }
 

@@ -4,13 +4,15 @@ ghost use Rattle.ref_edn.specs.Edn.{Edn, nesting, nil, symbol};
 ghost use Rattle.ref_edn.specs.Lawful.{IsLawful};
 ghost use Rattle.ref_edn.specs.Names.{is_symbol};
 ghost use Rattle.ref_edn.specs.View.{edn};
+ghost use Rattle.ref_audit.specs.Dumped.{entry_form};
 ghost use Rattle.ref_audit.specs.Made.{IsMakeFault};
 ghost use Rattle.ref_audit.specs.Words.{name_form, number_form, rule_form, vector_form};
 
 use crate::faults::DumpMakeFault;
 use ref_edn::{Items, Node, Text, Value};
 use ref_fun::{Rule, name_of};
-use ref_log::share_all;
+use ref_log::{Entry, share_all};
+use ref_pvec::PVec;
 use std::alloc::{AllocError, Global};
 
 // What has a form in a dump.
@@ -105,6 +107,19 @@ pub(crate) fn vector_of_all<T: Form>(alloc: Global, items: &[T]) -> Result<Value
     let mut forms = Vec::with_capacity(alloc, items.len())?;
     for item in items {
         forms.push(item.to_value(alloc)?)?;
+    }
+    vector_of(alloc, forms)
+}
+
+// The vector of the forms of a log's entries.
+#[tactic(auto, using(crate::proofs::Depths::make_faults))]
+pub(crate) fn vector_of_entries(alloc: Global, log: &PVec<Entry>) -> Result<Value, DumpMakeFault>
+    ensures made { IfOk result (λ v. v ≡ vector_form (map entry_form log.now)) }
+    ensures fault { IfErr result (IsMakeFault (nesting (vector_form (map entry_form log.now)))) }
+{
+    let mut forms = Vec::with_capacity(alloc, log.len())?;
+    for entry in log {
+        forms.push(entry.to_value(alloc)?)?;
     }
     vector_of(alloc, forms)
 }

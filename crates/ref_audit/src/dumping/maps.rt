@@ -7,7 +7,7 @@ ghost use Rattle.ref_audit.specs.Dumped.{agents_form, base_refs_form, dump_entri
 ghost use Rattle.ref_audit.specs.Made.{AreFew, AreParts, IsMakeFault, word_text};
 ghost use Rattle.ref_audit.specs.Words.{number_form, vector_form};
 
-use crate::dumping::forms::{number, vector_of_all, vector_of_values};
+use crate::dumping::forms::{number, vector_of_entries, vector_of_values};
 use crate::dumping::references::{base_refs, folded, tally};
 use crate::dumping::worlds::{agents_now, values_now};
 use crate::faults::DumpMakeFault;
@@ -46,7 +46,7 @@ pub(crate) fn parts_of<C: Ledger, A: Ledger>(
         atoms: values_now(alloc, world, Kind::Atom)?,
         base_atoms: vector_of_values(alloc, base.atoms.as_slice())?,
         base_refs: base_refs(alloc, base)?,
-        entries: vector_of_all(alloc, world.log())?,
+        entries: vector_of_entries(alloc, world.log())?,
         folded: folded(alloc, base)?,
         refs: values_now(alloc, world, Kind::Ref)?,
     })

@@ -5,6 +5,7 @@ ghost use Rattle.ref_audit.specs.Dumped.{least, lesser, unnamed_code, unnamed_in
 use ref_agents::{Account, Handled, Queued};
 use ref_fun::is_function;
 use ref_log::{Entry, Sent};
+use ref_pvec::PVec;
 
 // What may name actions.
 pub(crate) trait Naming {
@@ -71,6 +72,16 @@ pub(crate) fn least_of<T: Naming>(items: &[T]) -> Option<u32>
     let mut found = None;
     for item in items {
         found = lesser(found, item.unnamed());
+    }
+    found
+}
+
+pub(crate) fn least_in_log(log: &PVec<Entry>) -> Option<u32>
+    ensures { result ≡ least unnamed_in_entry log.now }
+{
+    let mut found = None;
+    for entry in log {
+        found = lesser(found, entry.unnamed());
     }
     found
 }

@@ -8,7 +8,7 @@ ghost use Rattle.ref_audit.specs.Made.{AreFew, IsMakeFault, who_of};
 use crate::dumping::agents::agent;
 use crate::dumping::forms::vector_of;
 use crate::dumping::references::value_now;
-use crate::dumping::unnamed::{least_in_account, least_of, lesser};
+use crate::dumping::unnamed::{least_in_account, least_in_log, lesser};
 use crate::faults::DumpMakeFault;
 use crate::kinds::Kind;
 use ref_edn::Value;
@@ -72,7 +72,7 @@ pub(crate) fn unnamed_in<C: Ledger, A: Ledger>(world: &World<Core, C, A>) -> Opt
     requires { AreFew world.now }
     ensures { result ≡ unnamed world.now }
 {
-    let mut found = least_of(world.log());
+    let mut found = least_in_log(world.log());
     for g in 0..=MOST_REFERENCES as u32 {
         match world.account(g) {
             Some(account) => found = lesser(found, least_in_account(account)),

@@ -6,6 +6,7 @@ ghost use Rattle.ref_audit.specs.OwnDump.{is_small_account, is_small_args, is_sm
 use ref_agents::{Account, Handled};
 use ref_fun::Args;
 use ref_log::{Done, Entry, Op, Sent, Transaction};
+use ref_pvec::PVec;
 
 pub(crate) fn tell_args(args: &Args)
     ensures { is_small_args args.now ≡ true }
@@ -77,7 +78,7 @@ fn tell_entry(entry: &Entry)
     }
 }
 
-pub(crate) fn tell_entries(entries: &[Entry])
+pub(crate) fn tell_entries(entries: &PVec<Entry>)
     ensures { list_all is_small_entry entries.now ≡ true }
 {
     for entry in entries {

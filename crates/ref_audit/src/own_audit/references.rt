@@ -7,12 +7,9 @@ ghost use Rattle.ref_audit.specs.OwnDump.{account_fact, is_small_rule, rule_fact
 
 use crate::own_audit::parts::{tell_account, tell_args};
 use ref_fun::{Core, Rule};
-use ref_log::Who;
+use ref_log::{MOST_REFERENCES, Who};
 use ref_world::World;
 use std::sync::ledger::Ledger;
-
-// How many references of a kind a world may have.
-const MOST_REFERENCES: u32 = 1_048_576;
 
 fn tell_rule(rule: Option<&Rule>)
     ensures { is_small_rule (option_copied rule.entry) ≡ true }
@@ -37,7 +34,7 @@ pub(crate) fn tell_refs<C: Ledger, A: Ledger>(world: &World<Core, C, A>)
     requires { length world.now.refs.values ≤ 1048576 }
     ensures { (n : ℕ) → rule_fact (slice_get world.now.refs.values n) (guards.rule_at world.now.refs.guards n) ≡ true }
 {
-    for r in 0..MOST_REFERENCES {
+    for r in 0..MOST_REFERENCES as u32 {
         if !tell_reference(world, Who::Ref(r)) {
             return;
         }
@@ -48,7 +45,7 @@ pub(crate) fn tell_atoms<C: Ledger, A: Ledger>(world: &World<Core, C, A>)
     requires { length world.now.atoms.values ≤ 1048576 }
     ensures { (n : ℕ) → rule_fact (slice_get world.now.atoms.values n) (guards.rule_at world.now.atoms.guards n) ≡ true }
 {
-    for a in 0..MOST_REFERENCES {
+    for a in 0..MOST_REFERENCES as u32 {
         if !tell_reference(world, Who::Atom(a)) {
             return;
         }
@@ -60,7 +57,7 @@ pub(crate) fn tell_agents<C: Ledger, A: Ledger>(world: &World<Core, C, A>)
     ensures { (n : ℕ) → rule_fact (slice_get (values_of world.now.agents.agents) n)
         (guards.rule_at world.now.agents.guards n) ≡ true }
 {
-    for g in 0..MOST_REFERENCES {
+    for g in 0..MOST_REFERENCES as u32 {
         if !tell_reference(world, Who::Agent(g)) {
             return;
         }
@@ -85,7 +82,7 @@ pub(crate) fn tell_accounts<C: Ledger, A: Ledger>(world: &World<Core, C, A>)
     requires { length world.now.agents.agents ≤ 1048576 }
     ensures { (g : ℕ) → account_fact (account_at world.now.agents.agents g) ≡ true }
 {
-    for g in 0..MOST_REFERENCES {
+    for g in 0..MOST_REFERENCES as u32 {
         if !tell_account_of(world, g) {
             return;
         }

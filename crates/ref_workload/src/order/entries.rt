@@ -7,6 +7,7 @@ use crate::order::named::is_named;
 use crate::plans::Step;
 use ref_audit::Refusal;
 use ref_log::{Entry, SharedVec, Transaction};
+use ref_pvec::PVec;
 
 // Marks the refused steps, where each is open.
 pub(crate) fn mark_refused(board: &mut Board, refused: &[Refusal]) -> bool
@@ -22,7 +23,11 @@ pub(crate) fn mark_refused(board: &mut Board, refused: &[Refusal]) -> bool
 }
 
 // Marks the steps of the entries, where each is an open one that names what the entry holds.
-pub(crate) fn mark_entries(board: &mut Board, workers: &[SharedVec<Step>], log: &[Entry]) -> bool
+pub(crate) fn mark_entries(
+    board: &mut Board,
+    workers: &[SharedVec<Step>],
+    log: &PVec<Entry>,
+) -> bool
     ensures { (refused : _) → AreMarks workers.now refused [] board.old → result ≡ true
         → EntriesStand workers.now refused log.now board.new }
 {

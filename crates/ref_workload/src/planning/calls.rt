@@ -88,10 +88,7 @@ pub fn rule_in(alloc: Global, parts: Iter<'_>) -> Result<Rule, Wrong>
     ensures wrong { IfErr result (λ e. e ≢ Wrong.Memory → (rule : RuleCalled)
         → IsCall IsPredicate parts.entry rule.code rule.args → ⊥) }
 {
-    let call = match call_in(alloc, parts) {
-        Ok(call) => call,
-        Err(wrong) => return Err(wrong),
-    };
+    let call = call_in(alloc, parts)?;
     match predicate_of(call.word) {
         Some(code) => Ok(Rule {
             code,
@@ -141,14 +138,8 @@ pub fn call_on(
     let Some(subject) = subject_in(parts) else {
         return Err(Wrong::Form);
     };
-    let call = match call_in(alloc, subject.rest) {
-        Ok(call) => call,
-        Err(wrong) => return Err(wrong),
-    };
-    let number = match number_of(declared, kind, subject.name) {
-        Ok(number) => number,
-        Err(wrong) => return Err(wrong),
-    };
+    let call = call_in(alloc, subject.rest)?;
+    let number = number_of(declared, kind, subject.name)?;
     match function_of(call.word) {
         Some(code) => Ok((
             number,
@@ -171,14 +162,8 @@ pub fn rule_on(alloc: Global, declared: &Declared, parts: Iter<'_>) -> Result<(u
     let Some(subject) = subject_in(parts) else {
         return Err(Wrong::Form);
     };
-    let call = match call_in(alloc, subject.rest) {
-        Ok(call) => call,
-        Err(wrong) => return Err(wrong),
-    };
-    let number = match number_of(declared, Kind::Ref, subject.name) {
-        Ok(number) => number,
-        Err(wrong) => return Err(wrong),
-    };
+    let call = call_in(alloc, subject.rest)?;
+    let number = number_of(declared, Kind::Ref, subject.name)?;
     match predicate_of(call.word) {
         Some(code) => Ok((
             number,
@@ -200,10 +185,7 @@ pub fn value_on(declared: &Declared, kind: Kind, parts: Iter<'_>) -> Result<(u32
     let Some(subject) = subject_in(parts) else {
         return Err(Wrong::Form);
     };
-    let value = match value_in(subject.rest) {
-        Ok(value) => value,
-        Err(wrong) => return Err(wrong),
-    };
+    let value = value_in(subject.rest)?;
     match number_of(declared, kind, subject.name) {
         Ok(number) => Ok((number, value)),
         Err(wrong) => Err(wrong),

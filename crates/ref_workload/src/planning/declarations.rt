@@ -146,18 +146,9 @@ pub fn declarations(
         → AreReferences ref_forms.now atom_forms.now agent_forms.now names refs atoms agents → ⊥) }
 {
     let mut table = NameTable::empty(alloc);
-    let (ref_names, refs) = match refs(alloc, ref_forms, &mut table) {
-        Ok(found) => found,
-        Err(fault) => return Err(fault),
-    };
-    let (atom_names, atoms) = match atoms(alloc, atom_forms, &mut table) {
-        Ok(found) => found,
-        Err(fault) => return Err(fault),
-    };
-    let (agent_names, agents) = match agents(alloc, agent_forms, &mut table) {
-        Ok(found) => found,
-        Err(fault) => return Err(fault),
-    };
+    let (ref_names, refs) = refs(alloc, ref_forms, &mut table)?;
+    let (atom_names, atoms) = atoms(alloc, atom_forms, &mut table)?;
+    let (agent_names, agents) = agents(alloc, agent_forms, &mut table)?;
     let names = Names::of(ref_names, atom_names, agent_names);
     let start = Start {
         refs,

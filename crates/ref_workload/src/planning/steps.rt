@@ -154,10 +154,7 @@ fn validator_on(
     let Some(subject) = subject_in(parts) else {
         return Err(Wrong::Form);
     };
-    let setting = match setting_in(alloc, subject.rest) {
-        Ok(setting) => setting,
-        Err(wrong) => return Err(wrong),
-    };
+    let setting = setting_in(alloc, subject.rest)?;
     let Some(who) = declared.find(subject.name)? else {
         return Err(Wrong::Name);
     };

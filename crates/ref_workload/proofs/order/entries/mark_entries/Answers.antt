@@ -1,18 +1,25 @@
-use Rattle.std.proofs.Common.{◌≡◌, refl, sym, ap, ◌∙◌, [], ◌∷◌, ◌++◌, ◌+◌, take, subst}
-use Rattle.std.proofs.lemmas.List.{take_more}
+use Rattle.std.proofs.Common.{rules, ◌≡◌, refl, sym, ap, ◌∙◌, ◌++◌, append_assoc, append-nil, subst}
 use Rattle.ref_workload.specs.Marks.{EntriesStand}
-use Rattle.ref_workload.proofs.Marking.{entries_more}
-use Rattle.ref_workload.proofs.Naming.{take_all}
+use Rattle.ref_workload.proofs.Marking.{entries_more, entries_none, passed, passed_more}
 use Rattle.ref_workload.proofs.order.entries.mark_entries.Goals as goal
 
+pub loop-entry-init : goal.loop-entry-init
+loop-entry-init c = record {
+  all = search rules;
+  stand = λ refused m. entries_none c.args.workers.now refused _ m;
+}
+
 pub loop-entry-preserved : goal.loop-entry-preserved
-loop-entry-preserved c = λ refused m.
-    let log = c.args.log.now in
-    let i = c.loop-entry.entry-index in
-    let e = c.entry-item.result in
-    let more : take (i + 1) log ≡ take i log ++ e ∷ [] = take_more log i e c.loop-entry-test.true ∙ ap (λ x. take i log ++ x ∷ []) (sym c.entry-item.is) in
-    rw more (entries_more c.args.workers.now refused (take i log) e c.loop-entry.board c.mark_entry.new.board (c.loop-entry.invariant refused m) (c.if-not-mark_entry.ensures refl))
+loop-entry-preserved c =
+    let before = c.loop-entry.yielded in
+    let first = c.in-Some.ensures.steps in
+    rw (passed_more before c.in-Some.entry) (record {
+      all = append_assoc (passed before) _ _ ∙ (ap (λ rest. passed before ++ rest) (sym first) ∙ c.loop-entry.invariant.all);
+      stand = λ refused m. entries_more c.args.workers.now refused (passed before) _ c.loop-entry.board c.mark_entry.new.board (c.loop-entry.invariant.stand refused m) (c.if-not-mark_entry.ensures refl);
+    })
 
 pub returns : goal.returns
 returns c = λ refused m done.
-    subst (λ xs. EntriesStand c.args.workers.now refused xs c.loop-entry.board) (take_all c.loop-entry.entry-index c.args.log.now c.loop-entry-test.false) (c.loop-entry.invariant refused m)
+    let before = passed c.loop-entry.yielded in
+    let all : before ≡ c.args.log.now = sym (append-nil before) ∙ (ap (λ rest. before ++ rest) (sym c.in-None.ensures.steps.0) ∙ c.loop-entry.invariant.all) in
+    subst (λ xs. EntriesStand c.args.workers.now refused xs c.loop-entry.board) all (c.loop-entry.invariant.stand refused m)

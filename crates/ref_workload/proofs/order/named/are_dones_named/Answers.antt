@@ -1,4 +1,4 @@
-use Rattle.std.proofs.Common.{◌++◌, ◌∷◌, [], ap, sym, ◌∙◌, rules}
+use Rattle.std.proofs.Common.{◌++◌, ◌∷◌, [], ap, sym, ◌∙◌}
 use Rattle.std.specs.List.{filter_map}
 use Rattle.ref_workload.specs.Orderly.{op_named}
 use Rattle.ref_workload.proofs.Naming.{named_more}

@@ -3,8 +3,8 @@ use Rattle.ref_workload.proofs.planning.steps.validator_on.Goals as goal
 
 pub returns-in-Some-predicate_of-clause-ok : goal.returns-in-Some-predicate_of-clause-ok
 returns-in-Some-predicate_of-clause-ok c =
-    let form = rw c.in-Some-setting.is at c.in-Ok.ensures.form in
-    let lawful = rw c.in-Some-setting.is at c.in-Ok.ensures.lawful in
+    let form = rw c.in-Some-setting.is at c.in_ok-setting.ensures.form in
+    let lawful = rw c.in-Some-setting.is at c.in_ok-setting.ensures.lawful in
     let named = rw c.in-Some-2.is at c.in_ok-who.ensures.named in
     record {
       name = c.in-Some.subject.name.now;

@@ -9,10 +9,10 @@ use Rattle.ref_world.proofs.worlds.World.release.Goals as goal
 pub invariant_of-self : goal.invariant_of-self
 invariant_of-self g c =
     let w = c.self.inside in
-    let log = w.log.items in
+    let log = w.log in
     let is = c.self.invariant.0 in
-    let point = point_after w.base log in
+    let point = point_after w.base.value log in
     let after = c.release.new.self.unreleased in
     let fewer = ap (λ s. s.unreleased) c.release.ensures.releases in
     let held = subst (λ ps. are_past point ps ≡ true) (sym fewer) (held_fewer point (is_at (nat_cmp c.args.point)) w.agents.unreleased is.held) in
-    (held_as g.M.Meaning.means w.base log w.refs w.atoms w.agents.unreleased is after held, c.self.invariant.1)
+    (held_as g.M.Meaning.means w.base.value log w.refs w.atoms w.agents.unreleased is after held, c.self.invariant.1)

@@ -1,0 +1,97 @@
+-- A world whose first entries are folded into its base.
+use Rattle.std.proofs.Common.{◌≡◌, ℕ, ◌&&◌, ◌+◌, ◌≤◌, ◌^◌, ◌++◌, true, false, Bool, List, length, take, drop, Option, Result, Ok, Err, refl, ap, sym, subst, ◌∙◌, arith, length-append}
+use Rattle.std.specs.List.{list_all}
+use Rattle.std.specs.Result.{is_ok}
+use Rattle.std.proofs.lemmas.List.{take-append-drop}
+use Rattle.std.proofs.lemmas.List.Folds.{list_all-append}
+use Rattle.std.proofs.lemmas.Bool.{and_parts}
+use Rattle.ref_edn.specs.Edn.{Edn}
+use Rattle.ref_fun.specs.Meaning.{Means}
+use Rattle.ref_log.specs.Fold.{IsFolded}
+use Rattle.ref_log.specs.FoldLaws.{added_of-both, commits_of-both, last_change-fold, replay-fold, replay_from-both}
+use Rattle.ref_log.specs.Laws.{replay_from-Err}
+use Rattle.ref_log.specs.Replay.{point_after, replay, replay_from, sets_atom, state_of}
+use Rattle.ref_log.specs.Tally.{added_of, commits_of, fits_entry}
+use Rattle.ref_log.specs.declared.entries.Entry.{Entry}
+use Rattle.ref_log.specs.declared.faults.AuditFault.{AuditFault}
+use Rattle.ref_log.specs.declared.states.Base.{Base}
+use Rattle.ref_atoms.specs.Atoms.{AtomsSeen}
+use Rattle.ref_refs.specs.Seen.{RefsSeen, are_unchanged_since}
+use Rattle.ref_world.specs.Seen.{BooksSeen}
+use Rattle.ref_world.specs.World.{AreBooks, IsWorld, are_past}
+
+all_later : (p : Entry → Bool) (xs ys : List Entry) → list_all p (xs ++ ys) ≡ true → list_all p ys ≡ true
+all_later p xs ys all = (and_parts (list_all p xs) (list_all p ys) (sym (list_all-append p xs ys) ∙ all)).1
+
+-- The first entries of a log that has a replay have one.
+pub first_replays : (means : Means) (base : Base) (log : List Entry) (n : ℕ) (fault : AuditFault) → is_ok (replay means base log) ≡ true → replay means base (take n log) ≡ Err fault → ⊥
+first_replays means base log n fault ok fails =
+    let whole : replay means base log ≡ Err fault = ap (replay means base) (sym (take-append-drop n log))
+    ∙ (replay_from-both means base.point (take n log) (drop n log) (Ok (state_of base))
+    ∙ (ap (replay_from means (base.point + length (take n log)) (drop n log)) fails
+    ∙ replay_from-Err means (base.point + length (take n log)) (drop n log) fault)) in
+    let no : true ≡ false = sym ok ∙ ap is_ok whole in
+    absurd cc
+
+-- Of what is counted in all entries, the first have a part.
+pub first_commits : (log : List Entry) (n : ℕ) → commits_of (take n log) ≤ commits_of log
+first_commits log n =
+    let both = commits_of-both (take n log) (drop n log) in
+    let all = ap commits_of (take-append-drop n log) in
+    omega (arith, both, all)
+
+pub first_added : (tally : Option ℕ) (log : List Entry) (n : ℕ) → added_of tally (take n log) ≤ added_of tally log
+first_added tally log n =
+    let both = added_of-both tally (take n log) (drop n log) in
+    let all = ap (added_of tally) (take-append-drop n log) in
+    omega (arith, both, all)
+
+pub first_points : (base : Base) (log : List Entry) (n : ℕ) → point_after base (take n log) ≤ point_after base log
+first_points base log n =
+    let both = length-append (take n log) (drop n log) in
+    let all = ap length (take-append-drop n log) in
+    omega (arith, both, all)
+
+module _ (means : Means) (base : Base) (xs ys : List Entry) (after : Base) (is : IsFolded means base xs after) where
+  same_point : point_after base (xs ++ ys) ≡ point_after after ys
+  same_point =
+      let both = length-append xs ys in
+      omega (arith, both, is.point)
+
+  world : (refs : RefsSeen) (atoms : AtomsSeen) (unreleased : List ℕ) → IsWorld means base (xs ++ ys) refs atoms unreleased → IsWorld means after ys refs atoms unreleased
+  world refs atoms unreleased was = record {
+    replayed = sym (replay-fold means base xs ys after is) ∙ was.replayed;
+    changed = λ r. was.changed r ∙ last_change-fold means base xs ys after is r;
+    tally = is.tally ∙ was.tally;
+    since = subst (λ p. are_unchanged_since refs.lasts p ≡ true) same_point was.since;
+    held = subst (λ p. are_past p unreleased ≡ true) same_point was.held;
+    limit = subst (λ p. p ≤ 2 ^ 62) same_point was.limit;
+    lasts = is.lasts;
+    sets = all_later sets_atom xs ys was.sets;
+  }
+
+  books : (tally : Option ℕ) (values : List Edn) (seen : BooksSeen) → base.tally ≡ tally → AreBooks base (xs ++ ys) tally values seen → AreBooks after ys tally values seen
+  books tally values seen same are =
+      let commits = commits_of-both xs ys in
+      let added = added_of-both tally xs ys in
+      let first = subst (λ t. after.added ≡ base.added + added_of t xs) same is.added in
+      record {
+        commits = omega (arith, commits, are.commits, is.commits);
+        added = omega (arith, added, are.added, first);
+        lawful = all_later (fits_entry tally) xs ys are.lawful;
+        holds = are.holds;
+        limit = subst (λ p. seen.commits ≤ p) same_point are.limit;
+      }
+
+-- with the first entries, so many, folded
+pub world_folded : (means : Means) (base : Base) (log : List Entry) (n : ℕ) (after : Base) (refs : RefsSeen) (atoms : AtomsSeen) (unreleased : List ℕ)
+    → IsFolded means base (take n log) after → IsWorld means base log refs atoms unreleased → IsWorld means after (drop n log) refs atoms unreleased
+world_folded means base log n after refs atoms unreleased is was =
+    world means base (take n log) (drop n log) after is refs atoms unreleased
+    (subst (λ l. IsWorld means base l refs atoms unreleased) (sym (take-append-drop n log)) was)
+
+pub books_folded : (means : Means) (base : Base) (log : List Entry) (n : ℕ) (after : Base) (tally : Option ℕ) (values : List Edn) (seen : BooksSeen)
+    → IsFolded means base (take n log) after → base.tally ≡ tally → AreBooks base log tally values seen → AreBooks after (drop n log) tally values seen
+books_folded means base log n after tally values seen is same are =
+    books means base (take n log) (drop n log) after is tally values seen same
+    (subst (λ l. AreBooks base l tally values seen) (sym (take-append-drop n log)) are)

@@ -1,0 +1,7 @@
+use Rattle.tests_world.proofs.checkpoints.played.Given as goal
+
+abbrev pub ghosts-opened-C-Ledger : goal.ghosts-opened-C-Ledger
+ghosts-opened-C-Ledger g a = record { name = a.commits.name; parts = a.commits.parts }
+
+abbrev pub ghosts-opened-A-Ledger : goal.ghosts-opened-A-Ledger
+ghosts-opened-A-Ledger g a = record { name = a.added.name; parts = a.added.parts }

@@ -1,0 +1,388 @@
+//! Checkpoints, and views that stay as they were.
+ghost use Rattle.std.specs.Prelude.{◌≡◌};
+ghost use Rattle.ref_world.specs.Shares.{all_parts};
+
+use crate::forms::{args_from, read, value_at};
+use crate::subjects::By;
+use crate::tables::table_of;
+use ref_edn::{Node, Value};
+use ref_fun::Core;
+use ref_log::{Base, Stamp, Who, replay_plain};
+use ref_refs::{CommitFault, Conflict};
+use ref_tx::Tx;
+use ref_world::{ALL_PARTS, CheckpointFault, RefStart, Share, Start, Totals, View, World};
+use std::alloc::{AllocError, Global};
+use std::marker::Brand;
+use std::sync::ledger::{Blank, Ledger};
+use std::test::Fail;
+
+type Answer = Result<u64, CheckpointFault>;
+
+// One ref, the tally or not.
+fn start(alloc: Global, tally: bool) -> Result<Start, AllocError> {
+    let a = RefStart {
+        value: value_at(&read(alloc, "0")?, 0)?,
+        rule: None,
+        tally,
+    };
+    Ok(Start {
+        refs: vec![in alloc; a]?,
+        atoms: Vec::new(alloc),
+        agents: Vec::new(alloc),
+    })
+}
+
+// Commits `commute r + n`, `alter r + n` or `ref-set r n`, by worker 0 in this step.
+fn commit<C: Ledger, A: Ledger>(
+    by: By,
+    world: &mut World<Core, C, A>,
+    share: &mut Share<C, A>,
+    step: u32,
+    change: &str,
+) -> Result<bool, AllocError> {
+    let tx = changed(by, world.begin(by.alloc)?, change)?;
+    Ok(commit_tx(by, world, share, step, tx).is_none())
+}
+
+fn commit_tx<C: Ledger, A: Ledger>(
+    by: By,
+    world: &mut World<Core, C, A>,
+    share: &mut Share<C, A>,
+    step: u32,
+    tx: Tx<Core>,
+) -> Option<CommitFault> {
+    let stamp = Stamp { worker: 0, step };
+    match world.commit_with(by.alloc, by.funs, share, stamp, tx) {
+        Ok(_) => None,
+        Err((_, fault)) => Some(fault),
+    }
+}
+
+fn changed(by: By, mut tx: Tx<Core>, change: &str) -> Result<Tx<Core>, AllocError> {
+    let By { alloc, funs } = by;
+    let (how, n) = match change.split_once(' ') {
+        Some(parts) => parts,
+        None => return Err(AllocError),
+    };
+    let values = read(alloc, n)?;
+    let args = args_from(alloc, &values, 0)?;
+    let done = match how {
+        "alter" => tx.alter(alloc, funs, 0, 1, args),
+        "commute" => tx.commute(alloc, funs, 0, 1, args),
+        _ => tx.ref_set(alloc, 0, value_at(&values, 0)?),
+    };
+    match done {
+        Ok(_) => Ok(tx),
+        Err(_) => Err(AllocError),
+    }
+}
+
+// What a base, and a log on it, say: the base's point, the integer of ref 0 and its last change, its books, and how many entries
+// there are.
+#[derive(Debug, Drop, PartialEq)]
+struct Told {
+    point: u64,
+    value: Option<i64>,
+    last: Option<u64>,
+    commits: u64,
+    added: u64,
+    entries: usize,
+}
+
+fn integer(value: &Value) -> Option<i64> {
+    match value.node() {
+        Node::Int(n) => Some(*n),
+        _ => None,
+    }
+}
+
+fn tell(base: &Base, entries: usize) -> Told {
+    Told {
+        point: base.point,
+        value: base.refs.get(0).and_then(integer),
+        last: base.last.get(0).copied(),
+        commits: base.commits,
+        added: base.added,
+        entries,
+    }
+}
+
+// ---- The row of a view and four checkpoints
+
+#[derive(Debug, Drop, PartialEq)]
+struct Seen {
+    done: bool,
+    answers: Vec<Answer>,
+    view: Told,
+    replayed: bool,
+    world: Told,
+    commits: u64,
+    point: u64,
+}
+
+fn is_replayed(by: By, view: &View<Core>, text: &str) -> Result<bool, AllocError> {
+    let wanted = read(by.alloc, text)?;
+    match replay_plain(by.alloc, by.funs, view.base(), view.log()) {
+        Ok(state) => Ok(state.refs.get(0) == wanted.first()),
+        Err(_) => Ok(false),
+    }
+}
+
+fn viewed<C: Ledger, A: Ledger>(
+    by: By,
+    world: &mut World<Core, C, A>,
+    share: &mut Share<C, A>,
+) -> Result<Seen, AllocError> {
+    let mut done = true;
+    for step in 0..3u32 {
+        done = commit(by, world, share, step, "alter 1")? && done;
+    }
+    let view = world.view()?;
+    let mut answers = Vec::new(by.alloc);
+    for point in [2, 2, 1, 4] {
+        answers.push(world.checkpoint(by.alloc, by.funs, point))?;
+    }
+    Ok(Seen {
+        done,
+        answers,
+        view: tell(view.base(), view.log().len()),
+        replayed: is_replayed(by, &view, "3")?,
+        world: tell(world.base(), world.log().len()),
+        commits: world.commits(),
+        point: world.point(),
+    })
+}
+
+// ---- A conflict with what was folded
+
+#[derive(Debug, Drop, PartialEq)]
+struct Clash {
+    done: bool,
+    answer: Answer,
+    fault: Option<CommitFault>,
+    world: Told,
+    commits: u64,
+}
+
+fn clashed<C: Ledger, A: Ledger>(
+    by: By,
+    world: &mut World<Core, C, A>,
+    share: &mut Share<C, A>,
+) -> Result<Clash, AllocError> {
+    let first = world.begin(by.alloc)?;
+    let done = commit(by, world, share, 0, "ref-set 5")?;
+    let answer = world.checkpoint(by.alloc, by.funs, 1);
+    let first = changed(by, first, "ref-set 7")?;
+    let fault = commit_tx(by, world, share, 1, first);
+    Ok(Clash {
+        done,
+        answer,
+        fault,
+        world: tell(world.base(), world.log().len()),
+        commits: world.commits(),
+    })
+}
+
+// ---- Books, and a table that lacks the function
+
+#[derive(Debug, Drop, PartialEq)]
+struct Booked {
+    done: bool,
+    lacking: Answer,
+    unchanged: Told,
+    answer: Answer,
+    world: Told,
+    totals: Totals,
+}
+
+fn book_all<C: Ledger, A: Ledger>(
+    by: By,
+    empty: By,
+    world: &mut World<Core, C, A>,
+    share: &mut Share<C, A>,
+) -> Result<Booked, AllocError> {
+    let mut done = true;
+    for step in 0..40u32 {
+        done = commit(by, world, share, step, "commute 7")? && done;
+    }
+    let lacking = world.checkpoint(empty.alloc, empty.funs, 33);
+    let unchanged = tell(world.base(), world.log().len());
+    let answer = world.checkpoint(by.alloc, by.funs, 33);
+    Ok(Booked {
+        done,
+        lacking,
+        unchanged,
+        answer,
+        world: tell(world.base(), world.log().len()),
+        totals: world.totals(share),
+    })
+}
+
+// ---- A world of one ref for each
+
+trait Play: Drop {
+    type Out: Drop;
+
+    fn play<C: Ledger, A: Ledger>(
+        by: By,
+        empty: By,
+        world: &mut World<Core, C, A>,
+        share: &mut Share<C, A>,
+    ) -> Result<Self::Out, AllocError>;
+}
+
+impl Play for Seen {
+    type Out = Seen;
+
+    fn play<C: Ledger, A: Ledger>(
+        by: By,
+        _empty: By,
+        world: &mut World<Core, C, A>,
+        share: &mut Share<C, A>,
+    ) -> Result<Seen, AllocError> {
+        viewed(by, world, share)
+    }
+}
+
+impl Play for Clash {
+    type Out = Clash;
+
+    fn play<C: Ledger, A: Ledger>(
+        by: By,
+        _empty: By,
+        world: &mut World<Core, C, A>,
+        share: &mut Share<C, A>,
+    ) -> Result<Clash, AllocError> {
+        clashed(by, world, share)
+    }
+}
+
+impl Play for Booked {
+    type Out = Booked;
+
+    fn play<C: Ledger, A: Ledger>(
+        by: By,
+        empty: By,
+        world: &mut World<Core, C, A>,
+        share: &mut Share<C, A>,
+    ) -> Result<Booked, AllocError> {
+        book_all(by, empty, world, share)
+    }
+}
+
+fn opened<P: Play, C: Ledger, A: Ledger>(
+    by: By,
+    empty: By,
+    tally: bool,
+    commits: Blank,
+    added: Blank,
+) -> Result<Option<P::Out>, AllocError>
+    requires commits { (commits.name ≡ C.name) × (commits.parts ≡ C.parts) × (commits.parts ≡ all_parts) }
+    requires added { (added.name ≡ A.name) × (added.parts ≡ A.parts) × (added.parts ≡ all_parts) }
+{
+    let By { alloc, funs } = by;
+    match World::<Core, C, A>::new(alloc, funs, start(alloc, tally)?, commits, added) {
+        Ok((mut world, mut share)) => Ok(Some(P::play(by, empty, &mut world, &mut share)?)),
+        Err(_) => Ok(None),
+    }
+}
+
+fn played<P: Play>(alloc: Global, tally: bool) -> Result<Option<P::Out>, AllocError> {
+    let funs = table_of(alloc, &[1], &[])?;
+    let none = table_of(alloc, &[], &[])?;
+    let by = By { alloc, funs: &funs };
+    let empty = By { alloc, funs: &none };
+    opened::<P, Brand, Brand>(
+        by,
+        empty,
+        tally,
+        Blank::new(ALL_PARTS),
+        Blank::new(ALL_PARTS),
+    )
+}
+
+#[test]
+fn a_view_stays_as_it_was(rt: HostRuntime) -> Result<(), Fail> {
+    let alloc = rt.alloc();
+    let none = CheckpointFault::NoSuchPoint;
+    let wanted = Seen {
+        done: true,
+        answers: vec![in alloc; Ok(2), Ok(0), Err(none), Err(none)]?,
+        view: Told {
+            point: 0,
+            value: Some(0),
+            last: Some(0),
+            commits: 0,
+            added: 0,
+            entries: 3,
+        },
+        replayed: true,
+        world: Told {
+            point: 2,
+            value: Some(2),
+            last: Some(2),
+            commits: 2,
+            added: 0,
+            entries: 1,
+        },
+        commits: 3,
+        point: 3,
+    };
+    assert_eq!(rt; played::<Seen>(alloc, false)?, Some(wanted));
+    Ok(())
+}
+
+#[test]
+fn a_conflict_with_what_was_folded(rt: HostRuntime) -> Result<(), Fail> {
+    let wanted = Clash {
+        done: true,
+        answer: Ok(1),
+        fault: Some(CommitFault::Conflict(Conflict {
+            r: 0,
+            read_point: 0,
+            changed_at: 1,
+        })),
+        world: Told {
+            point: 1,
+            value: Some(5),
+            last: Some(1),
+            commits: 1,
+            added: 0,
+            entries: 0,
+        },
+        commits: 1,
+    };
+    assert_eq!(rt; played::<Clash>(rt.alloc(), false)?, Some(wanted));
+    Ok(())
+}
+
+#[test]
+fn books_are_kept(rt: HostRuntime) -> Result<(), Fail> {
+    let wanted = Booked {
+        done: true,
+        lacking: Err(CheckpointFault::NoSuchFun(1)),
+        unchanged: Told {
+            point: 0,
+            value: Some(0),
+            last: Some(0),
+            commits: 0,
+            added: 0,
+            entries: 40,
+        },
+        answer: Ok(33),
+        world: Told {
+            point: 33,
+            value: Some(231),
+            last: Some(33),
+            commits: 33,
+            added: 231,
+            entries: 7,
+        },
+        totals: Totals {
+            commits: 40,
+            added: 280,
+        },
+    };
+    assert_eq!(rt; played::<Booked>(rt.alloc(), true)?, Some(wanted));
+    Ok(())
+}
