@@ -1,7 +1,7 @@
 #!/bin/sh
-# Measures a transaction of one `alter` on worlds with more and more refs:
+# Measures a transaction of one `alter` on worlds with more and more refs, on refs that hold more and more, and the memory of an entry:
 #
-#   bench/begins.sh [--times N] [--rounds N] [REFS ..]
+#   bench/begins.sh [--times N] [--rounds N] [--entries N] [REFS ..]
 #
 # README.md beside this says what the figures mean. The program is proved and built in a folder outside of the repository,
 # $REF_BENCH or ref-bench among the temporary files, over copies of the libraries.
