@@ -1,4 +1,4 @@
--- A list of forms that is made one by one: those that are made and those that are left are all of it.
+-- A list, of forms mostly, that is made one by one: those that are made and those that are left are all of it.
 use Rattle.std.proofs.Common.{◌≡◌, ℕ, zero, suc, ◌+◌, ◌<◌, ◌≤◌, List, [], ◌∷◌, ◌++◌, None, Some, refl, sym, ap, subst, ◌∙◌, arith, drop, get_or, length, add-one, append_assoc}
 use Rattle.std.specs.List.{zip}
 use Rattle.std.specs.Prelude.{slice_get}
@@ -41,13 +41,13 @@ number_at (x ∷ xs) (suc i) below = number_at xs i (omega arith)
 pub zipped_at : {X Y : Type 0} (xs : List X) (ys : List Y) (i : ℕ) (x : X) (y : Y) → slice_get xs i ≡ Some x → slice_get ys i ≡ Some y → zip (drop i xs) (drop i ys) ≡ (x, y) ∷ zip (drop (i + 1) xs) (drop (i + 1) ys)
 zipped_at xs ys i x y there also = rw (left_at xs i x there, left_at ys i y also) refl
 
--- ---- one more form
+-- ---- one more
 
-pub one_more : (all made next rest left : List Edn) (v form : Edn) → made ++ rest ≡ all → rest ≡ form ∷ left → v ≡ form → next ≡ made ++ v ∷ [] → next ++ left ≡ all
+pub one_more : {X : Type 0} (all made next rest left : List X) (v form : X) → made ++ rest ≡ all → rest ≡ form ∷ left → v ≡ form → next ≡ made ++ v ∷ [] → next ++ left ≡ all
 one_more all made next rest left v form whole first same more =
     rw (more, same) (append_assoc made (form ∷ []) left ∙ (ap (λ r. made ++ r) (sym first) ∙ whole))
 
-pub all_made : (all made rest : List Edn) → made ++ rest ≡ all → rest ≡ [] → made ≡ all
+pub all_made : {X : Type 0} (all made rest : List X) → made ++ rest ≡ all → rest ≡ [] → made ≡ all
 all_made all made rest whole none = sym (append-nil made) ∙ (ap (λ r. made ++ r) (sym none) ∙ whole)
 
 depth_of_member : (made left : List Edn) (form : Edn) → nesting form ≤ items_depth (items_of (made ++ form ∷ left))

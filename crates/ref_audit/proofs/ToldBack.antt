@@ -39,11 +39,11 @@ use Rattle.ref_audit.proofs.LegalBack.{log_called}
 use Rattle.ref_audit.proofs.VerdictBack.{verdict_back}
 use Rattle.ref_audit.proofs.WorldBack.{world_back}
 
-split : (a b : Bool) → (a && b) ≡ true → (a ≡ true) × (b ≡ true)
+pub split : (a b : Bool) → (a && b) ≡ true → (a ≡ true) × (b ≡ true)
 split true b e = (refl, e)
 split false b e = absurd cc
 
-join : (a b : Bool) → a ≡ true → b ≡ true → (a && b) ≡ true
+pub join : (a b : Bool) → a ≡ true → b ≡ true → (a && b) ≡ true
 join a b p q = ap (λ x. x && b) p ∙ q
 
 -- what each of two tests say together, all of a list pass
@@ -272,7 +272,7 @@ length_mapped f (x ∷ xs) = ap (λ n. suc n) (length_mapped f xs)
 
 -- ---- the whole
 
-told_typed : (w : WorldSeen) → IsTold w → unnamed w ≡ None → IsTyped w
+pub told_typed : (w : WorldSeen) → IsTold w → unnamed w ≡ None → IsTyped w
 told_typed w t none =
     let names = none_lesser (least unnamed_in_entry w.log) (least unnamed_in_agent w.agents.agents) none in
     let called = log_called w.base.point w.log (state_of w.base) (values_now w.refs w.atoms) t.replayed in
@@ -297,7 +297,7 @@ told_typed w t none =
       few_base_atoms = omega (arith, grown_atoms);
     }
 
-told_sound : (w : WorldSeen) → IsTold w → IsSound w
+pub told_sound : (w : WorldSeen) → IsTold w → IsSound w
 told_sound w t = record {
   replayed = t.replayed;
   ref_rules = all_accepted w.refs.guards w.refs.values t.refs;

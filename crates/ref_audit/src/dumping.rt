@@ -21,7 +21,7 @@ use ref_fun::Core;
 use ref_world::World;
 use std::alloc::Global;
 use std::sync::ledger::Ledger;
-use worlds::unnamed_in;
+pub(crate) use worlds::unnamed_in;
 
 /// The dump of a world: one value that says all that a stranger needs to replay the log and to compare. docs/DUMPS.md shows
 /// its form.

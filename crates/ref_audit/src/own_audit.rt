@@ -11,13 +11,16 @@ ghost use Rattle.ref_audit.specs.declared.reports.Verdict.TheVariants as verdict
 
 pub(crate) mod parts;
 pub(crate) mod references;
+pub(crate) mod seen;
 
 use crate::auditor::audit;
-use crate::dumping::{dump, tell_few};
+use crate::dumping::{dump, tell_few, unnamed_in};
 use crate::faults::DumpMakeFault;
 use crate::own_audit::parts::tell_entries;
 use crate::own_audit::references::{tell_accounts, tell_agents, tell_atoms, tell_refs};
+use crate::own_audit::seen::dump_seen;
 use crate::reports::Verdict;
+use crate::verdicts::verdict;
 use ref_fun::{Core, Functions};
 use ref_log::Who;
 use ref_world::World;
@@ -49,6 +52,31 @@ pub fn audit_own_dump<F: Functions<Core>, C: Ledger, A: Ledger>(
     match audit(alloc, funs, &value) {
         Ok(verdict) => Ok(verdict),
         // The value is a dump, so that only memory was refused.
+        Err(_) => Err(DumpMakeFault::Memory),
+    }
+}
+
+/// The verdict on a world's dump, without the dump: what the dump says is taken from the world, and judged as what a dump says is. So it
+/// costs the replay and no forms. It is ok by the same law. It is refused where an action in the log's sends or in an agent's account
+/// names a function that Core doesn't have, with the least such code.
+pub fn audit_world<F: Functions<Core>, C: Ledger, A: Ledger>(
+    alloc: Global,
+    funs: &F,
+    world: &World<Core, C, A>,
+) -> Result<Verdict, DumpMakeFault>
+    requires core { HasCore (F.knows funs.now) }
+    ensures verdict { IfOk result (λ verdict. verdict_on (dump_of (dumped world.now)) ≡ Ok verdict) }
+    ensures ok { IfOk result (λ verdict. verdict ≡ verdicts.Ok) }
+    ensures refused { TellsOrMemory faults.Memory (unnamed_refusal world.now) (unnamed_refusal world.now) result }
+{
+    tell(world);
+    if let Some(code) = unnamed_in(world) {
+        return Err(DumpMakeFault::Unnamed(code));
+    }
+    let dump = dump_seen(alloc, world)?;
+    match verdict(alloc, funs, &dump) {
+        Ok(verdict) => Ok(verdict),
+        // Nothing else is refused.
         Err(_) => Err(DumpMakeFault::Memory),
     }
 }

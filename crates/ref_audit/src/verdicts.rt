@@ -21,7 +21,7 @@ use crate::verdicts::folds::first_broken_fold;
 use crate::verdicts::rules::{first_breaking_agent, first_broken_rule};
 use crate::verdicts::values::first_difference;
 use ref_fun::{Core, Functions};
-use ref_log::{AuditFault, PlainState, replay_plain, vector_of};
+use ref_log::{AuditFault, PlainState, replay_plain};
 use std::alloc::{AllocError, Global};
 
 // The values now against those of the replay.
@@ -119,8 +119,7 @@ pub(crate) fn verdict<F: Functions<Core>>(
     ensures ok { IfOk result (λ v. v ≡ verdict dump.now) }
     ensures err { IfErr result (λ f. f ≡ Memory) }
 {
-    let entries = vector_of(alloc, dump.entries.as_slice())?;
-    match replay_plain(alloc, funs, &dump.base, &entries) {
+    match replay_plain(alloc, funs, &dump.base, &dump.entries) {
         Ok(state) => Ok(replayed_line(alloc, funs, dump, &state)?.unwrap_or(Verdict::Ok)),
         Err(AuditFault::NoSuch(point)) => Ok(Verdict::NoSuch(point)),
         Err(AuditFault::Refuses(point)) => Ok(Verdict::Refuses(point)),

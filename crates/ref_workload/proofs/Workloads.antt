@@ -68,3 +68,12 @@ module _ (x : Edn) (entries : List (Edn × Edn)) (is_map : x ≡ map (entries_of
         let same = one_names refs atoms agents p.names names p.refs rs p.atoms cells p.agents gs its_references known in
         let forms = same_workers entries w.ref_forms w.atom_forms w.agent_forms w.worker_forms p.pool its_parts refs atoms agents workers h.vectors in
         none p.workers (subst (λ n. AllZip (IsWorker n) workers p.workers) same (subst (λ l. AllZip (IsWorker p.names) l p.workers) forms w.workers))
+
+-- the same parts, with lists that are the same
+pub same_parts : (entries : List (Edn × Edn)) (refs refs' atoms atoms' agents agents' workers workers' : List Edn) (pool : ℕ) → refs' ≡ refs → atoms' ≡ atoms → agents' ≡ agents → workers' ≡ workers
+    → HasParts entries refs atoms agents workers pool → HasParts entries refs' atoms' agents' workers' pool
+same_parts entries refs refs' atoms atoms' agents agents' workers workers' pool is_refs is_atoms is_agents is_workers h =
+    subst (λ l. HasParts entries l atoms' agents' workers' pool) (sym is_refs)
+    (subst (λ l. HasParts entries refs l agents' workers' pool) (sym is_atoms)
+    (subst (λ l. HasParts entries refs atoms l workers' pool) (sym is_agents)
+    (subst (λ l. HasParts entries refs atoms agents l pool) (sym is_workers) h)))

@@ -13,6 +13,7 @@ use Rattle.std.specs.List.{AllZip, list_all}
 use Rattle.ref_edn.specs.Edn.{Edn, int, keyword, vector, map, items_of, entries_of}
 use Rattle.ref_edn.specs.Names.{bytes_eq}
 use Rattle.ref_workload.specs.Declarations.{AreReferences}
+use Rattle.ref_workload.specs.Kinds.{is_short_vector}
 use Rattle.ref_workload.specs.Plan.{PlanSeen}
 use Rattle.ref_workload.specs.Steps.{IsWorker}
 use Rattle.ref_workload.specs.Words.{version_word, refs_word, atoms_word, agents_word, workers_word, pool_word}
@@ -34,6 +35,11 @@ is_known x =
 abbrev pub IsVectorPart : Option Edn → List Edn → Type 0
 IsVectorPart None xs = xs ≡ []
 IsVectorPart (Some x) xs = x ≡ vector (items_of xs)
+
+-- the elements of a part, none where it is left out
+abbrev pub elements : Option (List Edn) → List Edn
+elements None = []
+elements (Some xs) = xs
 
 -- the number of threads for actions, 2 where it is left out
 abbrev pub IsPool : Option Edn → ℤ → Type 0
@@ -65,6 +71,18 @@ pub record HasParts (entries : List (Edn × Edn)) (refs atoms agents workers : L
   pub few : AreFew refs atoms agents workers
   pub pool_is : IsPool (part pool_word entries) (pos pool)
   pub pool_size : IsPoolSize pool
+
+-- The value is a map with the keys of a workload, the version, and no more of anything than may be.
+pub record HasForm (x : Edn) : Type 0 where
+  pub entries : List (Edn × Edn)
+  pub refs : List Edn
+  pub atoms : List Edn
+  pub agents : List Edn
+  pub workers : List Edn
+  pub pool : ℕ
+  pub is_map : x ≡ map (entries_of entries)
+  pub parts : HasParts entries refs atoms agents workers pool
+  pub short : list_all is_short_vector workers ≡ true
 
 pub record IsWorkload (x : Edn) (plan : PlanSeen) : Type 0 where
   pub entries : List (Edn × Edn)

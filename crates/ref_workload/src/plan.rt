@@ -1,12 +1,12 @@
 //! Workloads as plans.
-ghost use Rattle.std.specs.Prelude.{◌≢◌, IfOk, IfErr};
+ghost use Rattle.std.specs.Prelude.{◌≡◌, ◌≢◌, IfOk, IfErr};
 ghost use Rattle.ref_workload.specs.Plan.{PlanSeen};
-ghost use Rattle.ref_workload.specs.Workload.{IsWorkload};
+ghost use Rattle.ref_workload.specs.Workload.{HasForm, IsWorkload};
 
 use crate::plan_faults::PlanFault;
 use crate::planning::declarations::declarations;
 use crate::planning::forms::map_in;
-use crate::planning::parts::parts_of;
+use crate::planning::parts::{forms_of, parts_of};
 use crate::planning::steps::workers;
 use crate::plans::Plan;
 use ref_edn::{Items, Value};
@@ -16,19 +16,25 @@ use std::alloc::Global;
 /// name is looked up by its hash, whose seed is known, so names that are chosen to have one hash each cost a look at all of them. The
 /// plan shares values with the value that it is made of, and copies none.
 ///
-/// Of what is wrong the first is told, in the order that [`PlanFault`] names; which one it is, no contract says.
+/// Of what is wrong the first is told, in the order that [`PlanFault`] names; which one it is, no contract says. Keys, version and limits
+/// are asked before any memory is taken.
 pub fn plan(alloc: Global, value: &Value) -> Result<Plan, PlanFault>
     ensures ok { IfOk result (λ p. IsWorkload value.now p) }
     // What is refused, for another reason than memory, is no workload.
     ensures none { IfErr result (λ f. f ≢ PlanFault.Memory → (p : PlanSeen) → IsWorkload value.now p → ⊥) }
+    ensures memory { IfErr result (λ f. f ≡ PlanFault.Memory → HasForm value.now) }
 {
     let Some(entries) = map_in(value) else {
         return Err(PlanFault::NotWorkload);
     };
+    let parts = parts_of(entries)?;
     let empty = Items::of(alloc, Vec::new(alloc))?;
-    let parts = parts_of(entries, &empty)?;
-    let (declared, start) = declarations(alloc, parts.refs, parts.atoms, parts.agents)?;
-    match workers(alloc, &declared, parts.workers) {
+    let refs = forms_of(parts.refs, &empty);
+    let atoms = forms_of(parts.atoms, &empty);
+    let agents = forms_of(parts.agents, &empty);
+    let forms = forms_of(parts.workers, &empty);
+    let (declared, start) = declarations(alloc, refs, atoms, agents)?;
+    match workers(alloc, &declared, forms) {
         Ok(workers) => Ok(Plan::of(declared.into_names(), start, workers, parts.pool)),
         Err(fault) => Err(fault),
     }

@@ -18,7 +18,7 @@ use crate::plans::Plan;
 use crate::progress::Progress;
 use crate::run::{RunOut, run_plan_with};
 use crate::streams::{read_input, write_output};
-use ref_audit::{DumpFault, DumpMakeFault, Verdict, audit, dump, report};
+use ref_audit::{DumpFault, DumpMakeFault, Verdict, audit, audit_world, dump, report};
 use ref_edn::{Sink, Source, Value, print, read_one};
 use ref_fun::{Core, Functions};
 use ref_shared::Open;
@@ -38,8 +38,8 @@ pub struct Options {
     pub dump: bool,
 }
 
-/// Reads a workload to its end, runs it by a table of Core's functions, with a thread for each worker beside a pool, audits the dump
-/// of what came of it, and writes the report, or that dump and a newline.
+/// Reads a workload to its end, runs it by a table of Core's functions, with a thread for each worker beside a pool, audits what came
+/// of it, and writes the report, or the dump that was audited and a newline.
 ///
 /// Nothing is written before the run has ended. The reader is read to its end or to one byte more than a workload may have.
 pub fn run_workload<F, R, I, O>(
@@ -174,10 +174,11 @@ where
         added,
     );
     let out = ran?;
-    let dumped = audited(alloc, funs, &out.world)?;
     if options.dump {
+        let dumped = audited(alloc, funs, &out.world)?;
         line_of(alloc, &dumped)
     } else {
+        check_audit(alloc, funs, &out.world)?;
         report_of(alloc, plan, &out)
     }
 }
@@ -217,6 +218,23 @@ fn audited<F: Functions<Core>, C: Ledger, A: Ledger>(
     match audit(alloc, funs, &value) {
         Ok(Verdict::Ok) => Ok(value),
         Err(DumpFault::Memory) => Err(RunFault::Memory),
+        Ok(_) | Err(_) => Err(RunFault::Internal),
+    }
+}
+
+// Audits a world without its dump: no form is made of what nobody reads.
+fn check_audit<F: Functions<Core>, C: Ledger, A: Ledger>(
+    alloc: Global,
+    funs: &F,
+    world: &World<Core, C, A>,
+) -> Result<(), RunFault>
+    requires { HasCore (F.knows funs.now) }
+    ensures audited { OnOk result (verdict_on (dump_of (dumped world.now)) ≡ Ok verdicts.Ok) }
+    ensures inner { IfErr result IsOfPlan }
+{
+    match audit_world(alloc, funs, world) {
+        Ok(Verdict::Ok) => Ok(()),
+        Err(DumpMakeFault::Memory) => Err(RunFault::Memory),
         Ok(_) | Err(_) => Err(RunFault::Internal),
     }
 }

@@ -4,7 +4,9 @@ ghost use Rattle.ref_world.specs.Shares.{all_parts};
 
 use crate::values::{action_of, args_of, value_of};
 use ref_agents::ErrorMode;
-use ref_audit::{DumpMakeFault, Names, Refusal, Verdict, audit_own_dump, dump, report};
+use ref_audit::{
+    DumpMakeFault, Names, Refusal, Verdict, audit_own_dump, audit_world, dump, report,
+};
 use ref_edn::{Node, Text, Value, print, read_one};
 use ref_fun::{Action, Args, Core, CoreFunctions, Rule};
 use ref_log::Stamp;
@@ -130,13 +132,19 @@ fn dumped<C: Ledger, A: Ledger>(
     world: &World<Core, C, A>,
 ) -> Result<Result<Vec<u8>, DumpMakeFault>, Fail> {
     let verdict = audit_own_dump(alloc, &CoreFunctions::new(), world);
+    let undumped = audit_world(alloc, &CoreFunctions::new(), world);
     match dump(alloc, world) {
-        Ok(value) if verdict == Ok(Verdict::Ok) => {
+        Ok(value) if verdict == Ok(Verdict::Ok) && undumped == verdict => {
             let mut text = Vec::new(alloc);
             print(alloc, &value, &mut text)?;
             Ok(Ok(text))
         }
-        Err(fault) if verdict == Err(fault) => Ok(Err(fault)),
+        // It isn't made, and so not too deep.
+        Err(DumpMakeFault::TooDeep)
+            if verdict == Err(DumpMakeFault::TooDeep) && undumped == Ok(Verdict::Ok) => {
+            Ok(Err(DumpMakeFault::TooDeep))
+        }
+        Err(fault) if verdict == Err(fault) && undumped == verdict => Ok(Err(fault)),
         _ => Err(Fail::new("the audit of a world's own dump says ok")),
     }
 }

@@ -3,13 +3,14 @@ use ref_agents::accounts::Handled;
 use ref_edn::Value;
 use ref_fun::{Action, Rule};
 use ref_log::{Base, Entry, SharedVec};
+use ref_pvec::PVec;
 
 /// A dump of a world.
 #[derive(Drop)]
 pub struct Dump {
     pub base: Base,
     /// The entries after the base, the first of them at the point after its.
-    pub entries: SharedVec<Entry>,
+    pub entries: PVec<Entry>,
     /// The refs now, by number.
     pub refs: SharedVec<Kept>,
     /// The atoms now, by number.

@@ -14,6 +14,7 @@ use crate::reading::plain::{elements_in, is_word, number_in, reference_in};
 use crate::reading::wrongs::Wrong;
 use ref_edn::{Entries, Items, Node, Value};
 use ref_log::{Entry, SharedVec};
+use ref_pvec::PVec;
 use std::alloc::Global;
 
 /// How many entries a dump may have: points end at 2^62.
@@ -220,17 +221,20 @@ pub(crate) fn entry_forms(entries: &Entries) -> Result<&Items, DumpFault>
 }
 
 /// The entries, or the position of the first that is none.
-pub(crate) fn entries_in(alloc: Global, forms: &Items) -> Result<SharedVec<Entry>, DumpFault>
+pub(crate) fn entries_in(alloc: Global, forms: &Items) -> Result<PVec<Entry>, DumpFault>
     ensures reads { Told (entries_from 1 forms.now) result }
     ensures limit { IfOk result (λ es. length es ≤ length forms.now) }
 {
-    let mut entries = Vec::with_capacity(alloc, forms.len())?;
+    let mut entries = PVec::empty();
     for i in 0..forms.len() {
         match entry_in(alloc, forms.at(i)) {
-            Ok(entry) => entries.push(entry)?,
+            Ok(entry) => match entries.push(alloc, entry) {
+                Ok(()) => {}
+                Err(_) => return Err(DumpFault::Memory),
+            },
             Err(Wrong::Form) => return Err(DumpFault::BadEntry(i as u64 + 1)),
             Err(Wrong::Memory) => return Err(DumpFault::Memory),
         }
     }
-    Ok(SharedVec::of(alloc, entries)?)
+    Ok(entries)
 }

@@ -7,6 +7,7 @@ ghost use Rattle.ref_audit.specs.Verdict.{are_counts};
 use crate::reading::dumps::Dump;
 use ref_edn::{Node, Value};
 use ref_log::{Done, Entry, Op};
+use ref_pvec::PVec;
 
 // The number that arguments are, where they are one integer of 0 or more.
 fn counted(args: &[Value]) -> u64
@@ -68,7 +69,7 @@ fn added_in(tally: Option<u32>, entry: &Entry) -> Option<u64>
 }
 
 // What these entries add to the tally, where it has 64 bits.
-fn added_of(tally: Option<u32>, entries: &[Entry]) -> Option<u64>
+fn added_of(tally: Option<u32>, entries: &PVec<Entry>) -> Option<u64>
     ensures some { IfSome result (λ n. n ≡ added_of tally entries.now) }
     ensures none { IfNone result (2 ^ 64 ≤ added_of tally entries.now) }
 {
@@ -90,7 +91,7 @@ fn commits_in(entry: &Entry) -> u64
 }
 
 // How many transactions these entries are.
-fn commits_of(entries: &[Entry]) -> u64
+fn commits_of(entries: &PVec<Entry>) -> u64
     ensures { result ≡ commits_of entries.now }
 {
     let mut count: u64 = 0;
@@ -123,7 +124,7 @@ fn fits_entry(tally: Option<u32>, entry: &Entry) -> bool
     }
 }
 
-fn fit_entries(tally: Option<u32>, entries: &[Entry]) -> bool
+fn fit_entries(tally: Option<u32>, entries: &PVec<Entry>) -> bool
     ensures { result ≡ list_all (fits_entry tally) entries.now }
 {
     for entry in entries {
@@ -144,7 +145,7 @@ fn is_sum(book: u64, before: u64, more: u64) -> bool
     }
 }
 
-fn is_added(tally: Option<u32>, book: u64, before: u64, entries: &[Entry]) -> bool
+fn is_added(tally: Option<u32>, book: u64, before: u64, entries: &PVec<Entry>) -> bool
     ensures { result ≡ (book == before + added_of tally entries.now) }
 {
     match added_of(tally, entries) {
@@ -158,7 +159,7 @@ fn is_added(tally: Option<u32>, book: u64, before: u64, entries: &[Entry]) -> bo
 pub(crate) fn are_counts(dump: &Dump) -> bool
     ensures { result ≡ are_counts dump.now }
 {
-    let entries = dump.entries.as_slice();
+    let entries = &dump.entries;
     let tally = dump.base.tally;
     is_sum(dump.commits, dump.base.commits, commits_of(entries))
         && is_added(tally, dump.added, dump.base.added, entries)

@@ -2,10 +2,10 @@
 ghost use Rattle.std.specs.Bool.{OnFalse, OnTrue};
 ghost use Rattle.std.specs.List.{list_all};
 ghost use Rattle.std.specs.Option.{option_copied};
-ghost use Rattle.std.specs.Prelude.{◌≡◌, ℕ, ℤ, [], List, IfOk, IfNone, IfSome, OnErr, Some, pos, true};
+ghost use Rattle.std.specs.Prelude.{◌≡◌, ◌≢◌, ℕ, ℤ, List, IfErr, IfOk, IfNone, IfSome, OnErr, Some, [], length, pos, true};
 ghost use Rattle.ref_edn.specs.Edn.{Edn, int};
 ghost use Rattle.ref_workload.specs.Kinds.{is_short_vector, is_vector};
-ghost use Rattle.ref_workload.specs.Workload.{AreFew, HasParts, HasVectors, IsPool, IsPoolSize, IsVectorPart, is_known, part as part_of};
+ghost use Rattle.ref_workload.specs.Workload.{AreFew, HasParts, HasVectors, IsPool, IsPoolSize, IsVectorPart, elements, is_known, part as part_of};
 ghost use Rattle.ref_workload.specs.Words.{pool_word, version_word};
 
 use crate::plan_faults::PlanFault;
@@ -23,13 +23,13 @@ pub const MOST_POOL: i64 = 16;
 // Where none is asked for.
 const POOL: i64 = 2;
 
-/// The forms in a workload's vectors, and the number of threads for actions.
+/// The forms in a workload's vectors, where they aren't left out, and the number of threads for actions.
 #[derive(Drop)]
 pub struct Parts<'a> {
-    pub refs: &'a Items,
-    pub atoms: &'a Items,
-    pub agents: &'a Items,
-    pub workers: &'a Items,
+    pub refs: Option<&'a Items>,
+    pub atoms: Option<&'a Items>,
+    pub agents: Option<&'a Items>,
+    pub workers: Option<&'a Items>,
     pub pool: u32,
 }
 
@@ -72,14 +72,13 @@ fn are_known(entries: &Entries) -> bool
 }
 
 // The elements of a part that is a vector, or is left out.
-fn vector_part<'a>(entries: &'a Entries, word: &[u8], empty: &'a Items) -> Option<&'a Items>
-    requires { empty.now ≡ [] }
-    ensures some { IfSome result (λ xs. IsVectorPart (part_of word.now entries.now) xs.now) }
+fn vector_part<'a>(entries: &'a Entries, word: &[u8]) -> Option<Option<&'a Items>>
+    ensures some { IfSome result (λ xs. IsVectorPart (part_of word.now entries.now) (elements (option_copied xs))) }
     ensures none { IfNone result ((xs : List Edn) → IsVectorPart (part_of word.now entries.now) xs → ⊥) }
 {
     match part(entries, word) {
-        None => Some(empty),
-        Some(value) => vector_in(value),
+        None => Some(None),
+        Some(value) => Some(Some(vector_in(value)?)),
     }
 }
 
@@ -111,11 +110,23 @@ fn pool_in_range(n: i64) -> Option<u32>
     Some(n as u32)
 }
 
-// Whether each of these is a vector.
-fn are_vectors(workers: &Items) -> bool
-    ensures { result ≡ list_all is_vector workers.now }
+fn count(part: Option<&Items>) -> usize
+    ensures { result ≡ length (elements (option_copied part.entry)) }
 {
-    workers.iter().all(|worker| vector_in(worker).is_some())
+    match part {
+        Some(forms) => forms.len(),
+        None => 0,
+    }
+}
+
+// Whether each of these is a vector.
+fn are_vectors(workers: Option<&Items>) -> bool
+    ensures { result ≡ list_all is_vector (elements (option_copied workers.entry)) }
+{
+    match workers {
+        Some(workers) => workers.iter().all(|worker| vector_in(worker).is_some()),
+        None => true,
+    }
 }
 
 fn is_short_vector(worker: &Value) -> bool
@@ -128,58 +139,64 @@ fn is_short_vector(worker: &Value) -> bool
 }
 
 // Whether each of these is a vector of no more elements than a worker may have steps.
-fn are_short_vectors(workers: &Items) -> bool
-    ensures { result ≡ list_all is_short_vector workers.now }
+fn are_short_vectors(workers: Option<&Items>) -> bool
+    ensures { result ≡ list_all is_short_vector (elements (option_copied workers.entry)) }
 {
-    workers.iter().all(|worker| is_short_vector(worker))
+    match workers {
+        Some(workers) => workers.iter().all(|worker| is_short_vector(worker)),
+        None => true,
+    }
 }
 
 // The parts that are vectors, and the pool, of whatever size.
 #[derive(Drop)]
 struct Found<'a> {
-    refs: &'a Items,
-    atoms: &'a Items,
-    agents: &'a Items,
-    workers: &'a Items,
+    refs: Option<&'a Items>,
+    atoms: Option<&'a Items>,
+    agents: Option<&'a Items>,
+    workers: Option<&'a Items>,
     pool: i64,
 }
 
-fn found_in<'a>(entries: &'a Entries, empty: &'a Items) -> Option<Found<'a>>
-    requires { empty.now ≡ [] }
-    ensures vectors { IfSome result (λ f. HasVectors entries.now f.refs.now f.atoms.now f.agents.now f.workers.now) }
+fn found_in<'a>(entries: &'a Entries) -> Option<Found<'a>>
+    ensures vectors { IfSome result (λ f. HasVectors entries.now (elements (option_copied f.refs))
+        (elements (option_copied f.atoms)) (elements (option_copied f.agents)) (elements (option_copied f.workers))) }
     ensures pool { IfSome result (λ f. IsPool (part_of pool_word entries.now) f.pool) }
     ensures none { IfNone result ((refs atoms agents workers : List Edn) (n : ℤ)
         → HasVectors entries.now refs atoms agents workers → IsPool (part_of pool_word entries.now) n → ⊥) }
 {
     Some(Found {
-        refs: vector_part(entries, b"refs", empty)?,
-        atoms: vector_part(entries, b"atoms", empty)?,
-        agents: vector_part(entries, b"agents", empty)?,
-        workers: vector_part(entries, b"workers", empty)?,
+        refs: vector_part(entries, b"refs")?,
+        atoms: vector_part(entries, b"atoms")?,
+        agents: vector_part(entries, b"agents")?,
+        workers: vector_part(entries, b"workers")?,
         pool: pool_of(entries)?,
     })
 }
 
 // Whether there are no more references of a kind and no more workers than may be.
 fn are_few(found: &Found<'_>) -> bool
-    ensures yes { OnTrue result (AreFew found.now.refs.now found.now.atoms.now found.now.agents.now found.now.workers.now) }
-    ensures no { OnFalse result (AreFew found.now.refs.now found.now.atoms.now found.now.agents.now found.now.workers.now → ⊥) }
+    ensures yes { OnTrue result (AreFew (elements (option_copied found.now.refs)) (elements (option_copied found.now.atoms))
+        (elements (option_copied found.now.agents)) (elements (option_copied found.now.workers))) }
+    ensures no { OnFalse result (AreFew (elements (option_copied found.now.refs)) (elements (option_copied found.now.atoms))
+        (elements (option_copied found.now.agents)) (elements (option_copied found.now.workers)) → ⊥) }
 {
-    found.refs.len() <= MOST_REFERENCES
-        && found.atoms.len() <= MOST_REFERENCES
-        && found.agents.len() <= MOST_REFERENCES
-        && found.workers.len() <= MOST_WORKERS
+    count(found.refs) <= MOST_REFERENCES
+        && count(found.atoms) <= MOST_REFERENCES
+        && count(found.agents) <= MOST_REFERENCES
+        && count(found.workers) <= MOST_WORKERS
 }
 
-/// The parts of a workload's map, where its entries are those of one. `empty` stands for a vector that is left out.
-pub fn parts_of<'a>(entries: &'a Entries, empty: &'a Items) -> Result<Parts<'a>, PlanFault>
-    requires { empty.now ≡ [] }
-    ensures ok { IfOk result (λ p. HasParts entries.now p.refs.now p.atoms.now p.agents.now p.workers.now p.pool) }
-    ensures short { IfOk result (λ p. list_all is_short_vector p.workers.now ≡ true) }
+/// The parts of a workload's map, where its entries are those of one. It takes no memory.
+pub fn parts_of<'a>(entries: &'a Entries) -> Result<Parts<'a>, PlanFault>
+    ensures ok { IfOk result (λ p. HasParts entries.now (elements (option_copied p.refs)) (elements (option_copied p.atoms))
+        (elements (option_copied p.agents)) (elements (option_copied p.workers)) p.pool) }
+    ensures short { IfOk result (λ p. list_all is_short_vector (elements (option_copied p.workers)) ≡ true) }
+    ensures told { IfErr result (λ f. f ≢ PlanFault.Memory) }
     ensures none { OnErr result ((refs atoms agents workers : List Edn) (pool : ℕ)
         → HasParts entries.now refs atoms agents workers pool → list_all is_short_vector workers ≡ true → ⊥) }
 {
-    let Some(found) = found_in(entries, empty) else {
+    let Some(found) = found_in(entries) else {
         return Err(PlanFault::NotWorkload);
     };
     let Some(version) = version_of(entries) else {
@@ -210,4 +227,15 @@ pub fn parts_of<'a>(entries: &'a Entries, empty: &'a Items) -> Result<Parts<'a>,
         workers: found.workers,
         pool,
     })
+}
+
+/// The forms of a part: none, where it is left out.
+pub fn forms_of<'a>(part: Option<&'a Items>, empty: &'a Items) -> &'a Items
+    requires { empty.now ≡ [] }
+    ensures { result.now ≡ elements (option_copied part.entry) }
+{
+    match part {
+        Some(forms) => forms,
+        None => empty,
+    }
 }
