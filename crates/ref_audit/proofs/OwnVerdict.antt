@@ -1,5 +1,5 @@
 -- The audit of a world's own dump.
-use Rattle.std.proofs.Common.{◌≡◌, ℕ, ◌+◌, ◌<◌, ◌≤◌, ◌^◌, ◌&&◌, Bool, true, false, refl, List, [], ◌∷◌, length, map, Option, None, Some, Result, Ok, ◌∙◌, ap, sym, arith}
+use Rattle.std.proofs.Common.{◌≡◌, ℕ, ◌+◌, ◌<◌, ◌≤◌, ◌&&◌, Bool, true, refl, List, [], ◌∷◌, length, map, Option, None, Some, Result, Ok, ◌∙◌, ap, arith}
 use Rattle.std.specs.List.{enumerate_from, list_all}
 use Rattle.std.specs.Option.{option_map, option_or}
 use Rattle.ref_edn.specs.Edn.{Edn}
@@ -18,7 +18,7 @@ use Rattle.ref_world.specs.Seen.{WorldSeen}
 use Rattle.ref_audit.specs.Dumped.{depth_refusal, dump_refusal, dumped, unnamed, unnamed_refusal}
 use Rattle.ref_audit.specs.DumpForm.{dump_of}
 use Rattle.ref_audit.specs.OfCore.{IsOfCore, is_account_of_core, is_agent_rule_of_core, is_entry_of_core, is_handled_of_core, is_kept_of_core, is_op_of_core, is_rule_of_core}
-use Rattle.ref_audit.specs.OwnDump.{IsTold, IsTyped, agent_seen, agents_seen, dump_seen, is_typed_agent, is_typed_args, is_typed_done, is_typed_entry, is_typed_handled, is_typed_number, is_typed_op, is_typed_queued, is_typed_rule, is_typed_sent, is_typed_stamp, kept_seen, kepts_seen}
+use Rattle.ref_audit.specs.OwnDump.{IsTold, IsTyped, agent_seen, dump_seen, is_typed_agent, is_typed_args, is_typed_done, is_typed_entry, is_typed_handled, is_typed_number, is_typed_op, is_typed_queued, is_typed_rule, is_typed_sent, is_typed_stamp, kept_seen}
 use Rattle.ref_audit.specs.Verdict.{verdict, verdict_on}
 use Rattle.ref_audit.specs.declared.faults.DumpMakeFault.{DumpMakeFault}
 use Rattle.ref_audit.specs.declared.faults.DumpMakeFault.TheVariants as makes

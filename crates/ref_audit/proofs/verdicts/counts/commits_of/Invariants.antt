@@ -1,4 +1,4 @@
-use Rattle.std.proofs.Common.{◌≡◌, ◌≤◌, ◌<◌, ◌^◌, ◌+◌, length}
+use Rattle.std.proofs.Common.{◌≡◌, ◌<◌, ◌^◌, ◌+◌, length}
 use Rattle.ref_log.specs.Tally.{commits_of}
 use Rattle.ref_audit.proofs.verdicts.counts.commits_of.Given as goal
 
