@@ -65,6 +65,7 @@ fn size(shape: &str) -> usize {
         "one-ref" | "tally" | "one-atom" => 1,
         "own-refs" | "transfers-64" | "own-atoms" => 64,
         "transfers-1000" => 1_000,
+        "own-4096" | "transfers-4096" => 4_096,
         "reads" => 100,
         _ => panic!("there is no such shape"),
     }
@@ -73,8 +74,8 @@ fn size(shape: &str) -> usize {
 fn act(shape: &str, threads: usize, worker: usize, dice: &mut Dice) -> Act {
     let size = size(shape);
     match shape {
-        "own-refs" | "own-atoms" => Act::Add(worker + threads * dice.below(size / threads)),
-        "transfers-64" | "transfers-1000" => {
+        "own-refs" | "own-4096" | "own-atoms" => Act::Add(worker + threads * dice.below(size / threads)),
+        "transfers-64" | "transfers-1000" | "transfers-4096" => {
             let from = dice.below(size);
             let to = dice.below(size - 1);
             Act::Transfer(from, if to < from { to } else { to + 1 })

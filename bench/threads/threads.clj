@@ -19,8 +19,9 @@
   (case shape
     "one-ref" (let [r (refs 0)] #(transaction tries (alter r + 1)))
     "tally" #(transaction tries (commute tally + 1))
-    "own-refs" (let [r (refs (own dice threads worker (count refs)))] #(transaction tries (alter r + 1)))
-    ("transfers-64" "transfers-1000")
+    ("own-refs" "own-4096")
+    (let [r (refs (own dice threads worker (count refs)))] #(transaction tries (alter r + 1)))
+    ("transfers-64" "transfers-1000" "transfers-4096")
     (let [from (any dice (count refs)), to (other dice from (count refs)), a (refs from), b (refs to)]
       #(transaction tries (alter a - 1) (alter b + 1)))
     "reads" (let [r (refs (any dice (count refs)))]
@@ -29,7 +30,7 @@
     "own-atoms" (let [a (atoms (own dice threads worker (count atoms)))] #(swap! a + 1))
     "agents" (let [g (agents (any dice (count agents)))] #(send g + 1))))
 
-(def sizes {"own-refs" 64, "transfers-64" 64, "transfers-1000" 1000, "reads" 100})
+(def sizes {"own-refs" 64, "own-4096" 4096, "transfers-64" 64, "transfers-1000" 1000, "transfers-4096" 4096, "reads" 100})
 
 (defn world [shape]
   {:refs (vec (repeatedly (sizes shape 1) #(ref 0)))

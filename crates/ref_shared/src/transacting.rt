@@ -17,7 +17,8 @@ use std::sync::ledger::Ledger;
 impl<C: Ledger, A: Ledger> Shared<Core, C, A> {
     /// Runs a body on a transaction and commits it, as Clojure's `dosync`. Where the commit is in conflict all begins anew, with
     /// the values then, at most `tries` times, at least once. After a commit the sink is told what the watches are to be told,
-    /// and then what the transaction sent is let out. The answer is what the body's last call answered, and the receipt.
+    /// and then what the transaction sent is let out, which takes the lock once more where it sent something. The answer is what
+    /// the body's last call answered, and the receipt.
     ///
     /// The body is called with the lock free, at most `tries` times, each time with a transaction in which nothing was done.
     /// What its earlier calls did beside the transaction stays done. Where a fault is answered, this call has committed nothing,
@@ -95,11 +96,14 @@ impl<C: Ledger, A: Ledger> Shared<Core, C, A> {
                 Err(e) => return Err(TransactFault::Body(e)),
             };
             gate.pass(Spot::AfterBody);
+            let has_sends = !tx.sends().is_empty();
             match self.commit(rt, alloc, funs, share, stamp, tx) {
                 Ok(receipt) => {
                     gate.pass(Spot::AfterCommit);
                     tell(sink, receipt.notices.as_slice());
-                    self.release(rt, receipt.point);
+                    if has_sends {
+                        self.release(rt, receipt.point);
+                    }
                     return Ok((answer, receipt));
                 }
                 Err((_, fault)) => match fault {
