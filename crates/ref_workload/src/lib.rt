@@ -6,7 +6,7 @@
 //! its transaction, a [`PlanFault`] why a value is no workload, and [`Progress`] tells another thread how far a run is.
 //!
 //! Planning is linear in the text, but for the look-ups of names; a run costs what its steps do, and the comparison is linear in steps
-//! and log. What is promised is that the world is that of the plan's steps, each once and each worker's in order, but for those that
+//! and log. What is promised is that the world's transactions are the plan's, each once and each worker's in order, but for those that
 //! were refused, which are told. Not promised is which steps are refused, in which order workers get on, or that a thread can be had.
 #![tactic(auto)]
 
@@ -28,4 +28,4 @@ pub use plan_faults::PlanFault;
 pub use plans::{Plan, PlannedOp, Step};
 pub use progress::Progress;
 pub use run::{RunOut, run_plan, run_plan_with};
-pub use texts::{Options, run_workload, run_workload_with};
+pub use texts::{Options, run_text, run_workload};

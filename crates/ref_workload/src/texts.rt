@@ -72,48 +72,15 @@ where
     ensures writes { CountsWrites (O.failures writer.old) (O.failures writer.new) result }
 {
     let progress = Progress::new();
-    run_workload_with(rt, alloc, funs, reader, writer, options, &progress)
-}
-
-/// As [`run_workload`], and counts in `progress` how far the run is.
-pub fn run_workload_with<F, R, I, O>(
-    rt: &R,
-    alloc: Global,
-    funs: &F,
-    reader: &mut I,
-    writer: &mut O,
-    options: Options,
-    progress: &Progress,
-) -> Result<Verdict, RunFault>
-where
-    F: Functions<Core> + Sync,
-    R: Threads + Wait + Sync,
-    I: Source,
-    O: Sink,
-    requires { HasCore (F.knows funs.now) }
-    // It reads no further than one byte past what a workload may have.
-    ensures taken { ConsumesUpTo (I.left reader.old) (I.left reader.new) 16777217 }
-    ensures ok { IfOk result (λ verdict. (verdict ≡ verdicts.Ok)
-        × HasWritten (IsRun options.dump) (I.left reader.old) (I.left reader.new) (O.written writer.old)
-        (O.written writer.new)) }
-    // The text, its value or its length is at fault, where the fault says so.
-    ensures fault { IfErr result (λ f. IfSome (I.left reader.old) (λ text. IsAtFault text f)) }
-    ensures write { IfErr result (λ f. f ≡ RunFault.Write
-        → HasBrokenOff (IsRun options.dump) (I.left reader.old) (I.left reader.new) (O.written writer.old)
-        (O.written writer.new)) }
-    // Before any other fault nothing was written.
-    ensures silent { IfErr result (λ f. f ≢ RunFault.Write → O.written writer.new ≡ O.written writer.old) }
-    ensures reads { CountsReads (I.failures reader.old) (I.failures reader.new) result }
-    ensures writes { CountsWrites (O.failures writer.old) (O.failures writer.new) result }
-{
     let input = read_input(alloc, reader)?;
-    let output = output_of(rt, alloc, funs, &input, options, progress)?;
+    let output = run_text(rt, alloc, funs, &input, options, &progress)?;
     write_output(writer, &output)?;
     Ok(Verdict::Ok)
 }
 
-// What is written of the workload that a text writes.
-fn output_of<F: Functions<Core> + Sync, R: Threads + Wait + Sync>(
+/// Runs the workload that a text writes, as [`run_workload`] does, and answers what is to be written of it. `progress` counts how
+/// far the run is.
+pub fn run_text<F: Functions<Core> + Sync, R: Threads + Wait + Sync>(
     rt: &R,
     alloc: Global,
     funs: &F,

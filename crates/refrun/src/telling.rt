@@ -1,11 +1,17 @@
 //! What is told of a run while it lasts.
-ghost use Rattle.ref_fun.specs.Calls.{HasCore};
+ghost use Rattle.std.specs.Prelude.{◌≡◌, ◌≢◌, IfOk, IfErr, IfSome};
 ghost use Rattle.std.specs.Thread.{IsSync};
+ghost use Rattle.ref_edn.specs.Streams.{ConsumesUpTo};
+ghost use Rattle.ref_fun.specs.Calls.{HasCore};
+ghost use Rattle.ref_audit.specs.declared.reports.Verdict.TheVariants as verdicts;
+ghost use Rattle.ref_workload.specs.Run.{IsAtFault, IsOfText, IsRun};
+ghost use Rattle.ref_workload.specs.Streams.{CountsReads, CountsWrites, HasBrokenOff, HasWritten};
 
 use ref_audit::Verdict;
 use ref_edn::{Sink, Source};
 use ref_fun::{Core, Functions};
-use ref_workload::{Options, Progress, RunFault, run_workload_with};
+use ref_workload::streams::{read_input, write_output};
+use ref_workload::{Options, Progress, RunFault, run_text};
 use std::alloc::Global;
 use std::sync::Wait;
 use std::sync::atomic::{AtomicBool, Ordering};
@@ -22,8 +28,8 @@ const LOOKS: u32 = 50;
 // Back to the beginning of the line, which is cleared.
 const AGAIN: &str = "\r\u{1b}[K";
 
-/// Runs a workload as `run_workload` does, and tells on standard error about once a second how far the run is, in one line that is
-/// written again and again, and cleared at the end. Where no thread can be made for that, nothing is told.
+/// Runs a workload as [`ref_workload::run_workload`] does, and tells on standard error about once a second how far the run is, in one
+/// line that is written again and again, and cleared at the end. Where no thread can be made for that, nothing is told.
 pub(crate) fn run_and_tell<F, R, I, O>(
     rt: &R,
     alloc: Global,
@@ -38,17 +44,56 @@ where
     I: Source,
     O: Sink,
     requires { HasCore (F.knows funs.now) }
+    // It reads no further than one byte past what a workload may have.
+    ensures taken { ConsumesUpTo (I.left reader.old) (I.left reader.new) 16777217 }
+    ensures ok { IfOk result (λ verdict. (verdict ≡ verdicts.Ok)
+        × HasWritten (IsRun options.dump) (I.left reader.old) (I.left reader.new) (O.written writer.old)
+        (O.written writer.new)) }
+    // The text, its value or its length is at fault, where the fault says so.
+    ensures fault { IfErr result (λ f. IfSome (I.left reader.old) (λ text. IsAtFault text f)) }
+    ensures write { IfErr result (λ f. f ≡ RunFault.Write
+        → HasBrokenOff (IsRun options.dump) (I.left reader.old) (I.left reader.new) (O.written writer.old)
+        (O.written writer.new)) }
+    // Before any other fault nothing was written.
+    ensures silent { IfErr result (λ f. f ≢ RunFault.Write → O.written writer.new ≡ O.written writer.old) }
+    ensures reads { CountsReads (I.failures reader.old) (I.failures reader.new) result }
+    ensures writes { CountsWrites (O.failures writer.old) (O.failures writer.new) result }
+{
+    let input = read_input(alloc, reader)?;
+    let output = run_beside(rt, alloc, funs, &input, options)?;
+    write_output(writer, &output)?;
+    Ok(Verdict::Ok)
+}
+
+// Runs a workload's text, with a thread beside that tells how far the run is.
+fn run_beside<F, R>(
+    rt: &R,
+    alloc: Global,
+    funs: &F,
+    text: &[u8],
+    options: Options,
+) -> Result<Vec<u8>, RunFault>
+where
+    F: Functions<Core> + Sync,
+    R: Threads + Wait + Clock + Eprint + Sync,
+    requires { HasCore (F.knows funs.now) }
+    ensures ok { IfOk result (λ output. IsRun options.dump text.now output.items) }
+    ensures fault { IfErr result (λ f. IsAtFault text.now f) }
+    ensures inner { IfErr result IsOfText }
 {
     let progress = Progress::new();
     let is_over = AtomicBool::new(false);
     thread::scope(
         thread::scope_env(),
         rt,
-        |scope| -> Result<Verdict, RunFault>
+        |scope| -> Result<Vec<u8>, RunFault>
             requires { IsSync F.row × HasCore (F.knows funs.now) }
+            ensures ok { IfOk result (λ output. IsRun options.dump text.entry.now output.items) }
+            ensures fault { IfErr result (λ f. IsAtFault text.entry.now f) }
+            ensures inner { IfErr result IsOfText }
         {
             let teller = scope.spawn(|| tell(rt, &progress, &is_over)).ok();
-            let ran = run_workload_with(rt, alloc, funs, reader, writer, options, &progress);
+            let ran = run_text(rt, alloc, funs, text, options, &progress);
             is_over.store(true, Ordering::Release);
             if let Some(teller) = teller {
                 teller.join(rt);
@@ -68,7 +113,7 @@ fn tell<R: Wait + Clock + Eprint>(rt: &R, progress: &Progress, is_over: &AtomicB
             break;
         }
         looks = looks.wrapping_add(1);
-        // While the workload is still read, a terminal is for whoever types it.
+        // Before there is a plan nothing runs.
         if looks % LOOKS == 0 && progress.steps() > 0 {
             tell_once(rt, progress);
             has_told = true;

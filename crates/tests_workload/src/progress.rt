@@ -3,12 +3,11 @@ ghost use Rattle.std.specs.Prelude.{◌≡◌};
 ghost use Rattle.ref_world.specs.Shares.{all_parts};
 
 use crate::tables::CoreWithout;
-use ref_audit::Verdict;
-use ref_edn::{Counted, read_one};
+use ref_edn::read_one;
 use ref_fun::CoreFunctions;
 use ref_shared::Open;
 use ref_workload::plan::plan;
-use ref_workload::{Options, Plan, Progress, RunFault, run_plan_with, run_workload_with};
+use ref_workload::{Options, Plan, Progress, RunFault, run_plan_with, run_text};
 use ref_world::ALL_PARTS;
 use std::alloc::Global;
 use std::marker::Brand;
@@ -40,20 +39,10 @@ const REPORT: Options = Options {
 fn a_run_tells_how_far_it_is(rt: HostRuntime) -> Result<(), Fail> {
     let alloc = rt.alloc();
     let funs = CoreFunctions::new();
-    let mut reader = Counted::new(SIX_STEPS.as_bytes());
-    let mut writer = Counted::new(Vec::new(alloc));
     let progress = Progress::new();
     assert_eq!(rt; counts(&progress), (0, 0, 0, 0));
-    let answer = run_workload_with(
-        &rt,
-        alloc,
-        &funs,
-        &mut reader,
-        &mut writer,
-        REPORT,
-        &progress,
-    );
-    assert_eq!(rt; answer, Ok(Verdict::Ok));
+    let written = run_text(&rt, alloc, &funs, SIX_STEPS.as_bytes(), REPORT, &progress);
+    assert_eq!(rt; written.is_ok(), true);
     assert_eq!(rt; counts(&progress), (6, 6, 2, 3));
     Ok(())
 }

@@ -1,4 +1,4 @@
-use Rattle.ref_workload.proofs.texts.output_of.Given as goal
+use Rattle.ref_workload.proofs.texts.run_text.Given as goal
 
 abbrev pub ghosts-output_of_plan-C-Ledger : goal.ghosts-output_of_plan-C-Ledger
 ghosts-output_of_plan-C-Ledger g a = record { name = a.commits.name; parts = a.commits.parts }

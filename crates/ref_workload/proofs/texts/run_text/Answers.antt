@@ -1,5 +1,5 @@
 use Rattle.ref_workload.proofs.TextFaults.{edn_told, plan_told}
-use Rattle.ref_workload.proofs.texts.output_of.Goals as goal
+use Rattle.ref_workload.proofs.texts.run_text.Goals as goal
 
 pub returns-in_err-value-clause-fault : goal.returns-in_err-value-clause-fault
 returns-in_err-value-clause-fault g c = edn_told c.from_residual.result c.args.text.now c.in_err-value.field-0.0 c.from_residual.ensures.1 c.in_err-value.ensures.none
