@@ -3,3 +3,4 @@ pub mod Auditing
 pub mod Checking
 pub mod Printing
 pub mod Lines
+pub mod Tasks

@@ -1,5 +1,8 @@
 //! What is done by a table of all functions and predicates of Core.
+ghost use Rattle.std.specs.Prelude.{IfOk, IfErr};
+ghost use Rattle.ref_edn.specs.Streams.{ConsumesUpTo};
 ghost use Rattle.ref_fun.specs.Calls.{HasCore};
+ghost use Rattle.refrun.specs.Tasks.{CountsReads, CountsWrites, IsDone, IsFaultOf, IsLeft};
 
 use crate::auditing::audit_text;
 use crate::faults::Fault;
@@ -39,19 +42,31 @@ where
     I: Source,
     O: Sink,
     requires { HasCore (F.knows funs.now) }
+    // It reads no further than one byte past what an input may have.
+    ensures taken { ConsumesUpTo (I.left reader.old) (I.left reader.new) 16777217 }
+    ensures ok { IfOk result (λ verdict. IsDone task verdict (I.left reader.old) (I.left reader.new)
+        (O.written writer.old) (O.written writer.new)) }
+    ensures fault { IfErr result (λ f. IsFaultOf task (I.left reader.old) f) }
+    ensures left { IfErr result (λ f. IsLeft task f (I.left reader.old) (I.left reader.new)
+        (O.written writer.old) (O.written writer.new)) }
+    ensures reads { CountsReads (I.failures reader.old) (I.failures reader.new) result }
+    ensures writes { CountsWrites (O.failures writer.old) (O.failures writer.new) result }
 {
     match task {
-        Task::Run { options, tells } => {
-            let ran = if tells {
-                run_and_tell(rt, alloc, funs, reader, writer, options)
-            } else {
-                run_workload(rt, alloc, funs, reader, writer, options)
-            };
-            match ran {
-                Ok(verdict) => Ok(verdict),
-                Err(fault) => Err(Fault::Run(fault)),
-            }
-        }
+        Task::Run {
+            options,
+            tells: false,
+        } => match run_workload(rt, alloc, funs, reader, writer, options) {
+            Ok(verdict) => Ok(verdict),
+            Err(fault) => Err(Fault::Run(fault)),
+        },
+        Task::Run {
+            options,
+            tells: true,
+        } => match run_and_tell(rt, alloc, funs, reader, writer, options) {
+            Ok(verdict) => Ok(verdict),
+            Err(fault) => Err(Fault::Run(fault)),
+        },
         Task::Audit => match audit_text(alloc, funs, reader, writer) {
             Ok(verdict) => Ok(verdict),
             Err(fault) => Err(Fault::Audit(fault)),

@@ -1,0 +1,44 @@
+-- What a task does with the input: what it writes of it, and what its faults say.
+use Rattle.std.specs.Prelude.{◌≡◌, ◌≢◌, ℕ, List, Option, IfSome, Result, Ok, Err}
+use Rattle.ref_audit.specs.declared.reports.Verdict.{Verdict}
+use Rattle.ref_audit.specs.declared.reports.Verdict.TheVariants as verdicts
+use Rattle.ref_workload.specs.Run as runs
+use Rattle.ref_workload.specs.Streams as streams
+use Rattle.ref_workload.specs.declared.faults.RunFault.TheVariants as run_faults
+use Rattle.refrun.specs.Auditing as audits
+use Rattle.refrun.specs.declared.faults.AuditRunFault.TheVariants as audit_faults
+use Rattle.refrun.specs.declared.faults.Fault.{Fault}
+use Rattle.refrun.specs.declared.faults.Fault.TheVariants as faults
+use Rattle.refrun.specs.declared.tasks.Task.{Task}
+use Rattle.refrun.specs.declared.tasks.Task.TheVariants.{Run, Audit}
+
+-- The whole output was written: of a run its report or its dump, of an audit the line of its verdict. What was left to read and what was
+-- written are told before and after.
+abbrev pub IsDone : Task → Verdict → Option (List ℕ) → Option (List ℕ) → Option (List ℕ) → Option (List ℕ) → Type 0
+IsDone (Run options tells) verdict before after old new = (verdict ≡ verdicts.Ok) × streams.HasWritten (runs.IsRun options.dump) before after old new
+IsDone Audit verdict before after old new = streams.HasWritten (audits.IsAuditOf verdict) before after old new
+
+-- The fault is one of this task, and the text that was there to read is at fault where it says so.
+abbrev pub IsFaultOf : Task → Option (List ℕ) → Fault → Type 0
+IsFaultOf (Run options tells) before (faults.Run fault) = IfSome before (λ text. runs.IsAtFault text fault)
+IsFaultOf Audit before (faults.Audit fault) = IfSome before (λ text. audits.IsAtFault text fault)
+IsFaultOf task before fault = ⊥
+
+-- Where the writer failed, a part of the output was written, from its start on, and before any other fault nothing.
+abbrev pub IsLeft : Task → Fault → Option (List ℕ) → Option (List ℕ) → Option (List ℕ) → Option (List ℕ) → Type 0
+IsLeft (Run options tells) (faults.Run fault) before after old new =
+    (fault ≡ run_faults.Write → streams.HasBrokenOff (runs.IsRun options.dump) before after old new) × (fault ≢ run_faults.Write → new ≡ old)
+IsLeft Audit (faults.Audit fault) before after old new =
+    (fault ≡ audit_faults.Write → streams.HasBrokenOff audits.IsAudit before after old new) × (fault ≢ audit_faults.Write → new ≡ old)
+IsLeft task fault before after old new = ⊥
+
+-- A read that fails is told by the fault for it and by nothing else, and so is a write.
+abbrev pub CountsReads : ℕ → ℕ → Result Verdict Fault → Type 0
+CountsReads old new (Ok verdict) = new ≡ old
+CountsReads old new (Err (faults.Run fault)) = streams.CountsReads {T = Verdict} old new (Err fault)
+CountsReads old new (Err (faults.Audit fault)) = audits.CountsReads {T = Verdict} old new (Err fault)
+
+abbrev pub CountsWrites : ℕ → ℕ → Result Verdict Fault → Type 0
+CountsWrites old new (Ok verdict) = new ≡ old
+CountsWrites old new (Err (faults.Run fault)) = streams.CountsWrites {T = Verdict} old new (Err fault)
+CountsWrites old new (Err (faults.Audit fault)) = audits.CountsWrites {T = Verdict} old new (Err fault)
