@@ -1,4 +1,5 @@
 //! What a world has is there when it comes out of a shared one: its watches, what waits, and what is held.
+ghost use Rattle.std.specs.Prelude.{◌≡◌};
 ghost use Rattle.ref_world.specs.Shares.{all_parts};
 
 use crate::work::two_agents;
