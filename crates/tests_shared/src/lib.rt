@@ -7,12 +7,11 @@
 //! | Modules | |
 //! |---|---|
 //! | `calls`, `checkpoints`, `conflicts`, `finishing` | by one thread: each call, views and checkpoints, transactions that are tried again, the end |
-//! | `work`, `kept` | by one thread: agents; what a world has when it comes out again |
+//! | `work` | by one thread: agents |
 //! | `threads`, `side_by_side`, `stress` | by several: transactions, agents, all together |
 //! | `looks` | by two: at each step between, the lock is free |
 //! | `waking` | by two or three: who waits for an agent is woken |
 //! | `faults` | what faults say |
-//! | `tables` | a table that may want memory or predicates |
 //! | `worlds` | making worlds and values, and what is read of them |
 //! | [`flags`] | how far threads have come. It stands outside of the tests, since the proof of what crosses threads names it |
 //! | [`numbers`] | the number that a value is. It stands outside of the tests too, so that a wrong body of it can be tried |
@@ -30,16 +29,12 @@ mod faults;
 mod finishing;
 pub mod flags;
 #[cfg(test)]
-mod kept;
-#[cfg(test)]
 mod looks;
 pub mod numbers;
 #[cfg(test)]
 mod side_by_side;
 #[cfg(test)]
 mod stress;
-#[cfg(test)]
-mod tables;
 #[cfg(test)]
 mod threads;
 #[cfg(test)]
