@@ -12,6 +12,7 @@
 //! | `looks` | by two: at each step between, the lock is free |
 //! | `waking` | by two or three: who waits for an agent is woken |
 //! | `faults` | what faults say |
+//! | `tables` | a table that may want memory or predicates |
 //! | `worlds` | making worlds and values, and what is read of them |
 //! | [`flags`] | how far threads have come. It stands outside of the tests, since the proof of what crosses threads names it |
 //! | [`numbers`] | the number that a value is. It stands outside of the tests too, so that a wrong body of it can be tried |
@@ -35,6 +36,8 @@ pub mod numbers;
 mod side_by_side;
 #[cfg(test)]
 mod stress;
+#[cfg(test)]
+mod tables;
 #[cfg(test)]
 mod threads;
 #[cfg(test)]

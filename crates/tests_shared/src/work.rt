@@ -2,9 +2,10 @@
 ghost use Rattle.std.specs.Prelude.{◌≡◌};
 ghost use Rattle.ref_world.specs.Shares.{all_parts};
 
+use crate::tables::Poor;
 use crate::worlds::{
-    Listener, MINUS, PLUS, STAMP, Stop, Told, action, agent, at_least, closed, done, int_at,
-    one_arg, opened, plain_start, value,
+    AT_LEAST, Listener, MINUS, PLUS, STAMP, Stop, Told, action, agent, at_least, closed, done,
+    int_at, one_arg, opened, plain_start, value,
 };
 use ref_agents::{AgentError, RestartFault, SendFault};
 use ref_fun::{Core, CoreFunctions};
@@ -256,6 +257,53 @@ fn an_action_without_its_function_waits_again(rt: HostRuntime) -> Result<(), Fai
     let lacking = try_lacking::<Brand, Brand, _>(&rt, alloc, commits, added)?;
     let no_such: Work = Err(WorkFault::NoSuchFun(999));
     assert_eq!(rt; lacking, (no_such, no_such, Some(0)));
+    Ok(())
+}
+
+// An action of g by a table that can't end it, and once more by one that can, which waits for nobody.
+fn try_poor<C: Ledger, A: Ledger, R: Wait>(
+    rt: &R,
+    alloc: Global,
+    poor: Poor,
+    commits: Blank,
+    added: Blank,
+) -> Result<(Work, Work, Option<i64>), Stop>
+    requires commits { (commits.name ≡ C.name) × (commits.parts ≡ C.parts) × (commits.parts ≡ all_parts) }
+    requires added { (added.name ≡ A.name) × (added.parts ≡ A.parts) × (added.parts ≡ all_parts) }
+{
+    let (shared, _share) = opened::<C, A>(alloc, two_agents(alloc)?, commits, added)?;
+    done(shared.send(rt, alloc, 0, action(alloc, PLUS, "1")?))?;
+    shared.close(rt);
+    let first = shared.work_once(rt, alloc, &poor, &mut Open, &mut Quiet);
+    let second = work(rt, alloc, &shared);
+    Ok((first, second, int_at(rt, &shared, Who::Agent(0))))
+}
+
+#[test]
+fn an_action_without_memory_waits_again(rt: HostRuntime) -> Result<(), Fail> {
+    let alloc = rt.alloc();
+    let (commits, added) = (Blank::new(ALL_PARTS), Blank::new(ALL_PARTS));
+    let poor = Poor {
+        has_memory: false,
+        has_predicates: true,
+    };
+    let ended = try_poor::<Brand, Brand, _>(&rt, alloc, poor, commits, added)?;
+    let no_memory: Work = Err(WorkFault::Memory);
+    assert_eq!(rt; ended, (no_memory, Ok(Worked::Did(0)), Some(1)));
+    Ok(())
+}
+
+#[test]
+fn an_action_without_the_predicate_waits_again(rt: HostRuntime) -> Result<(), Fail> {
+    let alloc = rt.alloc();
+    let (commits, added) = (Blank::new(ALL_PARTS), Blank::new(ALL_PARTS));
+    let poor = Poor {
+        has_memory: true,
+        has_predicates: false,
+    };
+    let ended = try_poor::<Brand, Brand, _>(&rt, alloc, poor, commits, added)?;
+    let no_such: Work = Err(WorkFault::NoSuchFun(AT_LEAST));
+    assert_eq!(rt; ended, (no_such, Ok(Worked::Did(0)), Some(1)));
     Ok(())
 }
 
