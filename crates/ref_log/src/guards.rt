@@ -181,6 +181,16 @@ impl Guards {
         }
     }
 
+    /// Whether the reference of this number has no watch, or isn't there. It takes no memory.
+    pub fn is_unwatched(&self, n: u32) -> bool
+        ensures { IsTrue result ↔ (keys_at self.now n ≡ []) }
+    {
+        match self.items.get(n as usize) {
+            Some(guard) => guard.watches.is_empty(),
+            None => true,
+        }
+    }
+
     /// Adds a notice for each watch of the reference of this number, in the order of adding: the value of `who` was `before`
     /// and is `after`. A refused call adds none.
     pub fn tell(

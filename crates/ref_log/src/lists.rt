@@ -41,60 +41,80 @@ pub fn vector_of<T: Share>(alloc: Global, items: &[T]) -> Result<PVec<T>, AllocE
 /// The items of a `Vec`, which may have several owners and doesn't change. Contracts see a list.
 #[derive(Drop)]
 pub struct SharedVec<T> {
-    inside: Arc<Vec<T>>,
+    // No block is taken for no items.
+    inside: Option<Arc<Vec<T>>>,
 }
 
 impl<T> Model for SharedVec<T> {
-    ghost use Rattle.std.specs.Prelude.{List};
+    ghost use Rattle.std.specs.Prelude.{List, []};
     ghost use Rattle.std.specs.Coded.{coded_list};
+    ghost use Rattle.std.specs.Option.{option_map_or};
 
     ghost Value = { List T };
 
     ghost coded = { coded_list T.code };
 
-    ghost view = { λ a. a.inside.value.items };
+    ghost view = { λ a. option_map_or (λ items. items.value.items) a.inside [] };
 }
 
 impl<T: Drop> SharedVec<T> {
-    /// The items that a `Vec` holds, which isn't copied.
+    /// The items that a `Vec` holds, which isn't copied. Where there are none it takes no memory.
     pub fn of(alloc: Global, items: Vec<T>) -> Result<SharedVec<T>, AllocError>
         ensures { IfOk result (λ xs. xs ≡ items.items) }
     {
+        if items.is_empty() {
+            return Ok(SharedVec { inside: None });
+        }
         Ok(SharedVec {
-            inside: Arc::new(alloc, items)?,
+            inside: Some(Arc::new(alloc, items)?),
         })
     }
 
     pub fn len(&self) -> usize
         ensures { result ≡ length self.now }
     {
-        self.inside.len()
+        match &self.inside {
+            Some(items) => items.len(),
+            None => 0,
+        }
     }
 
     pub fn is_empty(&self) -> bool
         ensures { IsTrue result ↔ (self.now ≡ []) }
     {
-        self.inside.is_empty()
+        match &self.inside {
+            Some(items) => items.is_empty(),
+            None => true,
+        }
     }
 
     pub fn at(&self, i: usize) -> &T
         requires { i < length self.now }
         ensures { result.now ≡ slice_index_or self.now i result.now }
     {
-        &self.inside[i]
+        match &self.inside {
+            Some(items) => &items[i],
+            None => unreachable!(),
+        }
     }
 
     pub fn get(&self, i: usize) -> Option<&T>
         ensures value { option_copied result ≡ slice_get self.now i }
         ensures item { IsItemAt self.now i result }
     {
-        self.inside.get(i)
+        match &self.inside {
+            Some(items) => items.get(i),
+            None => None,
+        }
     }
 
     pub fn as_slice(&self) -> &[T]
         ensures { result.now ≡ self.now }
     {
-        self.inside.as_slice()
+        match &self.inside {
+            Some(items) => items.as_slice(),
+            None => &[],
+        }
     }
 
     /// The items from the first on.
@@ -113,9 +133,12 @@ impl<T: Drop> SharedVec<T> {
     pub fn share(&self) -> Result<SharedVec<T>, AllocError>
         ensures { IfOk result (λ xs. xs ≡ self.now) }
     {
-        Ok(SharedVec {
-            inside: Arc::try_clone(&self.inside)?,
-        })
+        match &self.inside {
+            Some(items) => Ok(SharedVec {
+                inside: Some(Arc::try_clone(items)?),
+            }),
+            None => Ok(SharedVec { inside: None }),
+        }
     }
 }
 

@@ -1,5 +1,5 @@
 //! The watches of a reference.
-ghost use Rattle.std.specs.Prelude.{◌≡◌, ◌++◌, [], false, not, IfOk, OnErr, OnOk, length, take};
+ghost use Rattle.std.specs.Prelude.{◌≡◌, ◌++◌, ◌↔◌, [], false, not, IsTrue, IfOk, OnErr, OnOk, length, take};
 ghost use Rattle.ref_log.specs.Watches.{AreDistinct, has_key, notices_of, with_key, without_key};
 
 use crate::notices::{Notice, Who};
@@ -39,6 +39,12 @@ impl Watches {
         Watches {
             keys: Vec::new(alloc),
         }
+    }
+
+    pub fn is_empty(&self) -> bool
+        ensures { IsTrue result ↔ (self.now ≡ []) }
+    {
+        self.keys.is_empty()
     }
 
     /// Whether a watch has this key. Linear in the number of watches.

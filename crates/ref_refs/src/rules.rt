@@ -72,6 +72,9 @@ fn is_accepted<M: Meaning, F: Functions<M>>(
     requires { unknown (F.knows funs.now).preds (rule_at guards.now r) ≡ None }
     ensures { result ≡ is_accepted_at M.accepts guards.now refs.now.values r }
 {
+    if guards.rule_of(r).is_none() {
+        return true;
+    }
     match refs.get(r) {
         Some(value) => guards.accepts(funs, r, value),
         None => true,

@@ -1,5 +1,5 @@
 //! The notices that a commit gives the watches of refs.
-ghost use Rattle.std.specs.Prelude.{◌≡◌, ◌++◌, IfOk, OnOk, option_copied};
+ghost use Rattle.std.specs.Prelude.{◌≡◌, ◌++◌, ◌∷◌, [], IfOk, OnOk, option_copied};
 ghost use Rattle.std.specs.BTreeSet.{keys};
 ghost use Rattle.ref_log.specs.Guards.{keys_at};
 ghost use Rattle.ref_refs.specs.Watches.{notices, notices_at, notices_if_here, touched_refs};
@@ -10,8 +10,28 @@ use ref_tx::Snapshot;
 use std::alloc::{AllocError, Global};
 use std::collections::BTreeSet;
 
-// The refs that these operations change, each once, in ascending order.
+// The refs that these operations change, each once, in ascending order. Most transactions have one operation, which needs no set.
 pub(crate) fn touched_refs(alloc: Global, dones: &[Done]) -> Result<Vec<u32>, AllocError>
+    ensures { IfOk result (λ rs. rs.items ≡ touched_refs dones.now) }
+{
+    match dones {
+        [done] => touched_by(alloc, done),
+        _ => touched_by_all(alloc, dones),
+    }
+}
+
+fn touched_by(alloc: Global, done: &Done) -> Result<Vec<u32>, AllocError>
+    ensures { IfOk result (λ rs. rs.items ≡ touched_refs (done.now ∷ [])) }
+{
+    let mut refs = Vec::new(alloc);
+    if done.op.is_ensure() {
+        return Ok(refs);
+    }
+    refs.push(done.r)?;
+    Ok(refs)
+}
+
+fn touched_by_all(alloc: Global, dones: &[Done]) -> Result<Vec<u32>, AllocError>
     ensures { IfOk result (λ rs. rs.items ≡ touched_refs dones.now) }
 {
     let mut refs = BTreeSet::new(alloc);
@@ -60,6 +80,9 @@ fn tell(
 ) -> Result<(), AllocError>
     ensures { OnOk result (all.new.items ≡ all.old.items ++ notices_at guards.now before.now.values after.now.values r) }
 {
+    if guards.is_unwatched(r) {
+        return Ok(());
+    }
     tell_if_here(guards, before.get(r), after.get(r), r, all)
 }
 

@@ -104,9 +104,14 @@ impl<M: Meaning, C: Ledger, A: Ledger> Shared<M, C, A> {
         ensures back { IfErr result (λ e. e.0 ≡ tx) }
         ensures same { OnErr result (share.new ≡ share.old) }
     {
-        self.lock(rt)
+        // One owner more, so that the refs before the commit are let go when the lock is free again.
+        let began = tx.began().share();
+        let committed = self
+            .lock(rt)
             .world
-            .commit_with(alloc, funs, share, stamp, tx)
+            .commit_with(alloc, funs, share, stamp, tx);
+        drop(began);
+        committed
     }
 
     /// Lets out what the commit at this point sent, and wakes those who wait for an agent: see [`World::release`].
