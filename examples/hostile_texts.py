@@ -332,7 +332,7 @@ def long_names():
 
 
 def colliding(count):
-    """As many steps as there may be on the last of many references whose names fall on one place of a table."""
+    """As many steps as there may be on the last of many references whose names would fall on one place of a table by default."""
     told = names_of_one_place(2 * count)
     refs, atoms = told[:count], told[count:]
     steps = scaled(STEPS)

@@ -13,8 +13,8 @@ use ref_edn::{Items, Value};
 use std::alloc::Global;
 
 /// The plan that a value says, where it is a workload: docs/WORKLOADS.md has the form. It takes time in proportion to the value; a
-/// name is looked up by its hash, whose seed is known, so names that are chosen to have one hash each cost a look at all of them. The
-/// plan shares values with the value that it is made of, and copies none.
+/// name is looked up by its hash, whose seed are all names together, so that they can't be chosen to have one hash. The plan shares
+/// values with the value that it is made of, and copies none.
 ///
 /// Of what is wrong the first is told, in the order that [`PlanFault`] names; which one it is, no contract says. Keys, version and limits
 /// are asked before any memory is taken.

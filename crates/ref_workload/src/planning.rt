@@ -3,6 +3,7 @@
 pub mod calls;
 pub mod declarations;
 pub mod forms;
+pub mod hashing;
 pub mod kinds;
 pub mod names;
 pub mod operations;

@@ -37,6 +37,7 @@ fn arguments(alloc: Global, parts: Iter<'_>) -> Result<Args, Wrong>
         }
         values.push(part.share()?)?;
     }
+    values.shrink_to_fit();
     Ok(Args::of(alloc, values)?)
 }
 

@@ -9,6 +9,7 @@ ghost use Rattle.ref_workload.specs.Named.{AreApart};
 ghost use Rattle.ref_workload.specs.Tables.{Knows, refs_alone, refs_and_atoms};
 
 use crate::plan_faults::PlanFault;
+use crate::planning::hashing::NameHashing;
 use crate::planning::names::{Declared, NameTable};
 use crate::planning::references::{Refused, agent_in, atom_in, ref_in};
 use ref_audit::Names;
@@ -145,7 +146,8 @@ pub fn declarations(
         → (names : NamesSeen) (refs : List AnyRef) (atoms : List AnyAtom) (agents : List AnyAgent)
         → AreReferences ref_forms.now atom_forms.now agent_forms.now names refs atoms agents → ⊥) }
 {
-    let mut table = NameTable::empty(alloc);
+    let hashing = NameHashing::of(ref_forms, atom_forms, agent_forms);
+    let mut table = NameTable::empty(alloc, hashing);
     let (ref_names, refs) = refs(alloc, ref_forms, &mut table)?;
     let (atom_names, atoms) = atoms(alloc, atom_forms, &mut table)?;
     let (agent_names, agents) = agents(alloc, agent_forms, &mut table)?;

@@ -6,6 +6,7 @@ ghost use Rattle.ref_log.specs.declared.notices.Who.{Who as Reference};
 ghost use Rattle.ref_workload.specs.Named.{AreApart, IsNamed};
 ghost use Rattle.ref_workload.specs.Tables.{Knows, found};
 
+use crate::planning::hashing::NameHashing;
 use indexmap::IndexMap;
 use ref_audit::Names;
 use ref_edn::Text;
@@ -54,19 +55,20 @@ impl Hash for Name {
     ghost use Rattle.std.specs.Cmp.Rules.{hashing};
     ghost use Rattle.std.proofs.Common.{rules};
 
-    ghost hash_input = { λ a. fed.slice fed.u8 a };
+    ghost hash_input = { λ a. fed.str a };
 
     ghost respects_eq = { Prim.search (hashing, rules) };
 
     fn hash<H: Hasher>(&self, state: &mut H) {
-        self.text.as_bytes().hash(state);
+        state.write(self.text.as_bytes());
+        state.write_u8(0xff);
     }
 }
 
 /// References by their names. Contracts see a list of names, each with its reference.
 #[derive(Drop)]
 pub struct NameTable {
-    references: IndexMap<Name, Who>,
+    references: IndexMap<Name, Who, NameHashing>,
 }
 
 impl Model for NameTable {
@@ -78,11 +80,11 @@ impl Model for NameTable {
 }
 
 impl NameTable {
-    pub fn empty(alloc: Global) -> NameTable
+    pub fn empty(alloc: Global, hashing: NameHashing) -> NameTable
         ensures { result ≡ [] }
     {
         NameTable {
-            references: IndexMap::new(alloc),
+            references: IndexMap::with_hasher(alloc, hashing),
         }
     }
 

@@ -128,7 +128,10 @@ pub fn operations(
         }
     }
     match worst {
-        None => Ok(ops),
+        None => {
+            ops.shrink_to_fit();
+            Ok(ops)
+        }
         Some(wrong) => Err(wrong),
     }
 }

@@ -273,7 +273,7 @@ fn steps(
     ensures none { IfErr result (λ f. f ≢ PlanFault.Memory → (steps : List Planned)
         → AllZip (IsStep declared.now) forms.now steps → ⊥) }
 {
-    let mut steps = Vec::new(alloc);
+    let mut steps = Vec::with_capacity(alloc, forms.len())?;
     for i in 0..forms.len() {
         match step(alloc, declared, forms.at(i)) {
             Ok(step) => steps.push(step)?,

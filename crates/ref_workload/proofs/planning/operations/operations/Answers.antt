@@ -26,4 +26,4 @@ loop-form-preserved c =
 pub returns-in-None-worst-clause-ok : goal.returns-in-None-worst-clause-ok
 returns-in-None-worst-clause-ok c =
     let known = rw (c.in-None.ensures.steps.0, c.in-None-worst.is) at c.loop-form.invariant.known in
-    all_said (IsOp c.args.declared.now) c.args.forms c.loop-form.ops.items known
+    rw c.shrink_to_fit.ensures.items (all_said (IsOp c.args.declared.now) c.args.forms c.loop-form.ops.items known)
