@@ -164,6 +164,7 @@ SHAPES = {
     "one-atom": Shape(on_one("[:swap x0 + 1]", "x0"), 4, atoms=1),
     "atoms": Shape(on_any("[:swap {} + 1]", "x", 64), 4, atoms=64),
     "agents": Shape(on_any("[:send {} + 1]", "g", 64), 4, agents=64),
+    "agents-4096": Shape(on_any("[:send {} + 1]", "g", 4_096), 4, agents=4_096),
     "agents-tx": Shape(on_any("[:tx [:send {} + 1]]", "g", 64), 4, agents=64),
     "limits": Shape(mixed, MOST_WORKERS, MOST_OF_A_KIND, MOST_OF_A_KIND, MOST_OF_A_KIND, pool=16),
 }
