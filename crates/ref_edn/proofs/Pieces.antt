@@ -151,6 +151,35 @@ module _ {T : Type 0} where
   length_taken (suc n) [] h = absurd (omega arith)
   length_taken (suc n) (x ∷ xs) h = omega (arith, length_taken n xs (omega arith))
 
+  -- Lists of one length that are the same so far.
+  pub all_taken : (xs ys : List T) (n : ℕ) → n ≡ length xs → n ≡ length ys → take n xs ≡ take n ys → xs ≡ ys
+  all_taken [] [] n this that same = refl
+  all_taken [] (y ∷ ys) n this that same = absurd (omega (arith, this, that))
+  all_taken (x ∷ xs) [] n this that same = absurd (omega (arith, this, that))
+  all_taken (x ∷ xs) (y ∷ ys) zero this that same = absurd (omega (arith, this))
+  all_taken (x ∷ xs) (y ∷ ys) (suc n) this that same =
+      let head : x ≡ y = cc in
+      let rest : take n xs ≡ take n ys = cc in
+      let tail : xs ≡ ys = all_taken xs ys n (omega (arith, this)) (omega (arith, that)) rest in
+      ap (λ z. z ∷ xs) head ∙ ap (λ l. y ∷ l) tail
+
+  pub same_left : (xs ys zs ws : List T) (n : ℕ) → n ≤ length xs → n ≤ length zs → take n xs ≡ take n zs → take n (xs ++ ys) ≡ take n (zs ++ ws)
+  same_left xs ys zs ws n this that same = take-append-le n xs ys this ∙ same ∙ sym (take-append-le n zs ws that)
+
+  taken_past : (xs ys : List T) (k n : ℕ) → n ≡ length xs → take (n + k) (xs ++ ys) ≡ xs ++ take k ys
+  taken_past [] ys k zero is = let none : 0 + k ≡ k = omega arith in ap (λ m. take m ys) none
+  taken_past [] ys k (suc n) is = absurd (omega (arith, is))
+  taken_past (x ∷ xs) ys k zero is = absurd (omega (arith, is))
+  taken_past (x ∷ xs) ys k (suc n) is =
+      let more : suc n + k ≡ suc (n + k) = omega arith in
+      ap (λ m. take m (x ∷ xs ++ ys)) more ∙ ap (λ l. x ∷ l) (taken_past xs ys k n (omega (arith, is)))
+
+  -- Where the first parts are the same, so is what is the same of the second ones.
+  pub same_right : (xs ys zs ws : List T) (n k : ℕ) → n ≡ length xs → n ≡ length zs → take n xs ≡ take n zs → take k ys ≡ take k ws → take (n + k) (xs ++ ys) ≡ take (n + k) (zs ++ ws)
+  same_right xs ys zs ws n k this that first second =
+      let whole : xs ≡ zs = all_taken xs zs n this that first in
+      taken_past xs ys k n this ∙ (ap (λ l. l ++ take k ys) whole ∙ ap (λ l. zs ++ l) second) ∙ sym (taken_past zs ws k n that)
+
   pub length_dropped : (n : ℕ) (xs : List T) → length (drop n xs) ≡ length xs - n
   length_dropped n xs = length_drop n xs
 

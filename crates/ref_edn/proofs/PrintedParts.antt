@@ -69,10 +69,6 @@ pub tail_first : (close : ℕ) (later : Bool) (x : Edn) (xs : List Edn) → tail
 tail_first close false x xs = text_then x (more_items close (items_of xs) [])
 tail_first close true x xs = ap (λ (t : List ℕ). 32 ∷ t) (text_then x (more_items close (items_of xs) []))
 
-pub tail_end : (close : ℕ) (later : Bool) → tail later close (items_of []) ≡ close ∷ []
-tail_end close false = refl
-tail_end close true = refl
-
 entry_then : (k x : Edn) (es : Entries) → text k (32 ∷ text x (more_entries es [])) ≡ (printed k ++ 32 ∷ printed x) ++ more_entries es []
 entry_then k x es =
     text_then k (32 ∷ text x (more_entries es [])) ∙ ap (λ (t : List ℕ). text k [] ++ 32 ∷ t) (text_then x (more_entries es [])) ∙ sym (append_assoc (printed k) (32 ∷ printed x) (more_entries es []))
@@ -82,10 +78,6 @@ pub entries_tail_first : (later : Bool) (e : Edn × Edn) (es : List (Edn × Edn)
     → entries_tail later (entries_of (e ∷ es)) ≡ (cond later (44 ∷ 32 ∷ []) [] ++ (printed e.0 ++ 32 ∷ printed e.1)) ++ entries_tail true (entries_of es)
 entries_tail_first false e es = entry_then e.0 e.1 (entries_of es)
 entries_tail_first true e es = ap (λ (t : List ℕ). 44 ∷ 32 ∷ t) (entry_then e.0 e.1 (entries_of es))
-
-pub entries_tail_end : (later : Bool) → entries_tail later (entries_of []) ≡ 125 ∷ []
-entries_tail_end false = refl
-entries_tail_end true = refl
 
 -- ---- strings
 

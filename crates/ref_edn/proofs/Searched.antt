@@ -1,5 +1,5 @@
 -- What a search finds in one side of a list in value order, as what it finds in the whole; and in single members.
-use Rattle.std.proofs.Common.{◌≡◌, ◌<◌, ◌≤◌, ℕ, zero, suc, ◌+◌, true, false, List, [], ◌∷◌, ◌++◌, length, get_or, refl, sym, ap, ◌∙◌, subst, arith, length-append}
+use Rattle.std.proofs.Common.{◌≡◌, ◌<◌, ◌≤◌, ℕ, zero, suc, ◌+◌, true, false, List, [], ◌∷◌, ◌++◌, length, get_or, refl, sym, ap, ◌∙◌, subst, arith}
 use Rattle.std.specs.Prelude.{IsTrue, Result, Ok, Err, IfOk, IfErr}
 use Rattle.std.specs.List.{AllByRecursion}
 use Rattle.std.specs.List.Sorted.{IsStrictlySortedBy}
@@ -14,7 +14,6 @@ use Rattle.ref_edn.specs.Collections.{IsFoundAt, IsGapAt}
 use Rattle.ref_edn.specs.Members.{twins, singles}
 use Rattle.ref_edn.specs.Sides.{are_behind}
 use Rattle.ref_edn.proofs.Pairing.{length_singles, length_twins, singles_twins, singles_ascend}
-use Rattle.ref_edn.proofs.Pieces.{at_left}
 use Rattle.ref_edn.proofs.Places.{gap_tail, gap_head, gap_here, gap_later}
 use Rattle.ref_edn.proofs.Sorting.{by_key, sorted_from_keys_ascend, keys_ascend_from_sorted}
 
@@ -54,12 +53,6 @@ module _ {X : Type 0} (order : X → Ordering) where
   gap_before xs ys zero g h = gap_first (xs ++ ys) (all_greater xs ys h g)
   gap_before [] ys (suc i) g h = let in_range = h.in_range in absurd (omega arith)
   gap_before (x ∷ xs) ys (suc i) g h = gap_cons x (xs ++ ys) i (gap_head order x xs i h) (gap_before xs ys i g (gap_tail order x xs i h))
-
-  found_before : (xs ys : List X) (i : ℕ) → IsFoundAt order xs i → IsFoundAt order (xs ++ ys) i
-  found_before xs ys i h = record {
-    in_range = omega (arith, h.in_range, length-append xs ys);
-    equal = λ d. rw (at_left xs ys i d h.in_range) (h.equal d);
-  }
 
   gap_after : (xs ys : List X) (i j : ℕ) → i ≡ length xs + j → AllByRecursion (λ y. order y ≡ Less) xs → IsGapAt order ys j → IsGapAt order (xs ++ ys) i
   gap_after [] ys i j e a h = let same : j ≡ i = omega arith in subst (λ n. IsGapAt order ys n) same h
@@ -134,9 +127,6 @@ all_before (x ∷ xs) (y ∷ ys) k s h = (before x.0 y.0 k (reach xs s.0) h, all
     reach : (zs : List (Edn × Edn)) → AllByRecursion (λ z. by_key x z ≡ Less) (zs ++ y ∷ ys) → edn_cmp x.0 y.0 ≡ Less
     reach [] a = a.0
     reach (z ∷ zs) a = reach zs a.1
-
-pub found_left : (xs ys : List (Edn × Edn)) (k : Edn) (i : ℕ) → IsFoundAt (λ e. edn_cmp e.0 k) xs i → IsFoundAt (λ e. edn_cmp e.0 k) (xs ++ ys) i
-found_left xs ys k i h = found_before (λ e. edn_cmp e.0 k) xs ys i h
 
 pub missed_left : (xs ys : List (Edn × Edn)) (k : Edn) (i : ℕ) → IsTrue (keys_ascend (entries_of (xs ++ ys))) → are_behind ys k ≡ true → IsGapAt (λ e. edn_cmp e.0 k) xs i
     → IsGapAt (λ e. edn_cmp e.0 k) (xs ++ ys) i

@@ -20,9 +20,6 @@ gap_from : {X : Type 0} (order : X → Ordering) (xs : List X) (r : Result ℕ �
 gap_from order xs (Ok i) bound h up = tt
 gap_from order xs (Err i) bound h up = record { in_range = bound; lesser = (h up).0; greater = (h up).1 }
 
-pub element_found : (xs : List Edn) (x : Edn) (r : Result ℕ ℕ) → IsSearchInRange r (length xs) → IsBinarySearchResult (λ y. edn_cmp y x) xs r → IfOk r (IsFoundAt (λ y. edn_cmp y x) xs)
-element_found xs x r bound h = found_from (λ y. edn_cmp y x) xs r bound h
-
 pub element_missed : (xs : List Edn) (x : Edn) (r : Result ℕ ℕ) → IsTrue (elements_ascend (items_of xs)) → IsSearchInRange r (length xs) → IsBinarySearchResult (λ y. edn_cmp y x) xs r
     → IfErr r (IsGapAt (λ y. edn_cmp y x) xs)
 element_missed xs x r up bound h = gap_from (λ y. edn_cmp y x) xs r bound h (searchable_from_sorted edn_cmp_total (λ y. y) xs x (searchable edn_cmp_total xs (sorted_from_ascend xs up)))

@@ -70,16 +70,10 @@ sorts_of xs h = record {
   ascend = ascend_from_sorted (inserts [] xs) (inserts_sorted [] xs tt);
 }
 
-pub sorts_again : (xs ys : List Edn) → SortsElements (items_of xs) (items_of ys) → NoneTwice [] xs × (inserts [] xs ≡ ys)
-sorts_again xs ys h = sorted_is xs ys (rw (list_of-items_of xs, list_of-items_of ys) at h.same) h.ascend
-
 -- the same where the elements are those of a derivation
 items_of-list_of : (xs : Items) → items_of (list_of xs) ≡ xs
 items_of-list_of no_items = refl
 items_of-list_of (item x xs) = ap (item x) (items_of-list_of xs)
-
-pub items_sorts_of : (xs : Items) → NoneTwice [] (list_of xs) → SortsElements xs (items_of (inserts [] (list_of xs)))
-items_sorts_of xs h = rw (items_of-list_of xs) at (sorts_of (list_of xs) h)
 
 pub items_sorts_again : (xs ys : Items) → SortsElements xs ys → NoneTwice [] (list_of xs) × (items_of (inserts [] (list_of xs)) ≡ ys)
 items_sorts_again xs ys h =
@@ -150,15 +144,9 @@ entries_sorts_of es h = record {
   ascend = keys_ascend_from_sorted (inserts_entries [] es) (entries_sorted [] es h tt);
 }
 
-pub entries_sorts_again : (es fs : List (Edn × Edn)) → SortsEntries (entries_of es) (entries_of fs) → NoKeyTwice [] es × (inserts_entries [] es ≡ fs)
-entries_sorts_again es fs h = sorted_entries_is es fs (rw (pairs_of-entries_of es, pairs_of-entries_of fs) at h.same) h.ascend
-
 entries_of-pairs_of : (es : Entries) → entries_of (pairs_of es) ≡ es
 entries_of-pairs_of no_entries = refl
 entries_of-pairs_of (entry k x es) = ap (entry k x) (entries_of-pairs_of es)
-
-pub pairs_sorts_of : (es : Entries) → NoKeyTwice [] (pairs_of es) → SortsEntries es (entries_of (inserts_entries [] (pairs_of es)))
-pairs_sorts_of es h = rw (entries_of-pairs_of es) at (entries_sorts_of (pairs_of es) h)
 
 pub pairs_sorts_again : (es fs : Entries) → SortsEntries es fs → NoKeyTwice [] (pairs_of es) × (entries_of (inserts_entries [] (pairs_of es)) ≡ fs)
 pairs_sorts_again es fs h =

@@ -1,7 +1,7 @@
 -- What reads and writes, one after another, do to known bytes.
-use Rattle.std.proofs.Common.{◌≡◌, ◌≤◌, ◌<◌, ◌+◌, ℕ, List, [], ◌++◌, length, take, drop, subst, sym, refl, ap, ◌∙◌, Option, Result, Ok, Err, OnErr, arith, append_assoc, append-nil, length-append, take-append-drop, length-take}
+use Rattle.std.proofs.Common.{◌≡◌, ◌≤◌, ◌<◌, ◌+◌, ℕ, List, [], ◌++◌, length, take, drop, subst, sym, ap, ◌∙◌, Option, Result, Ok, Err, OnErr, arith, append_assoc, length-append, take-append-drop, length-take}
 use lib.Seq.{take-append_seam}
-use Rattle.std.proofs.KnownBytes.{Consumes-trans, Appends-trans, Appends-kept, Appends-nil}
+use Rattle.std.proofs.KnownBytes.{Consumes-trans, Appends-trans, Appends-kept}
 use Rattle.std.specs.Io.KnownBytes.{Appends, Consumes, Keeps}
 use Rattle.ref_edn.specs.Streams.{AppendsPart, ConsumesUpTo}
 
@@ -25,9 +25,6 @@ pub record Wrote (old new : Option (List ℕ)) (all rest : List ℕ) : Type 0 wh
   pub whole : all ≡ front ++ rest
   pub appended : Appends old new front
 
-pub wrote_none : (a : Option (List ℕ)) (all : List ℕ) → Wrote a a all all
-wrote_none a all = record { front = []; whole = refl; appended = Appends-nil a }
-
 pub wrote_more : (a b c : Option (List ℕ)) (all rest left : List ℕ) (n : ℕ)
     → Wrote a b all rest → Appends b c (take n rest) → left ≡ drop n rest → Wrote a c all left
 wrote_more a b c all rest left n w q e = subst (Wrote a c all) (sym e) record {
@@ -35,9 +32,6 @@ wrote_more a b c all rest left n w q e = subst (Wrote a c all) (sym e) record {
   whole = w.whole ∙ ap (λ l. w.front ++ l) (sym (take-append-drop n rest)) ∙ sym (append_assoc w.front (take n rest) (drop n rest));
   appended = Appends-trans a b c w.front (take n rest) w.appended q;
 }
-
-pub wrote_whole : (a b : Option (List ℕ)) (all rest : List ℕ) → Wrote a b all rest → rest ≡ [] → Appends a b all
-wrote_whole a b all rest w e = subst (Appends a b) (sym (w.whole ∙ ap (λ l. w.front ++ l) e ∙ append-nil w.front)) w.appended
 
 pub wrote_part : (a b c : Option (List ℕ)) (all rest : List ℕ) → Wrote a b all rest → Keeps b c → 0 < length rest → AppendsPart a c all
 wrote_part a b c all rest w k h =

@@ -1,11 +1,10 @@
 -- Tokens: what is read as one is one, and the other way round.
 use Rattle.std.proofs.Common.{◌≡◌, ◌<◌, length, ℕ, suc, Bool, true, false, cond, List, [], ◌∷◌, ◌++◌, take, drop, Result, Ok, Err, refl, sym, ap, subst, ◌∙◌, arith, inl, inr}
-use Rattle.std.specs.Prelude.{◌==◌, ◌||◌, ◌&&◌, not, codes, ℤ, pos, negsuc, FitsSigned, IsUtf8}
+use Rattle.std.specs.Prelude.{◌==◌, ◌||◌, ◌&&◌, not, codes, ℤ, pos, negsuc, FitsSigned}
 use Rattle.std.specs.Int.{w64}
 use Rattle.std.specs.List.{list_all, before_first, after_first}
 use Rattle.std.proofs.lemmas.Bool.{eqb-true, cond-true, cond-false, and_parts, or_parts, or_cases, or_left, or_right, or_from, and_left, and_right, and_cases, and_from, cases_Bool, not-true, both_ways}
 use Rattle.std.proofs.lemmas.Bool.Decides.{nat_tests}
-use Rattle.std.proofs.lemmas.Str.{IsUtf8-nil}
 use Rattle.std.proofs.lemmas.List.{take-append-drop}
 use Rattle.ref_edn.specs.declared.faults.Kind.{Kind}
 use Rattle.ref_edn.specs.declared.faults.Kind.TheVariants.{BadNumber, TooLarge, LeftOut, BadName}
@@ -15,7 +14,6 @@ use Rattle.ref_edn.specs.Names.{is_name_byte, begins_part, is_part, is_slash, is
 use Rattle.ref_edn.specs.Grammar.{Token, nil_token, true_token, false_token, integer_token, keyword_token, symbol_token, Ends, Inside, Element, token}
 use Rattle.ref_edn.specs.ReadTokens.{starts_token, starts_number, after_integer, marks_left_out, fits_i64, number_value, starts_keyword, keyword_value, word_value, token_value, or_fault, token_at}
 use Rattle.ref_edn.proofs.NameParts.{each_of, before_other, bytes_same}
-use Rattle.ref_edn.proofs.Utf8.{utf8_cut}
 use Rattle.ref_edn.proofs.Outcomes.{chosen, done, ok_is, err_isnt_ok}
 
 -- ---- what is read is a token
@@ -342,16 +340,3 @@ token_flat (symbol_token is) = refl
 -- What a token writes is no collection, and a token is not empty.
 pub value_flat : (word : List ℕ) (x : Edn) → token_value word ≡ Ok x → (nesting x ≡ 0) × (0 < length word)
 value_flat word x e = let t = value_takes word x e in (token_flat t, starts_some word (token_starts t))
-
-pub closes_start_none : (b : ℕ) → is_close b ≡ true → starts_token b ≡ false
-closes_start_none b h =
-    elim (cases_Bool (starts_token b)) [ inl e ↦ absurd (both_ways (is_close b) (begins_token b e).not_close h) | inr e ↦ e ]
-
-delimiter_small : (b : ℕ) → is_delimiter b ≡ true → b < 128
-unfolding is_delimiter
-delimiter_small b h = grind (arith, nat_tests)
-
--- What follows a token in a text in UTF-8 is UTF-8.
-pub utf8_behind : (word rest : List ℕ) → Ends rest → IsUtf8 (word ++ rest) → IsUtf8 rest
-utf8_behind word [] ends u = IsUtf8-nil
-utf8_behind word (b ∷ rest) ends u = (utf8_cut word b rest (delimiter_small b ends) u).1

@@ -107,6 +107,14 @@ impl Entries {
         self.tree.pair_at(i)
     }
 
+    // What both have behind that which comes first and is the same at a glance.
+    pub(crate) fn iter_beside<'a, 'b>(&'a self, other: &'b Entries) -> (Iter<'a>, Iter<'b>)
+        ensures { HavePassed self.now other.now result.0 result.1 }
+    {
+        let (walk, others) = self.tree.walk_beside(&other.tree);
+        (Iter { walk }, Iter { walk: others })
+    }
+
     /// One more owner. It takes no memory; only the count of owners can refuse.
     pub fn share(&self) -> Result<Entries, AllocError>
         ensures { IfOk result (λ es. es ≡ self.now) }
@@ -294,7 +302,7 @@ impl<'a> Model for Iter<'a> {
 }
 
 impl<'a> Iter<'a> {
-    // Goes past integers that come next in both and are the same: as many as can be told at a glance.
+    // Goes past what comes next in both and is the same: as many as can be told at a glance.
     pub(crate) fn pass_same(&mut self, other: &mut Iter<'_>)
         ensures { HavePassed self.old other.old self.new other.new }
     {

@@ -49,8 +49,7 @@ pub(crate) fn compare(a: &Value, b: &Value) -> Ordering
 fn compare_items(a: &Items, b: &Items) -> Ordering
     ensures { result ≡ items_cmp (items_of a.now) (items_of b.now) }
 {
-    let mut left = a.iter();
-    let mut others = b.iter();
+    let (mut left, mut others) = a.iter_beside(b);
     while let Some(x) = left.next() {
         let Some(y) = others.next() else {
             return Ordering::Greater;
@@ -72,8 +71,7 @@ fn compare_items(a: &Items, b: &Items) -> Ordering
 fn compare_elements(a: &Elements, b: &Elements) -> Ordering
     ensures { result ≡ items_cmp (items_of a.now) (items_of b.now) }
 {
-    let mut left = a.iter();
-    let mut others = b.iter();
+    let (mut left, mut others) = a.iter_beside(b);
     while let Some(x) = left.next() {
         let Some(y) = others.next() else {
             return Ordering::Greater;
@@ -95,8 +93,7 @@ fn compare_elements(a: &Elements, b: &Elements) -> Ordering
 fn compare_entries(a: &Entries, b: &Entries) -> Ordering
     ensures { result ≡ entries_cmp (entries_of a.now) (entries_of b.now) }
 {
-    let mut left = a.iter();
-    let mut others = b.iter();
+    let (mut left, mut others) = a.iter_beside(b);
     while let Some((key, value)) = left.next() {
         let Some((other_key, other_value)) = others.next() else {
             return Ordering::Greater;

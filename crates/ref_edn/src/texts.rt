@@ -1,5 +1,5 @@
 //! Texts: the content of a string, the name of a keyword or of a symbol.
-ghost use Rattle.std.specs.Prelude.{◌≡◌, ◌≤◌, ℕ, List, take, IfOk, IsUtf8, length, string_bytes};
+ghost use Rattle.std.specs.Prelude.{◌≡◌, ◌≤◌, ℕ, List, take, IfOk, IsTrue, IsUtf8, length, string_bytes};
 ghost use Rattle.ref_edn.specs.Texts.{content};
 
 use std::alloc::{AllocError, Global};
@@ -102,6 +102,19 @@ impl Text {
         match &*self.chars {
             Chars::Short(len, bytes) => front(bytes, *len),
             Chars::Long(text) => text.as_bytes(),
+        }
+    }
+
+    /// Whether both are kept alike and have the same bytes. Of two short texts it looks at the whole blocks at once.
+    pub(crate) fn is_same(&self, other: &Text) -> bool
+        ensures { IsTrue result → self.now ≡ other.now }
+    {
+        match (&*self.chars, &*other.chars) {
+            (Chars::Short(len, bytes), Chars::Short(other_len, others)) => {
+                *len == *other_len && *bytes == *others
+            }
+            (Chars::Long(text), Chars::Long(other)) => text.as_bytes() == other.as_bytes(),
+            _ => false,
         }
     }
 

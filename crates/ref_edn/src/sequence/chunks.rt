@@ -108,6 +108,16 @@ impl Chunk {
         }
     }
 
+    /// How many of the first members can be told to be the same in both at a glance: none of them is a collection.
+    pub(crate) fn same_first(&self, other: &Chunk) -> usize
+        ensures there { (result ≤ length (members_of self.now)) × (result ≤ length (members_of other.now)) }
+        ensures same { take result (members_of self.now) ≡ take result (members_of other.now) }
+    {
+        let run = self.run_from(0);
+        let others = other.run_from(0);
+        run.same_first(&others)
+    }
+
     /// The first members, shared, in a chunk with room for so many.
     #[tactic(auto, using(crate::proofs::Pairing::length_twins, crate::proofs::Pairing::twins_take, crate::proofs::Pieces::length_taken))]
     pub(crate) fn front(
@@ -347,9 +357,9 @@ impl<'a> Run<'a> {
         }
     }
 
-    /// How many of the first members are the same integers in both.
+    /// How many of the first members can be told to be the same in both at a glance: none of them is a collection.
     #[tactic(auto, using(crate::proofs::Pairing::length_twins, crate::proofs::Pairing::twins_same))]
-    pub(crate) fn same_integers(&self, other: &Run<'_>) -> usize
+    pub(crate) fn same_first(&self, other: &Run<'_>) -> usize
         ensures there { (result ≤ length (run_of self.now)) × (result ≤ length (run_of other.now)) }
         ensures same { take result (run_of self.now) ≡ take result (run_of other.now) }
     {
@@ -366,30 +376,48 @@ impl<'a> Run<'a> {
     }
 }
 
-fn are_same_integers(a: &Value, b: &Value) -> bool
+// Whether two values can be told to be the same at a glance. Of collections it isn't asked.
+fn are_same(a: &Value, b: &Value) -> bool
+    ensures { IsTrue result → a.now ≡ b.now }
+{
+    match a.node() {
+        Node::Int(m) => match b.node() {
+            Node::Int(n) => *m == *n,
+            _ => false,
+        },
+        _ => are_same_texts(a, b),
+    }
+}
+
+// The same of all but integers.
+fn are_same_texts(a: &Value, b: &Value) -> bool
     ensures { IsTrue result → a.now ≡ b.now }
 {
     match (a.node(), b.node()) {
-        (Node::Int(m), Node::Int(n)) => *m == *n,
+        (Node::Keyword(x), Node::Keyword(y)) => x.is_same(y),
+        (Node::Str(x), Node::Str(y)) => x.is_same(y),
+        (Node::Symbol(x), Node::Symbol(y)) => x.is_same(y),
+        (Node::Bool(x), Node::Bool(y)) => *x == *y,
+        (Node::Nil, Node::Nil) => true,
         _ => false,
     }
 }
 
-// How many of the first values are the same integers.
+// How many of the first values are the same at a glance.
 fn same_values(a: &[Value], b: &[Value]) -> usize
     ensures there { (result ≤ length a.now) × (result ≤ length b.now) }
     ensures same { take result a.now ≡ take result b.now }
 {
     let most = a.len().min(b.len());
     for n in 0..most {
-        if !are_same_integers(&a[n], &b[n]) {
+        if !are_same(&a[n], &b[n]) {
             return n;
         }
     }
     most
 }
 
-// How many of the first keys and values are the same integers.
+// How many of the first keys and values are the same at a glance.
 fn same_pairs(a: &[(Value, Value)], b: &[(Value, Value)]) -> usize
     ensures there { (result ≤ length a.now) × (result ≤ length b.now) }
     ensures same { take result a.now ≡ take result b.now }
@@ -398,7 +426,7 @@ fn same_pairs(a: &[(Value, Value)], b: &[(Value, Value)]) -> usize
     for n in 0..most {
         let (key, value) = &a[n];
         let (other_key, other_value) = &b[n];
-        if !are_same_integers(key, other_key) || !are_same_integers(value, other_value) {
+        if !are_same(key, other_key) || !are_same(value, other_value) {
             return n;
         }
     }

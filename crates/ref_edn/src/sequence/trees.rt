@@ -252,6 +252,35 @@ impl Tree {
         }
     }
 
+    /// How many of the first members can be told to be the same in both at a glance: as far as the trees have one shape, and no
+    /// member is a collection.
+    #[tactic(auto, using(crate::proofs::Pieces::length_both, crate::proofs::Pieces::same_left, crate::proofs::Pieces::same_right))]
+    pub(crate) fn same_first(&self, other: &Tree) -> usize
+        ensures there { (result ≤ length self.now.0) × (result ≤ length other.now.0) }
+        ensures same { take result self.now.0 ≡ take result other.now.0 }
+    {
+        match &*self.limb {
+            Limb::Leaf(_, _, chunk) => match &*other.limb {
+                Limb::Leaf(_, _, others) => chunk.same_first(others),
+                Limb::Fork(_, _, _, _, _, _) => 0,
+            },
+            Limb::Fork(_, _, _, _, left, right) => match &*other.limb {
+                Limb::Leaf(_, _, _) => 0,
+                Limb::Fork(_, _, _, _, other_left, other_right) => {
+                    let n = left.same_first(other_left);
+                    if n < left.len() {
+                        return n;
+                    }
+                    if n < other_left.len() {
+                        return n;
+                    }
+                    let _len = self.len();
+                    n + right.same_first(other_right)
+                }
+            },
+        }
+    }
+
     // The same tree in a block of its own, whose children are shared.
     fn copied(&self, alloc: Global) -> Result<Tree, AllocError>
         ensures { IfOk result (λ t. t ≡ self.now) }

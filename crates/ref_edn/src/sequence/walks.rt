@@ -1,5 +1,5 @@
 //! The members of a tree one after another.
-ghost use Rattle.std.specs.Prelude.{◌≡◌, ◌^◌, ◌<◌, length};
+ghost use Rattle.std.specs.Prelude.{◌≡◌, ◌^◌, ◌<◌, ◌≤◌, drop, length};
 ghost use Rattle.std.specs.Iterator.{YieldsFirstBy, item_count};
 ghost use Rattle.ref_edn.specs.Edn.{Edn};
 ghost use Rattle.ref_edn.specs.Moves.{HavePassed};
@@ -33,30 +33,48 @@ impl<'a> Model for Walk<'a> {
 
     ghost view = { λ a. drop a.at a.tree.now.0 };
 
-    ghost invariant = { λ a. (a.at ≤ a.end) × (a.end ≡ length a.tree.now.0) × (run_of a.run ≡ take (length (run_of a.run)) (drop a.at a.tree.now.0)) };
+    ghost invariant = { λ a. (a.at ≤ a.end) × (a.end ≡ length a.tree.now.0)
+        × (run_of a.run ≡ take (length (run_of a.run)) (drop a.at a.tree.now.0)) };
 }
 
 impl Tree {
-    /// The members from the first on.
-    pub(crate) fn walk(&self) -> Walk<'_>
-        ensures value { result ≡ self.now.0 }
+    // The members from a place on.
+    fn walk_from(&self, at: usize) -> Walk<'_>
+        requires { at ≤ length self.now.0 }
+        ensures value { result ≡ drop at self.now.0 }
         ensures fits { length result < 2 ^ 64 }
     {
         Walk {
             tree: self,
             run: Run::Values(&[]),
-            at: 0,
+            at,
             end: self.len(),
         }
+    }
+
+    /// The members from the first on.
+    pub(crate) fn walk(&self) -> Walk<'_>
+        ensures value { result ≡ self.now.0 }
+        ensures fits { length result < 2 ^ 64 }
+    {
+        self.walk_from(0)
+    }
+
+    /// The members of both, behind those that come first and are the same at a glance.
+    pub(crate) fn walk_beside<'a, 'b>(&'a self, other: &'b Tree) -> (Walk<'a>, Walk<'b>)
+        ensures { HavePassed self.now.0 other.now.0 result.0 result.1 }
+    {
+        let n = self.same_first(other);
+        (self.walk_from(n), other.walk_from(n))
     }
 }
 
 impl<'a> Walk<'a> {
-    /// Goes past the integers that come next in both and are the same, as far as the present chunks have them.
+    /// Goes past the members that come next in both and are the same at a glance, as far as the present chunks have them.
     pub(crate) fn pass_same(&mut self, other: &mut Walk<'_>)
         ensures { HavePassed self.old other.old self.new other.new }
     {
-        let n = self.run.same_integers(&other.run);
+        let n = self.run.same_first(&other.run);
         let Some(at) = self.at.checked_add(n) else {
             return;
         };

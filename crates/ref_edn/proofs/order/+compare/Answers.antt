@@ -24,3 +24,18 @@ compare_entries-loop-key-preserved t c =
     let rest : entries_cmp (entries_of c.next.new.self) (entries_of c.next-in-Some.new.self) ≡ entries_cmp (entries_of c.args.a.now) (entries_of c.args.b.now) = search rules in
     let shallow : entries_depth (entries_of c.next.new.self) ≤ entries_depth (entries_of c.args.a.now) = search rules in
     record { rest = passed.0 ∙ rest; shallow = omega (arith, passed.1, shallow) }
+
+pub compare_items-loop-x-init : goal.compare_items-loop-x-init
+compare_items-loop-x-init t c =
+    let passed = items_passed c.args.a.now c.args.b.now _ _ c.iter_beside-left.ensures in
+    record { rest = passed.0; shallow = passed.1 }
+
+pub compare_elements-loop-x-init : goal.compare_elements-loop-x-init
+compare_elements-loop-x-init t c =
+    let passed = items_passed c.args.a.now c.args.b.now _ _ c.iter_beside-left.ensures in
+    record { rest = passed.0; shallow = passed.1 }
+
+pub compare_entries-loop-key-init : goal.compare_entries-loop-key-init
+compare_entries-loop-key-init t c =
+    let passed = entries_passed c.args.a.now c.args.b.now _ _ c.iter_beside-left.ensures in
+    record { rest = passed.0; shallow = passed.1 }
