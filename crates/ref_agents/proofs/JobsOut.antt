@@ -46,13 +46,6 @@ is_job agents x q job r out number action is =
       (λ same. states.1 (sym (ap (λ j. j.state) (some_of (made job.agent x q) job (sym out ∙ same))))),
     )
 
--- where the numbers or the actions differ
-pub isnt_job : (agents : List Agent) (x : Agent) (q : Queued) (job : JobSeen) → job_out agents job.agent ≡ Some (made job.agent x q)
-    → (job.number ≡ length x.account.handled → job.action ≡ q.action → ⊥) → job_out agents job.agent ≡ Some job → ⊥
-isnt_job agents x q job out differ same =
-    let is = some_of (made job.agent x q) job (sym out ∙ same) in
-    differ (sym (ap (λ j. j.number) is)) (sym (ap (λ j. j.action) is))
-
 pub never : {P : Type 0} → (P → ⊥) → (IsTrue false → P) × (P → IsTrue false)
 never isnt = (λ t. absurd (not_both refl t), λ p. absurd (isnt p))
 

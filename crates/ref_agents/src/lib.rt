@@ -1,13 +1,35 @@
 //! Agents: references whose state changes by actions that are sent to them, one at a time.
 //!
-//! An [`AgentStore`] holds all agents, numbered from 0. An [`Action`](ref_fun::Action) that is sent waits in its agent's queue;
-//! [`AgentStore::take`] hands out the first of some agent as a [`Job`], which is run wherever its taker likes ([`Job::run`]) and
-//! then comes back to [`AgentStore::finish`]. At most one job of an agent is on its way. What a transaction sent is held
-//! until its commit is released ([`AgentStore::release`]).
+//! An [`AgentStore`] holds all agents, numbered from 0: an [`Action`](ref_fun::Action) that is sent waits in its agent's queue, and
+//! [`AgentStore::take`] hands out the first of some agent as a [`Job`], which is run wherever its taker likes ([`Job::run`]) and then
+//! comes back to [`AgentStore::finish`]. Clojure's page on agents says what happens where an action fails or the agent's rule, its
+//! validator, doesn't accept its value: by its error mode the agent fails, keeps its state and takes no more sends until
+//! [`AgentStore::restart`], or goes on as if there had been no such action.
 //!
-//! Clojure's page on agents says what happens where an action fails or the agent's validator doesn't accept its value: by its
-//! error mode the agent fails, keeps its state and takes no more sends until [`AgentStore::restart`], or goes on as if there
-//! had been no such action.
+//! At most one job of an agent is on its way; one that isn't finished goes back by [`AgentStore::put_back`]. What a transaction sent is
+//! held until its commit is released ([`AgentStore::send_held`], [`AgentStore::release`]).
+//!
+//! | Type | Is |
+//! |---|---|
+//! | [`AgentStore`], [`Agent`] | the agents, at most 2^20, with rules, watches and the commits whose sends are held; one agent |
+//! | [`ErrorMode`], [`AgentError`] | whether an agent fails or goes on where an action fails; why the action failed |
+//! | [`Account`] | what an agent was given to do: its start, the actions that ended since then, and those that wait |
+//! | [`Handled`], [`Mark`], [`Queued`], [`SentBy`] | an action that ended, and how; one that waits, and what sent it |
+//! | [`Job`], [`Ran`], [`Finished`] | an action on its way; one that has run; how it ended. The first two have to be spent |
+//! | [`SendFault`], [`JobFault`], [`FinishFault`], [`RestartFault`], [`ModeFault`] | why a call was refused, which changes nothing |
+//!
+//! Take it where a program has agents alone; otherwise take `ref_world`, where transactions send to them, or `ref_shared`, where each
+//! thread that calls `work_once` in a loop is one of a pool.
+//!
+//! **Costs.** A send is logarithmic in the number of agents with an action that waits, and `release` in that of the commits that are
+//! held. `take` looks at such agents until one is ready, and is linear in how many it looks at. `finish` and `put_back` compare
+//! arguments and state of the job, in time linear in their sizes; `finish` tests the rule too and makes a notice for each watch. An
+//! account keeps each action that ended until a restart, which takes a step for each that it lets go.
+//!
+//! **Not promised.** Which of the ready agents `take` hands out: they take turns, but no contract says so. That an action is ever run,
+//! or that a job comes back: one that is lost keeps its agent from being taken, and only that job or an equal one ends it. That the
+//! refusal of a job's function isn't told by `run` as 'out of memory'. That a watch is told before the agent's next action is run: who
+//! finishes a job gets the notices. No contract speaks of time, or of how much memory is taken.
 #![tactic(auto)]
 
 pub mod accounts;

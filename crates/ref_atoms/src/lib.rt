@@ -1,13 +1,31 @@
 //! Atoms: single references, each changed by itself in one step.
 //!
-//! An [`AtomStore`] holds the values of all atoms, numbered from 0. Clojure's page on atoms names the changes: `swap!`
-//! sets an atom to the function of its value ([`AtomStore::swap`]), `reset!` to a value regardless
-//! ([`AtomStore::reset`]), and `compare-and-set!` only where the atom has the value that is given
-//! ([`AtomStore::compare_and_set`]). An atom may have a rule, Clojure's validator, which accepts its value at all
-//! times, and watches, whose notices the change answers.
+//! An [`AtomStore`] holds the values of all atoms, numbered from 0, and changes them as Clojure's page on atoms has it: `swap!` sets an
+//! atom to the function of its value ([`AtomStore::swap`]), `reset!` to a value regardless ([`AtomStore::reset`]), and
+//! `compare-and-set!` only where the atom has the value that is given ([`AtomStore::compare_and_set`]). An atom may have a rule,
+//! Clojure's validator, which accepts its value at all times, and watches, whose notices the change answers.
 //!
-//! Each change is one entry of a log. Whoever keeps the log makes it in two steps: [`AtomStore::prepare`] does all that
-//! takes memory or may be refused, and [`AtomStore::install`] can't fail.
+//! | Type | Is |
+//! |---|---|
+//! | [`AtomStore`] | the atoms, at most 2^20: their values, their rules and watches |
+//! | [`Swapped`] | what `swap` and `reset` answer: the values before and after, and what the watches are to be told |
+//! | [`Cas`] | what `compare_and_set` answers: whether the atom was set, and what the watches are to be told |
+//! | [`Change`] | a change that was tested: the atom, its new value, its entry for a log, and what is answered |
+//! | [`AtomFault`] | why an atom isn't changed; the store is then as it was |
+//!
+//! Take it where a program has atoms alone, and no log or one of its own. Each change is one entry of a log, and whoever keeps the log
+//! makes it in two steps: [`AtomStore::prepare`] or [`AtomStore::prepare_compare`] does all that takes memory or may be refused, and
+//! [`AtomStore::install`] can't fail. Otherwise take `ref_world`, which keeps the log, or `ref_shared`, where threads share the atoms.
+//!
+//! **Costs.** A change takes as long whatever the number of atoms: its function, if it has one, the test of the atom's rule, and a
+//! notice for each of its watches. It takes memory for what the function makes and for the notices alone. `compare_and_set` compares
+//! two values, which is linear in the parts that are equal, and takes no memory where it answers false. `value_of` and `rule_of` take
+//! constant time, `are_rules_known` goes over all atoms, and `add_watch` and `remove_watch` over the watches of one.
+//!
+//! **Not promised.** That the points which the store is handed rise: it keeps none, and refuses a change or a making past 2^62. That what
+//! is installed was prepared on the value that the atom has now: `install` asks that the atom is there and its rule accepts the value.
+//! That the refusal of a `swap` by its function or by the rule, or for the end of points, isn't told as 'out of memory'. The store tells
+//! no watch: that is for whoever made the change. No contract speaks of time, or of how much memory is taken.
 #![tactic(auto)]
 
 mod asking;

@@ -60,6 +60,11 @@ CallAnswers has code meant (Err (calls.NoSuchFun c)) = (has ≡ false) × (c ≡
 CallAnswers has code meant (Err (calls.Refused c)) = (has ≡ true) × (meant ≡ Err c)
 CallAnswers has code meant (Err calls.Memory) = has ≡ true
 
+-- The fault of a call by a code, where the function that has it gave no value.
+abbrev pub call_fault_of : FunFault → CallFault
+call_fault_of (answers.Refused c) = calls.Refused c
+call_fault_of answers.Memory = calls.Memory
+
 -- A test by a code, in a table that has it or not.
 abbrev pub tested : Bool → Bool → Option Bool
 tested has accepted = if has then Some accepted else None

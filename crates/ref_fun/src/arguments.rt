@@ -1,5 +1,5 @@
 //! The arguments of a function.
-ghost use Rattle.std.specs.Prelude.{◌≡◌, ◌≤◌, length, vec_len, IfOk};
+ghost use Rattle.std.specs.Prelude.{◌≡◌, ◌≢◌, ◌≤◌, [], length, vec_len, IfOk, OnErr};
 
 use ref_edn::Value;
 use std::alloc::{AllocError, Global};
@@ -12,12 +12,14 @@ pub const MOST_ARGUMENTS: usize = 8;
 /// At most 8 arguments; they may have several owners. Contracts see a list.
 #[derive(Drop)]
 pub struct Args {
-    values: Arc<Vec<Value>>,
+    // No block is taken for no arguments.
+    values: Option<Arc<Vec<Value>>>,
 }
 
 impl Model for Args {
-    ghost use Rattle.std.specs.Prelude.{List, length, ◌≤◌};
+    ghost use Rattle.std.specs.Prelude.{List, [], length, ◌≤◌};
     ghost use Rattle.std.specs.Coded.{coded_list};
+    ghost use Rattle.std.specs.Option.{option_map_or};
     ghost use Rattle.ref_edn.specs.Edn.{Edn};
     ghost use Rattle.ref_edn.specs.Code.{edn_code};
 
@@ -25,19 +27,23 @@ impl Model for Args {
 
     ghost coded = { coded_list edn_code };
 
-    ghost view = { λ a. a.values.value.items };
+    ghost view = { λ a. option_map_or (λ values. values.value.items) a.values [] };
 
-    ghost invariant = { λ a. length a.values.value.items ≤ 8 };
+    ghost invariant = { λ a. length (option_map_or (λ values. values.value.items) a.values []) ≤ 8 };
 }
 
 impl Args {
-    /// The arguments that a `Vec` holds, which isn't copied.
+    /// The arguments that a `Vec` holds, which isn't copied. Where there are none it takes no memory.
     pub fn of(alloc: Global, values: Vec<Value>) -> Result<Args, AllocError>
         requires { vec_len values ≤ 8 }
-        ensures { IfOk result (λ a. a ≡ values.items) }
+        ensures value { IfOk result (λ a. a ≡ values.items) }
+        ensures memory { OnErr result (values.items ≢ []) }
     {
+        if values.is_empty() {
+            return Ok(Args { values: None });
+        }
         Ok(Args {
-            values: Arc::new(alloc, values)?,
+            values: Some(Arc::new(alloc, values)?),
         })
     }
 
@@ -46,15 +52,21 @@ impl Args {
         ensures value { result.now ≡ self.now }
         ensures few { length result.now ≤ 8 }
     {
-        self.values.as_slice()
+        match &self.values {
+            Some(values) => values.as_slice(),
+            None => &[],
+        }
     }
 
     /// One more owner. It takes no memory; only the count of owners can refuse.
     pub fn share(&self) -> Result<Args, AllocError>
         ensures { IfOk result (λ a. a ≡ self.now) }
     {
-        Ok(Args {
-            values: Arc::try_clone(&self.values)?,
-        })
+        match &self.values {
+            Some(values) => Ok(Args {
+                values: Some(Arc::try_clone(values)?),
+            }),
+            None => Ok(Args { values: None }),
+        }
     }
 }

@@ -2,7 +2,7 @@
 ghost use Rattle.ref_fun.specs.Calls.{HasCore};
 ghost use Rattle.ref_fun.specs.Names.{is_function, is_predicate};
 
-use crate::faults::{CallFault, FunFault};
+use crate::faults::CallFault;
 use crate::functions::core_fun;
 use crate::meanings::Core;
 use crate::names::{is_function, is_predicate};
@@ -47,11 +47,7 @@ impl Functions<Core> for CoreFunctions {
         if !is_function(code) {
             return Err(CallFault::NoSuchFun(code));
         }
-        match core_fun(alloc, code, state, args) {
-            Ok(value) => Ok(value),
-            Err(FunFault::Refused(cause)) => Err(CallFault::Refused(cause)),
-            Err(FunFault::Memory) => Err(CallFault::Memory),
-        }
+        Ok(core_fun(alloc, code, state, args)?)
     }
 
     fn test(&self, code: u32, state: &Value, args: &[Value]) -> Option<bool> {

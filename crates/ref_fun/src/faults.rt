@@ -1,6 +1,6 @@
 //! Why a function gives no value.
 ghost use Rattle.std.specs.Prelude.{◌≡◌};
-ghost use Rattle.ref_fun.specs.Calls.{add_fault_number, call_fault_number};
+ghost use Rattle.ref_fun.specs.Calls.{add_fault_number, call_fault_number, call_fault_of};
 ghost use Rattle.ref_fun.specs.Cause.{cause_number};
 ghost use Rattle.ref_fun.specs.declared.faults.FunFault.TheVariants.{Refused, Memory};
 
@@ -84,6 +84,17 @@ impl CallFault {
             CallFault::NoSuchFun(_) => 1,
             CallFault::Refused(_) => 2,
             CallFault::Memory => 3,
+        }
+    }
+}
+
+impl From<FunFault> for CallFault {
+    ghost from_gives = { λ e f. f ≡ call_fault_of e };
+
+    fn from(fault: FunFault) -> CallFault {
+        match fault {
+            FunFault::Refused(cause) => CallFault::Refused(cause),
+            FunFault::Memory => CallFault::Memory,
         }
     }
 }

@@ -23,7 +23,8 @@ pub struct StoredFun {
     code: u32,
     run: Fun,
     ghost callable: { (alloc : _) (state : _) (args : _) → length args.now ≤ 8 → Fun.pre run alloc state args },
-    ghost answers: { (alloc : _) (state : _) (args : _) (result : _) → Fun.post run alloc state args result → Answers (core_means code args.now state.now) result } by { Π_prop (λ _. Π_prop (λ _. Π_prop (λ _. Π_prop (λ _. →_prop (Answers-prop _ _))))) },
+    ghost answers: { (alloc : _) (state : _) (args : _) (result : _) → Fun.post run alloc state args result
+        → Answers (core_means code args.now state.now) result } by { Π_prop (λ _. Π_prop (λ _. Π_prop (λ _. Π_prop (λ _. →_prop (Answers-prop _ _))))) },
 }
 
 /// A predicate under its code. It may be called on every state with at most 8 arguments, and accepts what
@@ -33,7 +34,8 @@ pub struct StoredPred {
     code: u32,
     run: Pred,
     ghost callable: { (state : _) (args : _) → length args.now ≤ 8 → Pred.pre run state args },
-    ghost answers: { (state : _) (args : _) (result : _) → Pred.post run state args result → result ≡ core_accepts code args.now state.now },
+    ghost answers: { (state : _) (args : _) (result : _) → Pred.post run state args result
+        → result ≡ core_accepts code args.now state.now },
 }
 
 impl StoredFun {

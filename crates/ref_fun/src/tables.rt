@@ -4,7 +4,7 @@ ghost use Rattle.std.specs.BTreeMap.{keys, btree_map_len};
 ghost use Rattle.std.specs.Bool.{OnFalse, OnTrue};
 ghost use Rattle.ref_fun.specs.Calls.{AddFaultComes, CallAnswers, HasCore, HasRoom, Known, tested};
 
-use crate::faults::{AddFault, CallFault, FunFault};
+use crate::faults::{AddFault, CallFault};
 use crate::meanings::{Core, Meaning};
 use crate::stored::{StoredFun, StoredPred};
 use ref_edn::Value;
@@ -168,11 +168,7 @@ impl Functions<Core> for FunTable {
         let Some(fun) = self.fun_at(code) else {
             return Err(CallFault::NoSuchFun(code));
         };
-        match fun.call(alloc, state, args) {
-            Ok(value) => Ok(value),
-            Err(FunFault::Refused(cause)) => Err(CallFault::Refused(cause)),
-            Err(FunFault::Memory) => Err(CallFault::Memory),
-        }
+        Ok(fun.call(alloc, state, args)?)
     }
 
     fn test(&self, code: u32, state: &Value, args: &[Value]) -> Option<bool> {

@@ -1,19 +1,14 @@
 -- Watches that are added and taken away, and guards that are changed.
-use Rattle.std.proofs.Common.{◌≡◌, ◌∙◌, ℕ, zero, suc, ◌||◌, Bool, true, false, cond, List, [], ◌∷◌, ◌++◌, length, take, Option, None, Some, slice_get, slice_set, refl, sym, ap, arith}
+use Rattle.std.proofs.Common.{◌≡◌, ◌∙◌, ℕ, ◌||◌, Bool, true, false, cond, List, [], ◌∷◌, ◌++◌, length, take, refl, sym, ap}
 use Rattle.std.specs.List.{filter, list_any}
 use Rattle.std.specs.Ordering.{eq_by_cmp, is_eq}
 use Rattle.std.proofs.lemmas.Bool.{or_parts}
 use Rattle.std.proofs.lemmas.Cmp.{tied_itself}
-use Rattle.std.proofs.lemmas.List.{append-nil}
 use Rattle.std.proofs.lemmas.List.Folds.{list_any-append}
 use Rattle.ref_edn.specs.Edn.{Edn}
 use Rattle.ref_edn.specs.Order.{edn_cmp}
 use Rattle.ref_edn.specs.OrderLaws.{edn_cmp_total, edn_eq}
-use Rattle.ref_fun.specs.Rule.{Accepts, passes}
-use Rattle.ref_fun.specs.declared.rules.Rule.{Rule}
-use Rattle.ref_log.specs.Guards.{AreAccepted, passes_if_here, rule_at, rule_if_here, with_guard}
 use Rattle.ref_log.specs.Watches.{AreDistinct, has_key, is_key}
-use Rattle.ref_log.specs.declared.guards.Guard.{Guard}
 
 -- ---- keys
 
@@ -71,50 +66,4 @@ kept_more (x ∷ xs) (y ∷ ys) more kept =
     let rest : take (length xs) ys ≡ xs = cc in
     rw (head, kept_more xs ys more rest) refl
 
-pub nothing_more : {T : Type 0} (all : List T) → all ≡ all ++ []
-nothing_more all = sym (append-nil all)
-
 -- ---- rules that accept
-
-pub accepted_more : (accepts : Accepts) (guards : List Guard) (rule : Option Rule) (values : List Edn) (v : Edn) → length values ≡ length guards → passes accepts rule v ≡ true
-    → AreAccepted accepts guards values → AreAccepted accepts (with_guard guards rule) (values ++ v ∷ [])
-accepted_more accepts [] rule [] v same ok accepted zero = ok
-accepted_more accepts [] rule [] v same ok accepted (suc n) = refl
-accepted_more accepts [] rule (x ∷ xs) v same ok accepted n = absurd cc
-accepted_more accepts (g ∷ gs) rule [] v same ok accepted n = absurd cc
-accepted_more accepts (g ∷ gs) rule (x ∷ xs) v same ok accepted zero = accepted zero
-accepted_more accepts (g ∷ gs) rule (x ∷ xs) v same ok accepted (suc n) = accepted_more accepts gs rule xs v (omega (arith, same)) ok (λ k. accepted (suc k)) n
-
-pub accepted_value : (accepts : Accepts) (guards : List Guard) (values : List Edn) (n : ℕ) (v : Edn) → passes accepts (rule_at guards n) v ≡ true
-    → AreAccepted accepts guards values → AreAccepted accepts guards (slice_set values n v)
-accepted_value accepts guards [] n v ok accepted i = accepted i
-accepted_value accepts [] (x ∷ xs) zero v ok accepted i = by i
-  where
-    by : (i : ℕ) → passes_if_here accepts None (slice_get (v ∷ xs) i) ≡ true
-    by zero = refl
-    by (suc i) = accepted (suc i)
-accepted_value accepts [] (x ∷ xs) (suc n) v ok accepted zero = refl
-accepted_value accepts [] (x ∷ xs) (suc n) v ok accepted (suc i) = accepted_value accepts [] xs n v ok (λ k. accepted (suc k)) i
-accepted_value accepts (g ∷ gs) (x ∷ xs) zero v ok accepted zero = ok
-accepted_value accepts (g ∷ gs) (x ∷ xs) zero v ok accepted (suc i) = accepted (suc i)
-accepted_value accepts (g ∷ gs) (x ∷ xs) (suc n) v ok accepted zero = accepted zero
-accepted_value accepts (g ∷ gs) (x ∷ xs) (suc n) v ok accepted (suc i) = accepted_value accepts gs xs n v ok (λ k. accepted (suc k)) i
-
--- a rule in the place of another
-pub accepted_rule : (accepts : Accepts) (guards : List Guard) (values : List Edn) (n : ℕ) (guard : Guard) → passes_if_here accepts guard.rule (slice_get values n) ≡ true
-    → AreAccepted accepts guards values → AreAccepted accepts (slice_set guards n guard) values
-accepted_rule accepts [] values n guard ok accepted i = accepted i
-accepted_rule accepts (g ∷ gs) values zero guard ok accepted zero = ok
-accepted_rule accepts (g ∷ gs) values zero guard ok accepted (suc i) = accepted (suc i)
-accepted_rule accepts (g ∷ gs) values (suc n) guard ok accepted zero = accepted zero
-accepted_rule accepts (g ∷ gs) [] (suc n) guard ok accepted (suc i) = refl
-accepted_rule accepts (g ∷ gs) (x ∷ xs) (suc n) guard ok accepted (suc i) = accepted_rule accepts gs xs n guard ok (λ k. accepted (suc k)) i
-
-pub accepted_at : (accepts : Accepts) (guards : List Guard) (values : List Edn) (n : ℕ) (guard : Guard) → slice_get guards n ≡ Some guard → AreAccepted accepts guards values → passes_if_here accepts guard.rule (slice_get values n) ≡ true
-accepted_at accepts guards values n guard is accepted = ap (λ o. passes_if_here accepts (rule_if_here o) (slice_get values n)) (sym is) ∙ accepted n
-
--- guards with the same rule
-pub accepted_same : (accepts : Accepts) (guards : List Guard) (values : List Edn) (n : ℕ) (before after : Guard) → slice_get guards n ≡ Some before → after.rule ≡ before.rule
-    → AreAccepted accepts guards values → AreAccepted accepts (slice_set guards n after) values
-accepted_same accepts guards values n before after is same accepted =
-    accepted_rule accepts guards values n after (ap (λ rule. passes_if_here accepts rule (slice_get values n)) same ∙ accepted_at accepts guards values n before is accepted) accepted

@@ -1,10 +1,8 @@
 -- The last changes of the refs that are there, entry by entry.
-use Rattle.std.proofs.Common.{◌≡◌, ℕ, zero, suc, ◌+◌, ◌<◌, ◌≤◌, ◌==◌, ◌&&◌, ◌||◌, not, true, false, Bool, List, [], ◌∷◌, ◌++◌, length, cond, refl, ap, sym, ◌∙◌, arith, length-append}
-use Rattle.std.specs.List.{slice_index_or}
+use Rattle.std.proofs.Common.{◌≡◌, ℕ, ◌+◌, ◌<◌, ◌≤◌, ◌==◌, ◌&&◌, ◌||◌, true, false, Bool, List, [], ◌∷◌, ◌++◌, cond, refl, ap, sym, ◌∙◌, arith}
 use Rattle.std.proofs.Common.{◌⊎◌, inl, inr}
-use Rattle.std.proofs.lemmas.Bool.{cases_lt, eq-eqb, ne_eqb}
-use Rattle.ref_log.specs.Replay.{is_changed_by, is_ensure, is_touched, last_change_from, refs_after, refs_after_one}
-use Rattle.ref_log.specs.declared.operations.Done.{Done}
+use Rattle.std.proofs.lemmas.Bool.{cases_lt, eq-eqb}
+use Rattle.ref_log.specs.Replay.{is_changed_by, last_change_from, refs_after, refs_after_one}
 use Rattle.ref_log.specs.declared.entries.Entry.{Entry}
 use Rattle.ref_log.specs.declared.entries.Entry.TheVariants.{Trans, Atom, MadeRef, MadeAtom}
 
@@ -14,9 +12,6 @@ touched_by true true point old new is = refl
 touched_by true false point old new is = is
 touched_by false true point old new is = refl
 touched_by false false point old new is = is
-
-pub touched_step : (d : Done) (ds : List Done) (r point old new : ℕ) → new ≡ cond (d.r == r && not (is_ensure d.op)) point old → cond (is_touched ds r) point new ≡ cond (is_touched (d ∷ ds) r) point old
-touched_step d ds r point old new is = touched_by (d.r == r && not (is_ensure d.op)) (is_touched ds r) point old new is
 
 -- A ref that is made by an entry to come has the point of that entry or a later one, whatever it had before.
 made_by : (p n : ℕ) (e : Entry) (es : List Entry) (r x y : ℕ) (b : Bool)
@@ -54,25 +49,3 @@ changed_step p n e es r old new n_after count below marks =
       by : (r < n_after) ⊎ (n_after ≤ r) → last_change_from (p + 1) n_after es r new ≡ last_change_from (p + 1) n_after es r (cond (is_changed_by n e r) (p + 1) old)
       by (inl here) = ap (last_change_from (p + 1) n_after es r) (marks here)
       by (inr later) = made_later (p + 1) n_after es r new (cond (is_changed_by n e r) (p + 1) old) later below
-
--- a ref more: it has this last change, and the others have theirs
-last_at_end : (lasts : List ℕ) (point : ℕ) → slice_index_or (lasts ++ point ∷ []) (length lasts) 0 ≡ point
-last_at_end [] point = refl
-last_at_end (x ∷ xs) point = last_at_end xs point
-
-last_before : (lasts : List ℕ) (point r : ℕ) → r < length lasts → slice_index_or (lasts ++ point ∷ []) r 0 ≡ slice_index_or lasts r 0
-last_before [] point r below = absurd (omega (arith, below))
-last_before (x ∷ xs) point zero below = refl
-last_before (x ∷ xs) point (suc r) below = last_before xs point r (omega (arith, below))
-
-pushed_by : (lasts : List ℕ) (point r : ℕ) → r < length (lasts ++ point ∷ []) → (r < length lasts) ⊎ (length lasts ≤ r)
-    → slice_index_or (lasts ++ point ∷ []) r 0 ≡ cond (length lasts == r) point (slice_index_or lasts r 0)
-pushed_by lasts point r below (inl before) =
-    last_before lasts point r before ∙ ap (λ b. cond b point (slice_index_or lasts r 0)) (sym (ne_eqb (length lasts) r (λ same. absurd (omega (arith, same, before)))))
-pushed_by lasts point r below (inr past) =
-    let more = length-append lasts (point ∷ []) in
-    let same : length lasts ≡ r = omega (arith, more, below, past) in
-    ap (λ k. slice_index_or (lasts ++ point ∷ []) k 0) (sym same) ∙ (last_at_end lasts point ∙ ap (λ b. cond b point (slice_index_or lasts r 0)) (sym (eq-eqb (length lasts) r same)))
-
-pub pushed_last : (lasts : List ℕ) (point r : ℕ) → r < length (lasts ++ point ∷ []) → slice_index_or (lasts ++ point ∷ []) r 0 ≡ cond (length lasts == r) point (slice_index_or lasts r 0)
-pushed_last lasts point r below = pushed_by lasts point r below (cases_lt r (length lasts))

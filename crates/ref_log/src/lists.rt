@@ -1,5 +1,5 @@
 //! Lists with several owners, and what can have several owners.
-ghost use Rattle.std.specs.Prelude.{◌≡◌, ◌<◌, ◌↔◌, [], ◌^◌, IsTrue, length, IfOk, slice_get, slice_index_or, option_copied};
+ghost use Rattle.std.specs.Prelude.{◌≡◌, ◌≢◌, ◌<◌, ◌↔◌, [], ◌^◌, IsTrue, length, IfOk, OnErr, slice_get, slice_index_or, option_copied};
 ghost use Rattle.std.specs.Slice.{IsItemAt};
 ghost use Rattle.std.specs.Iterator.{YieldsFirstRef, item_count};
 
@@ -60,7 +60,8 @@ impl<T> Model for SharedVec<T> {
 impl<T: Drop> SharedVec<T> {
     /// The items that a `Vec` holds, which isn't copied. Where there are none it takes no memory.
     pub fn of(alloc: Global, items: Vec<T>) -> Result<SharedVec<T>, AllocError>
-        ensures { IfOk result (λ xs. xs ≡ items.items) }
+        ensures value { IfOk result (λ xs. xs ≡ items.items) }
+        ensures memory { OnErr result (items.items ≢ []) }
     {
         if items.is_empty() {
             return Ok(SharedVec { inside: None });

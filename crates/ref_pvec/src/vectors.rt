@@ -31,7 +31,8 @@ impl<T> Model for PVec<T> {
 
     ghost view = { λ a. front_items a.front ++ tail_items a.tail };
 
-    ghost invariant = { λ a. (a.front_len ≡ length (front_items a.front)) × (a.len ≡ length (front_items a.front ++ tail_items a.tail)) };
+    ghost invariant = { λ a. (a.front_len ≡ length (front_items a.front))
+        × (a.len ≡ length (front_items a.front ++ tail_items a.tail)) };
 }
 
 // Leaves a tail that no other vector has, so that it may be pushed to.

@@ -3,9 +3,9 @@ use Rattle.std.proofs.Common.{◌≡◌, ℕ, zero, suc, ◌+◌, ◌<◌, ◌==
 use Rattle.std.specs.Option.{option_map}
 use Rattle.std.specs.Option.{option_or}
 use Rattle.std.specs.Ordering.{eq_by_cmp}
-use Rattle.std.proofs.lemmas.Bool.{eqb-true, eqb-false, eq-eqb, and_from, both_ways, not-true, not-false, false_from_ne_true, true_from_ne_false}
+use Rattle.std.proofs.lemmas.Bool.{eqb-true, eqb-false, eq-eqb, and_from, both_ways, not-false, false_from_ne_true}
 use Rattle.std.proofs.lemmas.List.{append_assoc, append-nil, set-get_or, take_more}
-use Rattle.std.proofs.lemmas.List.Folds.{find-append, list_any_at}
+use Rattle.std.proofs.lemmas.List.Folds.{find-append}
 use Rattle.std.proofs.lemmas.Option.{get_or_from_slice_get, slice_get-get_or}
 use Rattle.ref_edn.specs.Order.{edn_cmp}
 use Rattle.ref_edn.specs.OrderLaws.{edn_eq}
@@ -16,7 +16,7 @@ use Rattle.ref_log.specs.declared.faults.AuditFault.{AuditFault}
 use Rattle.ref_log.specs.declared.operations.Op.{Op}
 use Rattle.ref_log.specs.declared.operations.Op.TheVariants.{Set, Alter, Commute, Ensure}
 use Rattle.ref_log.specs.declared.operations.Done.{Done}
-use Rattle.ref_log.specs.Replay.{place, is_commute, is_ensure, is_kept, is_protected, after_one, after_done, after_dones, after_place, missing}
+use Rattle.ref_log.specs.Replay.{place, is_ensure, is_kept, is_protected, after_one, after_done, after_dones, after_place, missing}
 use Rattle.ref_log.specs.Laws.{is_kept-itself, slice_get-slice_set, slice_get-slice_set-here}
 use Rattle.ref_tx.specs.Inner.{and_place, given, value_after, AreAnswers}
 use Rattle.ref_tx.specs.Laws.{value_after-here, value_after-elsewhere}
@@ -114,14 +114,6 @@ module _ (means : Means) (began : List Edn) (all : List Done) (answered_all : Ar
             ∙ (kept (frees ∙ ap not (ap (is_protected all) same ∙ protected))
             ∙ (sym (answers_from means began [] all i d answered_all below is) ∙ ap (value_after means began (take i all ++ d ∷ [])) same))
         by false e = others r e ∙ (agrees r protected ∙ sym (value_after-elsewhere means began (take i all) d r e))
-
--- what the transaction doesn't protect it only commuted
-pub free_commutes : (all : List Done) (i : ℕ) (d : Done) (free : Bool) → i < length all → d ≡ get_or all i d → free ≡ not (is_protected all d.r) → free ≡ true → is_commute d.op ≡ true
-free_commutes all i d free below is frees yes_free =
-    true_from_ne_false (is_commute d.op) (λ other.
-    let on : Done → Bool = λ x. x.r == d.r && not (is_commute x.op) in
-    let here : on d ≡ true = and_from (d.r == d.r) (not (is_commute d.op)) (eq-eqb d.r d.r refl) (ap not other) in
-    both_ways (is_protected all d.r) (not-true (is_protected all d.r) (sym frees ∙ yes_free)) (list_any_at on all i d below (ap on (sym is) ∙ here)))
 
 -- the table has what an operation calls again
 none_of : {X : Type 0} (first second : Option X) → option_or first second ≡ None → (first ≡ None) × (second ≡ None)

@@ -2,7 +2,7 @@
 use Rattle.std.proofs.Common.{◌≡◌, ℕ, zero, suc, ◌≤◌, ◌-◌, ◌==◌, ◌++◌, ◌∷◌, [], Bool, true, false, not, cond, List, length, refl, ap, sym, ◌∙◌, arith, subst}
 use Rattle.std.specs.Prelude.{nat_lt, None, slice_get, unwrap_or}
 use Rattle.std.proofs.lemmas.Option.{unwrap_or-slice_get}
-use Rattle.std.proofs.lemmas.Bool.{and_from, and_parts, eqb-true, eqb-false, le-ltb, ltb-false, not-true}
+use Rattle.std.proofs.lemmas.Bool.{and_from, and_parts, le-ltb, ltb-false, not-true}
 use Rattle.ref_log.specs.declared.operations.Done.{Done}
 use Rattle.ref_log.specs.Replay.{is_touched}
 use Rattle.ref_refs.specs.Commit.{changed_by}
@@ -39,12 +39,6 @@ elsewhere [] at zero other = absurd (other refl)
 elsewhere [] at (suc r) other = refl
 elsewhere (x ∷ xs) at zero other = refl
 elsewhere (x ∷ xs) at (suc r) other = elsewhere xs at r (λ same. other (ap suc same))
-
-pub lasts_make : (lasts : List ℕ) (count at r : ℕ) → length lasts ≡ count → changed_at (lasts ++ at ∷ []) r ≡ cond (count == r) at (changed_at lasts r)
-lasts_make lasts count at r is = by (count == r) refl where
-  by : (b : Bool) → (count == r) ≡ b → changed_at (lasts ++ at ∷ []) r ≡ cond b at (changed_at lasts r)
-  by true e = ap (changed_at (lasts ++ at ∷ [])) (sym (is ∙ eqb-true count r e)) ∙ here lasts at
-  by false e = elsewhere lasts at r (λ same. eqb-false count r e (sym is ∙ same))
 
 -- The last change of a ref that isn't there.
 pub never_changed : (lasts : List ℕ) (r : ℕ) → slice_get lasts r ≡ None → changed_at lasts r ≡ 0

@@ -38,22 +38,6 @@ came holds rs x q w =
       came_by (inl before) h = inl (and_from (among rs q) (holds q) before h)
       came_by (inr here) h = let same = eqb-true x q here in inr (same, ap holds same ∙ h)
 
-pub first_of_none : (holds : ℕ → Bool) → IsFirst holds [] None
-first_of_none holds = record { found = tt; least = λ q w. w }
-
-pub first_skips : (holds : ℕ → Bool) (rs : List ℕ) (x : ℕ) (first : Option ℕ) → IsFirst holds rs first → holds x ≡ false → IsFirst holds (rs ++ x ∷ []) first
-first_skips holds rs x first is skipped = record {
-  found = still_found first is.found;
-  least = λ q w. by q (came holds rs x q w);
-} where
-  still_found : (o : Option ℕ) → MatchOption o (Unit {0}) (λ m. wanted holds rs m ≡ true) → MatchOption o (Unit {0}) (λ m. wanted holds (rs ++ x ∷ []) m ≡ true)
-  still_found None f = tt
-  still_found (Some m) f = still holds rs x m f
-
-  by : (q : ℕ) → (wanted holds rs q ≡ true) ⊎ ((x ≡ q) × (holds x ≡ true)) → covers first q ≡ true
-  by q (inl before) = is.least q before
-  by q (inr here) = absurd (both_ways (holds x) skipped here.1)
-
 smaller_here : (o : Option ℕ) (r : ℕ) → covers (Some (smaller o r)) r ≡ true
 smaller_here None r = ap not (le-ltb r r (omega arith))
 smaller_here (Some m) r = here (nat_lt m r) refl where

@@ -111,11 +111,6 @@ left_at None b e here h q = absurd (none_Some e here)
 left_at (Some x) true e here h q = refl
 left_at (Some x) false e here h q = absurd (omega (arith, ap length (q ∙ is_due x (ap has_receipt (same_Some _ _ here) ∙ h))))
 
--- and where they match, each is marked
-pub all_marked_where_match : (base : ℕ) (log : List Entry) (met : List Bool) (rs : List LogReceipt) → SoFar base log met rs → ReceiptsMatch base log rs → AllMarked log met
-all_marked_where_match base log met rs s all i e here h =
-    left_at (slice_get log i) (slice_index_or met i false) e here h (sym (s.told i) ∙ all i)
-
 -- the same at a loop's step, which has the item and what it is
 pub skips_at : (base : ℕ) (log : List Entry) (met : List Bool) (rs : List LogReceipt) (k : ℕ) (r : LogReceipt)
     → SoFar base log met (take k rs) → k < length rs → r ≡ slice_index_or rs k r → r.point ≤ base → SoFar base log met (take (k + 1) rs)
@@ -143,7 +138,3 @@ misses_at base log met rs k r s within is past unfit all =
 pub all_met_at : (base : ℕ) (log : List Entry) (met : List Bool) (rs : List LogReceipt) (k : ℕ)
     → SoFar base log met (take k rs) → length rs ≤ k → AllMarked log met → ReceiptsMatch base log rs
 all_met_at base log met rs k s end all = all_met base log met rs (subst (SoFar base log met) (take_all k rs end) s) all
-
-pub left_out_at : (base : ℕ) (log : List Entry) (met : List Bool) (rs : List LogReceipt) (k : ℕ)
-    → SoFar base log met (take k rs) → length rs ≤ k → (AllMarked log met → ⊥) → ReceiptsMatch base log rs → ⊥
-left_out_at base log met rs k s end unmarked all = unmarked (all_marked_where_match base log met rs (subst (SoFar base log met) (take_all k rs end) s) all)

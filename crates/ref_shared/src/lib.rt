@@ -1,13 +1,35 @@
 //! A world that threads share.
 //!
-//! [`Shared`] holds a world under one lock. [`Shared::transact`] runs a body on a transaction and commits it, again and again
-//! where it is in conflict; the calls on atoms and agents are one step each; a thread that calls [`Shared::work_once`] in a loop
-//! runs the actions of agents, until [`Shared::close`]. Each thread that changes refs or atoms has a share of the world, which it
-//! got by [`ref_world::Share::split`]. At the end the shares are joined and [`Shared::finish`] takes the world out, with its
-//! totals, after it has compared the log with the receipts of all shares.
+//! [`Shared`] holds a `ref_world::World` under one lock: [`Shared::transact`] runs a body on a transaction and commits it, as Clojure's
+//! `dosync`, again and again where it is in conflict; the calls on atoms and agents are one step each; a thread that calls
+//! [`Shared::work_once`] in a loop runs the actions of agents, until [`Shared::close`]. Each thread that changes refs or atoms has a share
+//! of the world, which it got by [`ref_world::Share::split`]; at the end the shares are joined, and [`Shared::finish`] takes the world
+//! out, with its totals, after it has compared the log with the receipts of all shares.
 //!
-//! What a call does between two locks it does with the lock free: a transaction's body, an action, and what the watches are told.
-//! A [`Gate`] is called there too, and a [`WatchSink`] is told; [`Open`] and [`Quiet`] stand for none.
+//! | Name | Is |
+//! |---|---|
+//! | [`Shared`] | the world under its lock; whoever finds that free finds all so that the type `World` tells |
+//! | [`Gate`], [`Spot`], [`Open`] | what is called between two steps, where that is, and a gate that lets all pass |
+//! | [`WatchSink`], [`Quiet`] | who is told what the watches are to be told of a commit or an action, and a sink that tells nobody |
+//! | [`Worked`], [`WorkFault`] | what a call of `work_once` did, and why it didn't run an action to its end |
+//! | [`TransactFault`] | why a transaction came to no commit: it gave up, its body ended it, or its commit or memory was refused |
+//! | [`match_receipts`], [`GatherFault`] | the comparison of a log with receipts, which `finish` makes, and why they don't fit |
+//!
+//! Take it where threads share refs, atoms and agents; otherwise take `ref_world`, whose calls wait for nobody. `transact` is there for
+//! functions that mean what Core's mean; with another meaning call [`Shared::begin`], [`Shared::commit`] and [`Shared::release`].
+//!
+//! **Costs.** Each call takes the lock once, and costs what its call of the world costs; `transact` takes it twice for each try, and once
+//! more where what was committed sent something; `work_once` takes it for the job and for its end; `new` and `finish` don't. A body, an
+//! action, a gate and a sink run with the lock free. Functions of the table run under it where a commit commutes, an atom is swapped or a
+//! rule is asked, so they are to be quick; a checkpoint holds it for a replay of the entries that it folds. `finish` is linear in the sizes
+//! of log and receipts, but for logarithms of the workers and of the entries, and takes a byte for each entry and some for each worker.
+//!
+//! **Not promised.** Which thread comes first, how often a transaction is tried within its limit and whether it gets through, that a
+//! waiter ever wakes or an action is ever run, and how long anything takes; a call that locks or waits keeps its promise where it
+//! returns. That what was found at one lock holds at the next, and in which order two threads tell their notices. Of the calls on a
+//! `Shared` only `begin`, `commit`, `transact`, `transact_by`, those on atoms and `finish` have clauses: what the others do, that
+//! `transact` tells the watches and then lets the sends out, and that no lock is held over a body, an action, a gate or a sink, is only
+//! tested.
 #![tactic(auto)]
 
 pub mod faults;

@@ -39,10 +39,10 @@ pub(crate) struct Held<M: Meaning, C: Ledger, A: Ledger> {
 /// A world that threads share.
 ///
 /// It stands under one lock. Each call but [`Shared::new`] and [`Shared::finish`] takes that lock, makes one call of the world, or none
-/// as [`Shared::close`], and lets go; [`Shared::transact`] and [`Shared::work_once`] take it for each of their steps. The lock is never held while a
-/// transaction's body, an action, a gate or a sink runs, and whoever finds it free finds a world of which all is so that the
-/// type [`World`] tells. What was found at one lock need not hold at the next. Where a commit commutes, where an atom is changed
-/// and where a rule is asked, the table's functions are called under the lock: they are to be quick.
+/// as [`Shared::close`], and lets go; [`Shared::transact`] and [`Shared::work_once`] take it for each of their steps. The lock is never
+/// held while a transaction's body, an action, a gate or a sink runs, and whoever finds it free finds a world of which all is so
+/// that the type [`World`] tells. What was found at one lock need not hold at the next. Where a commit commutes, where an atom is
+/// changed and where a rule is asked, the table's functions are called under the lock: they are to be quick.
 ///
 /// The calls may wait for the lock, and promise what they say where they return. A thread that never lets its body, its gate or
 /// its sink come back keeps nobody from the lock.

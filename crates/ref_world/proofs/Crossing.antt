@@ -104,10 +104,10 @@ done_sync : IsSync Done.the_row
 done_sync = declared_sync Done.the_type (search plain depth 60, (op_sync, (value_sync, tt)))
 
 sent_send : IsSend Sent.the_row
-sent_send = search plain depth 60
+sent_send = search (args_send, plain) depth 60
 
 sent_sync : IsSync Sent.the_row
-sent_sync = search plain depth 60
+sent_sync = search (args_sync, plain) depth 60
 
 stamp_send : IsSend Stamp.the_row
 stamp_send = search plain depth 60

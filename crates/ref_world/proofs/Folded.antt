@@ -1,5 +1,5 @@
 -- A world whose first entries are folded into its base.
-use Rattle.std.proofs.Common.{◌≡◌, ℕ, ◌&&◌, ◌+◌, ◌≤◌, ◌^◌, ◌++◌, true, false, Bool, List, length, take, drop, Option, Result, Ok, Err, refl, ap, sym, subst, ◌∙◌, arith, length-append}
+use Rattle.std.proofs.Common.{◌≡◌, ℕ, ◌&&◌, ◌+◌, ◌≤◌, ◌^◌, ◌++◌, true, false, Bool, List, length, take, drop, Option, Ok, Err, ap, sym, subst, ◌∙◌, arith, length-append}
 use Rattle.std.specs.List.{list_all}
 use Rattle.std.specs.Result.{is_ok}
 use Rattle.std.proofs.lemmas.List.{take-append-drop}
@@ -44,12 +44,6 @@ pub first_added : (tally : Option ℕ) (log : List Entry) (n : ℕ) → added_of
 first_added tally log n =
     let both = added_of-both tally (take n log) (drop n log) in
     let all = ap (added_of tally) (take-append-drop n log) in
-    omega (arith, both, all)
-
-pub first_points : (base : Base) (log : List Entry) (n : ℕ) → point_after base (take n log) ≤ point_after base log
-first_points base log n =
-    let both = length-append (take n log) (drop n log) in
-    let all = ap length (take-append-drop n log) in
     omega (arith, both, all)
 
 module _ (means : Means) (base : Base) (xs ys : List Entry) (after : Base) (is : IsFolded means base xs after) where

@@ -1,8 +1,8 @@
 -- References that are declared, one by one.
-use Rattle.std.proofs.Common.{◌≡◌, ℕ, ◌<◌, ◌+◌, ◌++◌, ◌∷◌, [], List, Some, Result, Ok, Err, take, drop, drop-cons, get_or, length, zero, suc, refl, ap, sym, ◌∙◌, add-one, slice_get}
+use Rattle.std.proofs.Common.{◌≡◌, ℕ, ◌<◌, ◌+◌, ◌++◌, ◌∷◌, [], List, Option, None, Some, Result, Ok, Err, take, drop, drop-cons, get_or, length, zero, suc, refl, ap, sym, ◌∙◌, add-one, slice_get}
 use Rattle.ref_log.specs.declared.faults.MakeFault.{MakeFault}
 use Rattle.ref_log.specs.declared.notices.Who.{Who}
-use Rattle.ref_world.specs.Starts.{made_all}
+use Rattle.ref_world.specs.Starts.{first_refused, made_all, refusal_of}
 
 -- After a refusal nothing is made.
 refused_stays : {S Store : Type 0} (make : S → Store → Result Store (Who × MakeFault)) (ss : List S) (e : Who × MakeFault) → made_all make ss (Err e) ≡ Err e
@@ -17,6 +17,20 @@ pub one_fails : {S Store : Type 0} (make : S → Store → Result Store (Who × 
     → made_all make (drop i ss) (Ok store) ≡ whole → i < length ss → s ≡ get_or ss i s → make s store ≡ Err e → whole ≡ Err e
 one_fails make ss i s store whole e so_far below is fails =
     sym so_far ∙ (ap (λ l. made_all make l (Ok store)) (first_left ss i s below is) ∙ (ap (made_all make (drop (i + 1) ss)) fails ∙ refused_stays make (drop (i + 1) ss) e))
+
+-- one that could be made, among all: the first of those that are left
+pub one_short : {S Store : Type 0} (make : S → Store → Result Store (Who × MakeFault)) (ss : List S) (i : ℕ) (s : S) (store : Store) (next : Option (Who × MakeFault))
+    → i < length ss → s ≡ get_or ss i s → refusal_of (make s store) ≡ None → first_refused make (drop i ss) store next ≡ None
+one_short make ss i s store next below is fine = ap (λ l. first_refused make l store next) (first_left ss i s below is) ∙ fine
+
+-- Where all were made, the first was.
+pub first_made : {S Store : Type 0} (make : S → Store → Result Store (Who × MakeFault)) (ss : List S) (store after : Store) (next : Option (Who × MakeFault))
+    → made_all make ss (Ok store) ≡ Ok after → next ≡ None → first_refused make ss store next ≡ None
+first_made {Store = Store} make [] store after next made none = none
+first_made {Store = Store} make (s ∷ ss) store after next made none = by (make s store) made where
+  by : (r : Result Store (Who × MakeFault)) → made_all make ss r ≡ Ok after → refusal_of r ≡ None
+  by (Ok x) e = refl
+  by (Err x) e = let stays = refused_stays make ss x in absurd cc
 
 -- One element more of a list.
 pub take_next : {X : Type 0} (xs : List X) (i : ℕ) (x : X) → slice_get xs i ≡ Some x → take (i + 1) xs ≡ take i xs ++ x ∷ []

@@ -87,3 +87,15 @@ start_refusal accepts knows start =
     option_or (refusal_of (declared_refs accepts knows start.refs.items))
     (option_or (refusal_of (declared_atoms accepts knows start.atoms.items))
     (refusal_of (declared_agents accepts knows start.agents.items)))
+
+-- Why the first of these can't be made; where there is none, what comes next tells.
+abbrev pub first_refused : {S Store : Type 0} → (S → Store → Result Store (Who × MakeFault)) → List S → Store → Option (Who × MakeFault) → Option (Who × MakeFault)
+first_refused make [] store next = next
+first_refused make (s ∷ ss) store next = refusal_of (make s store)
+
+-- Why the first of all references that are declared can't be made. Before it is asked for, a world takes no memory.
+abbrev pub first_refusal : Accepts → (ℕ → Bool) → Start → Option (Who × MakeFault)
+first_refusal accepts knows start =
+    first_refused (with_ref accepts knows) start.refs.items no_refs
+    (first_refused (with_atom accepts knows) start.atoms.items no_atoms
+    (first_refused (with_agent accepts knows) start.agents.items no_agents None))

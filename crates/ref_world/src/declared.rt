@@ -1,8 +1,10 @@
 //! The references that a world begins with, and their base.
-ghost use Rattle.std.specs.Prelude.{◌≡◌, ◌≢◌, [], true, Ok, Err, IfOk, IfErr, OnOk, length};
+ghost use Rattle.std.specs.Prelude.{◌≡◌, ◌≢◌, [], true, None, Ok, Err, IfOk, IfErr, OnOk, Option, length};
+ghost use Rattle.ref_log.specs.declared.faults.MakeFault.{MakeFault};
 ghost use Rattle.ref_log.specs.declared.faults.MakeFault.TheVariants as makes;
+ghost use Rattle.ref_log.specs.declared.notices.Who.{Who};
 ghost use Rattle.ref_refs.specs.Seen.{are_unchanged_since};
-ghost use Rattle.ref_world.specs.Starts.{base_of, declared_agents, declared_atoms, declared_refs, refusal_of, with_agent, with_atom, with_ref};
+ghost use Rattle.ref_world.specs.Starts.{base_of, declared_agents, declared_atoms, declared_refs, first_refused, no_agents, no_atoms, no_refs, refusal_of, with_agent, with_atom, with_ref};
 
 use crate::starts::{AgentStart, AtomStart, RefStart};
 use ref_agents::AgentStore;
@@ -23,6 +25,8 @@ pub(crate) fn declared_refs<M: Meaning, F: Functions<M>>(
     ensures since { IfOk result (λ refs. are_unchanged_since refs.lasts 0 ≡ true) }
     ensures fault { IfErr result (λ e. e.1 ≢ makes.Memory
         → declared_refs M.accepts (F.knows funs.now).preds starts.now ≡ Err e) }
+    ensures memory { IfErr result (λ e. e.1 ≡ makes.Memory → (next : Option (Who × MakeFault))
+        → first_refused (with_ref M.accepts (F.knows funs.now).preds) starts.now no_refs next ≡ None) }
 {
     let mut refs = RefStore::empty(alloc);
     for start in starts {
@@ -69,6 +73,8 @@ pub(crate) fn declared_atoms<M: Meaning, F: Functions<M>>(
     ensures ok { IfOk result (λ atoms. declared_atoms M.accepts (F.knows funs.now).preds starts.now ≡ Ok atoms) }
     ensures fault { IfErr result (λ e. e.1 ≢ makes.Memory
         → declared_atoms M.accepts (F.knows funs.now).preds starts.now ≡ Err e) }
+    ensures memory { IfErr result (λ e. e.1 ≡ makes.Memory → (next : Option (Who × MakeFault))
+        → first_refused (with_atom M.accepts (F.knows funs.now).preds) starts.now no_atoms next ≡ None) }
 {
     let mut atoms = AtomStore::empty(alloc);
     for start in starts {
@@ -114,6 +120,8 @@ pub(crate) fn declared_agents<M: Meaning, F: Functions<M>>(
     ensures held { IfOk result (λ agents. agents.unreleased ≡ []) }
     ensures fault { IfErr result (λ e. e.1 ≢ makes.Memory
         → declared_agents M.accepts (F.knows funs.now).preds starts.now ≡ Err e) }
+    ensures memory { IfErr result (λ e. e.1 ≡ makes.Memory → (next : Option (Who × MakeFault))
+        → first_refused (with_agent M.accepts (F.knows funs.now).preds) starts.now no_agents next ≡ None) }
 {
     let mut agents = AgentStore::empty(alloc);
     for start in starts {

@@ -6,7 +6,7 @@ ghost use Rattle.ref_log.specs.Tally.{IsTally, added_of, commits_of, fits_entry}
 ghost use Rattle.ref_log.specs.declared.faults.MakeFault.TheVariants as makes;
 ghost use Rattle.ref_refs.specs.Seen.{are_unchanged_since};
 ghost use Rattle.ref_world.specs.Starts as starts;
-ghost use Rattle.ref_world.specs.Starts.{start_refusal};
+ghost use Rattle.ref_world.specs.Starts.{first_refusal, start_refusal};
 ghost use Rattle.ref_world.specs.Shares.{all_parts, whole};
 ghost use Rattle.ref_world.specs.World.{HasLastChanges, are_past, point_of};
 
@@ -73,6 +73,7 @@ impl<M: Meaning, C: Ledger, A: Ledger> World<M, C, A> {
     /// A world that begins with these references, refs made before atoms before agents, at point 0 and with no entry, and its
     /// whole share. Where one of the references can't be made it is told which and why; where memory is refused, which one says
     /// nothing. The blanks become the books, and are spent where the world is refused, too.
+    #[tactic(auto, using(crate::proofs::Starting::first_made))]
     pub fn new<F: Functions<M>>(
         alloc: Global,
         funs: &F,
@@ -95,6 +96,8 @@ impl<M: Meaning, C: Ledger, A: Ledger> World<M, C, A> {
         ensures share { IfOk result (λ r. r.1 ≡ whole) }
         ensures fault { IfErr result (λ e. e.1 ≢ makes.Memory
             → start_refusal M.accepts (F.knows funs.now).preds start ≡ Some e) }
+        ensures memory { IfErr result (λ e. e.1 ≡ makes.Memory
+            → first_refusal M.accepts (F.knows funs.now).preds start ≡ None) }
     {
         let refs = declared_refs(alloc, funs, &start.refs)?;
         let atoms = declared_atoms(alloc, funs, &start.atoms)?;

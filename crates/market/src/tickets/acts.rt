@@ -131,11 +131,7 @@ impl Functions<BoxOffice> for Acts {
         let Some(act) = Act::of(code) else {
             return Err(CallFault::NoSuchFun(code));
         };
-        match act.run(alloc, state, args) {
-            Ok(value) => Ok(value),
-            Err(FunFault::Refused(cause)) => Err(CallFault::Refused(cause)),
-            Err(FunFault::Memory) => Err(CallFault::Memory),
-        }
+        Ok(act.run(alloc, state, args)?)
     }
 
     fn test(&self, code: u32, state: &Value, args: &[Value]) -> Option<bool> {

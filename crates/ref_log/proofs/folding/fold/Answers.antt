@@ -11,7 +11,7 @@ returns-clause-ok g c =
     let state = c.in_ok-refs.field-0 in
     let replayed = c.in_ok-refs.ensures.ok in
     let lasts = c.in_ok-lasts.lasts.items in
-    let last = c.in_ok-last.ensures in
+    let last = c.in_ok-last.ensures.value in
     let all = c.in_ok-lasts.ensures in
     record {
       point = ap (λ n. base.point + n) c.len.ensures;
