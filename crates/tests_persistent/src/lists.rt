@@ -213,7 +213,7 @@ fn old_versions_stay(rt: HostRuntime) -> Result<(), Fail> {
         assert!(rt; agrees(version), "version {i}");
     }
     // Enough of both was drawn.
-    assert!(rt; versions.len() > 60, "{} versions", versions.len());
+    assert!(rt; versions.len() >= 200, "{} versions", versions.len());
     assert!(rt; longest(&versions) > 2048, "{} items", longest(&versions));
     Ok(())
 }

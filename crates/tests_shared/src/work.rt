@@ -2,44 +2,22 @@
 ghost use Rattle.std.specs.Prelude.{◌≡◌};
 ghost use Rattle.ref_world.specs.Shares.{all_parts};
 
+use crate::jobs::{CLOSED, Work, send_four, two_agents, work};
 use crate::tables::Poor;
 use crate::worlds::{
-    AT_LEAST, Listener, MINUS, PLUS, STAMP, Stop, Told, action, agent, at_least, closed, done,
-    int_at, one_arg, opened, plain_start, value,
+    AT_LEAST, Listener, MINUS, PLUS, STAMP, Stop, Told, action, closed, done, int_at, opened, value,
 };
 use ref_agents::{AgentError, RestartFault, SendFault};
 use ref_fun::{Core, CoreFunctions};
 use ref_log::Who;
 use ref_shared::{Open, Quiet, Shared, WorkFault, Worked};
 use ref_tx::Tx;
-use ref_world::{ALL_PARTS, Share, Start};
-use std::alloc::{AllocError, Global};
+use ref_world::{ALL_PARTS, Share};
+use std::alloc::Global;
 use std::marker::Brand;
 use std::sync::Wait;
 use std::sync::ledger::{Blank, Ledger};
 use std::test::Fail;
-
-/// What a call of `work_once` answers.
-pub(crate) type Work = Result<Worked, WorkFault>;
-
-pub(crate) const CLOSED: Work = Ok(Worked::Closed);
-
-pub(crate) fn work<R: Wait, C: Ledger, A: Ledger>(
-    rt: &R,
-    alloc: Global,
-    shared: &Shared<Core, C, A>,
-) -> Work {
-    shared.work_once(rt, alloc, &CoreFunctions, &mut Open, &mut Quiet)
-}
-
-/// The agent g of number 0, which is 0 and has the rule that it be at least 0, and the agent h of number 1, which is 0.
-pub(crate) fn two_agents(alloc: Global) -> Result<Start, AllocError> {
-    let mut start = plain_start(alloc, "0", "")?;
-    let rule = at_least(alloc, "0")?;
-    start.agents.push(agent(value(alloc, "0")?, Some(rule)))?;
-    start.agents.push(agent(value(alloc, "0")?, None))?;
-    Ok(start)
-}
 
 fn try_nothing<C: Ledger, A: Ledger, R: Wait>(
     rt: &R,
@@ -340,12 +318,6 @@ fn a_sink_is_told_what_an_action_changed(rt: HostRuntime) -> Result<(), Fail> {
     assert_eq!(rt; worked, Ok(Worked::Did(1)));
     assert_eq!(rt; told, wanted);
     Ok(())
-}
-
-/// `send h + 4` in a transaction.
-pub(crate) fn send_four(alloc: Global, tx: &mut Tx<Core>) -> Result<(), Stop> {
-    let args = one_arg(alloc, "4")?;
-    done(tx.send(alloc, &CoreFunctions, 1, PLUS, args))
 }
 
 fn try_transacted<C: Ledger, A: Ledger, R: Wait>(

@@ -13,24 +13,21 @@ use ref_tx::Tx;
 use ref_world::{AgentStart, AtomStart, RefStart, Share, Start, Totals, World};
 use std::alloc::{AllocError, AllocFailed, Global};
 use std::sync::Wait;
-use std::sync::atomic::{AtomicBool, Ordering};
 use std::sync::ledger::{Blank, Ledger};
-use std::thread;
-use std::time::{Clock, Duration};
 
 /// The codes of `+`, `-` and `>=`.
-pub(crate) const PLUS: u32 = 1;
+pub const PLUS: u32 = 1;
 
-pub(crate) const MINUS: u32 = 2;
+pub const MINUS: u32 = 2;
 
-pub(crate) const AT_LEAST: u32 = 101;
+pub const AT_LEAST: u32 = 101;
 
 /// The stamp of a commit where nothing hangs on it.
-pub(crate) const STAMP: Stamp = Stamp { worker: 0, step: 0 };
+pub const STAMP: Stamp = Stamp { worker: 0, step: 0 };
 
 /// Why a test can't go on.
 #[derive(Clone, Copy, Debug, Drop, PartialEq)]
-pub(crate) enum Stop {
+pub enum Stop {
     Memory,
     /// A call that is to be Ok was refused.
     Refused,
@@ -51,7 +48,7 @@ impl<T: Drop> From<AllocFailed<T>> for Stop {
 }
 
 /// What a call answers that isn't to be refused.
-pub(crate) fn done<T, E: Drop>(answer: Result<T, E>) -> Result<T, Stop> {
+pub fn done<T, E: Drop>(answer: Result<T, E>) -> Result<T, Stop> {
     match answer {
         Ok(answer) => Ok(answer),
         Err(_) => Err(Stop::Refused),
@@ -59,16 +56,16 @@ pub(crate) fn done<T, E: Drop>(answer: Result<T, E>) -> Result<T, Stop> {
 }
 
 /// The value of a text.
-pub(crate) fn value(alloc: Global, text: &str) -> Result<Value, AllocError> {
+pub fn value(alloc: Global, text: &str) -> Result<Value, AllocError> {
     read_one(alloc, text.as_bytes()).map_err(|_| AllocError)
 }
 
 /// One argument.
-pub(crate) fn one_arg(alloc: Global, text: &str) -> Result<Args, AllocError> {
+pub fn one_arg(alloc: Global, text: &str) -> Result<Args, AllocError> {
     Args::of(alloc, vec![in alloc; value(alloc, text)?]?)
 }
 
-pub(crate) fn action(alloc: Global, code: u32, text: &str) -> Result<Action, AllocError> {
+pub fn action(alloc: Global, code: u32, text: &str) -> Result<Action, AllocError> {
     Ok(Action {
         code,
         args: one_arg(alloc, text)?,
@@ -76,14 +73,14 @@ pub(crate) fn action(alloc: Global, code: u32, text: &str) -> Result<Action, All
 }
 
 /// `[>= BOUND]`.
-pub(crate) fn at_least(alloc: Global, bound: &str) -> Result<Rule, AllocError> {
+pub fn at_least(alloc: Global, bound: &str) -> Result<Rule, AllocError> {
     Ok(Rule {
         code: AT_LEAST,
         args: one_arg(alloc, bound)?,
     })
 }
 
-pub(crate) fn plain_ref(value: Value) -> RefStart {
+pub fn plain_ref(value: Value) -> RefStart {
     RefStart {
         value,
         rule: None,
@@ -92,7 +89,7 @@ pub(crate) fn plain_ref(value: Value) -> RefStart {
 }
 
 /// The refs and the atoms of two texts, without rules, and no agent.
-pub(crate) fn plain_start(alloc: Global, refs: &str, atoms: &str) -> Result<Start, AllocError> {
+pub fn plain_start(alloc: Global, refs: &str, atoms: &str) -> Result<Start, AllocError> {
     let mut start = Start {
         refs: Vec::new(alloc),
         atoms: Vec::new(alloc),
@@ -108,7 +105,7 @@ pub(crate) fn plain_start(alloc: Global, refs: &str, atoms: &str) -> Result<Star
 }
 
 /// An agent that fails where an action does.
-pub(crate) fn agent(value: Value, rule: Option<Rule>) -> AgentStart {
+pub fn agent(value: Value, rule: Option<Rule>) -> AgentStart {
     AgentStart {
         value,
         rule,
@@ -117,7 +114,7 @@ pub(crate) fn agent(value: Value, rule: Option<Rule>) -> AgentStart {
 }
 
 /// A shared world of these references, and its whole share.
-pub(crate) fn opened<C: Ledger, A: Ledger>(
+pub fn opened<C: Ledger, A: Ledger>(
     alloc: Global,
     start: Start,
     commits: Blank,
@@ -137,7 +134,7 @@ pub(crate) fn opened<C: Ledger, A: Ledger>(
 }
 
 /// The world that a shared world ends with, and its totals, where the share is whole and log and receipts fit.
-pub(crate) fn closed<C: Ledger, A: Ledger>(
+pub fn closed<C: Ledger, A: Ledger>(
     alloc: Global,
     shared: Shared<Core, C, A>,
     share: Share<C, A>,
@@ -149,7 +146,7 @@ pub(crate) fn closed<C: Ledger, A: Ledger>(
 }
 
 /// The number that a reference holds now, if it is there and holds one.
-pub(crate) fn int_at<C: Ledger, A: Ledger, R: Wait>(
+pub fn int_at<C: Ledger, A: Ledger, R: Wait>(
     rt: &R,
     shared: &Shared<Core, C, A>,
     who: Who,
@@ -158,9 +155,9 @@ pub(crate) fn int_at<C: Ledger, A: Ledger, R: Wait>(
 }
 
 /// Whom a notice is of, whether its key is `:k`, and the numbers before and after.
-pub(crate) type Told = (Who, bool, Option<i64>, Option<i64>);
+pub type Told = (Who, bool, Option<i64>, Option<i64>);
 
-pub(crate) fn told_of(notice: &Notice) -> Told {
+pub fn told_of(notice: &Notice) -> Told {
     let is_k = match notice.key.node() {
         Node::Keyword(name) => name.as_str() == "k",
         _ => false,
@@ -173,7 +170,7 @@ pub(crate) fn told_of(notice: &Notice) -> Told {
     )
 }
 
-pub(crate) fn all_told(alloc: Global, notices: &[Notice]) -> Result<Vec<Told>, AllocError> {
+pub fn all_told(alloc: Global, notices: &[Notice]) -> Result<Vec<Told>, AllocError> {
     let mut all = Vec::new(alloc);
     for notice in notices {
         all.push(told_of(notice))?;
@@ -183,8 +180,8 @@ pub(crate) fn all_told(alloc: Global, notices: &[Notice]) -> Result<Vec<Told>, A
 
 /// A sink that keeps what it is told, up to where there is no memory.
 #[derive(Drop)]
-pub(crate) struct Listener {
-    pub(crate) told: Vec<Told>,
+pub struct Listener {
+    pub told: Vec<Told>,
 }
 
 impl WatchSink for Listener {
@@ -194,10 +191,7 @@ impl WatchSink for Listener {
 }
 
 /// The stamp and the read point of each transaction of a log.
-pub(crate) fn all_commits(
-    alloc: Global,
-    log: &PVec<Entry>,
-) -> Result<Vec<(Stamp, u64)>, AllocError> {
+pub fn all_commits(alloc: Global, log: &PVec<Entry>) -> Result<Vec<(Stamp, u64)>, AllocError> {
     let mut all = Vec::new(alloc);
     for entry in log {
         if let Entry::Trans(transaction) = entry {
@@ -208,19 +202,8 @@ pub(crate) fn all_commits(
 }
 
 /// `alter r + n`.
-pub(crate) fn add(alloc: Global, tx: &mut Tx<Core>, r: u32, n: &str) -> Result<(), Stop> {
+pub fn add(alloc: Global, tx: &mut Tx<Core>, r: u32, n: &str) -> Result<(), Stop> {
     let args = one_arg(alloc, n)?;
     let _ = done(tx.alter(alloc, &CoreFunctions, r, PLUS, args))?;
     Ok(())
-}
-
-/// Waits until somebody has set a flag, for some seconds at most, and answers whether it was set.
-pub(crate) fn wait_for<R: Clock>(rt: &R, flag: &AtomicBool) -> bool {
-    for _ in 0..200_000u32 {
-        if flag.load(Ordering::SeqCst) {
-            return true;
-        }
-        thread::sleep(rt, Duration::from_micros(1));
-    }
-    false
 }

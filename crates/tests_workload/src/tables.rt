@@ -16,7 +16,10 @@ pub struct CoreWithout {
 pub const ALL_OF_CORE: CoreWithout = CoreWithout { code: 0 };
 
 impl Functions<Core> for CoreWithout {
-    ghost knows = { λ table. record { funs = λ c. is_function c && not (c == table.code); preds = λ c. is_predicate c && not (c == table.code) } };
+    ghost knows = { λ table. record {
+      funs = λ c. is_function c && not (c == table.code);
+      preds = λ c. is_predicate c && not (c == table.code);
+    } };
 
     fn has_fun(&self, code: u32) -> bool {
         CoreFunctions.has_fun(code) && code != self.code

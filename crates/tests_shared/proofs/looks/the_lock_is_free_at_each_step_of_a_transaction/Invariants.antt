@@ -1,7 +1,0 @@
-use Rattle.tests_shared.proofs.looks.the_lock_is_free_at_each_step_of_a_transaction.Given as goal
-
-abbrev pub ghosts-try_transaction-C-Ledger : goal.ghosts-try_transaction-C-Ledger
-ghosts-try_transaction-C-Ledger g a = record { name = a.commits.name; parts = a.commits.parts }
-
-abbrev pub ghosts-try_transaction-A-Ledger : goal.ghosts-try_transaction-A-Ledger
-ghosts-try_transaction-A-Ledger g a = record { name = a.added.name; parts = a.added.parts }

@@ -1,7 +1,0 @@
-use Rattle.tests_shared.proofs.side_by_side.an_agents_next_action_waits_for_the_first.Given as goal
-
-abbrev pub ghosts-try_turns-C-Ledger : goal.ghosts-try_turns-C-Ledger
-ghosts-try_turns-C-Ledger g a = record { name = a.commits.name; parts = a.commits.parts }
-
-abbrev pub ghosts-try_turns-A-Ledger : goal.ghosts-try_turns-A-Ledger
-ghosts-try_turns-A-Ledger g a = record { name = a.added.name; parts = a.added.parts }

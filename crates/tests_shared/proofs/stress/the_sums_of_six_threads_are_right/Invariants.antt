@@ -1,7 +1,0 @@
-use Rattle.tests_shared.proofs.stress.the_sums_of_six_threads_are_right.Given as goal
-
-abbrev pub ghosts-try_all-C-Ledger : goal.ghosts-try_all-C-Ledger
-ghosts-try_all-C-Ledger g a = record { name = a.commits.name; parts = a.commits.parts }
-
-abbrev pub ghosts-try_all-A-Ledger : goal.ghosts-try_all-A-Ledger
-ghosts-try_all-A-Ledger g a = record { name = a.added.name; parts = a.added.parts }

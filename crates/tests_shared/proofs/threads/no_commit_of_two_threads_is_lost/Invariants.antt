@@ -1,7 +1,0 @@
-use Rattle.tests_shared.proofs.threads.no_commit_of_two_threads_is_lost.Given as goal
-
-abbrev pub ghosts-try_sum-C-Ledger : goal.ghosts-try_sum-C-Ledger
-ghosts-try_sum-C-Ledger g a = record { name = a.commits.name; parts = a.commits.parts }
-
-abbrev pub ghosts-try_sum-A-Ledger : goal.ghosts-try_sum-A-Ledger
-ghosts-try_sum-A-Ledger g a = record { name = a.added.name; parts = a.added.parts }

@@ -1,7 +1,0 @@
-use Rattle.tests_shared.proofs.waking.closing_wakes_all_who_wait.Given as goal
-
-abbrev pub ghosts-try_end-C-Ledger : goal.ghosts-try_end-C-Ledger
-ghosts-try_end-C-Ledger g a = record { name = a.commits.name; parts = a.commits.parts }
-
-abbrev pub ghosts-try_end-A-Ledger : goal.ghosts-try_end-A-Ledger
-ghosts-try_end-A-Ledger g a = record { name = a.added.name; parts = a.added.parts }

@@ -1,0 +1,115 @@
+//! What a world has is there when it comes out of a shared one: its watches, what waits, what is held, and error modes.
+ghost use Rattle.std.specs.Prelude.{◌≡◌};
+ghost use Rattle.ref_world.specs.Shares.{all_parts};
+
+use crate::jobs::two_agents;
+use crate::worlds::{PLUS, STAMP, Stop, action, closed, done, one_arg, value};
+use ref_agents::{AgentError, ErrorMode, Finished, Job};
+use ref_fun::{Cause, Core, CoreFunctions};
+use ref_log::Who;
+use ref_shared::Shared;
+use ref_world::{ALL_PARTS, Share, World};
+use std::alloc::{AllocError, Global};
+use std::marker::Brand;
+use std::sync::ledger::{Blank, Ledger};
+use std::test::Fail;
+
+// The agent whose job is taken, which stays out.
+fn taken<C: Ledger, A: Ledger>(world: &mut World<Core, C, A>) -> Result<Option<u32>, AllocError> {
+    match world.take()? {
+        Some(job) => {
+            let agent = job.agent();
+            job.forsake();
+            Ok(Some(agent))
+        }
+        None => Ok(None),
+    }
+}
+
+// How a job ends that is run.
+fn ended<C: Ledger, A: Ledger>(
+    alloc: Global,
+    world: &mut World<Core, C, A>,
+    job: Job,
+) -> Result<Finished, Stop> {
+    let ran = match job.run(alloc, &CoreFunctions) {
+        Ok(ran) => ran,
+        Err((job, _fault)) => {
+            job.forsake();
+            return Err(Stop::Refused);
+        }
+    };
+    match world.finish(alloc, &CoreFunctions, ran) {
+        Ok(finished) => Ok(finished),
+        Err((ran, _fault)) => {
+            ran.into_job().forsake();
+            Err(Stop::Refused)
+        }
+    }
+}
+
+// The agent whose job is taken and run, and the error with which it goes on.
+fn continued<C: Ledger, A: Ledger>(
+    alloc: Global,
+    world: &mut World<Core, C, A>,
+) -> Result<Option<(u32, AgentError)>, Stop> {
+    let Some(job) = world.take()? else {
+        return Ok(None);
+    };
+    let agent = job.agent();
+    match ended(alloc, world, job)? {
+        Finished::Continued(error) => Ok(Some((agent, error))),
+        _ => Ok(None),
+    }
+}
+
+// The world of two agents: a ref with a watch; h, which goes on after an error, with an action that its function refuses; and an action
+// of g that a commit sent and that is held. It is shared, and comes out again.
+fn shared_and_back<C: Ledger, A: Ledger>(
+    alloc: Global,
+    commits: Blank,
+    added: Blank,
+) -> Result<(World<Core, C, A>, u64), Stop>
+    requires commits { (commits.name ≡ C.name) × (commits.parts ≡ C.parts) × (commits.parts ≡ all_parts) }
+    requires added { (added.name ≡ A.name) × (added.parts ≡ A.parts) × (added.parts ≡ all_parts) }
+{
+    let start = two_agents(alloc)?;
+    let made = World::<Core, C, A>::new(alloc, &CoreFunctions, start, commits, added);
+    let (mut world, mut share): (World<Core, C, A>, Share<C, A>) = done(made)?;
+    done(world.add_watch(alloc, Who::Ref(0), value(alloc, ":w")?))?;
+    done(world.set_error_mode(1, ErrorMode::Continue))?;
+    done(world.send(alloc, 1, action(alloc, PLUS, ":k")?))?;
+    let mut tx = world.begin(alloc)?;
+    done(tx.send(alloc, &CoreFunctions, 0, PLUS, one_arg(alloc, "1")?))?;
+    let receipt = done(world.commit_with(alloc, &CoreFunctions, &mut share, STAMP, tx))?;
+    let (world, _totals) = closed(alloc, Shared::new(world), share)?;
+    Ok((world, receipt.point))
+}
+
+fn try_kept<C: Ledger, A: Ledger>(
+    alloc: Global,
+    commits: Blank,
+    added: Blank,
+) -> Result<(Option<(u32, AgentError)>, [Option<u32>; 2], bool, bool), Stop>
+    requires commits { (commits.name ≡ C.name) × (commits.parts ≡ C.parts) × (commits.parts ≡ all_parts) }
+    requires added { (added.name ≡ A.name) × (added.parts ≡ A.parts) × (added.parts ≡ all_parts) }
+{
+    let (mut world, point) = shared_and_back::<C, A>(alloc, commits, added)?;
+    let first = continued(alloc, &mut world)?;
+    let second = taken(&mut world)?;
+    let was_held = world.release(point);
+    let third = taken(&mut world)?;
+    let was_watched = world.remove_watch(Who::Ref(0), &value(alloc, ":w")?);
+    Ok((first, [second, third], was_held, was_watched))
+}
+
+#[test]
+fn a_shared_world_keeps_what_the_world_had(rt: HostRuntime) -> Result<(), Fail> {
+    let alloc = rt.alloc();
+    let (commits, added) = (Blank::new(ALL_PARTS), Blank::new(ALL_PARTS));
+    let (first, others, was_held, was_watched) = try_kept::<Brand, Brand>(alloc, commits, added)?;
+    assert_eq!(rt; first, Some((1, AgentError::Refused(Cause::WrongKind))));
+    assert_eq!(rt; others, [None, Some(0)]);
+    assert_eq!(rt; (was_held, was_watched), (true, true));
+    Ok(())
+}

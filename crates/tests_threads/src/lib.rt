@@ -1,0 +1,30 @@
+//! Tests of shared worlds by several threads. There is nothing else here.
+//!
+//! No clause says what another thread does between two calls, so this is tested. Where the order of two threads matters, gates
+//! and sinks hold one until the other has come so far. Each wait of a test ends by itself.
+//!
+//! | Modules | |
+//! |---|---|
+//! | `threads`, `side_by_side`, `stress` | transactions, agents, all together |
+//! | `checkpoints` | views and checkpoints, a view read by another thread |
+//! | `looks` | by two: at each step between, the lock is free |
+//! | `waking` | by two or three: who waits for an agent is woken |
+//! | `waits` | waiting for another thread |
+//! | [`flags`] | how far threads have come. It stands outside of the tests: the proof of what crosses threads names it |
+#![tactic(auto)]
+
+#[cfg(test)]
+mod checkpoints;
+pub mod flags;
+#[cfg(test)]
+mod looks;
+#[cfg(test)]
+mod side_by_side;
+#[cfg(test)]
+mod stress;
+#[cfg(test)]
+mod threads;
+#[cfg(test)]
+mod waits;
+#[cfg(test)]
+mod waking;

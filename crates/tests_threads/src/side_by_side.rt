@@ -1,0 +1,216 @@
+//! Agents and two threads: actions of two agents run side by side, those of one agent in turn.
+ghost use Rattle.std.specs.Prelude.{◌≡◌};
+ghost use Rattle.ref_world.specs.Shares.{all_parts};
+
+use crate::flags::Flags;
+use crate::waits::wait_for;
+use ref_fun::{Core, CoreFunctions, Functions};
+use ref_log::Who;
+use ref_shared::{Gate, Quiet, Shared, Spot, Worked};
+use ref_world::ALL_PARTS;
+use std::alloc::Global;
+use std::marker::Brand;
+use std::sync::Wait;
+use std::sync::atomic::{AtomicBool, Ordering};
+use std::sync::ledger::{Blank, Ledger};
+use std::test::Fail;
+use std::thread;
+use std::thread::Threads;
+use std::time::{Clock, Duration};
+use tests_shared::jobs::{Work, two_agents, work};
+use tests_shared::worlds::{PLUS, Stop, action, done, int_at, opened};
+
+// Waits for a flag, and then some time more, in which whoever set it has begun to wait.
+pub(crate) fn wait_past<R: Clock>(rt: &R, flag: &AtomicBool) -> bool {
+    let is_set = wait_for(rt, flag);
+    thread::sleep(rt, Duration::from_millis(20));
+    is_set
+}
+
+// A gate that holds an action until another thread has come so far, and some time more.
+#[derive(Drop)]
+struct Meet<'a, 'b, 'c, R: Clock> {
+    rt: &'a R,
+    here: &'b AtomicBool,
+    there: &'c AtomicBool,
+    met: bool,
+}
+
+impl<'a, 'b, 'c, R: Clock> Gate for Meet<'a, 'b, 'c, R> {
+    fn pass(&mut self, spot: Spot) {
+        if spot == Spot::BeforeAction {
+            self.here.store(true, Ordering::SeqCst);
+            self.met = wait_past(self.rt, self.there);
+        }
+    }
+}
+
+// Runs one action, and answers whether it met the other.
+pub(crate) fn work_and_meet<R: AllocGlobal + Wait + Clock, C: Ledger, A: Ledger>(
+    rt: &R,
+    shared: &Shared<Core, C, A>,
+    here: &AtomicBool,
+    there: &AtomicBool,
+) -> (bool, bool) {
+    let alloc = rt.alloc();
+    let mut gate = Meet {
+        rt,
+        here,
+        there,
+        met: false,
+    };
+    let worked = shared.work_once(rt, alloc, &CoreFunctions, &mut gate, &mut Quiet);
+    (worked.is_ok(), gate.met)
+}
+
+// Of each thread whether it worked and whether it met the other, and what the agents are then.
+#[derive(Debug, Drop, PartialEq)]
+struct Met {
+    one: (bool, bool),
+    two: (bool, bool),
+    values: (Option<i64>, Option<i64>),
+}
+
+// Two threads, each of which runs an action that is held until the other's has begun.
+fn work_side_by_side<
+    C: Ledger + Send + Sync,
+    A: Ledger + Send + Sync,
+    R: AllocGlobal + Threads + Wait + Clock + Sync,
+>(rt: &R, shared: &Shared<Core, C, A>) -> ((bool, bool), (bool, bool)) {
+    let flags = Flags::new();
+    let lent = &flags;
+    let (one, two) = thread::join(
+        rt,
+        move || work_and_meet(rt, shared, &lent.first, &lent.second),
+        move || work_and_meet(rt, shared, &lent.second, &lent.first),
+    );
+    (one, two)
+}
+
+fn try_meeting<
+    C: Ledger + Send + Sync,
+    A: Ledger + Send + Sync,
+    R: AllocGlobal + Threads + Wait + Clock + Sync,
+>(rt: &R, alloc: Global, commits: Blank, added: Blank) -> Result<Met, Stop>
+    requires commits { (commits.name ≡ C.name) × (commits.parts ≡ C.parts) × (commits.parts ≡ all_parts) }
+    requires added { (added.name ≡ A.name) × (added.parts ≡ A.parts) × (added.parts ≡ all_parts) }
+{
+    let (shared, _share) = opened::<C, A>(alloc, two_agents(alloc)?, commits, added)?;
+    done(shared.send(rt, alloc, 0, action(alloc, PLUS, "1")?))?;
+    done(shared.send(rt, alloc, 1, action(alloc, PLUS, "2")?))?;
+    let (one, two) = work_side_by_side(rt, &shared);
+    Ok(Met {
+        one,
+        two,
+        values: (
+            int_at(rt, &shared, Who::Agent(0)),
+            int_at(rt, &shared, Who::Agent(1)),
+        ),
+    })
+}
+
+#[test]
+fn actions_of_two_agents_run_side_by_side(rt: HostRuntime) -> Result<(), Fail> {
+    let alloc = rt.alloc();
+    let (commits, added) = (Blank::new(ALL_PARTS), Blank::new(ALL_PARTS));
+    let met = try_meeting::<Brand, Brand, _>(&rt, alloc, commits, added)?;
+    let wanted = Met {
+        one: (true, true),
+        two: (true, true),
+        values: (Some(1), Some(2)),
+    };
+    assert_eq!(rt; met, wanted);
+    Ok(())
+}
+
+// Runs one action by a table, held until the other waits for the next one, and closes once that one was run.
+pub(crate) fn work_first<R: Wait + Clock, C: Ledger, A: Ledger, F: Functions<Core>>(
+    rt: &R,
+    alloc: Global,
+    shared: &Shared<Core, C, A>,
+    funs: &F,
+    flags: &Flags,
+) -> (Work, bool) {
+    let mut gate = Meet {
+        rt,
+        here: &flags.first,
+        there: &flags.second,
+        met: false,
+    };
+    let worked = shared.work_once(rt, alloc, funs, &mut gate, &mut Quiet);
+    let in_time = gate.met && wait_for(rt, &flags.third);
+    shared.close(rt);
+    (worked, in_time)
+}
+
+// Waits for the next action while the first is on its way, and runs it.
+pub(crate) fn work_next<R: Wait + Clock, C: Ledger, A: Ledger>(
+    rt: &R,
+    alloc: Global,
+    shared: &Shared<Core, C, A>,
+    flags: &Flags,
+) -> (Work, bool) {
+    let in_time = wait_for(rt, &flags.first);
+    flags.second.store(true, Ordering::SeqCst);
+    let worked = work(rt, alloc, shared);
+    flags.third.store(true, Ordering::SeqCst);
+    (worked, in_time)
+}
+
+// What each thread did and whether the other was there in time, and what the agent is then.
+#[derive(Debug, Drop, PartialEq)]
+struct InTurn {
+    first: (Work, bool),
+    next: (Work, bool),
+    value: Option<i64>,
+}
+
+// Two threads that run two actions of one agent.
+fn take_turns<C: Ledger + Send + Sync, A: Ledger + Send + Sync, R: Threads + Wait + Clock + Sync>(
+    rt: &R,
+    alloc: Global,
+    shared: &Shared<Core, C, A>,
+) -> ((Work, bool), (Work, bool)) {
+    let flags = Flags::new();
+    let lent = &flags;
+    let (next, first) = thread::join(
+        rt,
+        move || work_next(rt, alloc, shared, lent),
+        move || work_first(rt, alloc, shared, &CoreFunctions, lent),
+    );
+    (next, first)
+}
+
+fn try_turns<C: Ledger + Send + Sync, A: Ledger + Send + Sync, R: Threads + Wait + Clock + Sync>(
+    rt: &R,
+    alloc: Global,
+    commits: Blank,
+    added: Blank,
+) -> Result<InTurn, Stop>
+    requires commits { (commits.name ≡ C.name) × (commits.parts ≡ C.parts) × (commits.parts ≡ all_parts) }
+    requires added { (added.name ≡ A.name) × (added.parts ≡ A.parts) × (added.parts ≡ all_parts) }
+{
+    let (shared, _share) = opened::<C, A>(alloc, two_agents(alloc)?, commits, added)?;
+    done(shared.send(rt, alloc, 0, action(alloc, PLUS, "1")?))?;
+    done(shared.send(rt, alloc, 0, action(alloc, PLUS, "2")?))?;
+    let (next, first) = take_turns(rt, alloc, &shared);
+    Ok(InTurn {
+        first,
+        next,
+        value: int_at(rt, &shared, Who::Agent(0)),
+    })
+}
+
+#[test]
+fn an_agents_next_action_waits_for_the_first(rt: HostRuntime) -> Result<(), Fail> {
+    let alloc = rt.alloc();
+    let (commits, added) = (Blank::new(ALL_PARTS), Blank::new(ALL_PARTS));
+    let turns = try_turns::<Brand, Brand, _>(&rt, alloc, commits, added)?;
+    let wanted = InTurn {
+        first: (Ok(Worked::Did(0)), true),
+        next: (Ok(Worked::Did(0)), true),
+        value: Some(3),
+    };
+    assert_eq!(rt; turns, wanted);
+    Ok(())
+}
