@@ -158,6 +158,7 @@ SHAPES = {
     "own-4096": Shape(own_refs(4_096, 4), 4, refs=4_096),
     "transfers-64": Shape(transfers(64), 4, refs=64),
     "transfers-1000": Shape(transfers(1_000), 4, refs=1_000),
+    "transfers-4096": Shape(transfers(4_096), 4, refs=4_096),
     "floor": Shape(transfers(64), 4, refs=64, begin=20, behind=" [>= 0]", has_floor=True),
     "reads": Shape(reads(100, "[:require {} int?]"), 4, refs=100),
     "ensures": Shape(reads(100, "[:ensure {}]"), 4, refs=100),

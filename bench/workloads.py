@@ -7,11 +7,11 @@ alter-1, alter-4, alter-64          so many workers add 1 to one ref by alter
 commute-1, commute-4, commute-64    the same by commute
 tally                               four workers add 1 to the tally
 own-64, own-4096                    four workers add 1 to one of so many refs, where no two take the same
-transfers-64, transfers-1000        four workers take some from a ref and add it to another one
+transfers-64, -1000, -4096          four workers take some from a ref and add it to another one
 floor                               the same between 64 refs that may not go below 0
 reads, ensures                      four workers ask 16 of 100 refs something, or ensure them, and one time in eight add to one
 one-atom, atoms                     four workers add 1 to one atom, or to one of 64
-agents, agents-tx                   four workers send to 64 agents, by themselves or in transactions
+agents, agents-4096, agents-tx      four workers send to 64 or 4,096 agents, or to 64 in transactions
 limits                              4,096 refs, atoms and agents each, 64 workers of up to 10,000 steps of all kinds, one of each
                                     a transaction of 256 operations of 8 arguments, and a pool of 16
 """

@@ -30,9 +30,6 @@ there_at [] i x below is = absurd (omega arith)
 there_at (y ∷ xs) zero x below is = ap Some (sym is)
 there_at (y ∷ xs) (suc i) x below is = there_at xs i x (omega arith) is
 
-pub left_item : {X : Type 0} (xs : List X) (i : ℕ) (x : X) → i < length xs → x ≡ get_or xs i x → drop i xs ≡ x ∷ drop (i + 1) xs
-left_item xs i x below is = left_at xs i x (there_at xs i x below is)
-
 pub number_at : (xs : List ℕ) (i : ℕ) → i < length xs → slice_get xs i ≡ Some (get_or xs i 0)
 number_at [] i below = absurd (omega arith)
 number_at (x ∷ xs) zero below = refl

@@ -6,7 +6,6 @@ use Rattle.ref_edn.specs.Edn.{Edn, vector, items_of, list_of-items_of}
 use Rattle.ref_log.specs.declared.entries.Entry.{Entry}
 use Rattle.ref_audit.specs.DumpForm.{and_entry, and_said, args_said, elements_of, entries_from, entry_of, only_if, rule_of, rule_said}
 use Rattle.ref_audit.specs.declared.reading.faults.DumpFault.{DumpFault}
-use Rattle.ref_audit.specs.declared.reading.faults.DumpFault.TheVariants.{BadEntry}
 
 pub elements_of_vector : (xs : List Edn) → elements_of (vector (items_of xs)) ≡ Some xs
 elements_of_vector xs = ap Some (list_of-items_of xs)
@@ -65,8 +64,3 @@ entries_more forms i x e before h is says =
     let rest = entries_from (i + 1 + 1) (drop (i + 1) forms) in
     let here : entries_from (i + 1) (drop i forms) ≡ and_entry (i + 1) (Some e) rest = ap (entries_from (i + 1)) (next_form forms i x h is) ∙ ap (λ o. and_entry (i + 1) o rest) says in
     ap (entries_in_front before) here ∙ entries_in_front_and_entry before (i + 1) e rest
-
--- one that is none
-pub entries_wrong : (forms : List Edn) (i : ℕ) (x : Edn) (before : List Entry) → i < length forms → x ≡ get_or forms i x → entry_of x ≡ None → entries_in_front before (entries_from (i + 1) (drop i forms)) ≡ Err (BadEntry (i + 1))
-entries_wrong forms i x before h is says =
-    ap (λ l. entries_in_front before (entries_from (i + 1) l)) (next_form forms i x h is) ∙ ap (λ o. entries_in_front before (and_entry (i + 1) o (entries_from (i + 1 + 1) (drop (i + 1) forms)))) says

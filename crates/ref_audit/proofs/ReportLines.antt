@@ -1,7 +1,7 @@
 -- Lines of a report from a place on.
-use Rattle.std.proofs.Common.{◌≡◌, ℕ, ◌+◌, ◌≤◌, List, [], ◌∷◌, ◌++◌, None, Some, refl, sym, ◌∙◌, drop, length, append_assoc, ap}
+use Rattle.std.proofs.Common.{◌≡◌, ℕ, ◌+◌, ◌≤◌, List, [], ◌∷◌, ◌++◌, None, Some, refl, sym, ◌∙◌, drop, append_assoc, ap}
 use Rattle.std.specs.Prelude.{is_some, slice_get}
-use Rattle.std.proofs.lemmas.List.{append-nil, drop_all}
+use Rattle.std.proofs.lemmas.List.{append-nil}
 use Rattle.ref_agents.specs.declared.agents.Agent.{Agent}
 use Rattle.ref_edn.specs.Edn.{Edn}
 use Rattle.ref_audit.specs.Report.{agent_line, agent_lines, value_line, value_lines}
@@ -27,9 +27,6 @@ no_values kind (name ∷ names) = refl
 pub value_lines_end : (kind : List ℕ) (names : List (List ℕ)) (values : List Edn) (i : ℕ) → slice_get values i ≡ None → value_lines kind (drop i names) (drop i values) ≡ []
 value_lines_end kind names values i none = rw (left_end values i none) (no_values kind (drop i names))
 
-pub value_lines_done : (kind : List ℕ) (names : List (List ℕ)) (values : List Edn) (i : ℕ) → length names ≤ i → value_lines kind (drop i names) (drop i values) ≡ []
-value_lines_done kind names values i past = rw (drop_all i names past) refl
-
 -- ---- agents
 
 pub agent_lines_at : (names : List (List ℕ)) (agents : List Agent) (i : ℕ) (name : List ℕ) (agent : Agent) → slice_get names i ≡ Some name → slice_get agents i ≡ Some agent
@@ -42,6 +39,3 @@ no_agents (name ∷ names) = refl
 
 pub agent_lines_end : (names : List (List ℕ)) (agents : List Agent) (i : ℕ) → slice_get agents i ≡ None → agent_lines (drop i names) (drop i agents) ≡ []
 agent_lines_end names agents i none = rw (left_end agents i none) (no_agents (drop i names))
-
-pub agent_lines_done : (names : List (List ℕ)) (agents : List Agent) (i : ℕ) → length names ≤ i → agent_lines (drop i names) (drop i agents) ≡ []
-agent_lines_done names agents i past = rw (drop_all i names past) refl

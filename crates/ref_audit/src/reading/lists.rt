@@ -39,10 +39,8 @@ fn all_in<T: FromForm>(alloc: Global, forms: &Items) -> Result<Vec<T>, Wrong>
 {
     let mut all = Vec::with_capacity(alloc, forms.len())?;
     for form in forms {
-        match T::from_form(alloc, form) {
-            Ok(said) => all.push(said)?,
-            Err(wrong) => return Err(wrong),
-        }
+        let said = T::from_form(alloc, form)?;
+        all.push(said)?;
     }
     Ok(all)
 }
@@ -50,10 +48,8 @@ fn all_in<T: FromForm>(alloc: Global, forms: &Items) -> Result<Vec<T>, Wrong>
 fn shared_in<T: FromForm>(alloc: Global, forms: &Items) -> Result<SharedVec<T>, Wrong>
     ensures { Reads (all_said T.said forms.now) result }
 {
-    match all_in(alloc, forms) {
-        Ok(all) => Ok(SharedVec::of(alloc, all)?),
-        Err(wrong) => Err(wrong),
-    }
+    let all = all_in(alloc, forms)?;
+    Ok(SharedVec::of(alloc, all)?)
 }
 
 /// What the forms in a vector say.

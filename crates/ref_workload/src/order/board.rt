@@ -49,7 +49,8 @@ impl Row {
     }
 
     fn take(&mut self, step: u32, mark: Mark) -> bool
-        ensures { MatchBool result ((slice_get self.old step ≡ Some Open) × (self.new ≡ slice_set self.old step mark)) (self.new ≡ self.old) }
+        ensures { MatchBool result
+            ((slice_get self.old step ≡ Some Open) × (self.new ≡ slice_set self.old step mark)) (self.new ≡ self.old) }
     {
         let at = step as usize;
         if at >= self.marks.len() || self.marks[at] != Mark::Open {

@@ -183,10 +183,8 @@ fn transaction(
     ensures wrong { IfErr result (λ e. e ≢ Wrong.Memory → (ops : List AnyOp)
         → length parts.entry ≤ 256 → AllZip (IsOp declared.now) parts.entry ops → ⊥) }
 {
-    match operations(alloc, declared, parts) {
-        Ok(ops) => Ok(SharedVec::of(alloc, ops)?),
-        Err(wrong) => Err(wrong),
-    }
+    let ops = operations(alloc, declared, parts)?;
+    Ok(SharedVec::of(alloc, ops)?)
 }
 
 // What stands behind the word of a step.
@@ -300,10 +298,8 @@ pub fn workers(
         let Some(step_forms) = vector_in(forms.at(i)) else {
             unreachable!()
         };
-        match steps(alloc, declared, i as u32, step_forms) {
-            Ok(steps) => workers.push(steps)?,
-            Err(fault) => return Err(fault),
-        }
+        let steps = steps(alloc, declared, i as u32, step_forms)?;
+        workers.push(steps)?;
     }
     Ok(workers)
 }

@@ -33,7 +33,7 @@ returns-in_default g c =
     let store = c.args.world.now.agents in
     let none : None ≡ account_at store.agents c.loop-g.g = ap option_copied (sym c.in_default.is) ∙ c.account.ensures.account in
     let all = agents_all (agent_seen store.guards) store.agents c.loop-g.g c.loop-g.all.items none c.loop-g.invariant.left in
-    rw all at c.of.ensures
+    rw all at c.of.ensures.value
 
 pub unreachable-requires : goal.unreachable-requires
 unreachable-requires g c =

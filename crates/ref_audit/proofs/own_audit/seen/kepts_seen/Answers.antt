@@ -21,7 +21,7 @@ returns-in_default g c =
     let told : None ≡ value_at c.args.world.now c.who-who.result = ap option_copied (sym c.in_default.is) ∙ c.value_of.ensures.value in
     let none = value_there c.args.world.now c.args.kind c.loop-n.n c.who-who.result None c.who-who.ensures told in
     let all = numbered_all (kept_seen (guards_of c.args.world.now (who_of c.args.kind 0))) values c.loop-n.n c.loop-n.all.items none c.loop-n.invariant.left in
-    rw all at c.of.ensures
+    rw all at c.of.ensures.value
 
 pub loop-n-preserved : goal.loop-n-preserved
 loop-n-preserved g c =

@@ -9,7 +9,7 @@ returns-in-Err-clause-none c =
     λ other. goes_on_fails (IsStep c.args.declared.now) _ _ _ _ c.loop-i.invariant within c.at.ensures (c.in-Err.ensures.wrong (c.plan_fault.ensures other))
 
 pub returns-clause-ok : goal.returns-clause-ok
-returns-clause-ok c = rw c.in_ok-of.ensures (goes_on_end (IsStep c.args.declared.now) _ _ _ c.loop-i.invariant (rw (← c.len-i-end.ensures) c.loop-i-test.false))
+returns-clause-ok c = rw c.in_ok-of.ensures.value (goes_on_end (IsStep c.args.declared.now) _ _ _ c.loop-i.invariant (rw (← c.len-i-end.ensures) c.loop-i-test.false))
 
 pub loop-i-preserved : goal.loop-i-preserved
 loop-i-preserved c =
