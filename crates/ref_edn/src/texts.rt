@@ -106,6 +106,7 @@ impl Text {
     }
 
     /// Whether both are kept alike and have the same bytes. Of two short texts it looks at the whole blocks at once.
+    #[inline(always)]
     pub(crate) fn is_same(&self, other: &Text) -> bool
         ensures { IsTrue result → self.now ≡ other.now }
     {

@@ -377,6 +377,7 @@ impl<'a> Run<'a> {
 }
 
 // Whether two values can be told to be the same at a glance. Of collections it isn't asked.
+#[inline(always)]
 fn are_same(a: &Value, b: &Value) -> bool
     ensures { IsTrue result → a.now ≡ b.now }
 {
