@@ -1,7 +1,8 @@
 //! A plan, run by threads.
-ghost use Rattle.std.specs.Prelude.{◌≡◌, ◌+◌, IfErr, IfOk, length, vec_len};
+ghost use Rattle.std.specs.Prelude.{◌≡◌, ◌+◌, IfErr, IfOk, OnOk, length, vec_len};
 ghost use Rattle.ref_workload.specs.Orderly.{AreInOrder, IsOrderly};
 ghost use Rattle.ref_workload.specs.Run.{IsOfPlan};
+ghost use Rattle.ref_shared.specs.Gather.{InOrder};
 ghost use Rattle.ref_world.specs.Shares.{all_parts};
 
 use crate::faults::{RunFault, Stop};
@@ -150,23 +151,52 @@ fn take_out<C: Ledger, A: Ledger>(
         × (out.totals.added ≡ out.world.books.added)) }
     ensures inner { IfErr result IsOfPlan }
 {
+    let (world, totals) = finished(alloc, shared, share)?;
+    check(alloc, plan, &world, refused.as_slice())?;
+    Ok(RunOut {
+        world,
+        totals,
+        refused,
+    })
+}
+
+// The world and its totals, where all shares were joined and their receipts fit its log.
+fn finished<C: Ledger, A: Ledger>(
+    alloc: Global,
+    shared: Shared<Core, C, A>,
+    share: Share<C, A>,
+) -> Result<(World<Core, C, A>, Totals), RunFault>
+    ensures order { IfOk result (λ r. InOrder r.0.base.point r.0.log) }
+    ensures totals { IfOk result (λ r. (r.1.commits ≡ r.0.books.commits) × (r.1.added ≡ r.0.books.added)) }
+    ensures inner { IfErr result IsOfPlan }
+{
     if !share.is_whole() {
         return Err(RunFault::Internal);
     }
-    let (world, totals) = match shared.finish(alloc, share) {
-        Ok(taken) => taken,
-        Err((_, _, GatherFault::Memory)) => return Err(RunFault::Memory),
-        Err((_, _, _)) => return Err(RunFault::Internal),
-    };
-    if !are_in_order(refused.as_slice()) {
+    match shared.finish(alloc, share) {
+        Ok(taken) => Ok(taken),
+        Err((_, _, GatherFault::Memory)) => Err(RunFault::Memory),
+        Err((_, _, _)) => Err(RunFault::Internal),
+    }
+}
+
+// Whether the world and the refused steps are those of a run of the plan.
+fn check<C: Ledger, A: Ledger>(
+    alloc: Global,
+    plan: &Plan,
+    world: &World<Core, C, A>,
+    refused: &[Refusal],
+) -> Result<(), RunFault>
+    requires { InOrder world.now.base.point world.now.log }
+    ensures orderly { OnOk result (IsOrderly plan.now world.now refused.now) }
+    ensures order { OnOk result (AreInOrder refused.now) }
+    ensures inner { IfErr result IsOfPlan }
+{
+    if !are_in_order(refused) {
         return Err(RunFault::Internal);
     }
-    match is_orderly(alloc, plan, &world, refused.as_slice()) {
-        Ok(true) => Ok(RunOut {
-            world,
-            totals,
-            refused,
-        }),
+    match is_orderly(alloc, plan, world, refused) {
+        Ok(true) => Ok(()),
         Ok(false) => Err(RunFault::Internal),
         Err(_) => Err(RunFault::Memory),
     }

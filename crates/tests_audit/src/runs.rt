@@ -114,15 +114,36 @@ fn run_in<C: Ledger, A: Ledger>(
     requires added { (added.name ≡ A.name) × (added.parts ≡ A.parts) × (added.parts ≡ all_parts) }
 {
     let (mut world, mut share) = World::<Core, C, A>::new(alloc, funs, start, commits, added)?;
+    take_steps(alloc, funs, &mut world, &mut share, steps)?;
+    look_at(alloc, &world, names, refused, &verdict)
+}
+
+fn take_steps<C: Ledger, A: Ledger>(
+    alloc: Global,
+    funs: &CoreFunctions,
+    world: &mut World<Core, C, A>,
+    share: &mut Share<C, A>,
+    steps: &[Step],
+) -> Result<(), Fail> {
     let mut number = 0;
     for step in steps {
-        take_step(alloc, funs, &mut world, &mut share, number, step)?;
+        take_step(alloc, funs, world, share, number, step)?;
         number = number.saturating_add(1);
     }
+    Ok(())
+}
+
+fn look_at<C: Ledger, A: Ledger>(
+    alloc: Global,
+    world: &World<Core, C, A>,
+    names: &Names,
+    refused: &[Refusal],
+    verdict: &Verdict,
+) -> Result<Seen, Fail> {
     let mut text = Vec::new(alloc);
-    report(alloc, names, &world, refused, &verdict, &mut text)?;
+    report(alloc, names, world, refused, verdict, &mut text)?;
     Ok(Seen {
-        dumped: dumped(alloc, &world)?,
+        dumped: dumped(alloc, world)?,
         report: text,
     })
 }

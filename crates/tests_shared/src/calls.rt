@@ -8,12 +8,13 @@ use crate::worlds::{
     opened, plain_start, value,
 };
 use ref_agents::ErrorMode;
+use ref_atoms::Swapped;
 use ref_fun::{Core, CoreFunctions};
 use ref_log::{Entry, MakeFault, RuleFault, Stamp, Who};
 use ref_pvec::PVec;
-use ref_shared::Open;
+use ref_shared::{Open, Shared};
 use ref_tx::Tx;
-use ref_world::{ALL_PARTS, RefStart, Start, Totals};
+use ref_world::{ALL_PARTS, RefStart, Share, Start, Totals};
 use std::alloc::{AllocError, Global};
 use std::marker::Brand;
 use std::sync::Wait;
@@ -113,6 +114,22 @@ struct Counted {
 
 const OTHER: Stamp = Stamp { worker: 1, step: 0 };
 
+// Two transactions that commute the tally, of which the first is committed last, and what they answered.
+fn count_both<C: Ledger, A: Ledger, R: Wait>(
+    rt: &R,
+    alloc: Global,
+    shared: &Shared<Core, C, A>,
+    share: &mut Share<C, A>,
+) -> Result<(Option<i64>, Option<i64>), Stop> {
+    let mut first = shared.begin(rt, alloc)?;
+    let one = count(alloc, &mut first, "1")?;
+    let mut second = shared.begin(rt, alloc)?;
+    let ten = count(alloc, &mut second, "10")?;
+    let _ = done(shared.commit(rt, alloc, &CoreFunctions, share, OTHER, second))?;
+    let _ = done(shared.commit(rt, alloc, &CoreFunctions, share, STAMP, first))?;
+    Ok((one, ten))
+}
+
 fn try_counting<C: Ledger, A: Ledger, R: Wait>(
     rt: &R,
     alloc: Global,
@@ -123,20 +140,17 @@ fn try_counting<C: Ledger, A: Ledger, R: Wait>(
     requires added { (added.name ≡ A.name) × (added.parts ≡ A.parts) × (added.parts ≡ all_parts) }
 {
     let (shared, mut share) = opened::<C, A>(alloc, tally_start(alloc)?, commits, added)?;
-    let mut first = shared.begin(rt, alloc)?;
-    let one = count(alloc, &mut first, "1")?;
-    let mut second = shared.begin(rt, alloc)?;
-    let ten = count(alloc, &mut second, "10")?;
-    let _ = done(shared.commit(rt, alloc, &CoreFunctions, &mut share, OTHER, second))?;
-    let _ = done(shared.commit(rt, alloc, &CoreFunctions, &mut share, STAMP, first))?;
-    let now = int_at(rt, &shared, Who::Ref(0));
+    let answers = count_both(rt, alloc, &shared, &mut share)?;
+    let value = int_at(rt, &shared, Who::Ref(0));
     let (world, totals) = closed(alloc, shared, share)?;
+    let kept = first_answers(alloc, world.log())?;
+    let books = (world.commits(), world.added());
     Ok(Counted {
-        answers: (one, ten),
-        value: now,
-        kept: first_answers(alloc, world.log())?,
+        answers,
+        value,
+        kept,
         totals,
-        books: (world.commits(), world.added()),
+        books,
     })
 }
 
@@ -222,6 +236,20 @@ struct Compared {
     commits: u64,
 }
 
+// Whether a comparison of the atom was true, and how many receipts the share has then.
+fn compare<C: Ledger, A: Ledger, R: Wait>(
+    rt: &R,
+    alloc: Global,
+    shared: &Shared<Core, C, A>,
+    share: &mut Share<C, A>,
+    old: &str,
+    new: &str,
+) -> Result<(bool, usize), Stop> {
+    let (old, new) = (value(alloc, old)?, value(alloc, new)?);
+    let set = done(shared.compare_and_set(rt, alloc, &CoreFunctions, share, 0, &old, new))?;
+    Ok((set.done, share.receipts().len()))
+}
+
 fn try_comparing<C: Ledger, A: Ledger, R: Wait>(
     rt: &R,
     alloc: Global,
@@ -233,23 +261,13 @@ fn try_comparing<C: Ledger, A: Ledger, R: Wait>(
 {
     let start = plain_start(alloc, "", "1")?;
     let (shared, mut share) = opened::<C, A>(alloc, start, commits, added)?;
-    let (one, two, three) = (value(alloc, "1")?, value(alloc, "2")?, value(alloc, "3")?);
-    let first = done(shared.compare_and_set(rt, alloc, &CoreFunctions, &mut share, 0, &one, two))?;
-    let second = done(shared.compare_and_set(
-        rt,
-        alloc,
-        &CoreFunctions,
-        &mut share,
-        0,
-        &one,
-        three,
-    ))?;
-    let now = int_at(rt, &shared, Who::Atom(0));
-    let receipts = share.receipts().len();
+    let (first, _) = compare(rt, alloc, &shared, &mut share, "1", "2")?;
+    let (second, receipts) = compare(rt, alloc, &shared, &mut share, "1", "3")?;
+    let value = int_at(rt, &shared, Who::Atom(0));
     let (world, totals) = closed(alloc, shared, share)?;
     Ok(Compared {
-        done: (first.done, second.done),
-        value: now,
+        done: (first, second),
+        value,
         entries: world.log().len(),
         receipts,
         commits: totals.commits,
@@ -275,15 +293,69 @@ fn an_atom_is_set_where_it_is_as_told(rt: HostRuntime) -> Result<(), Fail> {
 // What the changes of an atom answered, and what was there then.
 #[derive(Debug, Drop, PartialEq)]
 struct Changes {
-    swapped: (Option<i64>, Option<i64>),
-    swap_told: Vec<Told>,
-    reset: (Option<i64>, Option<i64>),
-    reset_told: Vec<Told>,
+    swap: Change,
+    reset: Change,
     value: Option<i64>,
     // Whether the comparison answers true, and how many receipts there are then.
     from_nine: (bool, usize),
     from_seven: (bool, usize),
-    commits: u64,
+}
+
+// What a change of an atom answered: the values before and after, and what its watch is told.
+#[derive(Debug, Drop, PartialEq)]
+struct Change {
+    values: (Option<i64>, Option<i64>),
+    told: Vec<Told>,
+}
+
+fn change_of(alloc: Global, swapped: Swapped) -> Result<Change, AllocError> {
+    Ok(Change {
+        values: (int_of(&swapped.old), int_of(&swapped.new)),
+        told: all_told(alloc, &swapped.notices)?,
+    })
+}
+
+fn swap_one<C: Ledger, A: Ledger, R: Wait>(
+    rt: &R,
+    alloc: Global,
+    shared: &Shared<Core, C, A>,
+    share: &mut Share<C, A>,
+) -> Result<Change, Stop> {
+    let one = one_arg(alloc, "1")?;
+    let swapped = done(shared.swap(rt, alloc, &CoreFunctions, share, 0, PLUS, one))?;
+    Ok(change_of(alloc, swapped)?)
+}
+
+fn reset_to_seven<C: Ledger, A: Ledger, R: Wait>(
+    rt: &R,
+    alloc: Global,
+    shared: &Shared<Core, C, A>,
+    share: &mut Share<C, A>,
+) -> Result<Change, Stop> {
+    let seven = value(alloc, "7")?;
+    let reset = done(shared.reset(rt, alloc, &CoreFunctions, share, 0, seven))?;
+    Ok(change_of(alloc, reset)?)
+}
+
+// All changes of an atom that is 1 and has a watch.
+fn change_atom<C: Ledger, A: Ledger, R: Wait>(
+    rt: &R,
+    alloc: Global,
+    shared: &Shared<Core, C, A>,
+    share: &mut Share<C, A>,
+) -> Result<Changes, Stop> {
+    let swap = swap_one(rt, alloc, shared, share)?;
+    let reset = reset_to_seven(rt, alloc, shared, share)?;
+    let value = int_at(rt, shared, Who::Atom(0));
+    let from_nine = compare(rt, alloc, shared, share, "9", "1")?;
+    let from_seven = compare(rt, alloc, shared, share, "7", "8")?;
+    Ok(Changes {
+        swap,
+        reset,
+        value,
+        from_nine,
+        from_seven,
+    })
 }
 
 fn try_atoms<C: Ledger, A: Ledger, R: Wait>(
@@ -291,77 +363,151 @@ fn try_atoms<C: Ledger, A: Ledger, R: Wait>(
     alloc: Global,
     commits: Blank,
     added: Blank,
-) -> Result<Changes, Stop>
+) -> Result<(Changes, u64), Stop>
     requires commits { (commits.name ≡ C.name) × (commits.parts ≡ C.parts) × (commits.parts ≡ all_parts) }
     requires added { (added.name ≡ A.name) × (added.parts ≡ A.parts) × (added.parts ≡ all_parts) }
 {
     let start = plain_start(alloc, "", "1")?;
     let (shared, mut share) = opened::<C, A>(alloc, start, commits, added)?;
     let _ = done(shared.add_watch(rt, alloc, Who::Atom(0), value(alloc, ":k")?))?;
-    let one = one_arg(alloc, "1")?;
-    let swapped = done(shared.swap(rt, alloc, &CoreFunctions, &mut share, 0, 1, one))?;
-    let seven = value(alloc, "7")?;
-    let reset = done(shared.reset(rt, alloc, &CoreFunctions, &mut share, 0, seven))?;
-    let now = int_at(rt, &shared, Who::Atom(0));
-    let (nine, one) = (value(alloc, "9")?, value(alloc, "1")?);
-    let unset = done(shared.compare_and_set(rt, alloc, &CoreFunctions, &mut share, 0, &nine, one))?;
-    let from_nine = (unset.done, share.receipts().len());
-    let (seven, eight) = (value(alloc, "7")?, value(alloc, "8")?);
-    let set = done(shared.compare_and_set(
-        rt,
-        alloc,
-        &CoreFunctions,
-        &mut share,
-        0,
-        &seven,
-        eight,
-    ))?;
-    let from_seven = (set.done, share.receipts().len());
+    let changes = change_atom(rt, alloc, &shared, &mut share)?;
     let (_, totals) = closed(alloc, shared, share)?;
-    Ok(Changes {
-        swapped: (int_of(&swapped.old), int_of(&swapped.new)),
-        swap_told: all_told(alloc, &swapped.notices)?,
-        reset: (int_of(&reset.old), int_of(&reset.new)),
-        reset_told: all_told(alloc, &reset.notices)?,
-        value: now,
-        from_nine,
-        from_seven,
-        commits: totals.commits,
-    })
+    Ok((changes, totals.commits))
 }
 
 #[test]
 fn atoms_change_and_tell_their_watches(rt: HostRuntime) -> Result<(), Fail> {
     let alloc = rt.alloc();
     let (commits, added) = (Blank::new(ALL_PARTS), Blank::new(ALL_PARTS));
-    let changes = try_atoms::<Brand, Brand, _>(&rt, alloc, commits, added)?;
+    let (changes, commits) = try_atoms::<Brand, Brand, _>(&rt, alloc, commits, added)?;
+    let swap = Change {
+        values: (Some(1), Some(2)),
+        told: vec![in alloc; (Who::Atom(0), true, Some(1), Some(2))]?,
+    };
+    let reset = Change {
+        values: (Some(2), Some(7)),
+        told: vec![in alloc; (Who::Atom(0), true, Some(2), Some(7))]?,
+    };
     let wanted = Changes {
-        swapped: (Some(1), Some(2)),
-        swap_told: vec![in alloc; (Who::Atom(0), true, Some(1), Some(2))]?,
-        reset: (Some(2), Some(7)),
-        reset_told: vec![in alloc; (Who::Atom(0), true, Some(2), Some(7))]?,
+        swap,
+        reset,
         value: Some(7),
         from_nine: (false, 2),
         from_seven: (true, 3),
-        commits: 0,
     };
     assert_eq!(rt; changes, wanted);
+    assert_eq!(rt; commits, 0);
     Ok(())
 }
+
+// What two makings answered.
+type Two = (Result<u32, MakeFault>, Result<u32, MakeFault>);
 
 // What the calls answered that make references and give them rules and watches.
 #[derive(Debug, Drop, PartialEq)]
 struct Made {
-    refs: (Result<u32, MakeFault>, Result<u32, MakeFault>),
-    atoms: (Result<u32, MakeFault>, Result<u32, MakeFault>),
-    agents: (Result<u32, MakeFault>, Result<u32, MakeFault>),
+    refs: Two,
+    atoms: Two,
+    agents: Two,
     // A rule that refuses the value, one that accepts it, and a making that this one refuses.
     rules: (Result<(), RuleFault>, Result<(), RuleFault>),
     unmade: Result<u32, MakeFault>,
     // The key is new, then it isn't; it is there, then it isn't.
     watches: (bool, bool, bool, bool),
     values: (Option<i64>, Option<i64>, Option<i64>),
-    commits: u64,
+}
+
+fn make_refs<C: Ledger, A: Ledger, R: Wait>(
+    rt: &R,
+    alloc: Global,
+    shared: &Shared<Core, C, A>,
+) -> Result<Two, Stop> {
+    let (five, six) = (value(alloc, "5")?, value(alloc, "6")?);
+    Ok((
+        shared.make_ref(rt, alloc, &CoreFunctions, five, None, false),
+        shared.make_ref(rt, alloc, &CoreFunctions, six, None, true),
+    ))
+}
+
+fn make_atoms<C: Ledger, A: Ledger, R: Wait>(
+    rt: &R,
+    alloc: Global,
+    shared: &Shared<Core, C, A>,
+) -> Result<Two, Stop> {
+    let (seven, eight) = (value(alloc, "7")?, value(alloc, "8")?);
+    Ok((
+        shared.make_atom(rt, alloc, &CoreFunctions, seven, None),
+        shared.make_atom(rt, alloc, &CoreFunctions, eight, None),
+    ))
+}
+
+fn make_agents<C: Ledger, A: Ledger, R: Wait>(
+    rt: &R,
+    alloc: Global,
+    shared: &Shared<Core, C, A>,
+) -> Result<Two, Stop> {
+    let (nine, ten) = (value(alloc, "9")?, value(alloc, "10")?);
+    Ok((
+        shared.make_agent(rt, alloc, &CoreFunctions, nine, None, ErrorMode::Fail),
+        shared.make_agent(rt, alloc, &CoreFunctions, ten, None, ErrorMode::Continue),
+    ))
+}
+
+// Rules for the first ref, which is 5.
+fn give_rules<C: Ledger, A: Ledger, R: Wait>(
+    rt: &R,
+    alloc: Global,
+    shared: &Shared<Core, C, A>,
+) -> Result<(Result<(), RuleFault>, Result<(), RuleFault>), Stop> {
+    let (five, six) = (at_least(alloc, "5")?, at_least(alloc, "6")?);
+    Ok((
+        shared.set_validator(rt, &CoreFunctions, Who::Ref(0), Some(six)),
+        shared.set_validator(rt, &CoreFunctions, Who::Ref(0), Some(five)),
+    ))
+}
+
+fn make_what_is_refused<C: Ledger, A: Ledger, R: Wait>(
+    rt: &R,
+    alloc: Global,
+    shared: &Shared<Core, C, A>,
+) -> Result<Result<u32, MakeFault>, Stop> {
+    let (five, six) = (value(alloc, "5")?, at_least(alloc, "6")?);
+    Ok(shared.make_atom(rt, alloc, &CoreFunctions, five, Some(six)))
+}
+
+fn give_watches<C: Ledger, A: Ledger, R: Wait>(
+    rt: &R,
+    alloc: Global,
+    shared: &Shared<Core, C, A>,
+) -> Result<(bool, bool, bool, bool), Stop> {
+    let key = value(alloc, ":k")?;
+    let (first, again) = (key.share()?, key.share()?);
+    Ok((
+        done(shared.add_watch(rt, alloc, Who::Ref(0), first))?,
+        done(shared.add_watch(rt, alloc, Who::Ref(0), again))?,
+        shared.remove_watch(rt, Who::Ref(0), &key),
+        shared.remove_watch(rt, Who::Ref(0), &key),
+    ))
+}
+
+fn make_all<C: Ledger, A: Ledger, R: Wait>(
+    rt: &R,
+    alloc: Global,
+    shared: &Shared<Core, C, A>,
+) -> Result<Made, Stop> {
+    Ok(Made {
+        refs: make_refs(rt, alloc, shared)?,
+        atoms: make_atoms(rt, alloc, shared)?,
+        agents: make_agents(rt, alloc, shared)?,
+        rules: give_rules(rt, alloc, shared)?,
+        unmade: make_what_is_refused(rt, alloc, shared)?,
+        watches: give_watches(rt, alloc, shared)?,
+        values: (
+            int_at(rt, shared, Who::Ref(1)),
+            int_at(rt, shared, Who::Atom(1)),
+            int_at(rt, shared, Who::Agent(1)),
+        ),
+    })
 }
 
 fn try_makings<C: Ledger, A: Ledger, R: Wait>(
@@ -369,65 +515,22 @@ fn try_makings<C: Ledger, A: Ledger, R: Wait>(
     alloc: Global,
     commits: Blank,
     added: Blank,
-) -> Result<Made, Stop>
+) -> Result<(Made, u64), Stop>
     requires commits { (commits.name ≡ C.name) × (commits.parts ≡ C.parts) × (commits.parts ≡ all_parts) }
     requires added { (added.name ≡ A.name) × (added.parts ≡ A.parts) × (added.parts ≡ all_parts) }
 {
     let start = plain_start(alloc, "", "")?;
     let (shared, share) = opened::<C, A>(alloc, start, commits, added)?;
-    let (five, six) = (value(alloc, "5")?, value(alloc, "6")?);
-    let refs = (
-        shared.make_ref(rt, alloc, &CoreFunctions, five, None, false),
-        shared.make_ref(rt, alloc, &CoreFunctions, six, None, true),
-    );
-    let (seven, eight) = (value(alloc, "7")?, value(alloc, "8")?);
-    let atoms = (
-        shared.make_atom(rt, alloc, &CoreFunctions, seven, None),
-        shared.make_atom(rt, alloc, &CoreFunctions, eight, None),
-    );
-    let (nine, ten) = (value(alloc, "9")?, value(alloc, "10")?);
-    let agents = (
-        shared.make_agent(rt, alloc, &CoreFunctions, nine, None, ErrorMode::Fail),
-        shared.make_agent(rt, alloc, &CoreFunctions, ten, None, ErrorMode::Continue),
-    );
-    let (five, six) = (at_least(alloc, "5")?, at_least(alloc, "6")?);
-    let rules = (
-        shared.set_validator(rt, &CoreFunctions, Who::Ref(0), Some(six)),
-        shared.set_validator(rt, &CoreFunctions, Who::Ref(0), Some(five)),
-    );
-    let (five, six) = (value(alloc, "5")?, at_least(alloc, "6")?);
-    let unmade = shared.make_atom(rt, alloc, &CoreFunctions, five, Some(six));
-    let key = value(alloc, ":k")?;
-    let (first, again) = (key.share()?, key.share()?);
-    let watches = (
-        done(shared.add_watch(rt, alloc, Who::Ref(0), first))?,
-        done(shared.add_watch(rt, alloc, Who::Ref(0), again))?,
-        shared.remove_watch(rt, Who::Ref(0), &key),
-        shared.remove_watch(rt, Who::Ref(0), &key),
-    );
-    let values = (
-        int_at(rt, &shared, Who::Ref(1)),
-        int_at(rt, &shared, Who::Atom(1)),
-        int_at(rt, &shared, Who::Agent(1)),
-    );
+    let made = make_all(rt, alloc, &shared)?;
     let (_, totals) = closed(alloc, shared, share)?;
-    Ok(Made {
-        refs,
-        atoms,
-        agents,
-        rules,
-        unmade,
-        watches,
-        values,
-        commits: totals.commits,
-    })
+    Ok((made, totals.commits))
 }
 
 #[test]
 fn references_are_made_and_get_rules_and_watches(rt: HostRuntime) -> Result<(), Fail> {
     let alloc = rt.alloc();
     let (commits, added) = (Blank::new(ALL_PARTS), Blank::new(ALL_PARTS));
-    let made = try_makings::<Brand, Brand, _>(&rt, alloc, commits, added)?;
+    let (made, commits) = try_makings::<Brand, Brand, _>(&rt, alloc, commits, added)?;
     let wanted = Made {
         refs: (Ok(0), Ok(1)),
         atoms: (Ok(0), Ok(1)),
@@ -436,8 +539,8 @@ fn references_are_made_and_get_rules_and_watches(rt: HostRuntime) -> Result<(), 
         unmade: Err(MakeFault::Invalid),
         watches: (true, false, true, false),
         values: (Some(6), Some(8), Some(10)),
-        commits: 0,
     };
     assert_eq!(rt; made, wanted);
+    assert_eq!(rt; commits, 0);
     Ok(())
 }

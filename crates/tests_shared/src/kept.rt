@@ -86,6 +86,17 @@ fn shared_and_back<C: Ledger, A: Ledger>(
     Ok((world, receipt.point))
 }
 
+// Whose jobs are taken before and after the release of what a commit sent, and whether that was held.
+fn taken_around_release<C: Ledger, A: Ledger>(
+    world: &mut World<Core, C, A>,
+    point: u64,
+) -> Result<([Option<u32>; 2], bool), AllocError> {
+    let before = taken(world)?;
+    let was_held = world.release(point);
+    let after = taken(world)?;
+    Ok(([before, after], was_held))
+}
+
 fn try_kept<C: Ledger, A: Ledger>(
     alloc: Global,
     commits: Blank,
@@ -96,11 +107,9 @@ fn try_kept<C: Ledger, A: Ledger>(
 {
     let (mut world, point) = shared_and_back::<C, A>(alloc, commits, added)?;
     let first = continued(alloc, &mut world)?;
-    let second = taken(&mut world)?;
-    let was_held = world.release(point);
-    let third = taken(&mut world)?;
+    let (others, was_held) = taken_around_release(&mut world, point)?;
     let was_watched = world.remove_watch(Who::Ref(0), &value(alloc, ":w")?);
-    Ok((first, [second, third], was_held, was_watched))
+    Ok((first, others, was_held, was_watched))
 }
 
 #[test]
