@@ -1,5 +1,6 @@
 """What the commands `quick` and `wrong-bodies` share: the crates, and the wrong bodies beside them."""
 
+import fnmatch
 import os
 import shutil
 from pathlib import Path
@@ -51,8 +52,8 @@ def edits(name, folder, top=TOP):
     return sorted((top / "crates" / name / folder).glob("*.edit"))
 
 
-def misfit(edit):
-    """Why a wrong body can't be put in the place of the right one, or None."""
+def edited(edit):
+    """The files that a wrong body changes, by path, each before and after; and why it can't be put in the place of the right one, or None."""
     crate, path, old, texts = edit.parent.parent, None, None, {}
     for line in edit.read_text(encoding="utf-8").split("\n"):
         if line.startswith("file: "):
@@ -61,17 +62,22 @@ def misfit(edit):
             old = line[len("old: ") :]
         elif line.startswith("new:"):
             if not path or not old:
-                return "a line 'new:' stands before a line 'file:' or 'old:'"
+                return {}, "a line 'new:' stands before a line 'file:' or 'old:'"
             if path not in texts:
                 if not (crate / path).is_file():
-                    return f"there is no file {path}"
-                texts[path] = (crate / path).read_text(encoding="utf-8")
-            count = texts[path].count(old)
-            if count != 1:
-                return f"its old text stands {count} times in {path}, and not once"
-            texts[path] = texts[path].replace(old, line[len("new:") :].removeprefix(" "))
+                    return {}, f"there is no file {path}"
+                texts[path] = ((crate / path).read_text(encoding="utf-8"),) * 2
+            before, text = texts[path]
+            if text.count(old) != 1:
+                return {}, f"its old text stands {text.count(old)} times in {path}, and not once"
+            texts[path] = before, text.replace(old, line[len("new:") :].removeprefix(" "))
             old = None
-    return None if texts else "it has no lines 'file:', 'old:' and 'new:'"
+    return texts, None if texts else "it has no lines 'file:', 'old:' and 'new:'"
+
+
+def misfit(edit):
+    """Why a wrong body can't be put in the place of the right one, or None."""
+    return edited(edit)[1]
 
 
 def copy_sources(names, to, top=TOP):
@@ -86,11 +92,13 @@ def copy_sources(names, to, top=TOP):
                 shutil.copytree(top / "crates" / name / part, to / "crates" / name / part)
 
 
-def link_tree(source, to):
-    """Copies a folder; its files become second names of the same files, where that can be."""
+def link_tree(source, to, links="*"):
+    """Copies a folder; files of such names become second names of the same files, where that can be."""
 
     def link(a, b):
         try:
+            if not fnmatch.fnmatch(os.path.basename(a), links):
+                raise OSError
             os.link(a, b)
         except OSError:
             shutil.copy2(a, b)

@@ -1,5 +1,5 @@
 -- What reads and writes, one after another, do to known bytes.
-use Rattle.std.proofs.Common.{◌≡◌, ◌≤◌, ◌<◌, ◌+◌, ℕ, List, [], ◌++◌, length, take, drop, subst, sym, ap, ◌∙◌, Option, Result, Ok, Err, OnErr, arith, append_assoc, length-append, take-append-drop, length-take}
+use Rattle.std.proofs.Common.{◌≡◌, ◌≤◌, ◌<◌, ◌+◌, ℕ, List, ◌++◌, length, take, drop, subst, sym, ap, ◌∙◌, Option, Result, Ok, Err, OnErr, arith, append_assoc, length-append, take-append-drop, length-take}
 use lib.Seq.{take-append_seam}
 use Rattle.std.proofs.KnownBytes.{Consumes-trans, Appends-trans, Appends-kept}
 use Rattle.std.specs.Io.KnownBytes.{Appends, Consumes, Keeps}

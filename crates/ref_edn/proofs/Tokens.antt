@@ -199,19 +199,35 @@ integer_starts (b ∷ bs) h =
       | inr p ↦ or_left (is_digit b) (is_sign b && begins_with_digit bs) (numeral_digit b bs p.1)
     ]
 
-name_value : (s : List ℕ) → is_name s ≡ true → is_word s ≡ false → is_symbol s ≡ true → token_value s ≡ Ok (symbol s)
-unfolding token_value word_value
-name_value [] name word is = absurd (name_begins [] name)
-name_value (b ∷ bs) name word is =
-    let s : List ℕ = b ∷ bs in
-    let n = name_begins s name in
+name_word : (s : List ℕ) → is_word s ≡ false → is_symbol s ≡ true → word_value s ≡ Ok (symbol s)
+unfolding word_value
+name_word s word is =
     let third = or_parts (bytes_eq s nil_text || bytes_eq s true_text) (bytes_eq s false_text) word in
     let two = or_parts (bytes_eq s nil_text) (bytes_eq s true_text) third.0 in
     let last : Result Edn Kind = cond (is_symbol s) (Ok (symbol s)) (Err BadName) in
-    cond-false (starts_number s) (number_value s) (cond (starts_keyword s) (keyword_value bs) (word_value s)) n.no_number ∙ cond-false (starts_keyword s) (keyword_value bs) (word_value s) n.no_keyword
-    ∙ cond-false (bytes_eq s nil_text) (Ok nil) (cond (bytes_eq s true_text) (Ok (boolean true)) (cond (bytes_eq s false_text) (Ok (boolean false)) last)) two.0
+    cond-false (bytes_eq s nil_text) (Ok nil) (cond (bytes_eq s true_text) (Ok (boolean true)) (cond (bytes_eq s false_text) (Ok (boolean false)) last)) two.0
     ∙ cond-false (bytes_eq s true_text) (Ok (boolean true)) (cond (bytes_eq s false_text) (Ok (boolean false)) last) two.1
     ∙ cond-false (bytes_eq s false_text) (Ok (boolean false)) last third.1 ∙ cond-true (is_symbol s) (Ok (symbol s)) (Err BadName) is
+
+slash_word : word_value (codes "/") ≡ Ok (symbol (codes "/"))
+unfolding word_value is_name is_name_byte
+slash_word = refl
+
+pub symbol_word : (s : List ℕ) → is_symbol s ≡ true → word_value s ≡ Ok (symbol s)
+symbol_word s is =
+    elim (or_cases (is_name s && not (is_word s)) (bytes_eq s (codes "/")) is) [
+      | inl p ↦ name_word s (not-true (is_word s) (and_parts (is_name s) (not (is_word s)) p).1) is
+      | inr p ↦ subst (λ (w : List ℕ). word_value w ≡ Ok (symbol w)) (sym (bytes_same s (codes "/") p)) slash_word
+    ]
+
+name_value : (s : List ℕ) → is_name s ≡ true → is_symbol s ≡ true → token_value s ≡ Ok (symbol s)
+unfolding token_value
+name_value [] name is = absurd (name_begins [] name)
+name_value (b ∷ bs) name is =
+    let s : List ℕ = b ∷ bs in
+    let n = name_begins s name in
+    cond-false (starts_number s) (number_value s) (cond (starts_keyword s) (keyword_value bs) (word_value s)) n.no_number ∙ cond-false (starts_keyword s) (keyword_value bs) (word_value s) n.no_keyword
+    ∙ symbol_word s is
 
 slash_value : token_value (codes "/") ≡ Ok (symbol (codes "/"))
 unfolding token_value word_value is_name is_name_byte
@@ -220,7 +236,7 @@ slash_value = refl
 symbol_value : (s : List ℕ) → is_symbol s ≡ true → token_value s ≡ Ok (symbol s)
 symbol_value s is =
     elim (or_cases (is_name s && not (is_word s)) (bytes_eq s (codes "/")) is) [
-      | inl p ↦ let q = and_parts (is_name s) (not (is_word s)) p in name_value s q.0 (not-true (is_word s) q.1) is
+      | inl p ↦ name_value s (and_parts (is_name s) (not (is_word s)) p).0 is
       | inr p ↦ subst (λ (w : List ℕ). token_value w ≡ Ok (symbol w)) (sym (bytes_same s (codes "/") p)) slash_value
     ]
 

@@ -18,6 +18,7 @@ use crate::blanks::{after_spaces, is_discard, line_end, may_be_blank, opens_set}
 use crate::bytes::{after, is_close, starts_token};
 use crate::data::{Node, Value};
 use crate::faults::{Kind, ReadError};
+use crate::known::Names;
 use crate::maps::Entries;
 use crate::members::{into_pairs, into_values, sort_elements, sort_entries};
 use crate::sets::Elements;
@@ -31,7 +32,11 @@ use std::cmp::Reverse;
 // The element at the front, where it is no collection.
 #[inline(always)]
 #[tactic(auto, unfolding(crate::specs::ReadParts::single_at))]
-fn single(alloc: Global, text: &[u8]) -> Result<(Value, &[u8]), ReadError>
+fn single<'a>(
+    alloc: Global,
+    names: &mut Names,
+    text: &'a [u8],
+) -> Result<(Value, &'a [u8]), ReadError>
     requires { 0 < length text.now }
     ensures value { Gives (λ r. (r.0, r.1.now)) result (single_at text.now) }
     ensures shorter { IfOk result (λ r. length r.1.now < length text.now) }
@@ -40,7 +45,7 @@ fn single(alloc: Global, text: &[u8]) -> Result<(Value, &[u8]), ReadError>
     if first == b'"' {
         string(alloc, text)
     } else if starts_token(first) {
-        token(alloc, text)
+        token(alloc, names, text)
     } else if is_close(first) {
         Err(ReadError::at(Kind::WrongClose, text))
     } else if first == b'#' || first == b'\\' {
@@ -54,7 +59,12 @@ fn single(alloc: Global, text: &[u8]) -> Result<(Value, &[u8]), ReadError>
 #[inline(always)]
 #[cycle(read)]
 #[tactic(auto, using(crate::proofs::Turns::skips_none))]
-pub(crate) fn skip<'a>(alloc: Global, text: &'a [u8], room: u8) -> Result<&'a [u8], ReadError>
+pub(crate) fn skip<'a>(
+    alloc: Global,
+    names: &mut Names,
+    text: &'a [u8],
+    room: u8,
+) -> Result<&'a [u8], ReadError>
     requires { room ≤ 64 }
     ensures value { Gives (λ r. r.now) result (skip_of room text.now) }
     ensures shorter { IfOk result (λ r. length r.now ≤ length text.now) }
@@ -67,13 +77,18 @@ pub(crate) fn skip<'a>(alloc: Global, text: &'a [u8], room: u8) -> Result<&'a [u
             return Ok(rest);
         }
     }
-    pass(alloc, text, room)
+    pass(alloc, names, text, room)
 }
 
 // The same, turn by turn.
 #[inline(never)]
 #[cycle(read)]
-fn pass<'a>(alloc: Global, text: &'a [u8], room: u8) -> Result<&'a [u8], ReadError>
+fn pass<'a>(
+    alloc: Global,
+    names: &mut Names,
+    text: &'a [u8],
+    room: u8,
+) -> Result<&'a [u8], ReadError>
     requires { room ≤ 64 }
     ensures value { Gives (λ r. r.now) result (skip_of room text.now) }
     ensures shorter { IfOk result (λ r. length r.now ≤ length text.now) }
@@ -83,7 +98,7 @@ fn pass<'a>(alloc: Global, text: &'a [u8], room: u8) -> Result<&'a [u8], ReadErr
         if rest[0] == b';' {
             rest = after_spaces(line_end(rest));
         } else if is_discard(rest) {
-            rest = after_spaces(discarded(alloc, rest, room)?);
+            rest = after_spaces(discarded(alloc, names, rest, room)?);
         } else {
             return Ok(rest);
         }
@@ -94,7 +109,12 @@ fn pass<'a>(alloc: Global, text: &'a [u8], room: u8) -> Result<&'a [u8], ReadErr
 // What stands behind a discard, which is at the front, and its element.
 #[cycle(read)]
 #[tactic(auto, unfolding(crate::specs::ReadParts::discarded_at))]
-fn discarded<'a>(alloc: Global, text: &'a [u8], room: u8) -> Result<&'a [u8], ReadError>
+fn discarded<'a>(
+    alloc: Global,
+    names: &mut Names,
+    text: &'a [u8],
+    room: u8,
+) -> Result<&'a [u8], ReadError>
     requires room { room ≤ 64 }
     requires two { 2 ≤ length text.now }
     ensures value { Gives (λ r. r.now) result (discarded_at room text.now) }
@@ -103,8 +123,8 @@ fn discarded<'a>(alloc: Global, text: &'a [u8], room: u8) -> Result<&'a [u8], Re
     if room == 0 {
         return Err(ReadError::at(Kind::TooDeep, text));
     }
-    let start = skip(alloc, after(text, 2), room - 1)?;
-    let (_, rest) = read(alloc, start, room - 1)?;
+    let start = skip(alloc, names, after(text, 2), room - 1)?;
+    let (_, rest) = read(alloc, names, start, room - 1)?;
     Ok(rest)
 }
 
@@ -113,6 +133,7 @@ fn discarded<'a>(alloc: Global, text: &'a [u8], room: u8) -> Result<&'a [u8], Re
 #[tactic(auto, using(crate::proofs::Turns::read_is), unfolding(crate::specs::Reading::read_with, crate::specs::ReadParts::single_at))]
 pub(crate) fn read<'a>(
     alloc: Global,
+    names: &mut Names,
     text: &'a [u8],
     room: u8,
 ) -> Result<(Value, &'a [u8]), ReadError>
@@ -122,17 +143,17 @@ pub(crate) fn read<'a>(
 {
     match text {
         [] => Err(ReadError::at(Kind::EndsEarly, text)),
-        [b'[', ..] => vector(alloc, text, room, b']'),
-        [b'(', ..] => vector(alloc, text, room, b')'),
-        [b'{', ..] => mapping(alloc, text, room),
+        [b'[', ..] => vector(alloc, names, text, room, b']'),
+        [b'(', ..] => vector(alloc, names, text, room, b')'),
+        [b'{', ..] => mapping(alloc, names, text, room),
         [b'#', ..] => {
             if opens_set(text) {
-                collection(alloc, text, room)
+                collection(alloc, names, text, room)
             } else {
-                single(alloc, text)
+                single(alloc, names, text)
             }
         }
-        [_, ..] => single(alloc, text),
+        [_, ..] => single(alloc, names, text),
     }
 }
 
@@ -140,6 +161,7 @@ pub(crate) fn read<'a>(
 #[tactic(auto, unfolding(crate::specs::ReadParts::vector_at, crate::specs::ReadParts::items_at, crate::specs::Reading::vector_with))]
 fn vector<'a>(
     alloc: Global,
+    names: &mut Names,
     text: &'a [u8],
     room: u8,
     close: u8,
@@ -152,7 +174,7 @@ fn vector<'a>(
     if room == 0 {
         return Err(ReadError::at(Kind::TooDeep, text));
     }
-    let (items, rest) = items(alloc, after(text, 1), room - 1, close)?;
+    let (items, rest) = items(alloc, names, after(text, 1), room - 1, close)?;
     let items = Items::of(alloc, items)?;
     let _deepest = items.deepest();
     Ok((Value::of_lawful(Node::Vector(items)), rest))
@@ -160,7 +182,12 @@ fn vector<'a>(
 
 #[cycle(read)]
 #[tactic(auto, unfolding(crate::specs::ReadParts::mapping_at, crate::specs::ReadParts::map_at, crate::specs::Reading::mapping_with))]
-fn mapping<'a>(alloc: Global, text: &'a [u8], room: u8) -> Result<(Value, &'a [u8]), ReadError>
+fn mapping<'a>(
+    alloc: Global,
+    names: &mut Names,
+    text: &'a [u8],
+    room: u8,
+) -> Result<(Value, &'a [u8]), ReadError>
     requires room { room ≤ 64 }
     requires some { 0 < length text.now }
     ensures value { Gives (λ r. (r.0, r.1.now)) result (mapping_at room text.now) }
@@ -169,7 +196,7 @@ fn mapping<'a>(alloc: Global, text: &'a [u8], room: u8) -> Result<(Value, &'a [u
     if room == 0 {
         return Err(ReadError::at(Kind::TooDeep, text));
     }
-    let (pairs, rest) = entries(alloc, after(text, 1), room - 1)?;
+    let (pairs, rest) = entries(alloc, names, after(text, 1), room - 1)?;
     let entries = Entries::built(alloc, pairs)?;
     let _deepest = entries.deepest();
     Ok((Value::of_lawful(Node::Map(entries)), rest))
@@ -177,7 +204,12 @@ fn mapping<'a>(alloc: Global, text: &'a [u8], room: u8) -> Result<(Value, &'a [u
 
 #[cycle(read)]
 #[tactic(auto, unfolding(crate::specs::ReadParts::collection_at, crate::specs::ReadParts::set_at, crate::specs::Reading::collection_with))]
-fn collection<'a>(alloc: Global, text: &'a [u8], room: u8) -> Result<(Value, &'a [u8]), ReadError>
+fn collection<'a>(
+    alloc: Global,
+    names: &mut Names,
+    text: &'a [u8],
+    room: u8,
+) -> Result<(Value, &'a [u8]), ReadError>
     requires room { room ≤ 64 }
     requires two { 2 ≤ length text.now }
     ensures value { Gives (λ r. (r.0, r.1.now)) result (collection_at room text.now) }
@@ -186,7 +218,7 @@ fn collection<'a>(alloc: Global, text: &'a [u8], room: u8) -> Result<(Value, &'a
     if room == 0 {
         return Err(ReadError::at(Kind::TooDeep, text));
     }
-    let (values, rest) = elements(alloc, after(text, 2), room - 1)?;
+    let (values, rest) = elements(alloc, names, after(text, 2), room - 1)?;
     let elements = Elements::built(alloc, values)?;
     let _deepest = elements.deepest();
     Ok((Value::of_lawful(Node::Set(elements)), rest))
@@ -199,6 +231,7 @@ fn collection<'a>(alloc: Global, text: &'a [u8], room: u8) -> Result<(Value, &'a
 #[tactic(auto, unfolding(crate::specs::ReadParts::next_at, crate::specs::ReadParts::next_step))]
 fn next<'a>(
     alloc: Global,
+    names: &mut Names,
     text: &'a [u8],
     room: u8,
     close: u8,
@@ -208,33 +241,38 @@ fn next<'a>(
     ensures shorter { IfOk result (λ r. length r.2.now < length r.0.now) }
     ensures start { IfOk result (λ r. length r.0.now ≤ length text.now) }
 {
-    let start = skip(alloc, text, room)?;
+    let start = skip(alloc, names, text, room)?;
     if start.is_empty() {
         return Err(ReadError::at(Kind::EndsEarly, start));
     }
     if start[0] == close {
         return Ok((start, None, after(start, 1)));
     }
-    let (value, rest) = read(alloc, start, room)?;
+    let (value, rest) = read(alloc, names, start, room)?;
     Ok((start, Some(value), rest))
 }
 
 // The value of a key that has just been read.
 #[cycle(read)]
 #[tactic(auto, unfolding(crate::specs::ReadParts::value_at, crate::specs::Reading::value_step))]
-fn value<'a>(alloc: Global, text: &'a [u8], room: u8) -> Result<(Value, &'a [u8]), ReadError>
+fn value<'a>(
+    alloc: Global,
+    names: &mut Names,
+    text: &'a [u8],
+    room: u8,
+) -> Result<(Value, &'a [u8]), ReadError>
     requires { room ≤ 64 }
     ensures value { Gives (λ r. (r.0, r.1.now)) result (value_at room text.now) }
     ensures shorter { IfOk result (λ r. length r.1.now < length text.now) }
 {
-    let start = skip(alloc, text, room)?;
+    let start = skip(alloc, names, text, room)?;
     if start.is_empty() {
         return Err(ReadError::at(Kind::EndsEarly, start));
     }
     if start[0] == b'}' {
         return Err(ReadError::at(Kind::OddMap, start));
     }
-    read(alloc, start, room)
+    read(alloc, names, start, room)
 }
 
 // Puts an element behind those that were found. There is room for two at first, since most small collections have no more.
@@ -253,6 +291,7 @@ fn keep(found: &mut Vec<Value>, item: Value) -> Result<(), AllocError>
 #[cycle(read)]
 fn items<'a>(
     alloc: Global,
+    names: &mut Names,
     text: &'a [u8],
     room: u8,
     close: u8,
@@ -264,7 +303,7 @@ fn items<'a>(
     let mut found = Vec::new(alloc);
     let mut rest = text;
     loop {
-        let (_, item, behind) = next(alloc, rest, room, close)?;
+        let (_, item, behind) = next(alloc, names, rest, room, close)?;
         let Some(item) = item else {
             return Ok((found, behind));
         };
@@ -278,6 +317,7 @@ fn items<'a>(
 #[cycle(read)]
 fn marked_elements<'a>(
     alloc: Global,
+    names: &mut Names,
     text: &'a [u8],
     room: u8,
     found: &mut Vec<(Keyed, Reverse<usize>)>,
@@ -293,7 +333,7 @@ fn marked_elements<'a>(
 {
     let mut rest = text;
     loop {
-        let (start, element, behind) = next(alloc, rest, room, b'}')?;
+        let (start, element, behind) = next(alloc, names, rest, room, b'}')?;
         let Some(element) = element else {
             return Ok(behind);
         };
@@ -306,6 +346,7 @@ fn marked_elements<'a>(
 #[cycle(read)]
 fn elements<'a>(
     alloc: Global,
+    names: &mut Names,
     text: &'a [u8],
     room: u8,
 ) -> Result<(Vec<Value>, &'a [u8]), ReadError>
@@ -315,7 +356,7 @@ fn elements<'a>(
     ensures shorter { IfOk result (λ r. length r.1.now < length text.now) }
 {
     let mut found = Vec::new(alloc);
-    let end = marked_elements(alloc, text, room, &mut found);
+    let end = marked_elements(alloc, names, text, room, &mut found);
     let left = sort_elements(&mut found);
     if left > 0 {
         return Err(ReadError::duplicate(left));
@@ -329,6 +370,7 @@ fn elements<'a>(
 #[cycle(read)]
 fn marked_entries<'a>(
     alloc: Global,
+    names: &mut Names,
     text: &'a [u8],
     room: u8,
     found: &mut Vec<((Keyed, Reverse<usize>), Value)>,
@@ -345,12 +387,12 @@ fn marked_entries<'a>(
 {
     let mut rest = text;
     loop {
-        let (start, key, behind) = next(alloc, rest, room, b'}')?;
+        let (start, key, behind) = next(alloc, names, rest, room, b'}')?;
         let Some(key) = key else {
             return Ok(behind);
         };
         let key = (Keyed::of(key), Reverse(start.len()));
-        match value(alloc, behind, room) {
+        match value(alloc, names, behind, room) {
             Ok((value, behind)) => {
                 found.push((key, value))?;
                 rest = behind;
@@ -367,6 +409,7 @@ fn marked_entries<'a>(
 #[cycle(read)]
 fn entries<'a>(
     alloc: Global,
+    names: &mut Names,
     text: &'a [u8],
     room: u8,
 ) -> Result<(Vec<(Value, Value)>, &'a [u8]), ReadError>
@@ -376,7 +419,7 @@ fn entries<'a>(
     ensures shorter { IfOk result (λ r. length r.1.now < length text.now) }
 {
     let mut found = Vec::new(alloc);
-    let end = marked_entries(alloc, text, room, &mut found);
+    let end = marked_entries(alloc, names, text, room, &mut found);
     let left = sort_entries(&mut found);
     if left > 0 {
         return Err(ReadError::duplicate(left));

@@ -25,6 +25,7 @@ mod changing;
 pub mod data;
 mod elements;
 pub mod faults;
+mod known;
 pub mod maps;
 mod members;
 pub mod names;

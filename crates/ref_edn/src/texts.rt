@@ -84,6 +84,18 @@ impl Text {
         }
     }
 
+    /// A copy of bytes that are known to be UTF-8.
+    pub(crate) fn of_bytes(alloc: Global, bytes: &[u8]) -> Result<Text, AllocError>
+        requires { IsUtf8 bytes.now }
+        ensures { IfOk result (λ t. t ≡ bytes.now) }
+    {
+        if bytes.len() <= MOST_SHORT {
+            owner(alloc, short(bytes))
+        } else {
+            Text::copy_of(alloc, str::from_utf8(bytes).unwrap())
+        }
+    }
+
     /// It costs a look at each byte of a text of up to 23 bytes, and else constant time.
     pub fn as_str(&self) -> &str
         ensures { result.now ≡ self.now }

@@ -1,5 +1,5 @@
 //! Tokens: integers, keywords, symbols, and the words `nil`, `true` and `false`.
-ghost use Rattle.std.specs.Prelude.{◌≡◌, ◌<◌, ◌≤◌, ◌^◌, length, drop, Ok, pos, FitsSigned, IfOk, IfSome, IfNone, IsTrue, IsUtf8};
+ghost use Rattle.std.specs.Prelude.{◌≡◌, ◌<◌, ◌≤◌, ◌^◌, length, drop, Ok, pos, FitsSigned, IfOk, IfSome, IfNone, IsTrue};
 ghost use Rattle.std.specs.Int.{w64};
 ghost use Rattle.std.proofs.Math.IntN.{neg_ℤ};
 ghost use Rattle.std.specs.Option.{SomeIff};
@@ -13,6 +13,7 @@ ghost use Rattle.ref_edn.specs.ReadTokens.{starts_number as starts_number_text, 
 use crate::bytes::{after, is_delimiter, is_digit, token_end};
 use crate::data::{Node, Value};
 use crate::faults::{Kind, ReadError};
+use crate::known::Names;
 use crate::names::{is_keyword, is_same, is_symbol};
 use crate::texts::Text;
 use std::alloc::{AllocError, Global};
@@ -237,31 +238,29 @@ fn number(word: &[u8]) -> Result<Value, Kind>
     }
 }
 
-// The text of a name.
-fn name_text(name: &[u8]) -> &str
-    requires { IsUtf8 name.now }
-    ensures { result.now ≡ name.now }
-{
-    str::from_utf8(name).unwrap()
-}
-
 // The value of a keyword, of which this is what stands behind the colon.
 #[tactic(auto, using(crate::proofs::NameParts::name_utf8), unfolding(crate::specs::ReadTokens::keyword_value))]
-fn keyword(alloc: Global, name: &[u8]) -> Result<Result<Value, Kind>, AllocError>
+fn keyword(alloc: Global, names: &mut Names, name: &[u8]) -> Result<Result<Value, Kind>, AllocError>
     ensures { IfOk result (λ r. r ≡ keyword_value name.now) }
 {
+    if let Some(value) = names.keyword(name)? {
+        return Ok(Ok(value));
+    }
     if !is_keyword(name) {
         return Ok(Err(Kind::BadName));
     }
-    let name = Text::copy_of(alloc, name_text(name))?;
-    Ok(Ok(Value::of_lawful(Node::Keyword(name))))
+    let text = Text::of_bytes(alloc, name)?;
+    Ok(Ok(names.kept(name, Value::of_lawful(Node::Keyword(text)))?))
 }
 
 // The value of a symbol, or of a word that is a value of its own.
-#[tactic(auto, using(crate::proofs::NameParts::symbol_utf8), unfolding(crate::specs::ReadTokens::word_value))]
-fn symbol(alloc: Global, word: &[u8]) -> Result<Result<Value, Kind>, AllocError>
+#[tactic(auto, using(crate::proofs::NameParts::symbol_utf8, crate::proofs::Tokens::symbol_word), unfolding(crate::specs::ReadTokens::word_value))]
+fn symbol(alloc: Global, names: &mut Names, word: &[u8]) -> Result<Result<Value, Kind>, AllocError>
     ensures { IfOk result (λ r. r ≡ word_value word.now) }
 {
+    if let Some(value) = names.symbol(word)? {
+        return Ok(Ok(value));
+    }
     Ok(Ok(if is_same(word, b"nil") {
         Value::of_lawful(Node::Nil)
     } else if is_same(word, b"true") {
@@ -269,28 +268,37 @@ fn symbol(alloc: Global, word: &[u8]) -> Result<Result<Value, Kind>, AllocError>
     } else if is_same(word, b"false") {
         Value::of_lawful(Node::Bool(false))
     } else if is_symbol(word) {
-        Value::of_lawful(Node::Symbol(Text::copy_of(alloc, name_text(word))?))
+        let text = Text::of_bytes(alloc, word)?;
+        names.kept(word, Value::of_lawful(Node::Symbol(text)))?
     } else {
         return Ok(Err(Kind::BadName));
     }))
 }
 
 #[tactic(auto, unfolding(crate::specs::ReadTokens::token_value))]
-fn token_value(alloc: Global, word: &[u8]) -> Result<Result<Value, Kind>, AllocError>
+fn token_value(
+    alloc: Global,
+    names: &mut Names,
+    word: &[u8],
+) -> Result<Result<Value, Kind>, AllocError>
     ensures { IfOk result (λ r. r ≡ value_of_token word.now) }
 {
     if starts_number(word) {
         return Ok(number(word));
     }
     match word {
-        [b':', name @ ..] => keyword(alloc, name),
-        _ => symbol(alloc, word),
+        [b':', name @ ..] => keyword(alloc, names, name),
+        _ => symbol(alloc, names, word),
     }
 }
 
 /// The value of the token at the front of a text, and what follows it.
 #[tactic(auto, using(crate::proofs::Tokens::value_flat), unfolding(crate::specs::ReadTokens::token_at))]
-pub(crate) fn token(alloc: Global, text: &[u8]) -> Result<(Value, &[u8]), ReadError>
+pub(crate) fn token<'a>(
+    alloc: Global,
+    names: &mut Names,
+    text: &'a [u8],
+) -> Result<(Value, &'a [u8]), ReadError>
     ensures value { Gives (λ r. (r.0, r.1.now)) result (token_at text.now) }
     ensures shorter { IfOk result (λ r. length r.1.now < length text.now) }
     ensures depth { IfOk result (λ r. nesting r.0 ≡ 0) }
@@ -299,7 +307,7 @@ pub(crate) fn token(alloc: Global, text: &[u8]) -> Result<(Value, &[u8]), ReadEr
         return Ok((Value::of_lawful(Node::Int(n)), rest));
     }
     let (word, rest) = text.split_at(token_end(text));
-    match token_value(alloc, word)? {
+    match token_value(alloc, names, word)? {
         Ok(value) => Ok((value, rest)),
         Err(kind) => Err(ReadError::at(kind, text)),
     }
