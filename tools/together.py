@@ -8,36 +8,76 @@ prover waits for a function that it calls, comes into the next one; what it says
 import re
 import shutil
 import subprocess
+from dataclasses import dataclass
 from pathlib import Path
 
 import repository
 from repository import TOP
 
 FUNCTION = re.compile(r"( *)(?:pub(?:\(\w+\))? )?(?:const )?fn (\w+)")
+IMPL = re.compile(r"impl (?:(\S+) for )?(?:&(?:'\w+ )?(?:mut )?)?(\w+)")
+
+
+@dataclass(frozen=True)
+class Function:
+    """A function of a file: the type and the trait that it is of, if any, the first line of what stands above it, as attributes, its
+    own first line, and the one behind its last."""
+
+    name: str
+    type: str
+    trait: str
+    head: int
+    first: int
+    end: int
+
+
+def without_arguments(line):
+    """A line without the arguments of types and traits in it."""
+    line, before = line.replace("->", ""), None
+    while line != before:
+        line, before = re.sub(r"<[^<>]*>", "", line), line
+    return line
+
+
+def end_of(lines, first, indent):
+    """The line behind a function's last, in a file that `rt fmt` has laid out."""
+    has_body = "{" in lines[first]
+    for at in range(first, len(lines)):
+        line = lines[at]
+        has_body = has_body or line == f"{indent}{{" or line.startswith(f"{indent})") and line.endswith("{")
+        if line in (f"{indent}}}", f"{indent}{{}}") or at == first and line.endswith("{}") or not has_body and line.endswith(";"):
+            return at + 1
+    return len(lines)
 
 
 def functions(text):
-    """The functions of a file that `rt fmt` has laid out: for each its name, its first line and the one behind its last."""
-    lines, found, at = text.split("\n"), [], 0
+    """The functions of a file."""
+    lines, found, at, type, trait = text.split("\n"), [], 0, "", ""
     while at < len(lines):
-        begun = FUNCTION.match(lines[at])
+        opened, begun = IMPL.match(without_arguments(lines[at])), FUNCTION.match(lines[at])
+        if opened:
+            type, trait = opened[2], (opened[1] or "").rpartition("::")[2]
+        elif lines[at] == "}":
+            type = trait = ""
         if begun:
             indent, name = begun.groups()
-            first = at
-            while at < len(lines) and lines[at] not in (f"{indent}}}", f"{indent}{{}}") and not (at == first and lines[at].endswith("{}")):
-                at += 1
-            found.append((name, first, at + 1))
-        at += 1
+            head, end = at, end_of(lines, at, indent)
+            while head > 0 and lines[head - 1].startswith((f"{indent}#[", f"{indent}//")):
+                head -= 1
+            found.append(Function(name, type, trait, head, at, end))
+            at = end
+        else:
+            at += 1
     return found
 
 
 def parts(text):
-    """The texts of a file's functions, and what stands between them."""
+    """The lines of a file's functions, and those that stand between them."""
     lines, of_functions, between, at = text.split("\n"), [], [], 0
-    for name, first, end in functions(text):
-        between.append(lines[at:first])
-        of_functions.append((name, lines[first:end]))
-        at = end
+    for function in functions(text):
+        between.append(lines[at : function.first])
+        of_functions.append(lines[function.first : function.end])
+        at = function.end
     return of_functions, [*between, lines[at:]]
 
 
@@ -47,53 +87,10 @@ def changed(edit):
     found = {}
     for path, (before, after) in texts.items():
         (old, around), (new, other) = parts(before), parts(after)
-        if around != other or [name for name, _ in old] != [name for name, _ in new]:
+        if around != other or [it.name for it in functions(before)] != [it.name for it in functions(after)]:
             return None
-        found |= {(path, at): new[at][1] for at in range(len(old)) if old[at] != new[at]}
+        found |= {(path, at): new[at] for at in range(len(old)) if old[at] != new[at]}
     return found or None
-
-
-def texts_with(crate, bodies):
-    """The files of a crate with these bodies in the place of the right ones."""
-    found = {}
-    for path in {path for path, _ in bodies}:
-        of_functions, between = parts((crate / path).read_text(encoding="utf-8"))
-        lines = list(between[0])
-        for at, (_, right) in enumerate(of_functions):
-            lines += bodies.get((path, at), right) + between[at + 1]
-        found[path] = "\n".join(lines)
-    return found
-
-
-def is_of(told, crate, function):
-    """Whether the prover's name of a function may be that of this function of a crate."""
-    path, at = function
-    name = parts((crate / path).read_text(encoding="utf-8"))[0][at][0]
-    module = [it for it in Path(path).with_suffix("").parts[1:] if it not in ("lib", "main", "mod")]
-    words = told.split("::")
-    return words[-1] == name and words[1 : 1 + len(module)] == module
-
-
-NO_PROOF = re.compile(r"fn (\S+): (?:no proof|not proved)(?:[:;] (.*))?$")
-PROVED = re.compile(r"fn (\S+): proved$")
-OPEN_ANSWER = re.compile(r"(?:\./)?proofs/(\S+)/(?:Answers|Invariants|Proof)\.antt:\d+:\d+: error: `")
-
-
-def judged(output):
-    """The functions that the prover refuses for what they do themselves, and those that it proves."""
-    refused, proved, answers = set(), set(), set()
-    lines = output.split("\n")
-    for line in lines:
-        wrong = OPEN_ANSWER.match(line)
-        if wrong and not re.search(r"has no field|is not in scope|has no `|was not admitted", line):
-            answers.add(wrong[1].replace("+", ""))
-    for line in lines:
-        if PROVED.match(line):
-            proved.add(PROVED.match(line)[1])
-        told = NO_PROOF.match(line)
-        if told and ("`search` did not prove `" in (told[2] or "") or told[1].partition("::")[2].replace("::", "/") in answers):
-            refused.add(told[1])
-    return refused, proved
 
 
 class Room:
@@ -106,6 +103,8 @@ class Room:
             repository.link_tree(TOP / "crates" / it / "out" / "rlib", folder / "crates" / it / "out" / "rlib")
         self.source = TOP / "crates" / name
         self.crate = folder / "crates" / name
+        self.texts = {str(it.relative_to(self.source)): it.read_text(encoding="utf-8") for it in (self.source / "src").rglob("*.rt")}
+        self.functions = {(path, at): it for path, text in self.texts.items() for at, it in enumerate(functions(text))}
 
     def begin(self):
         """Lets the next check begin with what the crate's own check kept, and with nothing else."""
@@ -114,46 +113,93 @@ class Room:
         repository.link_tree(self.source / "out" / "incremental", self.crate / "out" / "incremental", links="*.oantt")
 
     def check(self, bodies):
-        """What the prover says of these bodies, or None where it comes to no verdict."""
+        """What the prover says of these bodies, or nothing where it comes to no verdict."""
         self.begin()
-        for path, text in texts_with(self.source, bodies).items():
-            (self.crate / path).write_text(text, encoding="utf-8")
+        touched = {path for path, _ in bodies}
+        for path in touched:
+            of_functions, between = parts(self.texts[path])
+            lines = list(between[0])
+            for at, right in enumerate(of_functions):
+                lines += bodies.get((path, at), right) + between[at + 1]
+            (self.crate / path).write_text("\n".join(lines), encoding="utf-8")
         ran = subprocess.run(["rt", "check", "--jobs", "1"], cwd=self.crate, capture_output=True, text=True)
-        for path, _ in bodies:
-            shutil.copyfile(self.source / path, self.crate / path)
-        return ran.stdout if ran.returncode == 1 and re.search(r"^logic=not-proved", ran.stdout, re.M) else None
+        for path in touched:
+            (self.crate / path).write_text(self.texts[path], encoding="utf-8")
+        return ran.stdout if ran.returncode == 1 and re.search(r"^logic=not-proved", ran.stdout, re.M) else ""
+
+    def key(self, function):
+        """What the prover's name of a function tells of it: functions that have the same one are not told apart."""
+        it = self.functions[function]
+        return it.name, it.type or function[0], it.trait
+
+    def named(self, words):
+        """The functions that the prover may mean by a name, without the crate's."""
+        found = set()
+        for (path, at), it in self.functions.items():
+            module = [part for part in Path(path).with_suffix("").parts[1:] if part not in ("lib", "main")]
+            owner = words[-2] if len(words) > 1 else ""
+            of_trait = it.trait in owner and owner.removeprefix("Ref").startswith(it.type) if it.trait else False
+            if words[-1] == it.name and (owner == it.type or of_trait if it.type else words[:-1] == module):
+                found.add((path, at))
+        return found
+
+    def located(self, path, line):
+        """The function on whose lines this one stands, or on those above it that belong to it."""
+        return {key for key, it in self.functions.items() if key[0] == path and it.head <= line < it.end}
+
+    def answered(self, folder, goal):
+        """The functions of which this is a goal, in this folder of proofs. That of a cycle of calls has the goals of all its functions."""
+        words = folder.replace("+", "").split("/")
+        prefixes = {goal[:at] for at in range(1, len(goal)) if goal[at] == "-"} if "+" in folder else set()
+        of_cycle = [it for prefix in sorted(prefixes, key=len, reverse=True) for it in [self.named([*words[:-1], prefix])] if it]
+        return of_cycle[0] if of_cycle else self.named(words)
 
 
-def next_batch(left, bodies, source, most):
-    """Some of these wrong bodies, no two of which are of functions that the prover might name alike."""
-    batch, taken = [], set()
-    for edit in left:
-        names = {(path, parts((source / path).read_text(encoding="utf-8"))[0][at][0]) for path, at in bodies[edit]}
-        if len(batch) < most and not names & taken:
-            batch.append(edit)
-            taken |= names
-    return batch
+PROVED = re.compile(r"fn \w+::(\S+): proved$")
+OPEN_GOAL = re.compile(r"note: (?:\./)?(src/\S+?):(\d+):\d+: it is not proved that ")
+OPEN_ANSWER = re.compile(r"(?:\./)?proofs/(\S+)/(?:Answers|Invariants|Proof)\.antt:\d+:\d+: error: `([^`]*)`")
+# what a proof file says that names something which a wrong body took away
+LACKS = re.compile(r"has no field|is not in scope|has no `|was not admitted")
 
 
-def try_together(edits, room):
+def judged(room, output):
+    """The functions that the prover refuses for what they do themselves, and those that it proves."""
+    refused, proved = set(), set()
+    for line in output.split("\n"):
+        goal, answer, whole = OPEN_GOAL.match(line), OPEN_ANSWER.match(line), PROVED.match(line)
+        if goal:
+            refused |= room.located(goal[1], int(goal[2]) - 1) or {None}
+        elif answer and not LACKS.search(line):
+            refused |= room.answered(answer[1], answer[2]) or {None}
+        elif whole:
+            proved |= room.named(whole[1].split("::"))
+    return refused, proved - refused
+
+
+def try_together(edits, room, say):
     """Those of these wrong bodies of a crate that are refused for sure, where many are tried in one check."""
     bodies = {it: changed(it) for it in edits}
     left, sure, most = [it for it in edits if bodies[it]], set(), len(edits)
     while left:
-        batch = next_batch(left, bodies, room.source, most)
-        output = room.check({function: lines for it in batch for function, lines in bodies[it].items()})
-        refused, proved = judged(output or "")
-        names = {it: {told for told in refused | proved if any(is_of(told, room.source, function) for function in bodies[it])} for it in batch}
-        told = {it for it in batch if names[it] & refused}
-        passed = {it for it in batch if names[it] and names[it] <= proved}
-        if refused - set().union(*(names[it] for it in batch)):
-            # it is one of these that disturbs another function, so nothing of this is sure
-            told = passed = set()
+        batch, taken = [], set()
+        for edit in left:
+            keys = {room.key(it) for it in bodies[edit]}
+            if len(batch) < most and not keys & taken:
+                batch.append(edit)
+                taken |= keys
+        refused, proved = judged(room, room.check({it: lines for edit in batch for it, lines in bodies[edit].items()}))
+        if [it for it in refused if it is None or room.key(it) not in taken]:
+            # something disturbs other functions, so nothing of this is sure
+            refused = proved = set()
+        told = [it for it in batch if refused & set(bodies[it])]
+        passed = [it for it in batch if it not in told and proved >= set(bodies[it])]
+        sure |= set(told)
+        left = [it for it in left if it not in told + passed]
         if told or passed:
-            sure |= told
-            left, most = [it for it in left if it not in told | passed], len(edits)
+            most = min(2 * most, len(edits))
         elif len(batch) > 1:
             most = len(batch) // 2
         else:
             left.remove(batch[0])
+        say(f"{room.source.name}: {len(batch)} in one check, {len(told)} of them refused, {len(left)} left")
     return sure
