@@ -188,8 +188,8 @@ def vectors():
             ('["a"]', '["a"]', 64))
     for part, shown, times in rows:
         n = fitting(part, 2)
-        # Each of these is a block of its own, some 70 bytes with its place in the vector, beside two of text.
-        takes_blocks = part in ("a ", '""')
+        # Each string is a block of its own, some 70 bytes with its place in the vector, beside two of text. Names that come again share.
+        takes_blocks = part == '""'
         yield Case(f"a vector of {part.strip()}", listed(part, n), element("[", joined(shown, n), "]"), times, takes_blocks)
     n = fitting("0 ")
     trailing = refused("Trailing at 2")

@@ -113,7 +113,7 @@ class Room:
         repository.link_tree(self.source / "out" / "incremental", self.crate / "out" / "incremental", links="*.oantt")
 
     def check(self, bodies):
-        """What the prover says of these bodies, or nothing where it comes to no verdict."""
+        """What is said of these bodies."""
         self.begin()
         touched = {path for path, _ in bodies}
         for path in touched:
@@ -125,7 +125,7 @@ class Room:
         ran = subprocess.run(["rt", "check", "--jobs", "1"], cwd=self.crate, capture_output=True, text=True)
         for path in touched:
             (self.crate / path).write_text(self.texts[path], encoding="utf-8")
-        return ran.stdout if ran.returncode == 1 and re.search(r"^logic=not-proved", ran.stdout, re.M) else ""
+        return ran.stdout
 
     def key(self, function):
         """What the prover's name of a function tells of it: functions that have the same one are not told apart."""
@@ -138,7 +138,8 @@ class Room:
         for (path, at), it in self.functions.items():
             module = [part for part in Path(path).with_suffix("").parts[1:] if part not in ("lib", "main")]
             owner = words[-2] if len(words) > 1 else ""
-            of_trait = it.trait in owner and owner.removeprefix("Ref").startswith(it.type) if it.trait else False
+            # a trait's method is told by the type, with Ref before it where it is a reference, and the trait
+            of_trait = it.trait and owner.startswith((it.type + it.trait, "Ref" + it.type + it.trait))
             if words[-1] == it.name and (owner == it.type or of_trait if it.type else words[:-1] == module):
                 found.add((path, at))
         return found
@@ -147,15 +148,24 @@ class Room:
         """The function on whose lines this one stands, or on those above it that belong to it."""
         return {key for key, it in self.functions.items() if key[0] == path and it.head <= line < it.end}
 
+    def is_in_cycle(self, function, name):
+        """Whether a function is said to be in the cycle of calls that another one gives its name."""
+        it, lines = self.functions[function], self.texts[function[0]].split("\n")
+        return any(f"#[cycle({name})]" in line for line in lines[it.head : it.first])
+
     def answered(self, folder, goal):
-        """The functions of which this is a goal, in this folder of proofs. That of a cycle of calls has the goals of all its functions."""
+        """The functions of which this is a goal, in this folder of proofs. That of a cycle of calls has the goals of all its functions,
+        each behind the function's name."""
         words = folder.replace("+", "").split("/")
-        prefixes = {goal[:at] for at in range(1, len(goal)) if goal[at] == "-"} if "+" in folder else set()
-        of_cycle = [it for prefix in sorted(prefixes, key=len, reverse=True) for it in [self.named([*words[:-1], prefix])] if it]
-        return of_cycle[0] if of_cycle else self.named(words)
+        for at in (at for at in range(len(goal), 0, -1) if goal[at : at + 1] == "-"):
+            found = {it for it in self.named([*words[:-1], goal[:at]]) if self.is_in_cycle(it, words[-1])}
+            if found:
+                return found
+        return self.named(words)
 
 
 PROVED = re.compile(r"fn \w+::(\S+): proved$")
+UNCOMPILED = re.compile(r"(?:\./)?(src/\S+?):(\d+):\d+: error\[")
 OPEN_GOAL = re.compile(r"note: (?:\./)?(src/\S+?):(\d+):\d+: it is not proved that ")
 OPEN_ANSWER = re.compile(r"(?:\./)?proofs/(\S+)/(?:Answers|Invariants|Proof)\.antt:\d+:\d+: error: `([^`]*)`")
 # what a proof file says that names something which a wrong body took away
@@ -163,9 +173,13 @@ LACKS = re.compile(r"has no field|is not in scope|has no `|was not admitted")
 
 
 def judged(room, output):
-    """The functions that the prover refuses for what they do themselves, and those that it proves."""
-    refused, proved = set(), set()
-    for line in output.split("\n"):
+    """The functions that the prover refuses for what they do themselves, those that it proves, and those that don't compile, for which
+    it has judged none. Where it comes to no verdict there are none of the first two."""
+    lines, refused, proved = output.split("\n"), set(), set()
+    faults = [it for it in map(UNCOMPILED.match, lines) if it]
+    if faults or not [it for it in lines if it.startswith("logic=not-proved")]:
+        return set(), set(), set().union(*(room.located(it[1], int(it[2]) - 1) for it in faults))
+    for line in lines:
         goal, answer, whole = OPEN_GOAL.match(line), OPEN_ANSWER.match(line), PROVED.match(line)
         if goal:
             refused |= room.located(goal[1], int(goal[2]) - 1) or {None}
@@ -173,7 +187,7 @@ def judged(room, output):
             refused |= room.answered(answer[1], answer[2]) or {None}
         elif whole:
             proved |= room.named(whole[1].split("::"))
-    return refused, proved - refused
+    return refused, proved - refused, set()
 
 
 def try_together(edits, room, say):
@@ -187,12 +201,12 @@ def try_together(edits, room, say):
             if len(batch) < most and not keys & taken:
                 batch.append(edit)
                 taken |= keys
-        refused, proved = judged(room, room.check({it: lines for edit in batch for it, lines in bodies[edit].items()}))
+        refused, proved, uncompiled = judged(room, room.check({it: lines for edit in batch for it, lines in bodies[edit].items()}))
         if [it for it in refused if it is None or room.key(it) not in taken]:
             # something disturbs other functions, so nothing of this is sure
             refused = proved = set()
         told = [it for it in batch if refused & set(bodies[it])]
-        passed = [it for it in batch if it not in told and proved >= set(bodies[it])]
+        passed = [it for it in batch if it not in told and (proved >= set(bodies[it]) or uncompiled & set(bodies[it]))]
         sure |= set(told)
         left = [it for it in left if it not in told + passed]
         if told or passed:
