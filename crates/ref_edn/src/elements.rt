@@ -5,7 +5,7 @@
 //!
 //! The members of a map and a set are kept in the order of reading, each with its place, and sorted at the closing
 //! bracket or at a fault. Then equals stand side by side, so that the first one that is there already is known.
-ghost use Rattle.std.specs.Prelude.{◌≡◌, ◌<◌, ◌≤◌, [], ◌∷◌, ◌++◌, length, IsTrue, IfOk, OnOk};
+ghost use Rattle.std.specs.Prelude.{◌≡◌, ◌<◌, ◌≤◌, [], ◌∷◌, ◌++◌, length, IsTrue, IfOk};
 ghost use Rattle.ref_edn.specs.Edn.{items_of, entries_of};
 ghost use Rattle.ref_edn.specs.Faults.{Gives};
 ghost use Rattle.ref_edn.specs.Marks.{Falls, elements_of, first_twice, keys_of, pairs_of};
@@ -18,15 +18,15 @@ use crate::blanks::{after_spaces, is_discard, line_end, may_be_blank, opens_set}
 use crate::bytes::{after, is_close, starts_token};
 use crate::data::{Node, Value};
 use crate::faults::{Kind, ReadError};
-use crate::known::Names;
 use crate::maps::Entries;
 use crate::members::{into_pairs, into_values, sort_elements, sort_entries};
+use crate::scratch::Scratch;
 use crate::sets::Elements;
 use crate::sort_keys::Keyed;
 use crate::string_reader::string;
 use crate::token_reader::token;
 use crate::vectors::Items;
-use std::alloc::{AllocError, Global};
+use std::alloc::Global;
 use std::cmp::Reverse;
 
 // The element at the front, where it is no collection.
@@ -34,7 +34,7 @@ use std::cmp::Reverse;
 #[tactic(auto, unfolding(crate::specs::ReadParts::single_at))]
 fn single<'a>(
     alloc: Global,
-    names: &mut Names,
+    scratch: &mut Scratch,
     text: &'a [u8],
 ) -> Result<(Value, &'a [u8]), ReadError>
     requires { 0 < length text.now }
@@ -43,9 +43,9 @@ fn single<'a>(
 {
     let first = text[0];
     if first == b'"' {
-        string(alloc, text)
+        string(alloc, &mut scratch.interner, text)
     } else if starts_token(first) {
-        token(alloc, names, text)
+        token(alloc, &mut scratch.interner, text)
     } else if is_close(first) {
         Err(ReadError::at(Kind::WrongClose, text))
     } else if first == b'#' || first == b'\\' {
@@ -61,7 +61,7 @@ fn single<'a>(
 #[tactic(auto, using(crate::proofs::Turns::skips_none))]
 pub(crate) fn skip<'a>(
     alloc: Global,
-    names: &mut Names,
+    scratch: &mut Scratch,
     text: &'a [u8],
     room: u8,
 ) -> Result<&'a [u8], ReadError>
@@ -77,7 +77,7 @@ pub(crate) fn skip<'a>(
             return Ok(rest);
         }
     }
-    pass(alloc, names, text, room)
+    pass(alloc, scratch, text, room)
 }
 
 // The same, turn by turn.
@@ -85,7 +85,7 @@ pub(crate) fn skip<'a>(
 #[cycle(read)]
 fn pass<'a>(
     alloc: Global,
-    names: &mut Names,
+    scratch: &mut Scratch,
     text: &'a [u8],
     room: u8,
 ) -> Result<&'a [u8], ReadError>
@@ -98,7 +98,7 @@ fn pass<'a>(
         if rest[0] == b';' {
             rest = after_spaces(line_end(rest));
         } else if is_discard(rest) {
-            rest = after_spaces(discarded(alloc, names, rest, room)?);
+            rest = after_spaces(discarded(alloc, scratch, rest, room)?);
         } else {
             return Ok(rest);
         }
@@ -111,7 +111,7 @@ fn pass<'a>(
 #[tactic(auto, unfolding(crate::specs::ReadParts::discarded_at))]
 fn discarded<'a>(
     alloc: Global,
-    names: &mut Names,
+    scratch: &mut Scratch,
     text: &'a [u8],
     room: u8,
 ) -> Result<&'a [u8], ReadError>
@@ -123,8 +123,8 @@ fn discarded<'a>(
     if room == 0 {
         return Err(ReadError::at(Kind::TooDeep, text));
     }
-    let start = skip(alloc, names, after(text, 2), room - 1)?;
-    let (_, rest) = read(alloc, names, start, room - 1)?;
+    let start = skip(alloc, scratch, after(text, 2), room - 1)?;
+    let (_, rest) = read(alloc, scratch, start, room - 1)?;
     Ok(rest)
 }
 
@@ -133,7 +133,7 @@ fn discarded<'a>(
 #[tactic(auto, using(crate::proofs::Turns::read_is), unfolding(crate::specs::Reading::read_with, crate::specs::ReadParts::single_at))]
 pub(crate) fn read<'a>(
     alloc: Global,
-    names: &mut Names,
+    scratch: &mut Scratch,
     text: &'a [u8],
     room: u8,
 ) -> Result<(Value, &'a [u8]), ReadError>
@@ -143,17 +143,17 @@ pub(crate) fn read<'a>(
 {
     match text {
         [] => Err(ReadError::at(Kind::EndsEarly, text)),
-        [b'[', ..] => vector(alloc, names, text, room, b']'),
-        [b'(', ..] => vector(alloc, names, text, room, b')'),
-        [b'{', ..] => mapping(alloc, names, text, room),
+        [b'[', ..] => vector(alloc, scratch, text, room, b']'),
+        [b'(', ..] => vector(alloc, scratch, text, room, b')'),
+        [b'{', ..] => mapping(alloc, scratch, text, room),
         [b'#', ..] => {
             if opens_set(text) {
-                collection(alloc, names, text, room)
+                collection(alloc, scratch, text, room)
             } else {
-                single(alloc, names, text)
+                single(alloc, scratch, text)
             }
         }
-        [_, ..] => single(alloc, names, text),
+        [_, ..] => single(alloc, scratch, text),
     }
 }
 
@@ -161,7 +161,7 @@ pub(crate) fn read<'a>(
 #[tactic(auto, unfolding(crate::specs::ReadParts::vector_at, crate::specs::ReadParts::items_at, crate::specs::Reading::vector_with))]
 fn vector<'a>(
     alloc: Global,
-    names: &mut Names,
+    scratch: &mut Scratch,
     text: &'a [u8],
     room: u8,
     close: u8,
@@ -174,8 +174,13 @@ fn vector<'a>(
     if room == 0 {
         return Err(ReadError::at(Kind::TooDeep, text));
     }
-    let (items, rest) = items(alloc, names, after(text, 1), room - 1, close)?;
-    let items = Items::of(alloc, items)?;
+    let (mut list, rest) = items(alloc, scratch, after(text, 1), room - 1, close)?;
+    if list.is_empty() {
+        scratch.give_back(list);
+        return Ok((scratch.interner.empty_vector(alloc)?, rest));
+    }
+    let items = Items::drained(alloc, &mut list)?;
+    scratch.give_back(list);
     let _deepest = items.deepest();
     Ok((Value::of_lawful(Node::Vector(items)), rest))
 }
@@ -184,7 +189,7 @@ fn vector<'a>(
 #[tactic(auto, unfolding(crate::specs::ReadParts::mapping_at, crate::specs::ReadParts::map_at, crate::specs::Reading::mapping_with))]
 fn mapping<'a>(
     alloc: Global,
-    names: &mut Names,
+    scratch: &mut Scratch,
     text: &'a [u8],
     room: u8,
 ) -> Result<(Value, &'a [u8]), ReadError>
@@ -196,7 +201,7 @@ fn mapping<'a>(
     if room == 0 {
         return Err(ReadError::at(Kind::TooDeep, text));
     }
-    let (pairs, rest) = entries(alloc, names, after(text, 1), room - 1)?;
+    let (pairs, rest) = entries(alloc, scratch, after(text, 1), room - 1)?;
     let entries = Entries::built(alloc, pairs)?;
     let _deepest = entries.deepest();
     Ok((Value::of_lawful(Node::Map(entries)), rest))
@@ -206,7 +211,7 @@ fn mapping<'a>(
 #[tactic(auto, unfolding(crate::specs::ReadParts::collection_at, crate::specs::ReadParts::set_at, crate::specs::Reading::collection_with))]
 fn collection<'a>(
     alloc: Global,
-    names: &mut Names,
+    scratch: &mut Scratch,
     text: &'a [u8],
     room: u8,
 ) -> Result<(Value, &'a [u8]), ReadError>
@@ -218,7 +223,7 @@ fn collection<'a>(
     if room == 0 {
         return Err(ReadError::at(Kind::TooDeep, text));
     }
-    let (values, rest) = elements(alloc, names, after(text, 2), room - 1)?;
+    let (values, rest) = elements(alloc, scratch, after(text, 2), room - 1)?;
     let elements = Elements::built(alloc, values)?;
     let _deepest = elements.deepest();
     Ok((Value::of_lawful(Node::Set(elements)), rest))
@@ -231,7 +236,7 @@ fn collection<'a>(
 #[tactic(auto, unfolding(crate::specs::ReadParts::next_at, crate::specs::ReadParts::next_step))]
 fn next<'a>(
     alloc: Global,
-    names: &mut Names,
+    scratch: &mut Scratch,
     text: &'a [u8],
     room: u8,
     close: u8,
@@ -241,14 +246,14 @@ fn next<'a>(
     ensures shorter { IfOk result (λ r. length r.2.now < length r.0.now) }
     ensures start { IfOk result (λ r. length r.0.now ≤ length text.now) }
 {
-    let start = skip(alloc, names, text, room)?;
+    let start = skip(alloc, scratch, text, room)?;
     if start.is_empty() {
         return Err(ReadError::at(Kind::EndsEarly, start));
     }
     if start[0] == close {
         return Ok((start, None, after(start, 1)));
     }
-    let (value, rest) = read(alloc, names, start, room)?;
+    let (value, rest) = read(alloc, scratch, start, room)?;
     Ok((start, Some(value), rest))
 }
 
@@ -257,7 +262,7 @@ fn next<'a>(
 #[tactic(auto, unfolding(crate::specs::ReadParts::value_at, crate::specs::Reading::value_step))]
 fn value<'a>(
     alloc: Global,
-    names: &mut Names,
+    scratch: &mut Scratch,
     text: &'a [u8],
     room: u8,
 ) -> Result<(Value, &'a [u8]), ReadError>
@@ -265,33 +270,21 @@ fn value<'a>(
     ensures value { Gives (λ r. (r.0, r.1.now)) result (value_at room text.now) }
     ensures shorter { IfOk result (λ r. length r.1.now < length text.now) }
 {
-    let start = skip(alloc, names, text, room)?;
+    let start = skip(alloc, scratch, text, room)?;
     if start.is_empty() {
         return Err(ReadError::at(Kind::EndsEarly, start));
     }
     if start[0] == b'}' {
         return Err(ReadError::at(Kind::OddMap, start));
     }
-    read(alloc, names, start, room)
-}
-
-// Puts an element behind those that were found. There is room for two at first, since most small collections have no more.
-#[inline(always)]
-fn keep(found: &mut Vec<Value>, item: Value) -> Result<(), AllocError>
-    ensures { OnOk result (found.new.items ≡ found.old.items ++ item ∷ []) }
-{
-    if found.is_empty() {
-        found.reserve_exact(2)?;
-    }
-    found.push(item)?;
-    Ok(())
+    read(alloc, scratch, start, room)
 }
 
 // The elements up to what closes them.
 #[cycle(read)]
 fn items<'a>(
     alloc: Global,
-    names: &mut Names,
+    scratch: &mut Scratch,
     text: &'a [u8],
     room: u8,
     close: u8,
@@ -300,14 +293,14 @@ fn items<'a>(
     ensures value { Gives (λ r. (r.0.items, r.1.now)) result (items_at room close text.now) }
     ensures shorter { IfOk result (λ r. length r.1.now < length text.now) }
 {
-    let mut found = Vec::new(alloc);
+    let mut found = scratch.list(alloc);
     let mut rest = text;
     loop {
-        let (_, item, behind) = next(alloc, names, rest, room, close)?;
+        let (_, item, behind) = next(alloc, scratch, rest, room, close)?;
         let Some(item) = item else {
             return Ok((found, behind));
         };
-        keep(&mut found, item)?;
+        found.push(item)?;
         rest = behind;
     }
 }
@@ -317,7 +310,7 @@ fn items<'a>(
 #[cycle(read)]
 fn marked_elements<'a>(
     alloc: Global,
-    names: &mut Names,
+    scratch: &mut Scratch,
     text: &'a [u8],
     room: u8,
     found: &mut Vec<(Keyed, Reverse<usize>)>,
@@ -333,7 +326,7 @@ fn marked_elements<'a>(
 {
     let mut rest = text;
     loop {
-        let (start, element, behind) = next(alloc, names, rest, room, b'}')?;
+        let (start, element, behind) = next(alloc, scratch, rest, room, b'}')?;
         let Some(element) = element else {
             return Ok(behind);
         };
@@ -346,7 +339,7 @@ fn marked_elements<'a>(
 #[cycle(read)]
 fn elements<'a>(
     alloc: Global,
-    names: &mut Names,
+    scratch: &mut Scratch,
     text: &'a [u8],
     room: u8,
 ) -> Result<(Vec<Value>, &'a [u8]), ReadError>
@@ -356,7 +349,7 @@ fn elements<'a>(
     ensures shorter { IfOk result (λ r. length r.1.now < length text.now) }
 {
     let mut found = Vec::new(alloc);
-    let end = marked_elements(alloc, names, text, room, &mut found);
+    let end = marked_elements(alloc, scratch, text, room, &mut found);
     let left = sort_elements(&mut found);
     if left > 0 {
         return Err(ReadError::duplicate(left));
@@ -370,7 +363,7 @@ fn elements<'a>(
 #[cycle(read)]
 fn marked_entries<'a>(
     alloc: Global,
-    names: &mut Names,
+    scratch: &mut Scratch,
     text: &'a [u8],
     room: u8,
     found: &mut Vec<((Keyed, Reverse<usize>), Value)>,
@@ -387,12 +380,12 @@ fn marked_entries<'a>(
 {
     let mut rest = text;
     loop {
-        let (start, key, behind) = next(alloc, names, rest, room, b'}')?;
+        let (start, key, behind) = next(alloc, scratch, rest, room, b'}')?;
         let Some(key) = key else {
             return Ok(behind);
         };
         let key = (Keyed::of(key), Reverse(start.len()));
-        match value(alloc, names, behind, room) {
+        match value(alloc, scratch, behind, room) {
             Ok((value, behind)) => {
                 found.push((key, value))?;
                 rest = behind;
@@ -409,7 +402,7 @@ fn marked_entries<'a>(
 #[cycle(read)]
 fn entries<'a>(
     alloc: Global,
-    names: &mut Names,
+    scratch: &mut Scratch,
     text: &'a [u8],
     room: u8,
 ) -> Result<(Vec<(Value, Value)>, &'a [u8]), ReadError>
@@ -419,7 +412,7 @@ fn entries<'a>(
     ensures shorter { IfOk result (λ r. length r.1.now < length text.now) }
 {
     let mut found = Vec::new(alloc);
-    let end = marked_entries(alloc, names, text, room, &mut found);
+    let end = marked_entries(alloc, scratch, text, room, &mut found);
     let left = sort_entries(&mut found);
     if left > 0 {
         return Err(ReadError::duplicate(left));

@@ -9,7 +9,7 @@ ghost use Rattle.ref_edn.specs.Reading.{one, all};
 use crate::data::{MOST_NESTED, Value};
 use crate::elements::{read, skip};
 use crate::faults::{Kind, ReadError, ReadFault, fault_at};
-use crate::known::Names;
+use crate::scratch::Scratch;
 use std::alloc::Global;
 
 /// The value of a text that is one element.
@@ -75,13 +75,13 @@ fn public(text: &[u8], error: ReadError) -> ReadFault
 fn whole(alloc: Global, text: &[u8]) -> Result<Value, ReadError>
     ensures { Gives (λ v. v) result (whole_at text.now) }
 {
-    let mut names = Names::of_text(alloc, text);
-    let start = skip(alloc, &mut names, text, MOST_NESTED)?;
+    let mut scratch = Scratch::for_text(alloc, text);
+    let start = skip(alloc, &mut scratch, text, MOST_NESTED)?;
     if start.is_empty() {
         return Err(ReadError::at(Kind::Nothing, start));
     }
-    let (value, after) = read(alloc, &mut names, start, MOST_NESTED)?;
-    let rest = skip(alloc, &mut names, after, MOST_NESTED)?;
+    let (value, after) = read(alloc, &mut scratch, start, MOST_NESTED)?;
+    let rest = skip(alloc, &mut scratch, after, MOST_NESTED)?;
     if !rest.is_empty() {
         return Err(ReadError::at(Kind::Trailing, rest));
     }
@@ -91,15 +91,15 @@ fn whole(alloc: Global, text: &[u8]) -> Result<Value, ReadError>
 fn series(alloc: Global, text: &[u8]) -> Result<Vec<Value>, ReadError>
     ensures { Gives (λ v. v.items) result (series_at text.now) }
 {
-    let mut names = Names::of_text(alloc, text);
+    let mut scratch = Scratch::for_text(alloc, text);
     let mut found = Vec::new(alloc);
     let mut rest = text;
     loop {
-        let start = skip(alloc, &mut names, rest, MOST_NESTED)?;
+        let start = skip(alloc, &mut scratch, rest, MOST_NESTED)?;
         if start.is_empty() {
             return Ok(found);
         }
-        let (value, behind) = read(alloc, &mut names, start, MOST_NESTED)?;
+        let (value, behind) = read(alloc, &mut scratch, start, MOST_NESTED)?;
         found.push(value)?;
         rest = behind;
     }

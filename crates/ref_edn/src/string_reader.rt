@@ -1,15 +1,17 @@
 //! Strings and their escapes.
-ghost use Rattle.std.specs.Prelude.{◌≡◌, ◌<◌, ℕ, ◌++◌, length, drop, IfOk, IfSome, IfNone, OnOk, encode_utf8};
+ghost use Rattle.std.specs.Prelude.{◌≡◌, ◌<◌, ℕ, ◌++◌, length, drop, Ok, IfOk, IfSome, IfNone, IsUtf8, OnOk, encode_utf8};
 ghost use Rattle.std.specs.Char.{digit_value};
 ghost use Rattle.std.specs.Option.{SomeIff};
-ghost use Rattle.ref_edn.specs.Edn.{nesting};
+ghost use Rattle.ref_edn.specs.Edn.{nesting, string as string_of};
 ghost use Rattle.ref_edn.specs.Faults.{Gives};
 ghost use Rattle.ref_edn.specs.Grammar.{NamesChar};
+ghost use Rattle.ref_edn.specs.Lawful.{IsLawful};
 ghost use Rattle.ref_edn.specs.ReadTokens.{escape_of, hex_at, escape_at, body_at, string_at};
 
 use crate::bytes::after;
 use crate::data::{Node, Value};
 use crate::faults::{Kind, ReadError};
+use crate::interner::Interner;
 use crate::texts::Text;
 use memchr::memchr2;
 use std::alloc::{AllocError, Global};
@@ -107,17 +109,65 @@ fn body(alloc: Global, text: &[u8]) -> Result<(Vec<u8>, &[u8]), ReadError>
     Err(ReadError::at(Kind::EndsEarly, &[]))
 }
 
+// The content of a string without escapes, behind its opening quote, and what follows its closing quote.
+fn plain(text: &[u8]) -> Option<(&[u8], &[u8])>
+    ensures value { IfSome result (λ r. body_at text.now ≡ Ok (r.0.now, r.1.now)) }
+    ensures shorter { IfSome result (λ r. length r.1.now < length text.now) }
+{
+    let i = memchr2(b'"', b'\\', text)?;
+    let at = after(text, i);
+    if at[0] == b'"' {
+        Some((&text[..i], after(at, 1)))
+    } else {
+        None
+    }
+}
+
+// The string of a content that has no escapes, where it is UTF-8.
+fn plain_string(
+    alloc: Global,
+    interner: &mut Interner,
+    content: &[u8],
+) -> Result<Option<Value>, AllocError>
+    ensures some { IfOk result (λ found. IfSome found (λ v. v ≡ string_of content.now)) }
+    ensures lawful { IfOk result (λ found. IfSome found IsLawful) }
+    ensures none { IfOk result (λ found. IfNone found (¬ IsUtf8 content.now)) }
+{
+    if let Some(value) = interner.string(content)? {
+        return Ok(Some(value));
+    }
+    match str::from_utf8(content) {
+        Ok(_) => {
+            let text = Text::of_bytes(alloc, content)?;
+            let value = Value::of_lawful(Node::Str(text));
+            Ok(Some(interner.kept(content, value)?))
+        }
+        Err(_) => Ok(None),
+    }
+}
+
 /// The value of the string at the front of a text, and what follows it.
 ///
 /// The bytes of a string in a text in UTF-8 are UTF-8, so that it is no fault then.
 #[tactic(auto, using(crate::proofs::Strings::utf8_tested), unfolding(crate::specs::ReadTokens::string_at))]
-pub(crate) fn string(alloc: Global, text: &[u8]) -> Result<(Value, &[u8]), ReadError>
+pub(crate) fn string<'a>(
+    alloc: Global,
+    interner: &mut Interner,
+    text: &'a [u8],
+) -> Result<(Value, &'a [u8]), ReadError>
     requires { 0 < length text.now }
     ensures value { Gives (λ r. (r.0, r.1.now)) result (string_at text.now) }
     ensures shorter { IfOk result (λ r. length r.1.now < length text.now) }
     ensures depth { IfOk result (λ r. nesting r.0 ≡ 0) }
 {
-    let (bytes, rest) = body(alloc, after(text, 1))?;
+    let inside = after(text, 1);
+    if let Some((content, rest)) = plain(inside) {
+        return match plain_string(alloc, interner, content)? {
+            Some(value) => Ok((value, rest)),
+            None => Err(ReadError::at(Kind::NotUtf8, text)),
+        };
+    }
+    let (bytes, rest) = body(alloc, inside)?;
     match String::from_utf8(bytes) {
         Ok(content) => {
             let content = Text::of(alloc, content)?;

@@ -13,7 +13,7 @@ ghost use Rattle.ref_edn.specs.ReadTokens.{starts_number as starts_number_text, 
 use crate::bytes::{after, is_delimiter, is_digit, token_end};
 use crate::data::{Node, Value};
 use crate::faults::{Kind, ReadError};
-use crate::known::Names;
+use crate::interner::Interner;
 use crate::names::{is_keyword, is_same, is_symbol};
 use crate::texts::Text;
 use std::alloc::{AllocError, Global};
@@ -240,25 +240,33 @@ fn number(word: &[u8]) -> Result<Value, Kind>
 
 // The value of a keyword, of which this is what stands behind the colon.
 #[tactic(auto, using(crate::proofs::NameParts::name_utf8), unfolding(crate::specs::ReadTokens::keyword_value))]
-fn keyword(alloc: Global, names: &mut Names, name: &[u8]) -> Result<Result<Value, Kind>, AllocError>
+fn keyword(
+    alloc: Global,
+    interner: &mut Interner,
+    name: &[u8],
+) -> Result<Result<Value, Kind>, AllocError>
     ensures { IfOk result (λ r. r ≡ keyword_value name.now) }
 {
-    if let Some(value) = names.keyword(name)? {
+    if let Some(value) = interner.keyword(name)? {
         return Ok(Ok(value));
     }
     if !is_keyword(name) {
         return Ok(Err(Kind::BadName));
     }
     let text = Text::of_bytes(alloc, name)?;
-    Ok(Ok(names.kept(name, Value::of_lawful(Node::Keyword(text)))?))
+    Ok(Ok(interner.kept(name, Value::of_lawful(Node::Keyword(text)))?))
 }
 
 // The value of a symbol, or of a word that is a value of its own.
 #[tactic(auto, using(crate::proofs::NameParts::symbol_utf8, crate::proofs::Tokens::symbol_word), unfolding(crate::specs::ReadTokens::word_value))]
-fn symbol(alloc: Global, names: &mut Names, word: &[u8]) -> Result<Result<Value, Kind>, AllocError>
+fn symbol(
+    alloc: Global,
+    interner: &mut Interner,
+    word: &[u8],
+) -> Result<Result<Value, Kind>, AllocError>
     ensures { IfOk result (λ r. r ≡ word_value word.now) }
 {
-    if let Some(value) = names.symbol(word)? {
+    if let Some(value) = interner.symbol(word)? {
         return Ok(Ok(value));
     }
     Ok(Ok(if is_same(word, b"nil") {
@@ -269,7 +277,7 @@ fn symbol(alloc: Global, names: &mut Names, word: &[u8]) -> Result<Result<Value,
         Value::of_lawful(Node::Bool(false))
     } else if is_symbol(word) {
         let text = Text::of_bytes(alloc, word)?;
-        names.kept(word, Value::of_lawful(Node::Symbol(text)))?
+        interner.kept(word, Value::of_lawful(Node::Symbol(text)))?
     } else {
         return Ok(Err(Kind::BadName));
     }))
@@ -278,7 +286,7 @@ fn symbol(alloc: Global, names: &mut Names, word: &[u8]) -> Result<Result<Value,
 #[tactic(auto, unfolding(crate::specs::ReadTokens::token_value))]
 fn token_value(
     alloc: Global,
-    names: &mut Names,
+    interner: &mut Interner,
     word: &[u8],
 ) -> Result<Result<Value, Kind>, AllocError>
     ensures { IfOk result (λ r. r ≡ value_of_token word.now) }
@@ -287,8 +295,8 @@ fn token_value(
         return Ok(number(word));
     }
     match word {
-        [b':', name @ ..] => keyword(alloc, names, name),
-        _ => symbol(alloc, names, word),
+        [b':', name @ ..] => keyword(alloc, interner, name),
+        _ => symbol(alloc, interner, word),
     }
 }
 
@@ -296,7 +304,7 @@ fn token_value(
 #[tactic(auto, using(crate::proofs::Tokens::value_flat), unfolding(crate::specs::ReadTokens::token_at))]
 pub(crate) fn token<'a>(
     alloc: Global,
-    names: &mut Names,
+    interner: &mut Interner,
     text: &'a [u8],
 ) -> Result<(Value, &'a [u8]), ReadError>
     ensures value { Gives (λ r. (r.0, r.1.now)) result (token_at text.now) }
@@ -307,7 +315,7 @@ pub(crate) fn token<'a>(
         return Ok((Value::of_lawful(Node::Int(n)), rest));
     }
     let (word, rest) = text.split_at(token_end(text));
-    match token_value(alloc, names, word)? {
+    match token_value(alloc, interner, word)? {
         Ok(value) => Ok((value, rest)),
         Err(kind) => Err(ReadError::at(kind, text)),
     }

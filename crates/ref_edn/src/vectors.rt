@@ -73,6 +73,16 @@ impl Items {
         Ok(Items { tree })
     }
 
+    // The elements of a list, which leave it. Up to 32 leave it its room.
+    #[tactic(auto, using(crate::proofs::Pairing::singles_twins, crate::proofs::Pairing::twins_are))]
+    pub(crate) fn drained(alloc: Global, list: &mut Vec<Value>) -> Result<Items, AllocError>
+        ensures { IfOk result (λ xs. xs ≡ list.old.items) }
+    {
+        let tree = Tree::drained(alloc, false, list)?;
+        let _height = tree.height();
+        Ok(Items { tree })
+    }
+
     #[tactic(auto, using(crate::proofs::Pairing::length_singles))]
     pub fn len(&self) -> usize
         ensures { result ≡ length self.now }

@@ -15,6 +15,8 @@ mod printing;
 #[cfg(test)]
 mod reading;
 #[cfg(test)]
+mod repeats;
+#[cfg(test)]
 mod streams;
 #[cfg(test)]
 mod texts;

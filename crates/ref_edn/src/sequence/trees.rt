@@ -11,6 +11,7 @@ use crate::sequence::chunks::{Chunk, Rest, Run, WIDTH};
 use crate::vectors::larger;
 use std::alloc::{AllocError, Global};
 use std::marker::Model;
+use std::mem;
 use std::sync::Arc;
 
 /// Members in order. Contracts see them as pairs, with the height and the mark.
@@ -105,6 +106,17 @@ fn value_chunk(values: Vec<Value>) -> Result<Chunk, AllocError>
     Ok(Chunk::One(values.remove(0)))
 }
 
+// The same of a list, which keeps its room.
+#[tactic(auto, using(crate::proofs::Pieces::alone_is))]
+fn drained_chunk(list: &mut Vec<Value>) -> Result<Chunk, AllocError>
+    ensures { IfOk result (λ c. members_of c ≡ twins list.old.items) }
+{
+    if list.len() != 1 {
+        return Ok(Chunk::Values(list.split_off(0)?));
+    }
+    Ok(Chunk::One(list.remove(0)))
+}
+
 // Where so many members are cut into chunks, what has become chunks is given back on the way, so that they don't take their
 // room twice.
 const MANY: usize = 65_536;
@@ -149,6 +161,22 @@ impl Tree {
         }
         let mut rest = Rest::Values(values);
         built(alloc, mark, &mut rest, n)
+    }
+
+    /// The values of a list, each with itself, which leave it. Up to a chunk's width leave it its room.
+    pub(crate) fn drained(
+        alloc: Global,
+        mark: bool,
+        list: &mut Vec<Value>,
+    ) -> Result<Tree, AllocError>
+        ensures members { IfOk result (λ t. t.0 ≡ twins list.old.items) }
+        ensures mark { IfOk result (λ t. t.2 ≡ mark) }
+    {
+        if list.len() > WIDTH {
+            return Tree::of_values(alloc, mark, mem::replace(list, Vec::new(alloc)));
+        }
+        let chunk = drained_chunk(list)?;
+        leaf(alloc, mark, chunk)
     }
 
     /// The pairs of a `Vec`, as `of_values` has values.

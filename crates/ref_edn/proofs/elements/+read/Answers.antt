@@ -69,7 +69,7 @@ pass-returns-clause-value t c =
     skips_end c.args.room c.loop-alloc.rest.now (skip c.args.room c.args.text.now) none c.loop-alloc.invariant.reads
 
 pub items-loop-found-init : goal.items-loop-found-init
-items-loop-found-init t c = rw c.new-found.ensures.items (record { reads = items_start c.args.room c.args.close c.args.text.now; shorter = omega arith })
+items-loop-found-init t c = rw c.list-found.ensures (record { reads = items_start c.args.room c.args.close c.args.text.now; shorter = omega arith })
 
 pub items-returns-in_err-item-clause-value : goal.items-returns-in_err-item-clause-value
 items-returns-in_err-item-clause-value t c =
@@ -85,7 +85,7 @@ pub items-loop-found-preserved : goal.items-loop-found-preserved
 items-loop-found-preserved t c =
     let at = rw c.in-Some.is at c.in_ok-item.ensures.value in
     let shorter : length c.in_ok-item.behind.now < length c.loop-found.rest.now = omega (arith, c.in_ok-item.ensures.shorter, c.in_ok-item.ensures.start) in
-    rw c.in_ok-keep.ensures (record {
+    rw c.in_ok-push.ensures.items (record {
       reads = items_more c.args.room c.args.close c.loop-found.found.items c.loop-found.rest.now c.in_ok-item.field-0-0.now c.in-Some.item c.in_ok-item.behind.now (items_at c.args.room c.args.close c.args.text.now) at shorter c.loop-found.invariant.reads;
       shorter = omega (arith, shorter);
     })
@@ -180,7 +180,7 @@ read-returns-in-len1-up-clause-value t c =
 pub vector-of_lawful-requires : goal.vector-of_lawful-requires
 vector-of_lawful-requires t c =
     let below : c.args.room - 1 < 64 = omega arith in
-    rw c.in_ok-items-2.ensures (vector_lawful (c.args.room - 1) c.args.close c.after.result.now c.in_ok-items.items.items c.in_ok-items.rest.now below c.in_ok-items.ensures.value (rw (← c.in_ok-items-2.ensures) c.deepest-deepest.ensures.lawful))
+    rw c.in_ok-items.ensures (vector_lawful (c.args.room - 1) c.args.close c.after.result.now c.in_ok-list.list.items c.in_ok-list.rest.now below c.in_ok-list.ensures.value (rw (← c.in_ok-items.ensures) c.deepest-deepest.ensures.lawful))
 
 pub mapping-of_lawful-requires : goal.mapping-of_lawful-requires
 mapping-of_lawful-requires t c =
