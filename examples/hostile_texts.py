@@ -183,14 +183,11 @@ def integers():
 
 
 def vectors():
-    rows = (("0 ", "0", 32), ("nil ", "nil", 32), (":a ", ":a", 32), ("a ", "a", 32), ('""', '""', 32), ("[]", "[]", 64),
-            ("()", "[]", 64), ("{}", "{}", 64), ("#{}", "#{}", 64), ("[0]", "[0]", 64), ("{0 0}", "{0 0}", 64),
-            ('["a"]', '["a"]', 64))
-    for part, shown, times in rows:
+    rows = (("0 ", "0"), ("nil ", "nil"), (":a ", ":a"), ("a ", "a"), ('""', '""'), ("[]", "[]"), ("()", "[]"), ("{}", "{}"),
+            ("#{}", "#{}"), ("[0]", "[0]"), ("{0 0}", "{0 0}"), ('["a"]', '["a"]'))
+    for part, shown in rows:
         n = fitting(part, 2)
-        # Each string is a block of its own, some 70 bytes with its place in the vector, beside two of text. Names that come again share.
-        takes_blocks = part == '""'
-        yield Case(f"a vector of {part.strip()}", listed(part, n), element("[", joined(shown, n), "]"), times, takes_blocks)
+        yield Case(f"a vector of {part.strip()}", listed(part, n), element("[", joined(shown, n), "]"))
     n = fitting("0 ")
     trailing = refused("Trailing at 2")
     yield Case("many elements", [repeat("0 ", n)], {"print": printed(repeat("0\n", n)), "check": trailing, "audit": trailing})

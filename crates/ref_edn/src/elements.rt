@@ -202,6 +202,9 @@ fn mapping<'a>(
         return Err(ReadError::at(Kind::TooDeep, text));
     }
     let (pairs, rest) = entries(alloc, scratch, after(text, 1), room - 1)?;
+    if pairs.is_empty() {
+        return Ok((scratch.interner.empty_map(alloc)?, rest));
+    }
     let entries = Entries::built(alloc, pairs)?;
     let _deepest = entries.deepest();
     Ok((Value::of_lawful(Node::Map(entries)), rest))
@@ -224,6 +227,9 @@ fn collection<'a>(
         return Err(ReadError::at(Kind::TooDeep, text));
     }
     let (values, rest) = elements(alloc, scratch, after(text, 2), room - 1)?;
+    if values.is_empty() {
+        return Ok((scratch.interner.empty_set(alloc)?, rest));
+    }
     let elements = Elements::built(alloc, values)?;
     let _deepest = elements.deepest();
     Ok((Value::of_lawful(Node::Set(elements)), rest))

@@ -1,10 +1,12 @@
-//! Names and strings that a text has had lately, and its vector without elements. What comes again shares the block of the first
+//! Names and strings that a text has had lately, and its collections without members. What comes again shares the block of the first
 //! one, and needs no second look at its bytes: most texts write a few names many times, as the keys of their maps.
 ghost use Rattle.std.specs.Prelude.{◌≡◌, ◌<◌, [], IfOk, IfSome, IsTrue, IsUtf8};
-ghost use Rattle.ref_edn.specs.Edn.{Edn, no_items, keyword as keyword_of, string as string_of, symbol as symbol_of, vector as vector_of};
+ghost use Rattle.ref_edn.specs.Edn.{Edn, no_items, no_entries, keyword as keyword_of, string as string_of, symbol as symbol_of, vector as vector_of, map as map_of, set as set_of};
 ghost use Rattle.ref_edn.specs.Lawful.{IsLawful};
 
 use crate::data::{Node, Value};
+use crate::maps::Entries;
+use crate::sets::Elements;
 use crate::vectors::Items;
 use std::alloc::{AllocError, Global};
 
@@ -29,12 +31,14 @@ struct Known {
 }
 
 /// Some of the names and strings that were read, each at the place that its bytes tell, how many came since the last one was kept, and
-/// the vector without elements once there was one.
+/// the vector, the map and the set without members, once there was one.
 #[derive(Drop)]
 pub(crate) struct Interner {
     known: Vec<Known>,
     passed: u8,
-    empty: Known,
+    vector: Known,
+    map: Known,
+    set: Known,
 }
 
 // The place of a name or a string.
@@ -60,6 +64,16 @@ fn unknown() -> Known {
 }
 
 impl Known {
+    // A value that may come again.
+    fn of(value: &Value) -> Result<Known, AllocError>
+        ensures { IfOk result (λ known. known.value ≡ value.now) }
+    {
+        Ok(Known {
+            value: value.share()?,
+            shared: 0,
+        })
+    }
+
     fn is_keyword(&self, name: &[u8]) -> bool
         ensures { IsTrue result → self.now.value ≡ keyword_of name.now }
     {
@@ -93,6 +107,24 @@ impl Known {
     {
         match self.value.node() {
             Node::Vector(items) => items.is_empty(),
+            _ => false,
+        }
+    }
+
+    fn is_empty_map(&self) -> bool
+        ensures { IsTrue result → self.now.value ≡ map_of no_entries }
+    {
+        match self.value.node() {
+            Node::Map(entries) => entries.is_empty(),
+            _ => false,
+        }
+    }
+
+    fn is_empty_set(&self) -> bool
+        ensures { IsTrue result → self.now.value ≡ set_of no_items }
+    {
+        match self.value.node() {
+            Node::Set(elements) => elements.is_empty(),
             _ => false,
         }
     }
@@ -138,7 +170,9 @@ impl Interner {
         Interner {
             known: places_for(alloc, text.len()),
             passed: 0,
-            empty: unknown(),
+            vector: unknown(),
+            map: unknown(),
+            set: unknown(),
         }
     }
 
@@ -198,17 +232,46 @@ impl Interner {
         ensures value { IfOk result (λ v. v ≡ vector_of no_items) }
         ensures lawful { IfOk result IsLawful }
     {
-        if self.empty.is_empty_vector() {
-            if let Some(value) = self.empty.again()? {
+        if self.vector.is_empty_vector() {
+            if let Some(value) = self.vector.again()? {
                 return Ok(value);
             }
         }
         let items = Items::of(alloc, Vec::new(alloc))?;
         let value = Value::of_lawful(Node::Vector(items));
-        self.empty = Known {
-            value: value.share()?,
-            shared: 0,
-        };
+        self.vector = Known::of(&value)?;
+        Ok(value)
+    }
+
+    /// The map without entries.
+    pub(crate) fn empty_map(&mut self, alloc: Global) -> Result<Value, AllocError>
+        ensures value { IfOk result (λ v. v ≡ map_of no_entries) }
+        ensures lawful { IfOk result IsLawful }
+    {
+        if self.map.is_empty_map() {
+            if let Some(value) = self.map.again()? {
+                return Ok(value);
+            }
+        }
+        let entries = Entries::of(alloc, Vec::new(alloc))?;
+        let value = Value::of_lawful(Node::Map(entries));
+        self.map = Known::of(&value)?;
+        Ok(value)
+    }
+
+    /// The set without elements.
+    pub(crate) fn empty_set(&mut self, alloc: Global) -> Result<Value, AllocError>
+        ensures value { IfOk result (λ v. v ≡ set_of no_items) }
+        ensures lawful { IfOk result IsLawful }
+    {
+        if self.set.is_empty_set() {
+            if let Some(value) = self.set.again()? {
+                return Ok(value);
+            }
+        }
+        let elements = Elements::of(alloc, Vec::new(alloc))?;
+        let value = Value::of_lawful(Node::Set(elements));
+        self.set = Known::of(&value)?;
         Ok(value)
     }
 
@@ -222,10 +285,7 @@ impl Interner {
         }
         self.passed = 0;
         if let Some(known) = self.known.get_mut(place_of(text)) {
-            *known = Known {
-                value: value.share()?,
-                shared: 0,
-            };
+            *known = Known::of(&value)?;
         }
         Ok(value)
     }
