@@ -26,6 +26,10 @@ pub(crate) fn is_digit(b: u8) -> bool
 pub(crate) fn is_delimiter(b: u8) -> bool
     ensures { result ≡ is_delimiter_byte b }
 {
+    // Most bytes of a token are letters.
+    if matches!(b, b'a'..=b'z') {
+        return false;
+    }
     match b {
         b' ' | b'\t' | b'\n' | b'\r' | b'\x0c' | b',' => true,
         b'"' | b';' | b'(' | b'[' | b'{' | b')' | b']' | b'}' => true,
