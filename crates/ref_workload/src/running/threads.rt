@@ -33,7 +33,7 @@ where
     G: Gate + Send + Drop,
 {
     let alloc = run.alloc;
-    // All memory that this thread needs is taken before any other is made.
+    // What the threads begin with, and the room for their handles, is there before the first of them is made.
     let (jobs, rest) = make_jobs(alloc, run.workers.len(), share, gates)?;
     let mut workers = Vec::with_capacity(alloc, jobs.len())?;
     let mut pool = Vec::with_capacity(alloc, rest.len())?;
