@@ -1,5 +1,6 @@
 pub mod Depths
 pub mod Dumps
+pub mod Early
 pub mod Leasts
 pub mod Left
 pub mod Numbered

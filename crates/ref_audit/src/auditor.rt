@@ -1,7 +1,8 @@
 //! The audit of a dump.
 ghost use Rattle.ref_fun.specs.Calls.{HasCore};
 ghost use Rattle.ref_log.specs.Told.{AnswersOrMemory};
-ghost use Rattle.ref_audit.specs.DumpForm.{dump_of, early_fault};
+ghost use Rattle.ref_audit.specs.DumpForm.{dump_of};
+ghost use Rattle.ref_audit.specs.Early.{first_fault};
 ghost use Rattle.ref_audit.specs.Verdict.{verdict_on};
 ghost use Rattle.ref_audit.specs.declared.reading.faults.DumpFault.TheVariants.{Memory};
 
@@ -18,14 +19,15 @@ use std::alloc::Global;
 /// a dump, and the lines of a verdict.
 ///
 /// It rests on nothing that the dump was made by but the functions of the table. Linear in the dump and in what its functions cost,
-/// but for look-ups. That a value is no dump, or one of another version, is told before any memory is taken.
+/// but for look-ups. That a value is no dump, or one of another version, that its first part is no number or its second no list, is told
+/// before any memory is taken.
 pub fn audit<F: Functions<Core>>(
     alloc: Global,
     funs: &F,
     value: &Value,
 ) -> Result<Verdict, DumpFault>
     requires { HasCore (F.knows funs.now) }
-    ensures { AnswersOrMemory Memory (early_fault value.now) (verdict_on (dump_of value.now)) result }
+    ensures { AnswersOrMemory Memory (first_fault value.now) (verdict_on (dump_of value.now)) result }
 {
     match read_dump(alloc, value) {
         Ok(dump) => verdict(alloc, funs, &dump),

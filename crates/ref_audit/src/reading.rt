@@ -2,7 +2,8 @@
 ghost use Rattle.std.specs.Prelude.{◌≡◌, ◌≤◌, ◌<◌, ◌^◌, List, Option, ℕ, IfErr, IfOk, None, map};
 ghost use Rattle.ref_log.specs.Replay.{point_after};
 ghost use Rattle.ref_log.specs.Told.{AnswersOrMemory};
-ghost use Rattle.ref_audit.specs.DumpForm.{base_with, dump_of, early_fault, parts_said};
+ghost use Rattle.ref_audit.specs.DumpForm.{base_with, dump_of, parts_said};
+ghost use Rattle.ref_audit.specs.Early.{first_fault, parts_fault};
 ghost use Rattle.ref_audit.specs.OfCore.{IsOfCore};
 ghost use Rattle.ref_audit.specs.Reading.{Told};
 ghost use Rattle.ref_audit.specs.declared.reading.faults.DumpFault.TheVariants.{Memory};
@@ -20,16 +21,17 @@ pub(crate) mod wrongs;
 use crate::reading::dumps::{Changed, Dump};
 use crate::reading::faults::{DumpFault, Key};
 use crate::reading::parts::{
-    entries_in, entry_forms, folded_part, list_part, misfit, number_part, tally_part, values_part,
+    entries_in, entry_forms, folded_part, list_part, misfit, number_part, parts_fault, tally_part,
+    values_part,
 };
 use ref_edn::{Entries, Node, Value};
 use ref_log::{Base, SharedVec};
 use std::alloc::{AllocError, Global};
 
 /// What a dump says, or the first reason why a value is none. docs/DUMPS.md has the form. Linear in the value.
-#[tactic(auto, using(crate::proofs::Maps::dump_of_map, crate::proofs::Maps::early_fault_map))]
+#[tactic(auto, using(crate::proofs::Maps::dump_of_map, crate::proofs::Early::first_fault_map))]
 pub fn read_dump(alloc: Global, value: &Value) -> Result<Dump, DumpFault>
-    ensures reads { AnswersOrMemory Memory (early_fault value.now) (dump_of value.now) result }
+    ensures reads { AnswersOrMemory Memory (first_fault value.now) (dump_of value.now) result }
     // It names functions and predicates of Core alone.
     ensures core { IfOk result IsOfCore }
     ensures points { IfOk result (λ dump. point_after dump.base dump.entries < 2 ^ 64) }
@@ -38,6 +40,19 @@ pub fn read_dump(alloc: Global, value: &Value) -> Result<Dump, DumpFault>
         return Err(DumpFault::NotDump);
     };
     match misfit(entries) {
+        Some(fault) => Err(fault),
+        None => checked_parts(alloc, entries),
+    }
+}
+
+// What the parts of a dump say, whose keys and version are right. That the first ones are wrong is told before any memory is taken.
+#[tactic(auto, using(crate::proofs::Early::parts_told))]
+fn checked_parts(alloc: Global, entries: &Entries) -> Result<Dump, DumpFault>
+    ensures reads { AnswersOrMemory Memory (parts_fault entries.now) (parts_said entries.now) result }
+    ensures core { IfOk result IsOfCore }
+    ensures points { IfOk result (λ dump. point_after dump.base dump.entries < 2 ^ 64) }
+{
+    match parts_fault(entries) {
         Some(fault) => Err(fault),
         None => parts_in(alloc, entries),
     }

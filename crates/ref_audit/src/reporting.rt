@@ -1,5 +1,5 @@
 //! The report of a run.
-ghost use Rattle.std.specs.Prelude.{◌≡◌, ◌++◌, Bool, IfOk, OnErr, OnOk, codes, decimal};
+ghost use Rattle.std.specs.Prelude.{◌≡◌, ◌<◌, ◌++◌, Bool, IfOk, OnErr, OnOk, codes, decimal};
 ghost use Rattle.ref_world.specs.References.{values_of};
 ghost use Rattle.ref_audit.specs.Made.{kind_text, who_of};
 ghost use Rattle.ref_audit.specs.Report.{agent_line, agent_lines, cause_text, commits_line, newline, no_text, reason_text, refused_line, refused_lines, reported, space, status_text, value_line, value_lines, value_text, verdict_line, verdict_text};
@@ -75,7 +75,7 @@ fn word_of_cause(cause: Cause) -> &'static str
     }
 }
 
-// A line for each name of a ref, or of an atom, that is there. More names than numbers, some 2^32, are told as want of memory.
+// A line for each name of a ref, or of an atom, that is there.
 fn append_values<C: Ledger, A: Ledger>(
     alloc: Global,
     kind: Kind,
@@ -97,7 +97,8 @@ fn append_values<C: Ledger, A: Ledger>(
 }
 
 fn number_of(i: usize) -> Result<u32, AllocError>
-    ensures { IfOk result (λ n. n ≡ i) }
+    ensures ok { IfOk result (λ n. n ≡ i) }
+    ensures err { OnErr result (4294967295 < i) }
 {
     match u32::try_from(i) {
         Ok(n) => Ok(n),

@@ -1,5 +1,5 @@
 //! The forms of refs and atoms.
-ghost use Rattle.std.specs.Prelude.{◌≡◌, ◌∷◌, [], length, IfErr, IfOk, option_copied};
+ghost use Rattle.std.specs.Prelude.{◌≡◌, ◌∷◌, [], length, IfErr, IfOk, IsOk, option_copied};
 ghost use Rattle.ref_edn.specs.Edn.{nesting};
 ghost use Rattle.ref_audit.specs.Dumped.{base_refs_form, folded_form, tally_form};
 ghost use Rattle.ref_audit.specs.Made.{IsMakeFault};
@@ -50,7 +50,8 @@ pub(crate) fn folded(alloc: Global, base: &Base) -> Result<Value, DumpMakeFault>
 }
 
 pub(crate) fn tally(base: &Base) -> Result<Value, AllocError>
-    ensures { IfOk result (λ v. v ≡ tally_form base.now.tally) }
+    ensures value { IfOk result (λ v. v ≡ tally_form base.now.tally) }
+    ensures always { IsOk result }
 {
     match base.tally {
         Some(r) => number(u64::from(r)),

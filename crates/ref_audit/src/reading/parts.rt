@@ -2,9 +2,11 @@
 ghost use Rattle.std.specs.Prelude.{◌≡◌, ◌<◌, ◌≤◌, ◌^◌, length, map, None, Some, Ok, Err, IfErr, IfOk, is_some, option_copied};
 ghost use Rattle.std.specs.List.{list_all, list_any};
 ghost use Rattle.ref_edn.specs.Edn.{Edn};
-ghost use Rattle.ref_audit.specs.DumpForm.{elements_within, entries_from, folded_of, folded_said, has_keys, is_key, is_version, is_word, key_word, list_said, misfit, number_of, part_said, reference_of, tally_of, under, values_said};
+ghost use Rattle.ref_audit.specs.DumpForm.{elements_of, elements_within, entries_from, folded_of, folded_said, has_keys, is_key, is_version, is_word, key_word, list_said, misfit, number_of, part_said, reference_of, tally_of, under, values_said};
+ghost use Rattle.ref_audit.specs.Early.{is_said, parts_fault};
 ghost use Rattle.ref_audit.specs.Reading.{Told};
 ghost use Rattle.ref_audit.specs.Words.{all_keys};
+ghost use Rattle.ref_audit.specs.declared.reading.faults.DumpFault.TheVariants.{BadPart};
 ghost use Rattle.ref_audit.specs.declared.reading.faults.Key.TheVariants as keys;
 
 use crate::reading::entries::entry_in;
@@ -118,9 +120,41 @@ fn form_of<'a>(entries: &'a Entries, key: Key) -> Option<&'a Value>
     under(entries, key.name().as_bytes())
 }
 
+fn is_number(entries: &Entries, key: Key) -> bool
+    ensures { result ≡ is_said entries.now key number_of }
+{
+    match form_of(entries, key) {
+        Some(form) => number_in(form).is_some(),
+        None => false,
+    }
+}
+
+fn is_list(entries: &Entries, key: Key) -> bool
+    ensures { result ≡ is_said entries.now key elements_of }
+{
+    match form_of(entries, key) {
+        Some(form) => elements_in(form).is_some(),
+        None => false,
+    }
+}
+
+/// Why the first parts are those of no dump, as far as it is known before any memory is taken.
+pub(crate) fn parts_fault(entries: &Entries) -> Option<DumpFault>
+    ensures { result ≡ parts_fault entries.now }
+{
+    if !is_number(entries, Key::Added) {
+        return Some(DumpFault::BadPart(Key::Added));
+    }
+    if !is_list(entries, Key::Agents) {
+        return Some(DumpFault::BadPart(Key::Agents));
+    }
+    None
+}
+
 /// A part that is an integer of 0 or more.
 pub(crate) fn number_part(entries: &Entries, key: Key) -> Result<u64, DumpFault>
     ensures reads { Told (part_said entries.now key number_of) result }
+    ensures err { IfErr result (λ fault. fault ≡ BadPart key) }
     ensures limit { IfOk result (λ n. n < 2 ^ 63) }
 {
     match form_of(entries, key) {
@@ -175,7 +209,8 @@ fn folded_in(form: &Value) -> Option<(u64, u64)>
 
 /// The books up to the base: commits, and what was added to the tally.
 pub(crate) fn folded_part(entries: &Entries) -> Result<(u64, u64), DumpFault>
-    ensures { Told (part_said entries.now keys.Folded folded_of) result }
+    ensures reads { Told (part_said entries.now keys.Folded folded_of) result }
+    ensures err { IfErr result (λ fault. fault ≡ BadPart keys.Folded) }
 {
     match form_of(entries, Key::Folded) {
         Some(form) => folded_in(form).ok_or(DumpFault::BadPart(Key::Folded)),
@@ -195,7 +230,8 @@ fn tally_in(form: &Value) -> Option<Option<u32>>
 
 /// The number of the tally, if there is one.
 pub(crate) fn tally_part(entries: &Entries) -> Result<Option<u32>, DumpFault>
-    ensures { Told (part_said entries.now keys.Tally tally_of) result }
+    ensures reads { Told (part_said entries.now keys.Tally tally_of) result }
+    ensures err { IfErr result (λ fault. fault ≡ BadPart keys.Tally) }
 {
     match form_of(entries, Key::Tally) {
         Some(form) => tally_in(form).ok_or(DumpFault::BadPart(Key::Tally)),

@@ -1,4 +1,4 @@
-use Rattle.ref_audit.proofs.Maps.{verdict_told}
+use Rattle.ref_audit.proofs.Early.{verdict_told}
 use Rattle.ref_audit.proofs.auditor.audit.Goals as goal
 
 pub returns-in-Ok : goal.returns-in-Ok
