@@ -74,6 +74,10 @@ fn append_keyword(name: &[u8], out: &mut Vec<u8>) -> Result<(), AllocError>
 fn letter_of(b: u8) -> Option<u8>
     ensures { MatchOption result (escaped_byte b ≡ b ∷ []) (λ letter. escaped_byte b ≡ 92 ∷ letter ∷ []) }
 {
+    // Most bytes of a string are letters.
+    if b > b'\\' {
+        return None;
+    }
     match b {
         b'"' | b'\\' => Some(b),
         b'\n' => Some(b'n'),

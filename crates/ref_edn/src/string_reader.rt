@@ -137,8 +137,8 @@ fn plain_string(
         return Ok(Some(value));
     }
     match str::from_utf8(content) {
-        Ok(_) => {
-            let text = Text::of_bytes(alloc, content)?;
+        Ok(text) => {
+            let text = Text::copy_of(alloc, text)?;
             let value = Value::of_lawful(Node::Str(text));
             Ok(Some(interner.kept(content, value)?))
         }
