@@ -1,4 +1,4 @@
-//! Names, strings and vectors without elements that come many times in one text, and names that come once among them.
+//! Names, strings and collections without members that come many times in one text, and names and strings that come once among them.
 use crate::reading::check;
 use std::alloc::{AllocError, Global};
 use std::test::Fail;
