@@ -80,6 +80,11 @@ def misfit(edit):
     return edited(edit)[1]
 
 
+def sources(name, top=TOP):
+    """The files that a check reads of a crate."""
+    return sorted(it for part in SOURCES for it in (top / "crates" / name / part).rglob("*") if it.is_file())
+
+
 def copy_sources(names, to, top=TOP):
     """Copies what a check reads of these crates, but not what earlier checks made."""
     for file in ("crates.txt", "HANDLES"):
