@@ -8,7 +8,7 @@ ghost use Rattle.ref_agents.specs.declared.faults.RestartFault.TheVariants.{Memo
 
 use crate::agents::AgentStore;
 use crate::faults::RestartFault;
-use ref_edn::Value;
+use ref_value::Value;
 use ref_fun::{Functions, Meaning};
 use std::alloc::{AllocError, Global};
 

@@ -7,7 +7,7 @@ ghost use Rattle.ref_log.specs.declared.faults.WatchFault.TheVariants as watches
 ghost use Rattle.ref_agents.specs.Agents.{value_at, values_of, with_guards};
 
 use crate::agents::{AgentStore, value_at};
-use ref_edn::Value;
+use ref_value::Value;
 use ref_fun::{Functions, Meaning, Rule};
 use ref_log::{RuleFault, WatchFault};
 use std::alloc::Global;

@@ -1,6 +1,6 @@
 //! What a change of an atom answers.
 
-use ref_edn::Value;
+use ref_value::Value;
 use ref_log::{Entry, Notice};
 
 /// What `swap` and `reset` answer: the values before and after, as Clojure's `swap-vals!` and `reset-vals!` do, and

@@ -2,7 +2,7 @@
 use Rattle.std.proofs.Common.{◌≡◌, ℕ, ◌+◌, ◌<◌, ◌≤◌, List, [], ◌∷◌, ◌++◌, drop, length, get_or, refl, sym, ◌∙◌, ap, suc, add-one, append_assoc, drop-cons, arith, Option, None, Some, Result, Ok, Err, Bool, true, false, nat_le}
 use Rattle.std.proofs.lemmas.Bool.Decides.{nat_tests}
 use Rattle.std.specs.Prelude.{option_map}
-use Rattle.ref_edn.specs.Edn.{Edn, vector, items_of, list_of-items_of}
+use Rattle.ref_value.specs.Edn.{Edn, vector, items_of, list_of-items_of}
 use Rattle.ref_log.specs.declared.entries.Entry.{Entry}
 use Rattle.ref_audit.specs.DumpForm.{and_entry, and_said, args_said, elements_of, entries_from, entry_of, only_if, rule_of, rule_said}
 use Rattle.ref_audit.specs.declared.reading.faults.DumpFault.{DumpFault}

@@ -10,7 +10,7 @@ use crate::reading::faults::DumpFault;
 use crate::reading::read_dump;
 use crate::reports::Verdict;
 use crate::verdicts::verdict;
-use ref_edn::Value;
+use ref_value::Value;
 use ref_fun::{Core, Functions};
 use std::alloc::Global;
 

@@ -16,7 +16,7 @@ pub mod worlds;
 use crate::faults::DumpMakeFault;
 pub(crate) use few::tell_few;
 use maps::{entries_of, map_of, parts_of};
-use ref_edn::Value;
+use ref_value::Value;
 use ref_fun::Core;
 use ref_world::World;
 use std::alloc::Global;

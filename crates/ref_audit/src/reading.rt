@@ -24,7 +24,7 @@ use crate::reading::parts::{
     entries_in, entry_forms, folded_part, list_part, misfit, number_part, parts_fault, tally_part,
     values_part,
 };
-use ref_edn::{Entries, Node, Value};
+use ref_value::{Entries, Node, Value};
 use ref_log::{Base, SharedVec};
 use std::alloc::{AllocError, Global};
 

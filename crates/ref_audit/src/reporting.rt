@@ -7,7 +7,8 @@ ghost use Rattle.ref_audit.specs.Report.{agent_line, agent_lines, cause_text, co
 use crate::kinds::Kind;
 use crate::reports::{Names, Reason, Refusal, Verdict};
 use itoa::Buffer;
-use ref_edn::{Text, Value, print};
+use ref_edn::print;
+use ref_value::{Text, Value};
 use ref_fun::{Cause, Core};
 use ref_log::Who;
 use ref_world::World;

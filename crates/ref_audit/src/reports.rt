@@ -1,7 +1,7 @@
 //! What a report says.
 ghost use Rattle.std.specs.Prelude.{◌≡◌};
 
-use ref_edn::Text;
+use ref_value::Text;
 use ref_fun::Cause;
 use ref_log::Stamp;
 use std::marker::Model;

@@ -5,7 +5,7 @@ ghost use Rattle.ref_log.specs.Tally.{added_by, added_by_done, added_by_dones, a
 use crate::entries::Entry;
 use crate::lists::SharedVec;
 use crate::operations::{Done, Op};
-use ref_edn::{Node, Value};
+use ref_value::{Node, Value};
 use ref_pvec::PVec;
 
 // How many of these entries are transactions.

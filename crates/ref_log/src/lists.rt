@@ -3,7 +3,7 @@ ghost use Rattle.std.specs.Prelude.{◌≡◌, ◌≢◌, ◌<◌, ◌↔◌, []
 ghost use Rattle.std.specs.Slice.{IsItemAt};
 ghost use Rattle.std.specs.Iterator.{YieldsFirstRef, item_count};
 
-use ref_edn::Value;
+use ref_value::Value;
 use ref_pvec::PVec;
 use std::alloc::{AllocError, Global};
 use std::marker::Model;

@@ -6,7 +6,7 @@ ghost use Rattle.ref_log.specs.Make.{make_refusal};
 ghost use Rattle.ref_log.specs.declared.faults.MakeFault.TheVariants.{Memory};
 
 use crate::faults::MakeFault;
-use ref_edn::Value;
+use ref_value::Value;
 use ref_fun::{Functions, Meaning, Rule, check_known, passes};
 
 /// The last point.

@@ -8,7 +8,7 @@ ghost use Rattle.ref_refs.specs.Seen.{are_unchanged_since, changed_at};
 
 use crate::checking::is_count;
 use crate::store::RefStore;
-use ref_edn::Value;
+use ref_value::Value;
 use ref_fun::{Functions, Meaning, Rule};
 use ref_log::{MakeFault, check_make};
 use std::alloc::{AllocError, Global};

@@ -13,7 +13,7 @@ use crate::faults::GatherFault;
 use crate::gathering::match_receipts;
 use ref_agents::{AgentError, ErrorMode, ModeFault, RestartFault, SendFault};
 use ref_atoms::{AtomFault, Cas, Swapped};
-use ref_edn::Value;
+use ref_value::Value;
 use ref_fun::{Action, Args, Functions, Meaning, Rule};
 use ref_log::{MakeFault, RuleFault, Stamp, WatchFault, Who};
 use ref_refs::CommitFault;

@@ -1,7 +1,7 @@
 -- What the tests of a base say together.
 use Rattle.std.proofs.Common.{◌≡◌, ℕ, ◌<◌, List, [], ◌∷◌, Option, get_or, length, map, refl, ap, ◌∙◌, zero, suc, arith}
 use Rattle.std.specs.Prelude.{position}
-use Rattle.ref_edn.specs.Edn.{Edn}
+use Rattle.ref_value.specs.Edn.{Edn}
 use Rattle.ref_log.specs.declared.states.Base.{Base}
 use Rattle.ref_workload.specs.Orderly.{base_declared}
 use Rattle.ref_world.specs.declared.starts.AtomStart.{AtomStart}

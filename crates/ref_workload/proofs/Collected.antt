@@ -1,7 +1,7 @@
 -- A loop over forms that declare: what they declare, as far as it has come.
 use Rattle.std.proofs.Common.{◌≡◌, ℕ, ◌+◌, ◌<◌, ◌≤◌, List, [], ◌∷◌, ◌++◌, drop, length, get_or, refl, sym, subst, ◌∙◌, ap, suc, add-one, append_assoc, append-nil, drop-cons}
 use Rattle.std.proofs.lemmas.List.{drop_all}
-use Rattle.ref_edn.specs.Edn.{Edn}
+use Rattle.ref_value.specs.Edn.{Edn}
 use Rattle.ref_workload.specs.Declarations.{AreDeclared}
 
 -- the names and starts of all forms begin with those that were found

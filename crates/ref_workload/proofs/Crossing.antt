@@ -7,8 +7,8 @@ use denote.Param.Send.{IsSend, IsSync, sendable}
 use denote.Param.SendFields.{declared_send, declared_sync, variants_send, variants_sync}
 use Rattle.std.proofs.Crossing as std
 use Rattle.std.specs.declared.sync.ledger.Ledger as Ledger
-use Rattle.ref_edn.proofs.data.Value.TheLaws.TheKnot as knot
-use Rattle.ref_edn.specs.contracts.data.Value as Value
+use Rattle.ref_value.proofs.data.Value.TheLaws.TheKnot as knot
+use Rattle.ref_value.specs.contracts.data.Value as Value
 use Rattle.ref_fun.specs.contracts.actions.Action as Action
 use Rattle.ref_fun.specs.contracts.arguments.Args as Args
 use Rattle.ref_fun.specs.contracts.rules.Rule as Rule

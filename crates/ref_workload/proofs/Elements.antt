@@ -1,6 +1,6 @@
 -- Equal collections have equal members.
 use Rattle.std.proofs.Common.{◌≡◌, List, [], sym, ◌∙◌, ap}
-use Rattle.ref_edn.specs.Edn.{Edn, vector, map, items_of, list_of, list_of-items_of, entries_of, pairs_of, pairs_of-entries_of}
+use Rattle.ref_value.specs.Edn.{Edn, vector, map, items_of, list_of, list_of-items_of, entries_of, pairs_of, pairs_of-entries_of}
 
 elements : Edn → List Edn
 elements (vector xs) = list_of xs

@@ -1,6 +1,6 @@
 -- An operation that a word can't say.
 use Rattle.std.proofs.Common.{◌≡◌, ℕ, List, [], ◌∷◌, subst}
-use Rattle.ref_edn.specs.Edn.{Edn, keyword, vector, items_of}
+use Rattle.ref_value.specs.Edn.{Edn, keyword, vector, items_of}
 use Rattle.ref_audit.specs.Names.{NamesSeen}
 use Rattle.ref_fun.specs.declared.actions.Action.{Action}
 use Rattle.ref_fun.specs.declared.rules.Rule.{Rule}

@@ -2,7 +2,7 @@
 use Rattle.std.proofs.Common.{◌≡◌, ℕ, ◌+◌, ◌<◌, ◌≤◌, ◌&&◌, Bool, true, false, List, [], ◌∷◌, drop, length, get_or, arith, cond, refl, sym, ◌∙◌, ap, zero, suc, add-one, drop-cons, subst, Some, None, Option, nat_le}
 use Rattle.std.proofs.lemmas.Bool.Decides.{nat_tests}
 use Rattle.std.specs.List.{list_all}
-use Rattle.ref_edn.specs.Edn.{Edn, vector, items_of, list_of, list_of-items_of}
+use Rattle.ref_value.specs.Edn.{Edn, vector, items_of, list_of, list_of-items_of}
 use Rattle.ref_workload.specs.Kinds.{is_short_vector, is_vector}
 use Rattle.ref_workload.specs.Workload.{AreFew, HasParts, HasVectors, IsVectorPart, is_known, is_word, part}
 use Rattle.ref_workload.specs.Words.{refs_word, atoms_word, agents_word, workers_word}

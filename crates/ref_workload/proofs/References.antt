@@ -1,7 +1,7 @@
 -- A form declares at most one reference.
 use Rattle.std.proofs.Common.{◌≡◌, ℕ, Bool, true, false, List, ◌∷◌, Option, None, Some, refl, sym, ◌∙◌, ap, subst}
 use Rattle.ref_agents.specs.declared.agents.ErrorMode.{ErrorMode}
-use Rattle.ref_edn.specs.Edn.{Edn, keyword, symbol, vector, items_of, list_of, list_of-items_of}
+use Rattle.ref_value.specs.Edn.{Edn, keyword, symbol, vector, items_of, list_of, list_of-items_of}
 use Rattle.ref_fun.specs.Core.{core_accepts}
 use Rattle.ref_fun.specs.Names.{code_in, core_names}
 use Rattle.ref_fun.specs.Rule.{passes}

@@ -2,7 +2,7 @@
 use Rattle.std.proofs.Common.{◌≡◌, ◌≤◌, ℕ, All, Bool, List, [], ◌∷◌, Option, None, Some, length, refl, sym, ◌∙◌, subst}
 use Rattle.std.specs.List.{AllZip}
 use Rattle.ref_agents.specs.declared.agents.ErrorMode.{ErrorMode}
-use Rattle.ref_edn.specs.Edn.{Edn, keyword, symbol, vector, items_of}
+use Rattle.ref_value.specs.Edn.{Edn, keyword, symbol, vector, items_of}
 use Rattle.ref_audit.specs.Names.{NamesSeen}
 use Rattle.ref_fun.specs.declared.actions.Action.{Action}
 use Rattle.ref_fun.specs.declared.rules.Rule.{Rule}

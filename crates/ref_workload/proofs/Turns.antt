@@ -2,7 +2,7 @@
 use Rattle.std.proofs.Common.{◌≡◌, ◌≢◌, ℕ, ◌+◌, ◌<◌, ◌≤◌, List, [], ◌∷◌, ◌++◌, drop, length, get_or, sym, subst, ◌∙◌, ap, suc, add-one, append_assoc, append-nil, drop-cons, Option, None, Some}
 use Rattle.std.proofs.lemmas.List.{drop_all}
 use Rattle.std.specs.List.{AllZip}
-use Rattle.ref_edn.specs.Edn.{Edn}
+use Rattle.ref_value.specs.Edn.{Edn}
 use Rattle.ref_workload.specs.declared.planning.wrong.Wrong.{Wrong}
 use Rattle.ref_workload.specs.declared.planning.wrong.Wrong.TheVariants.{Memory}
 

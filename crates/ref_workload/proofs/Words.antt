@@ -1,6 +1,6 @@
 -- No two words of a kind have one text.
 use Rattle.std.proofs.Common.{◌≡◌, ℕ, List, refl, sym, ◌∙◌, ap, cond}
-use Rattle.ref_edn.specs.Names.{bytes_eq}
+use Rattle.ref_value.specs.Names.{bytes_eq}
 use Rattle.ref_agents.specs.declared.agents.ErrorMode.{ErrorMode}
 use Rattle.ref_agents.specs.declared.agents.ErrorMode.TheVariants.{Fail, Continue}
 use Rattle.ref_workload.specs.Words.{mode_text, op_text, step_text}

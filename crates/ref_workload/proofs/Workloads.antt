@@ -4,7 +4,7 @@ use Rattle.std.specs.List.{AllZip, list_all}
 use Rattle.std.proofs.lemmas.Bool.Decides.{nat_tests}
 use Rattle.std.proofs.Common.{arith}
 use Rattle.ref_audit.specs.Names.{NamesSeen}
-use Rattle.ref_edn.specs.Edn.{Edn, map, vector, entries_of, items_of, list_of, list_of-items_of}
+use Rattle.ref_value.specs.Edn.{Edn, map, vector, entries_of, items_of, list_of, list_of-items_of}
 use Rattle.ref_workload.specs.declared.plans.Step.{Step}
 use Rattle.ref_world.specs.declared.starts.AgentStart.{AgentStart}
 use Rattle.ref_world.specs.declared.starts.AtomStart.{AtomStart}

@@ -1,6 +1,6 @@
 -- How functions and predicates are written with their arguments, and how what is done to a reference is.
 use Rattle.std.specs.Prelude.{◌≡◌, ◌≤◌, ◌<◌, ℕ, List, [], ◌∷◌, Option, None, Some, All, length}
-use Rattle.ref_edn.specs.Edn.{Edn, nil, symbol, vector, items_of, nesting}
+use Rattle.ref_value.specs.Edn.{Edn, nil, symbol, vector, items_of, nesting}
 use Rattle.ref_fun.specs.Names.{code_in, core_names}
 use Rattle.ref_fun.specs.declared.rules.Rule.{Rule}
 use Rattle.ref_audit.specs.Names.{NamesSeen}

@@ -1,7 +1,7 @@
 -- How references are declared: `[NAME VALUE]`, then RULE where there is one, and then, for a ref, `:tally` where it is the tally, or,
 -- for an agent, `:fail` or `:continue`, its error mode. A rule accepts the value.
 use Rattle.std.specs.Prelude.{◌≡◌, ◌≤◌, ℕ, Bool, true, false, List, [], ◌∷◌, ◌++◌, Option, None, Some, count_by}
-use Rattle.ref_edn.specs.Edn.{Edn, keyword, symbol, vector, items_of}
+use Rattle.ref_value.specs.Edn.{Edn, keyword, symbol, vector, items_of}
 use Rattle.ref_agents.specs.declared.agents.ErrorMode.{ErrorMode}
 use Rattle.ref_agents.specs.declared.agents.ErrorMode.TheVariants.{Fail}
 use Rattle.ref_fun.specs.Core.{core_accepts}

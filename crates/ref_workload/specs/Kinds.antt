@@ -1,6 +1,6 @@
 -- The kinds of EDN data.
 use Rattle.std.specs.Prelude.{Bool, true, false, length, nat_le}
-use Rattle.ref_edn.specs.Edn.{Edn, int, keyword, symbol, vector, map, list_of}
+use Rattle.ref_value.specs.Edn.{Edn, int, keyword, symbol, vector, map, list_of}
 
 abbrev pub is_int : Edn → Bool
 is_int (int n) = true

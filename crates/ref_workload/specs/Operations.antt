@@ -7,7 +7,7 @@
 --   [:require R P ARG ..]   the predicate P has to accept what the transaction sees of it
 --   [:send G F ARG ..]      an action is sent to the agent G
 use Rattle.std.specs.Prelude.{◌≡◌, List, [], ◌∷◌}
-use Rattle.ref_edn.specs.Edn.{Edn, keyword, vector, items_of}
+use Rattle.ref_value.specs.Edn.{Edn, keyword, vector, items_of}
 use Rattle.ref_audit.specs.Names.{NamesSeen}
 use Rattle.ref_log.specs.declared.notices.Who.TheVariants.{Ref, Agent}
 use Rattle.ref_log.specs.declared.operations.Op.TheVariants.{Set, Alter, Commute, Ensure}

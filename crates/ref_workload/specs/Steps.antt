@@ -11,7 +11,7 @@
 --   [:validator NAME RULE]    `set-validator!` of any reference; nil in place of the rule takes it away
 use Rattle.std.specs.Prelude.{◌≡◌, ◌≤◌, Bool, true, false, List, [], ◌∷◌, Option, length}
 use Rattle.std.specs.List.{AllZip}
-use Rattle.ref_edn.specs.Edn.{Edn, keyword, vector, items_of}
+use Rattle.ref_value.specs.Edn.{Edn, keyword, vector, items_of}
 use Rattle.ref_fun.specs.declared.rules.Rule.{Rule}
 use Rattle.ref_audit.specs.Names.{NamesSeen}
 use Rattle.ref_log.specs.declared.notices.Who.TheVariants.{Atom, Agent}

@@ -10,8 +10,8 @@
 -- specs/Operations.antt do.
 use Rattle.std.specs.Prelude.{◌≡◌, ◌≤◌, ℕ, ℤ, pos, Bool, true, false, ◌||◌, List, [], ◌∷◌, Option, None, Some, cond, length}
 use Rattle.std.specs.List.{AllZip, list_all}
-use Rattle.ref_edn.specs.Edn.{Edn, int, keyword, vector, map, items_of, entries_of}
-use Rattle.ref_edn.specs.Names.{bytes_eq}
+use Rattle.ref_value.specs.Edn.{Edn, int, keyword, vector, map, items_of, entries_of}
+use Rattle.ref_value.specs.Names.{bytes_eq}
 use Rattle.ref_workload.specs.Declarations.{AreReferences}
 use Rattle.ref_workload.specs.Kinds.{is_short_vector}
 use Rattle.ref_workload.specs.Plan.{PlanSeen}

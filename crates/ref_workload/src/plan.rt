@@ -9,7 +9,7 @@ use crate::planning::forms::map_in;
 use crate::planning::parts::{forms_of, parts_of};
 use crate::planning::steps::workers;
 use crate::plans::Plan;
-use ref_edn::{Items, Value};
+use ref_value::{Items, Value};
 use std::alloc::Global;
 
 /// The plan that a value says, where it is a workload: docs/WORKLOADS.md has the form. It takes time in proportion to the value; a

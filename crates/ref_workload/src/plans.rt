@@ -3,7 +3,7 @@ ghost use Rattle.std.specs.Prelude.{◌≡◌};
 
 use ref_agents::ErrorMode;
 use ref_audit::Names;
-use ref_edn::Value;
+use ref_value::Value;
 use ref_fun::{Action, Rule};
 use ref_log::{Op, Sent, SharedVec, Who};
 use ref_world::Start;
@@ -77,7 +77,7 @@ pub struct Plan {
 
 impl Model for Plan {
     ghost use Rattle.std.specs.Coded.{codes};
-    ghost use Rattle.ref_edn.specs.Code.{edn_code};
+    ghost use Rattle.ref_value.specs.Code.{edn_code};
     ghost use Rattle.ref_workload.specs.Plan.{PlanSeen};
 
     ghost Value = { PlanSeen };

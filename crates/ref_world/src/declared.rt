@@ -9,7 +9,7 @@ ghost use Rattle.ref_world.specs.Starts.{base_of, declared_agents, declared_atom
 use crate::starts::{AgentStart, AtomStart, RefStart};
 use ref_agents::AgentStore;
 use ref_atoms::AtomStore;
-use ref_edn::Value;
+use ref_value::Value;
 use ref_fun::{Functions, Meaning, Rule};
 use ref_log::{Base, MakeFault, SharedVec, Who};
 use ref_refs::RefStore;

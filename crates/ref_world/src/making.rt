@@ -9,7 +9,7 @@ ghost use Rattle.ref_refs.specs.Make as refs;
 ghost use Rattle.ref_world.specs.World.{point_of, with_entry, with_made_ref, with_tally};
 
 use crate::worlds::World;
-use ref_edn::Value;
+use ref_value::Value;
 use ref_fun::{Functions, Meaning, Rule};
 use ref_log::{Base, Entry, MakeFault};
 use ref_refs::RefStore;

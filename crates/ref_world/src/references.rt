@@ -7,7 +7,7 @@ ghost use Rattle.ref_world.specs.References.{are_known, is_accepted_at, keys_at,
 ghost use Rattle.ref_world.specs.World.{IsReplayed};
 
 use crate::worlds::World;
-use ref_edn::Value;
+use ref_value::Value;
 use ref_fun::{Functions, Meaning, Rule};
 use ref_log::{RuleFault, WatchFault, Who};
 use std::alloc::Global;

@@ -1,6 +1,6 @@
 //! What a world begins with.
 use ref_agents::ErrorMode;
-use ref_edn::Value;
+use ref_value::Value;
 use ref_fun::Rule;
 
 /// A ref that is declared: its value, its rule, if it has one, and whether it is the tally.

@@ -48,7 +48,7 @@ pub struct World<M: Meaning, C: Ledger, A: Ledger> {
 
 impl<M: Meaning, C: Ledger, A: Ledger> Model for World<M, C, A> {
     ghost use Rattle.std.specs.Coded.{codes};
-    ghost use Rattle.ref_edn.specs.Code.{edn_code};
+    ghost use Rattle.ref_value.specs.Code.{edn_code};
     ghost use Rattle.ref_world.specs.Seen.{WorldSeen};
     ghost use Rattle.ref_world.specs.World.{AreBooks, IsWorld};
 

@@ -3,7 +3,7 @@ ghost use Rattle.std.specs.Prelude.{◌≤◌, length};
 
 use crate::model::PlainStart;
 use crate::plain::{Given, Plain, PlainCall};
-use ref_edn::{Node, Value};
+use ref_value::{Node, Value};
 use ref_fun::{Args, MOST_ARGUMENTS, Rule};
 use std::alloc::{AllocError, Global};
 

@@ -7,7 +7,7 @@ use crate::player::Player;
 use crate::shows::{Shows, agree};
 use crate::tables::Table;
 use crate::transactions::{PlainReceipt, PlainTx};
-use ref_edn::Value;
+use ref_value::Value;
 use ref_fun::{Cause, Core};
 use ref_refs::{Alien, CommitFault};
 use ref_tx::{Tx, TxFault};

@@ -3,7 +3,7 @@ ghost use Rattle.ref_fun.specs.Names.{is_function, is_predicate};
 ghost use Rattle.std.specs.Prelude.{◌&&◌, nat_le};
 
 use crate::plain::{PlainCall, PlainOp};
-use ref_edn::Value;
+use ref_value::Value;
 use ref_fun::{CallFault, Core, CoreFunctions, Functions};
 use std::alloc::Global;
 

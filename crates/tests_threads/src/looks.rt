@@ -6,7 +6,7 @@ ghost use Rattle.ref_world.specs.Shares.{all_parts};
 
 use crate::flags::{Flags, Place};
 use crate::waits::wait_for;
-use ref_edn::Value;
+use ref_value::Value;
 use ref_fun::{CallFault, Core, CoreFunctions, Functions};
 use ref_log::{Notice, Who};
 use ref_shared::{Gate, Shared, Spot, WatchSink, Worked};

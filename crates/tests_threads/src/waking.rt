@@ -5,7 +5,7 @@ ghost use Rattle.ref_world.specs.Shares.{all_parts};
 use crate::flags::Flags;
 use crate::side_by_side::{wait_past, work_and_meet, work_first, work_next};
 use crate::waits::wait_for;
-use ref_edn::Value;
+use ref_value::Value;
 use ref_fun::{Action, Core, CoreFunctions, FunTable};
 use ref_log::Who;
 use ref_shared::{Shared, WorkFault, Worked};

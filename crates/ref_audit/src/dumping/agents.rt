@@ -1,6 +1,6 @@
 //! The forms of agents.
 ghost use Rattle.std.specs.Prelude.{◌≡◌, map, IfErr, IfOk, option_copied};
-ghost use Rattle.ref_edn.specs.Edn.{nesting};
+ghost use Rattle.ref_value.specs.Edn.{nesting};
 ghost use Rattle.ref_audit.specs.Dumped.{agent_parts, handled_form, mark_word, queued_form, status_word};
 ghost use Rattle.ref_audit.specs.Made.{IsMakeFault, word_text};
 ghost use Rattle.ref_audit.specs.Words.{vector_form};
@@ -9,7 +9,7 @@ use crate::dumping::forms::{Form, name, rule, vector_of, vector_of_all, vector_o
 use crate::faults::DumpMakeFault;
 use crate::words::Word;
 use ref_agents::{Account, Handled, Mark, Queued};
-use ref_edn::Value;
+use ref_value::Value;
 use ref_fun::Rule;
 use std::alloc::Global;
 

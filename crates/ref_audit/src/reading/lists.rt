@@ -1,13 +1,13 @@
 //! Lists of forms.
 ghost use Rattle.std.specs.Prelude.{◌≡◌, ◌≤◌, length, Option, None, Some, IfErr, IfOk, IfNone, IfSome};
-ghost use Rattle.ref_edn.specs.Edn.{Edn};
+ghost use Rattle.ref_value.specs.Edn.{Edn};
 ghost use Rattle.ref_audit.specs.DumpForm.{all_said, elements_within, list_said, values_said};
 ghost use Rattle.ref_audit.specs.Reading.{Reads};
 ghost use Rattle.ref_audit.specs.declared.reading.wrongs.Wrong.TheVariants.{Form};
 
 use crate::reading::plain::elements_in;
 use crate::reading::wrongs::Wrong;
-use ref_edn::{Items, Value};
+use ref_value::{Items, Value};
 use ref_log::SharedVec;
 use std::alloc::Global;
 

@@ -5,7 +5,7 @@ ghost use Rattle.ref_log.specs.Tally.{added_by_done, added_by_dones, added_in, a
 ghost use Rattle.ref_audit.specs.Verdict.{are_counts};
 
 use crate::reading::dumps::Dump;
-use ref_edn::{Node, Value};
+use ref_value::{Node, Value};
 use ref_log::{Done, Entry, Op};
 use ref_pvec::PVec;
 

@@ -11,7 +11,7 @@ ghost use Rattle.ref_audit.specs.Verdict.{breaks_fold};
 use crate::reading::dumps::KeptAgent;
 use crate::verdicts::core_calls::apply;
 use ref_agents::accounts::{Handled, Mark};
-use ref_edn::Value;
+use ref_value::Value;
 use ref_fun::{Core, FunFault, Functions};
 use std::alloc::{AllocError, Global};
 

@@ -4,7 +4,7 @@ ghost use Rattle.ref_workload.specs.Orderly.{base_declared};
 ghost use Rattle.ref_world.specs.declared.starts.AtomStart.{AtomStart};
 ghost use Rattle.ref_world.specs.declared.starts.RefStart.{RefStart};
 
-use ref_edn::Value;
+use ref_value::Value;
 use ref_fun::Core;
 use ref_log::{Base, Same, Who};
 use ref_world::{AtomStart, RefStart, Start, World};

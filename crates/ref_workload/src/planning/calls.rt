@@ -1,6 +1,6 @@
 //! Functions and predicates with their arguments, values, and the references that they are for.
 ghost use Rattle.std.specs.Prelude.{◌≡◌, ◌≢◌, ◌≤◌, ◌∷◌, ℕ, [], List, All, IfErr, IfNone, IfOk, IfSome, length};
-ghost use Rattle.ref_edn.specs.Edn.{Edn, symbol};
+ghost use Rattle.ref_value.specs.Edn.{Edn, symbol};
 ghost use Rattle.ref_fun.specs.declared.actions.Action.{Action as Called};
 ghost use Rattle.ref_fun.specs.declared.rules.Rule.{Rule as RuleCalled};
 ghost use Rattle.ref_workload.specs.Calls.{IsCall, IsFunction, IsOn, IsPredicate, IsRule, IsShallow, IsValue};
@@ -10,8 +10,8 @@ use crate::planning::forms::{is_shallow, one_in, subject_in, symbol_in, vector_i
 use crate::planning::kinds::Kind;
 use crate::planning::names::Declared;
 use crate::planning::wrong::Wrong;
-use ref_edn::vectors::Iter;
-use ref_edn::{Text, Value};
+use ref_value::vectors::Iter;
+use ref_value::{Text, Value};
 use ref_fun::{Action, Args, MOST_ARGUMENTS, Rule, code_of};
 use ref_log::Who;
 use std::alloc::Global;

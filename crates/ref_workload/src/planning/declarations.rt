@@ -13,7 +13,7 @@ use crate::planning::hashing::NameHashing;
 use crate::planning::names::{Declared, NameTable};
 use crate::planning::references::{Refused, agent_in, atom_in, ref_in};
 use ref_audit::Names;
-use ref_edn::{Items, Text};
+use ref_value::{Items, Text};
 use ref_log::Who;
 use ref_world::{AgentStart, AtomStart, RefStart, Start};
 use std::alloc::Global;

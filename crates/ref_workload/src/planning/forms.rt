@@ -1,14 +1,14 @@
 //! What kind of value a part of a workload is.
 ghost use Rattle.std.specs.Bool.{OnTrue};
 ghost use Rattle.std.specs.Prelude.{◌≡◌, ◌≤◌, ◌↔◌, ◌∷◌, ℕ, [], List, IfNone, IfSome, IsTrue, is_some};
-ghost use Rattle.ref_edn.specs.Edn.{Edn, int, keyword, symbol, vector, map, items_of, entries_of};
-ghost use Rattle.ref_edn.specs.Names.{bytes_eq};
+ghost use Rattle.ref_value.specs.Edn.{Edn, int, keyword, symbol, vector, map, items_of, entries_of};
+ghost use Rattle.ref_value.specs.Names.{bytes_eq};
 ghost use Rattle.ref_workload.specs.Calls.{IsShallow};
 ghost use Rattle.ref_workload.specs.Kinds.{is_int, is_keyword, is_map, is_symbol, is_vector};
 ghost use Rattle.ref_workload.specs.Workload.{is_word};
 
-use ref_edn::vectors::Iter;
-use ref_edn::{Entries, Items, Node, Text, Value};
+use ref_value::vectors::Iter;
+use ref_value::{Entries, Items, Node, Text, Value};
 
 /// How deep a value of a workload may be nested.
 pub const MOST_NESTED: u8 = 48;

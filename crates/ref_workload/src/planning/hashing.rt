@@ -1,7 +1,7 @@
 //! How names are hashed, so that nobody can choose them by their hashes.
 
 use crate::planning::forms::{symbol_in, vector_in};
-use ref_edn::{Items, Text, Value};
+use ref_value::{Items, Text, Value};
 use std::hash::{BuildHasher, DefaultHasher, Hash};
 
 /// What each hasher of a name begins with: one that took in all names that a workload declares, by SipHash. Where one name is another,

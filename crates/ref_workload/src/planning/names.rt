@@ -9,7 +9,7 @@ ghost use Rattle.ref_workload.specs.Tables.{Knows, found};
 use crate::planning::hashing::NameHashing;
 use indexmap::IndexMap;
 use ref_audit::Names;
-use ref_edn::Text;
+use ref_value::Text;
 use ref_log::Who;
 use std::alloc::{AllocError, Global};
 use std::hash::{Hash, Hasher};

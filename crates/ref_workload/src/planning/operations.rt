@@ -13,8 +13,8 @@ use crate::planning::names::Declared;
 use crate::planning::words::{OpWord, op_word_of};
 use crate::planning::wrong::Wrong;
 use crate::plans::PlannedOp;
-use ref_edn::Value;
-use ref_edn::vectors::Iter;
+use ref_value::Value;
+use ref_value::vectors::Iter;
 use ref_log::{Op, Sent};
 use std::alloc::Global;
 

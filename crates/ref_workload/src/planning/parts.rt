@@ -3,7 +3,7 @@ ghost use Rattle.std.specs.Bool.{OnFalse, OnTrue};
 ghost use Rattle.std.specs.List.{list_all};
 ghost use Rattle.std.specs.Option.{option_copied};
 ghost use Rattle.std.specs.Prelude.{◌≡◌, ◌≢◌, ℕ, ℤ, List, IfErr, IfOk, IfNone, IfSome, OnErr, Some, [], length, pos, true};
-ghost use Rattle.ref_edn.specs.Edn.{Edn, int};
+ghost use Rattle.ref_value.specs.Edn.{Edn, int};
 ghost use Rattle.ref_workload.specs.Kinds.{is_short_vector, is_vector};
 ghost use Rattle.ref_workload.specs.Workload.{AreFew, HasParts, HasVectors, IsPool, IsPoolSize, IsVectorPart, elements, is_known, part as part_of};
 ghost use Rattle.ref_workload.specs.Words.{pool_word, version_word};
@@ -12,7 +12,7 @@ use crate::plan_faults::PlanFault;
 use crate::planning::declarations::MOST_REFERENCES;
 use crate::planning::forms::{int_in, is_word, vector_in};
 use crate::planning::steps::MOST_STEPS;
-use ref_edn::{Entries, Items, Value};
+use ref_value::{Entries, Items, Value};
 
 /// How many workers a workload may have.
 pub const MOST_WORKERS: usize = 64;

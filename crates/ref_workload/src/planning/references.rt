@@ -1,7 +1,7 @@
 //! The form of a reference, and what it declares beside those before it.
 ghost use Rattle.std.specs.Prelude.{◌≡◌, ◌≢◌, ◌∷◌, ℕ, [], Bool, List, Option, None, IfErr, IfNone, IfOk, IfSome, false, option_copied, true};
 ghost use Rattle.ref_agents.specs.declared.agents.ErrorMode.{ErrorMode as AgentMode};
-ghost use Rattle.ref_edn.specs.Edn.{Edn};
+ghost use Rattle.ref_value.specs.Edn.{Edn};
 ghost use Rattle.ref_fun.specs.Core.{core_accepts};
 ghost use Rattle.ref_fun.specs.Rule.{passes};
 ghost use Rattle.ref_fun.specs.declared.rules.Rule.{Rule as AnyRule};
@@ -19,8 +19,8 @@ use crate::planning::names::NameTable;
 use crate::planning::words::mode_of;
 use crate::planning::wrong::Wrong;
 use ref_agents::ErrorMode;
-use ref_edn::vectors::Iter;
-use ref_edn::{Items, Node, Text, Value};
+use ref_value::vectors::Iter;
+use ref_value::{Items, Node, Text, Value};
 use ref_fun::{Rule, core_test};
 use ref_log::Who;
 use ref_world::{AgentStart, AtomStart, RefStart};

@@ -1,5 +1,5 @@
 use Rattle.std.proofs.Common.{◌∷◌, sym, ◌∙◌, ap}
-use Rattle.ref_edn.specs.Edn.{vector, items_of}
+use Rattle.ref_value.specs.Edn.{vector, items_of}
 use Rattle.ref_workload.proofs.References.{its_rule, its_tail}
 use Rattle.ref_workload.proofs.planning.references.reference_in.Goals as goal
 
