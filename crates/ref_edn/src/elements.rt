@@ -22,10 +22,7 @@ use crate::scratch::Scratch;
 use crate::sort_keys::Keyed;
 use crate::string_reader::string;
 use crate::token_reader::token;
-use ref_value::data::{Node, Value};
-use ref_value::maps::Entries;
-use ref_value::sets::Elements;
-use ref_value::vectors::Items;
+use ref_value::{Elements, Entries, Items, Node, Value};
 use std::alloc::Global;
 use std::cmp::Reverse;
 

@@ -4,10 +4,7 @@ ghost use Rattle.std.specs.Prelude.{◌≡◌, ◌<◌, [], IfOk, IfSome, IsTrue
 ghost use Rattle.ref_value.specs.Edn.{Edn, no_items, no_entries, keyword as keyword_of, string as string_of, symbol as symbol_of, vector as vector_of, map as map_of, set as set_of};
 ghost use Rattle.ref_value.specs.Lawful.{IsLawful};
 
-use ref_value::data::{Node, Value};
-use ref_value::maps::Entries;
-use ref_value::sets::Elements;
-use ref_value::vectors::Items;
+use ref_value::{Elements, Entries, Items, Node, Value};
 use std::alloc::{AllocError, Global};
 
 // How many names and strings are known at a time. No contract speaks of it.

@@ -6,7 +6,7 @@ ghost use Rattle.ref_edn.specs.Marks.{Falls, elements_of, first_twice, keys_of, 
 ghost use Rattle.ref_value.specs.Order.{edn_cmp, elements_ascend, keys_ascend};
 
 use crate::sort_keys::Keyed;
-use ref_value::data::Value;
+use ref_value::Value;
 use std::alloc::{AllocError, Global};
 use std::cmp::Reverse;
 

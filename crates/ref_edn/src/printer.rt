@@ -8,10 +8,8 @@ ghost use Rattle.ref_edn.specs.Printed.{printed, escaped, escaped_byte, items_te
 
 use crate::bytes::after;
 use itoa::Buffer;
-use ref_value::data::{Node, Value};
-use ref_value::maps::{Entries, Iter};
-use ref_value::sets::Elements;
-use ref_value::vectors::Items;
+use ref_value::maps::Iter;
+use ref_value::{Elements, Entries, Items, Node, Value};
 use std::alloc::{AllocError, Global};
 
 // How many keys of a map are looked at in one go.

@@ -9,7 +9,8 @@ ghost use Rattle.ref_edn.specs.Reading.{one, all};
 use crate::elements::{read, skip};
 use crate::faults::{Kind, ReadError, ReadFault, fault_at};
 use crate::scratch::Scratch;
-use ref_value::data::{MOST_NESTED, Value};
+use ref_value::Value;
+use ref_value::data::MOST_NESTED;
 use std::alloc::Global;
 
 /// The value of a text that is one element.

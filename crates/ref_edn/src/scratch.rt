@@ -2,7 +2,7 @@
 ghost use Rattle.std.specs.Prelude.{◌≡◌, []};
 
 use crate::interner::Interner;
-use ref_value::data::Value;
+use ref_value::Value;
 use std::alloc::Global;
 
 /// Values that may come again, and the room of lists that are used no more.

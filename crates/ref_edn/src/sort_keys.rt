@@ -5,8 +5,8 @@ ghost use Rattle.ref_value.specs.Order.{edn_cmp, rank as rank_of};
 ghost use Rattle.ref_edn.specs.SortKeys.{AreBytes, spelled, text_of, int_key as int_key_of, sort_key};
 ghost use Rattle.ref_value.specs.View.{edn};
 
-use ref_value::data::{Node, Value};
 use ref_value::order::{compare, rank};
+use ref_value::{Node, Value};
 use std::cmp::Ordering;
 use std::marker::Model;
 

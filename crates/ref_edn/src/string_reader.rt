@@ -12,8 +12,7 @@ use crate::bytes::after;
 use crate::faults::{Kind, ReadError};
 use crate::interner::Interner;
 use memchr::memchr2;
-use ref_value::data::{Node, Value};
-use ref_value::texts::Text;
+use ref_value::{Node, Text, Value};
 use std::alloc::{AllocError, Global};
 
 // What a letter behind a backslash stands for.

@@ -13,9 +13,8 @@ ghost use Rattle.ref_edn.specs.ReadTokens.{starts_number as starts_number_text, 
 use crate::bytes::{after, is_delimiter, is_digit, token_end};
 use crate::faults::{Kind, ReadError};
 use crate::interner::Interner;
-use ref_value::data::{Node, Value};
 use ref_value::names::{is_keyword, is_same, is_symbol};
-use ref_value::texts::Text;
+use ref_value::{Node, Text, Value};
 use std::alloc::{AllocError, Global};
 
 fn are_digits(digits: &[u8]) -> bool
