@@ -20,10 +20,10 @@ use Rattle.ref_agents.specs.declared.accounts.Queued.{Queued}
 use Rattle.ref_value.specs.OrderLaws.{edn_eq}
 use Rattle.ref_log.specs.Replay.{is_set}
 use Rattle.ref_audit.specs.Dumped.{atom_form, done_form, entry_form, handled_form, op_form, queued_form, sent_form}
-use Rattle.ref_audit.specs.DumpForm.{action_of, all_said, args_said, code_of, done_of, elements_of, entries_from, entry_of, handled_of, list_said, only_if, queued_of, reference_of, rule_of, sent_of, stamp_number}
+use Rattle.ref_verdict.specs.DumpForm.{action_of, all_said, args_said, code_of, done_of, elements_of, entries_from, entry_of, handled_of, list_said, only_if, queued_of, reference_of, rule_of, sent_of, stamp_number}
 use Rattle.ref_audit.specs.OwnDump.{is_typed_action, is_typed_args, is_typed_entry, is_typed_handled, is_typed_number, is_typed_op, is_typed_queued, is_typed_sent, is_typed_done, is_typed_rule, is_typed_stamp, is_reset}
-use Rattle.ref_audit.specs.Words.{name_form, number_form, rule_form, vector_form}
-use Rattle.ref_audit.proofs.Lists.{args_said_few, elements_of_vector, rule_of_vector}
+use Rattle.ref_verdict.specs.Words.{name_form, number_form, rule_form, vector_form}
+use Rattle.ref_verdict.specs.FormLaws.{args_said_few, elements_of_vector, rule_of_vector}
 
 split : (a b : Bool) → (a && b) ≡ true → (a ≡ true) × (b ≡ true)
 split true b e = (refl, e)

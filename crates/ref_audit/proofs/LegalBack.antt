@@ -18,7 +18,7 @@ use Rattle.ref_log.specs.declared.operations.Done.{Done}
 use Rattle.ref_log.specs.declared.operations.Op.{Op}
 use Rattle.ref_log.specs.declared.operations.Op.TheVariants as ops
 use Rattle.ref_log.specs.declared.states.PlainState.{PlainState}
-use Rattle.ref_audit.specs.OfCore.{is_entry_of_core, is_op_of_core}
+use Rattle.ref_verdict.specs.OfCore.{is_entry_of_core, is_op_of_core}
 use Rattle.ref_audit.specs.OwnDump.{is_reset, is_reset_entry}
 
 -- ---- functions

@@ -1,6 +1,5 @@
 pub mod Depths
 pub mod Dumps
-pub mod Early
 pub mod Leasts
 pub mod Left
 pub mod Numbered
@@ -8,13 +7,6 @@ pub mod References
 pub mod ReportLines
 pub mod ReportTurns
 pub mod WordNames
-pub mod Lists
-pub mod OfCore
-pub mod Differences
-pub mod Folds
-pub mod Maps
-pub mod Read
-pub mod Needed
 pub mod FormsBack
 pub mod WorldBack
 pub mod VerdictBack

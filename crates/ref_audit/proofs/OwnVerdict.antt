@@ -16,15 +16,15 @@ use Rattle.ref_agents.specs.declared.accounts.Handled.{Handled}
 use Rattle.ref_agents.specs.declared.agents.Agent.{Agent}
 use Rattle.ref_world.specs.Seen.{WorldSeen}
 use Rattle.ref_audit.specs.Dumped.{depth_refusal, dump_refusal, dumped, unnamed, unnamed_refusal}
-use Rattle.ref_audit.specs.DumpForm.{dump_of}
-use Rattle.ref_audit.specs.OfCore.{IsOfCore, is_account_of_core, is_agent_rule_of_core, is_entry_of_core, is_handled_of_core, is_kept_of_core, is_op_of_core, is_rule_of_core}
+use Rattle.ref_verdict.specs.DumpForm.{dump_of}
+use Rattle.ref_verdict.specs.OfCore.{IsOfCore, is_account_of_core, is_agent_rule_of_core, is_entry_of_core, is_handled_of_core, is_kept_of_core, is_op_of_core, is_rule_of_core}
 use Rattle.ref_audit.specs.OwnDump.{IsTold, IsTyped, agent_seen, dump_seen, is_typed_agent, is_typed_args, is_typed_done, is_typed_entry, is_typed_handled, is_typed_number, is_typed_op, is_typed_queued, is_typed_rule, is_typed_sent, is_typed_stamp, kept_seen}
-use Rattle.ref_audit.specs.Verdict.{verdict, verdict_on}
+use Rattle.ref_verdict.specs.Verdict.{verdict, verdict_on}
 use Rattle.ref_audit.specs.declared.faults.DumpMakeFault.{DumpMakeFault}
 use Rattle.ref_audit.specs.declared.faults.DumpMakeFault.TheVariants as makes
-use Rattle.ref_audit.specs.declared.reading.faults.DumpFault.{DumpFault}
-use Rattle.ref_audit.specs.declared.reports.Verdict.{Verdict}
-use Rattle.ref_audit.specs.declared.reports.Verdict.TheVariants as verdicts
+use Rattle.ref_verdict.specs.declared.reading.faults.DumpFault.{DumpFault}
+use Rattle.ref_verdict.specs.declared.reports.Verdict.{Verdict}
+use Rattle.ref_verdict.specs.declared.reports.Verdict.TheVariants as verdicts
 use Rattle.ref_audit.proofs.ToldBack.{join, own_verdict, split, told_sound, told_typed}
 use Rattle.ref_audit.proofs.VerdictBack.{verdict_back}
 

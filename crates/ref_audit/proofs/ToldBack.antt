@@ -30,11 +30,11 @@ use Rattle.ref_agents.specs.declared.agents.Agent.{Agent}
 use Rattle.ref_world.specs.Seen.{WorldSeen}
 use Rattle.ref_world.specs.World.{values_now}
 use Rattle.ref_audit.specs.Dumped.{dumped, least, lesser, unnamed, unnamed_code, unnamed_in_agent, unnamed_in_entry, unnamed_in_handled, unnamed_in_queued, unnamed_in_sent}
-use Rattle.ref_audit.specs.DumpForm.{dump_of}
-use Rattle.ref_audit.specs.OfCore.{is_entry_of_core, is_op_of_core}
+use Rattle.ref_verdict.specs.DumpForm.{dump_of}
+use Rattle.ref_verdict.specs.OfCore.{is_entry_of_core, is_op_of_core}
 use Rattle.ref_audit.specs.OwnDump.{IsSound, IsTold, IsTyped, account_fact, is_reset, is_reset_entry, is_small_account, is_small_args, is_small_done, is_small_entry, is_small_handled, is_small_op, is_small_queued, is_small_rule, is_small_sent, is_typed_action, is_typed_agent, is_typed_done, is_typed_entry, is_typed_handled, is_typed_number, is_typed_op, is_typed_queued, is_typed_rule, is_typed_sent, is_typed_stamp, is_typed_tally, rule_fact}
-use Rattle.ref_audit.specs.Verdict.{verdict_on}
-use Rattle.ref_audit.specs.declared.reports.Verdict.TheVariants as verdicts
+use Rattle.ref_verdict.specs.Verdict.{verdict_on}
+use Rattle.ref_verdict.specs.declared.reports.Verdict.TheVariants as verdicts
 use Rattle.ref_audit.proofs.LegalBack.{log_called}
 use Rattle.ref_audit.proofs.VerdictBack.{verdict_back}
 use Rattle.ref_audit.proofs.WorldBack.{world_back}

@@ -16,9 +16,9 @@ use Rattle.ref_agents.specs.Agents.{AreAgents, IsAgent, values_of}
 use Rattle.ref_agents.specs.declared.agents.Agent.{Agent}
 use Rattle.ref_world.specs.Seen.{WorldSeen}
 use Rattle.ref_audit.specs.OwnDump.{IsSound, agent_seen, agents_seen, dump_seen, kept_seen, kepts_seen}
-use Rattle.ref_audit.specs.Verdict.{agent_breaks_rule, breaks_fold, breaks_rule, first_difference, verdict}
-use Rattle.ref_audit.specs.Verdict as audits
-use Rattle.ref_audit.specs.declared.reports.Verdict.TheVariants as verdicts
+use Rattle.ref_verdict.specs.Verdict.{agent_breaks_rule, breaks_fold, breaks_rule, first_difference, verdict}
+use Rattle.ref_verdict.specs.Verdict as audits
+use Rattle.ref_verdict.specs.declared.reports.Verdict.TheVariants as verdicts
 
 equal_itself : (x : Edn) → eq_by_cmp edn_cmp x x ≡ true
 equal_itself x = (edn_eq x x (eq_by_cmp edn_cmp x x) refl).1 refl

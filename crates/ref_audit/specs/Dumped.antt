@@ -23,7 +23,7 @@ use Rattle.ref_log.specs.declared.operations.Op.TheVariants.{Set, Alter, Commute
 use Rattle.ref_log.specs.declared.sends.Sent.{Sent}
 use Rattle.ref_log.specs.declared.states.Base.{Base}
 use Rattle.ref_world.specs.Seen.{WorldSeen}
-use Rattle.ref_audit.specs.Words.{added_key, agents_key, atoms_key, base_atoms_key, base_refs_key, commits_key, dump_key, entries_key, folded_key, point_key, refs_key, tally_key, tx_tag, reset_tag, swap_tag, made_ref_tag, made_atom_tag, set_tag, alter_tag, commute_tag, ensure_tag, done_mark, failed_mark, passed_mark, ready_status, failed_status, number_form, vector_form, name_form, action_forms, rule_form}
+use Rattle.ref_verdict.specs.Words.{added_key, agents_key, atoms_key, base_atoms_key, base_refs_key, commits_key, dump_key, entries_key, folded_key, point_key, refs_key, tally_key, tx_tag, reset_tag, swap_tag, made_ref_tag, made_atom_tag, set_tag, alter_tag, commute_tag, ensure_tag, done_mark, failed_mark, passed_mark, ready_status, failed_status, number_form, vector_form, name_form, action_forms, rule_form}
 use Rattle.ref_audit.specs.declared.faults.DumpMakeFault.{DumpMakeFault}
 use Rattle.ref_audit.specs.declared.faults.DumpMakeFault.TheVariants as faults
 

@@ -32,9 +32,9 @@ use Rattle.ref_agents.specs.Agents.{AreAgents, account_at}
 use Rattle.ref_world.specs.Seen.{WorldSeen}
 use Rattle.ref_world.specs.World.{IsReplayed, point_of}
 use Rattle.ref_audit.specs.Made.{AreFew}
-use Rattle.ref_audit.specs.declared.reading.dumps.Dump.{Dump}
-use Rattle.ref_audit.specs.declared.reading.dumps.Kept.{Kept}
-use Rattle.ref_audit.specs.declared.reading.dumps.KeptAgent.{KeptAgent}
+use Rattle.ref_verdict.specs.declared.reading.dumps.Dump.{Dump}
+use Rattle.ref_verdict.specs.declared.reading.dumps.Kept.{Kept}
+use Rattle.ref_verdict.specs.declared.reading.dumps.KeptAgent.{KeptAgent}
 
 -- a number of 32 bits
 abbrev pub is_typed_number : ℕ → Bool

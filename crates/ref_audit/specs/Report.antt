@@ -17,8 +17,8 @@ use Rattle.ref_audit.specs.Names.{NamesSeen}
 use Rattle.ref_audit.specs.declared.reports.Reason.{Reason}
 use Rattle.ref_audit.specs.declared.reports.Reason.TheVariants as reasons
 use Rattle.ref_audit.specs.declared.reports.Refusal.{Refusal}
-use Rattle.ref_audit.specs.declared.reports.Verdict.{Verdict}
-use Rattle.ref_audit.specs.declared.reports.Verdict.TheVariants as verdicts
+use Rattle.ref_verdict.specs.declared.reports.Verdict.{Verdict}
+use Rattle.ref_verdict.specs.declared.reports.Verdict.TheVariants as verdicts
 
 abbrev pub newline : List ℕ
 newline = 10 ∷ []

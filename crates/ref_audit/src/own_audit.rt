@@ -2,27 +2,26 @@
 ghost use Rattle.std.specs.Prelude.{◌≡◌, None, Ok, IfOk};
 ghost use Rattle.ref_fun.specs.Calls.{HasCore};
 ghost use Rattle.ref_log.specs.Told.{TellsOrMemory};
-ghost use Rattle.ref_audit.specs.DumpForm.{dump_of};
+ghost use Rattle.ref_verdict.specs.DumpForm.{dump_of};
 ghost use Rattle.ref_audit.specs.Dumped.{dump_refusal, dumped, unnamed_refusal};
 ghost use Rattle.ref_audit.specs.OwnDump.{IsTold};
-ghost use Rattle.ref_audit.specs.Verdict.{verdict_on};
+ghost use Rattle.ref_verdict.specs.Verdict.{verdict_on};
 ghost use Rattle.ref_audit.specs.declared.faults.DumpMakeFault.TheVariants as faults;
-ghost use Rattle.ref_audit.specs.declared.reports.Verdict.TheVariants as verdicts;
+ghost use Rattle.ref_verdict.specs.declared.reports.Verdict.TheVariants as verdicts;
 
 pub(crate) mod parts;
 pub(crate) mod references;
 pub(crate) mod seen;
 
-use crate::auditor::audit;
 use crate::dumping::{dump, tell_few, unnamed_in};
 use crate::faults::DumpMakeFault;
 use crate::own_audit::parts::tell_entries;
 use crate::own_audit::references::{tell_accounts, tell_agents, tell_atoms, tell_refs};
 use crate::own_audit::seen::dump_seen;
-use crate::reports::Verdict;
-use crate::verdicts::verdict;
 use ref_fun::{Core, Functions};
 use ref_log::Who;
+use ref_verdict::verdicts::verdict;
+use ref_verdict::{Verdict, audit};
 use ref_world::World;
 use std::alloc::Global;
 use std::sync::ledger::Ledger;

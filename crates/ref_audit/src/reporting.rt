@@ -5,12 +5,13 @@ ghost use Rattle.ref_audit.specs.Made.{kind_text, who_of};
 ghost use Rattle.ref_audit.specs.Report.{agent_line, agent_lines, cause_text, commits_line, newline, no_text, reason_text, refused_line, refused_lines, reported, space, status_text, value_line, value_lines, value_text, verdict_line, verdict_text};
 
 use crate::kinds::Kind;
-use crate::reports::{Names, Reason, Refusal, Verdict};
+use crate::reports::{Names, Reason, Refusal};
 use itoa::Buffer;
 use ref_edn::print;
 use ref_value::{Text, Value};
 use ref_fun::{Cause, Core};
 use ref_log::Who;
+use ref_verdict::Verdict;
 use ref_world::World;
 use std::alloc::{AllocError, Global};
 use std::sync::ledger::Ledger;

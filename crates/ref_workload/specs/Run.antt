@@ -8,7 +8,7 @@ use Rattle.ref_audit.specs.Dumped.{dumped}
 use Rattle.ref_audit.specs.Report.{reported}
 use Rattle.ref_audit.specs.Verdict.{verdict_on}
 use Rattle.ref_audit.specs.declared.reports.Refusal.{Refusal}
-use Rattle.ref_audit.specs.declared.reports.Verdict.TheVariants as verdicts
+use Rattle.ref_verdict.specs.declared.reports.Verdict.TheVariants as verdicts
 use Rattle.ref_world.specs.Seen.{WorldSeen}
 use Rattle.ref_workload.specs.Orderly.{AreInOrder, IsOrderly}
 use Rattle.ref_workload.specs.Plan.{PlanSeen}

@@ -7,7 +7,7 @@ ghost use Rattle.ref_audit.specs.DumpForm.{dump_of};
 ghost use Rattle.ref_audit.specs.Dumped.{dumped};
 ghost use Rattle.ref_audit.specs.Report.{reported};
 ghost use Rattle.ref_audit.specs.Verdict.{verdict_on};
-ghost use Rattle.ref_audit.specs.declared.reports.Verdict.TheVariants as verdicts;
+ghost use Rattle.ref_verdict.specs.declared.reports.Verdict.TheVariants as verdicts;
 ghost use Rattle.ref_workload.specs.Run.{IsAtFault, IsOfPlan, IsOfText, IsPlanRun, IsRun};
 ghost use Rattle.ref_workload.specs.Streams.{CountsReads, CountsWrites, HasBrokenOff, HasWritten};
 ghost use Rattle.ref_world.specs.Shares.{all_parts};

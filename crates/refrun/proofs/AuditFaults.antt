@@ -8,10 +8,10 @@ use Rattle.ref_edn.specs.declared.faults.ReadFault.TheVariants as reads
 use Rattle.ref_audit.specs.DumpForm.{dump_of}
 use Rattle.ref_audit.specs.Report.{verdict_line}
 use Rattle.ref_audit.specs.Verdict.{verdict, verdict_on}
-use Rattle.ref_audit.specs.declared.reading.dumps.Dump.{Dump}
-use Rattle.ref_audit.specs.declared.reading.faults.DumpFault.{DumpFault}
-use Rattle.ref_audit.specs.declared.reading.faults.DumpFault.TheVariants as dumps
-use Rattle.ref_audit.specs.declared.reports.Verdict.{Verdict}
+use Rattle.ref_verdict.specs.declared.reading.dumps.Dump.{Dump}
+use Rattle.ref_verdict.specs.declared.reading.faults.DumpFault.{DumpFault}
+use Rattle.ref_verdict.specs.declared.reading.faults.DumpFault.TheVariants as dumps
+use Rattle.ref_verdict.specs.declared.reports.Verdict.{Verdict}
 use Rattle.refrun.specs.Auditing.{IsAtFault, IsAuditOf, dump_fault_of, edn_fault_of}
 use Rattle.refrun.specs.declared.faults.AuditRunFault.{AuditRunFault}
 

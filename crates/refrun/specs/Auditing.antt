@@ -8,10 +8,10 @@ use Rattle.ref_edn.specs.declared.faults.ReadFault.TheVariants as reads
 use Rattle.ref_audit.specs.DumpForm.{dump_of}
 use Rattle.ref_audit.specs.Report.{verdict_line}
 use Rattle.ref_audit.specs.Verdict as verdicts
-use Rattle.ref_audit.specs.declared.reading.dumps.Dump.{Dump}
-use Rattle.ref_audit.specs.declared.reading.faults.DumpFault.{DumpFault}
-use Rattle.ref_audit.specs.declared.reading.faults.DumpFault.TheVariants as dumps
-use Rattle.ref_audit.specs.declared.reports.Verdict.{Verdict}
+use Rattle.ref_verdict.specs.declared.reading.dumps.Dump.{Dump}
+use Rattle.ref_verdict.specs.declared.reading.faults.DumpFault.{DumpFault}
+use Rattle.ref_verdict.specs.declared.reading.faults.DumpFault.TheVariants as dumps
+use Rattle.ref_verdict.specs.declared.reports.Verdict.{Verdict}
 use Rattle.refrun.specs.declared.faults.AuditRunFault.{AuditRunFault}
 use Rattle.refrun.specs.declared.faults.AuditRunFault.TheVariants as faults
 

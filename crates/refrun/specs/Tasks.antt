@@ -1,7 +1,7 @@
 -- What a task does with the input: what it writes of it, and what its faults say.
 use Rattle.std.specs.Prelude.{◌≡◌, ◌≢◌, ℕ, List, Option, IfSome, Result, Ok, Err}
-use Rattle.ref_audit.specs.declared.reports.Verdict.{Verdict}
-use Rattle.ref_audit.specs.declared.reports.Verdict.TheVariants as verdicts
+use Rattle.ref_verdict.specs.declared.reports.Verdict.{Verdict}
+use Rattle.ref_verdict.specs.declared.reports.Verdict.TheVariants as verdicts
 use Rattle.ref_workload.specs.Run as runs
 use Rattle.ref_workload.specs.Streams as streams
 use Rattle.ref_workload.specs.declared.faults.RunFault.TheVariants as run_faults

@@ -3,7 +3,7 @@ ghost use Rattle.std.specs.Prelude.{◌≡◌, ◌≢◌, IfOk, IfErr, IfSome};
 ghost use Rattle.std.specs.Thread.{IsSync};
 ghost use Rattle.ref_edn.specs.Streams.{ConsumesUpTo};
 ghost use Rattle.ref_fun.specs.Calls.{HasCore};
-ghost use Rattle.ref_audit.specs.declared.reports.Verdict.TheVariants as verdicts;
+ghost use Rattle.ref_verdict.specs.declared.reports.Verdict.TheVariants as verdicts;
 ghost use Rattle.ref_workload.specs.Run.{IsAtFault, IsOfText, IsRun};
 ghost use Rattle.ref_workload.specs.Streams.{CountsReads, CountsWrites, HasBrokenOff, HasWritten};
 

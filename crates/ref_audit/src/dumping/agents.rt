@@ -3,7 +3,7 @@ ghost use Rattle.std.specs.Prelude.{◌≡◌, map, IfErr, IfOk, option_copied};
 ghost use Rattle.ref_value.specs.Edn.{nesting};
 ghost use Rattle.ref_audit.specs.Dumped.{agent_parts, handled_form, mark_word, queued_form, status_word};
 ghost use Rattle.ref_audit.specs.Made.{IsMakeFault, word_text};
-ghost use Rattle.ref_audit.specs.Words.{vector_form};
+ghost use Rattle.ref_verdict.specs.Words.{vector_form};
 
 use crate::dumping::forms::{Form, name, rule, vector_of, vector_of_all, vector_of_values};
 use crate::faults::DumpMakeFault;

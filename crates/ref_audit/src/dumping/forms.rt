@@ -6,7 +6,7 @@ ghost use Rattle.ref_value.specs.Names.{is_symbol};
 ghost use Rattle.ref_value.specs.View.{edn};
 ghost use Rattle.ref_audit.specs.Dumped.{entry_form};
 ghost use Rattle.ref_audit.specs.Made.{IsMakeFault};
-ghost use Rattle.ref_audit.specs.Words.{name_form, number_form, rule_form, vector_form};
+ghost use Rattle.ref_verdict.specs.Words.{name_form, number_form, rule_form, vector_form};
 
 use crate::faults::DumpMakeFault;
 use ref_value::{Items, Node, Text, Value};

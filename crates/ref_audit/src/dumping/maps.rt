@@ -5,7 +5,7 @@ ghost use Rattle.ref_value.specs.Edn.{keyword, nesting};
 ghost use Rattle.ref_value.specs.Order.{keys_ascend};
 ghost use Rattle.ref_audit.specs.Dumped.{agents_form, base_refs_form, dump_entries, dumped, entry_form, folded_form, tally_form, values_form};
 ghost use Rattle.ref_audit.specs.Made.{AreFew, AreParts, IsMakeFault, word_text};
-ghost use Rattle.ref_audit.specs.Words.{number_form, vector_form};
+ghost use Rattle.ref_verdict.specs.Words.{number_form, vector_form};
 
 use crate::dumping::forms::{number, vector_of_entries, vector_of_values};
 use crate::dumping::references::{base_refs, folded, tally};

@@ -3,7 +3,7 @@ ghost use Rattle.std.specs.Prelude.{◌≡◌, ◌∷◌, [], length, IfErr, IfO
 ghost use Rattle.ref_value.specs.Edn.{nesting};
 ghost use Rattle.ref_audit.specs.Dumped.{base_refs_form, folded_form, tally_form};
 ghost use Rattle.ref_audit.specs.Made.{IsMakeFault};
-ghost use Rattle.ref_audit.specs.Words.{number_form, rule_form, vector_form};
+ghost use Rattle.ref_verdict.specs.Words.{number_form, rule_form, vector_form};
 
 use crate::dumping::forms::{nil, number, rule, vector_of};
 use crate::faults::DumpMakeFault;

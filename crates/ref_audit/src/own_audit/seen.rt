@@ -5,10 +5,10 @@ ghost use Rattle.ref_audit.specs.Made.{AreFew, who_of};
 ghost use Rattle.ref_audit.specs.OwnDump.{agents_seen, dump_seen, kepts_seen};
 
 use crate::kinds::Kind;
-use crate::reading::dumps::{Dump, Kept, KeptAgent};
 use ref_agents::{Account, Handled};
 use ref_fun::{Action, Core, Rule};
 use ref_log::{Base, MOST_REFERENCES, SharedVec, Who};
+use ref_verdict::reading::dumps::{Dump, Kept, KeptAgent};
 use ref_world::World;
 use std::alloc::{AllocError, Global};
 use std::sync::ledger::Ledger;

@@ -1,6 +1,6 @@
 use Rattle.std.proofs.Common.{◌≡◌, Ok, ap, sym, ◌∙◌}
-use Rattle.ref_audit.specs.Verdict.{verdict}
-use Rattle.ref_audit.specs.declared.reports.Verdict.TheVariants as verdicts
+use Rattle.ref_verdict.specs.Verdict.{verdict}
+use Rattle.ref_verdict.specs.declared.reports.Verdict.TheVariants as verdicts
 use Rattle.ref_audit.proofs.OwnVerdict.{seen_core, seen_ok}
 use Rattle.ref_audit.proofs.ToldBack.{own_verdict}
 use Rattle.ref_audit.proofs.own_audit.audit_world.Goals as goal

@@ -5,7 +5,7 @@ use Rattle.ref_fun.specs.declared.rules.Rule.{Rule}
 use Rattle.ref_world.specs.References.{guards_of, values_of}
 use Rattle.ref_audit.specs.Dumped.{value_form}
 use Rattle.ref_audit.specs.Made.{who_of}
-use Rattle.ref_audit.specs.Words.{rule_form, vector_form}
+use Rattle.ref_verdict.specs.Words.{rule_form, vector_form}
 use Rattle.ref_audit.proofs.Left.{fault_of_next, one_more}
 use Rattle.ref_audit.proofs.Numbered.{below_of, numbered_all, value_left, value_there}
 use Rattle.ref_audit.proofs.dumping.worlds.values_now.Goals as goal

@@ -8,7 +8,7 @@ use Rattle.ref_fun.specs.declared.rules.Rule.{Rule}
 use Rattle.ref_log.specs.declared.notices.Who.TheVariants.{Agent}
 use Rattle.ref_world.specs.References.{value_at}
 use Rattle.ref_audit.specs.OwnDump.{agent_seen}
-use Rattle.ref_audit.specs.declared.reading.dumps.KeptAgent.{KeptAgent}
+use Rattle.ref_verdict.specs.declared.reading.dumps.KeptAgent.{KeptAgent}
 use Rattle.ref_audit.proofs.Left.{one_more}
 use Rattle.ref_audit.proofs.Numbered.{account_within, agent_left, agents_all, has_state}
 use Rattle.ref_audit.proofs.own_audit.seen.agents_seen.Goals as goal

@@ -4,7 +4,7 @@ use Rattle.ref_fun.specs.declared.rules.Rule.{Rule}
 use Rattle.ref_world.specs.References.{guards_of, value_at, values_of}
 use Rattle.ref_audit.specs.Made.{who_of}
 use Rattle.ref_audit.specs.OwnDump.{kept_seen}
-use Rattle.ref_audit.specs.declared.reading.dumps.Kept.{Kept}
+use Rattle.ref_verdict.specs.declared.reading.dumps.Kept.{Kept}
 use Rattle.ref_audit.proofs.Left.{one_more}
 use Rattle.ref_audit.proofs.Numbered.{below_of, numbered_all, value_left, value_there}
 use Rattle.ref_audit.proofs.own_audit.seen.kepts_seen.Goals as goal

@@ -1,0 +1,10 @@
+use Rattle.std.proofs.Common.{◌≡◌}
+use Rattle.ref_verdict.specs.DumpForm.{all_said}
+use Rattle.ref_verdict.proofs.Lists.{in_front}
+use Rattle.ref_verdict.proofs.reading.lists.all_in.Given as goal
+
+-- What was read, with what is left, is what all forms say.
+abbrev pub invariant-loop-form : goal.invariant-loop-form
+invariant-loop-form g l =
+    let said = g.T.FromForm.said in
+    in_front l.all.items (all_said said l.form-iterator) ≡ all_said said l.forms

@@ -1,0 +1,7 @@
+use Rattle.std.proofs.Common.{◌≡◌, drop}
+use Rattle.std.specs.List.{position_from}
+use Rattle.ref_verdict.specs.Verdict.{agent_breaks_rule}
+use Rattle.ref_verdict.proofs.verdicts.rules.first_breaking_agent.Given as goal
+
+abbrev pub invariant-loop-n : goal.invariant-loop-n
+invariant-loop-n g l = position_from agent_breaks_rule l.n (drop l.n l.agents) ≡ position_from agent_breaks_rule 0 l.agents

@@ -1,0 +1,410 @@
+-- Which EDN data is a dump, and what it says. A dump is a map with exactly these keys:
+--
+--   :dump 1                      the version
+--   :point N                     the point of the base
+--   :base-refs [[VALUE LAST] ..] the refs of the base; LAST is the point of the last change up to it
+--   :base-atoms [VALUE ..]
+--   :folded [COMMITS ADDED]      the books up to the base
+--   :tally N                     the number of the tally, or nil
+--   :entries [ENTRY ..]
+--   :refs [[VALUE RULE] ..]      now; RULE is [P ARG ..] or nil
+--   :atoms [[VALUE RULE] ..]
+--   :agents [[START HANDLED QUEUE VALUE STATUS RULE] ..]
+--   :commits N
+--   :added N
+--
+-- Numbers are integers of 0 or more. What a form doesn't say, or says in another way, is no part of a dump: it is None here.
+use Rattle.std.specs.Prelude.{ℕ, pos, ◌+◌, ◌-◌, ◌^◌, ◌==◌, ok_or, nat_le, nat_lt, min, Bool, true, false, not, ◌&&◌, if◌then◌else◌, List, [], ◌∷◌, length, Option, None, Some, is_some, option_map, option_and_then, Result, Ok, Err}
+use Rattle.std.specs.Prelude as lists
+use Rattle.std.specs.List.{list_all, list_any}
+use Rattle.ref_value.specs.Edn.{Edn, nil, int, keyword, symbol, vector, list_of, pairs_of}
+use Rattle.ref_value.specs.Edn as edn
+use Rattle.ref_value.specs.Names.{bytes_eq}
+use Rattle.ref_fun.specs.Names.{code_in, core_names, is_function, is_predicate}
+use Rattle.ref_fun.specs.declared.actions.Action.{Action}
+use Rattle.ref_fun.specs.declared.rules.Rule.{Rule}
+use Rattle.ref_log.specs.declared.entries.Entry.{Entry}
+use Rattle.ref_log.specs.declared.entries.Entry.TheVariants.{Trans, Atom, MadeRef, MadeAtom}
+use Rattle.ref_log.specs.declared.entries.Stamp.{Stamp}
+use Rattle.ref_log.specs.declared.entries.Transaction.{Transaction}
+use Rattle.ref_log.specs.declared.operations.Done.{Done}
+use Rattle.ref_log.specs.declared.operations.Op.TheVariants.{Set, Alter, Commute, Ensure}
+use Rattle.ref_log.specs.declared.sends.Sent.{Sent}
+use Rattle.ref_log.specs.declared.states.Base.{Base}
+use Rattle.ref_agents.specs.declared.accounts.Handled.{Handled}
+use Rattle.ref_agents.specs.declared.accounts.Mark.{Mark}
+use Rattle.ref_agents.specs.declared.accounts.Mark.TheVariants as marks
+use Rattle.ref_verdict.specs.Words.{added_key, agents_key, all_keys, alter_tag, atoms_key, base_atoms_key, base_refs_key, commits_key, commute_tag, done_mark, dump_key, ensure_tag, entries_key, failed_mark, failed_status, folded_key, made_atom_tag, made_ref_tag, passed_mark, point_key, ready_status, refs_key, reset_tag, set_tag, swap_tag, tally_key, tx_tag}
+use Rattle.ref_verdict.specs.declared.reading.dumps.Changed.{Changed}
+use Rattle.ref_verdict.specs.declared.reading.dumps.Dump.{Dump}
+use Rattle.ref_verdict.specs.declared.reading.dumps.Kept.{Kept}
+use Rattle.ref_verdict.specs.declared.reading.dumps.KeptAgent.{KeptAgent}
+use Rattle.ref_verdict.specs.declared.reading.faults.DumpFault.{DumpFault}
+use Rattle.ref_verdict.specs.declared.reading.faults.DumpFault.TheVariants.{NotDump, BadVersion, BadPart, BadEntry}
+use Rattle.ref_verdict.specs.declared.reading.faults.Key.{Key}
+use Rattle.ref_verdict.specs.declared.reading.faults.Key.TheVariants as keys
+
+-- ---- plain forms
+
+-- what two things say together
+abbrev pub both : {A B C : Type 0} → (A → B → C) → Option A → Option B → Option C
+both join (Some a) (Some b) = Some (join a b)
+both join (Some a) None = None
+both join None b = None
+
+abbrev pub only_if : {A : Type 0} → Bool → A → Option A
+only_if true x = Some x
+only_if false x = None
+
+abbrev pub number_of : Edn → Option ℕ
+number_of (int (pos n)) = Some n
+number_of x = None
+
+abbrev pub keyword_of : Edn → Option (List ℕ)
+keyword_of (keyword name) = Some name
+keyword_of x = None
+
+abbrev pub elements_of : Edn → Option (List Edn)
+elements_of (vector xs) = Some (list_of xs)
+elements_of x = None
+
+-- of at most so many elements
+abbrev pub elements_within : ℕ → Edn → Option (List Edn)
+elements_within most x = option_and_then (λ xs. only_if (nat_le (length xs) most) xs) (elements_of x)
+
+-- What each of these forms says, where all say something.
+abbrev pub and_said : {A : Type 0} → Option A → Option (List A) → Option (List A)
+and_said (Some y) (Some ys) = Some (y ∷ ys)
+and_said (Some y) None = None
+and_said None ys = None
+
+abbrev pub all_said : {A : Type 0} → (Edn → Option A) → List Edn → Option (List A)
+all_said said [] = Some []
+all_said said (x ∷ xs) = and_said (said x) (all_said said xs)
+
+-- The elements of a vector, each in this form.
+abbrev pub list_said : {A : Type 0} → (Edn → Option A) → Edn → Option (List A)
+list_said said x = option_and_then (all_said said) (elements_of x)
+
+-- The same of the values of references of a kind: a dump has fewer than 2^32 - 1 of them.
+abbrev pub values_said : {A : Type 0} → (Edn → Option A) → Edn → Option (List A)
+values_said said x = option_and_then (all_said said) (elements_within (2 ^ 32 - 2) x)
+
+-- ---- numbers of references, names of functions
+
+-- Every integer of 0 or more is the number of a reference. Those from 2^32 - 1 on are taken as one: no reference now has one of them,
+-- since a dump has fewer, and so none that is replayed has one where the verdict is ok.
+abbrev pub reference_of : Edn → Option ℕ
+reference_of x = option_map (λ n. min n (2 ^ 32 - 1)) (number_of x)
+
+-- the code of Core that a symbol names
+abbrev pub code_named : Edn → Option ℕ
+code_named (symbol name) = code_in core_names name
+code_named x = None
+
+-- the same, where it is one of these
+abbrev pub code_of : (ℕ → Bool) → Edn → Option ℕ
+code_of is_one x = option_and_then (λ code. only_if (is_one code) code) (code_named x)
+
+-- at most 8 arguments
+abbrev pub args_said : List Edn → Option (List Edn)
+args_said xs = only_if (nat_le (length xs) 8) xs
+
+abbrev pub action_of : Edn → Edn → Option Action
+action_of f args = both (λ code xs. record { code = code; args = xs }) (code_of is_function f) (option_and_then args_said (elements_of args))
+
+-- [P ARG ..]
+abbrev pub rule_said : List Edn → Option Rule
+rule_said [] = None
+rule_said (p ∷ args) = both (λ code xs. record { code = code; args = xs }) (code_of is_predicate p) (args_said args)
+
+-- a rule, or nil where there is none
+abbrev pub rule_of : Edn → Option (Option Rule)
+rule_of nil = Some None
+rule_of (vector xs) = option_map Some (rule_said (list_of xs))
+rule_of x = None
+
+-- ---- entries
+
+abbrev pub set_said : List Edn → Option Done
+set_said (r ∷ v ∷ answer ∷ []) = option_map (λ n. record { r = n; op = Set v; answer = answer }) (reference_of r)
+set_said xs = None
+
+-- N F [ARG ..] ANSWER: a function that was called for the reference of a number, and what it answered
+abbrev pub call_said : List Edn → Option (ℕ × Action × Edn)
+call_said (r ∷ f ∷ args ∷ answer ∷ []) = both (λ n action. (n, action, answer)) (reference_of r) (action_of f args)
+call_said xs = None
+
+abbrev pub alter_said : List Edn → Option Done
+alter_said xs = option_map (λ c. record { r = c.0; op = Alter c.1.code c.1.args; answer = c.2 }) (call_said xs)
+
+abbrev pub commute_said : List Edn → Option Done
+commute_said xs = option_map (λ c. record { r = c.0; op = Commute c.1.code c.1.args; answer = c.2 }) (call_said xs)
+
+abbrev pub ensure_said : List Edn → Option Done
+ensure_said (r ∷ answer ∷ []) = option_map (λ n. record { r = n; op = Ensure; answer = answer }) (reference_of r)
+ensure_said xs = None
+
+-- what follows the keyword that a form begins with
+abbrev pub tag_said : List Edn → Option (List ℕ × List Edn)
+tag_said [] = None
+tag_said (x ∷ xs) = option_map (λ tag. (tag, xs)) (keyword_of x)
+
+abbrev pub tagged_of : Edn → Option (List ℕ × List Edn)
+tagged_of x = option_and_then tag_said (elements_of x)
+
+-- [:set R V ANSWER], [:alter R F [ARG ..] ANSWER], [:commute R F [ARG ..] ANSWER] or [:ensure R ANSWER]
+abbrev pub done_said : List ℕ → List Edn → Option Done
+done_said tag xs =
+    if bytes_eq tag set_tag then set_said xs else
+    if bytes_eq tag alter_tag then alter_said xs else
+    if bytes_eq tag commute_tag then commute_said xs else
+    if bytes_eq tag ensure_tag then ensure_said xs else
+    None
+
+abbrev pub done_of : Edn → Option Done
+done_of x = option_and_then (λ t. done_said t.0 t.1) (tagged_of x)
+
+-- [G F [ARG ..]]
+abbrev pub sent_said : List Edn → Option Sent
+sent_said (g ∷ f ∷ args ∷ []) = both (λ n action. record { agent = n; action = action }) (reference_of g) (action_of f args)
+sent_said xs = None
+
+abbrev pub sent_of : Edn → Option Sent
+sent_of x = option_and_then sent_said (elements_of x)
+
+abbrev pub stamp_number : Edn → Option ℕ
+stamp_number x = option_and_then (λ n. only_if (nat_lt n (2 ^ 32)) n) (number_of x)
+
+abbrev pub stamp_of : Edn → Edn → Option Stamp
+stamp_of w s = both (λ worker step. record { worker = worker; step = step }) (stamp_number w) (stamp_number s)
+
+abbrev pub transaction_of : Option Stamp → Option ℕ → Option (List Done) → Option (List Sent) → Option Transaction
+transaction_of (Some stamp) (Some read) (Some dones) (Some sends) = Some (record { stamp = stamp; read_point = read; dones = dones; sends = sends })
+transaction_of stamp read dones sends = None
+
+abbrev pub tx_said : List Edn → Option Entry
+tx_said (w ∷ s ∷ read ∷ dones ∷ sends ∷ []) = option_map Trans (transaction_of (stamp_of w s) (number_of read) (list_said done_of dones) (list_said sent_of sends))
+tx_said xs = None
+
+-- `reset!` answers the value that it sets.
+abbrev pub reset_said : List Edn → Option Entry
+reset_said (a ∷ v ∷ []) = option_map (λ n. Atom n (Set v) v) (reference_of a)
+reset_said xs = None
+
+abbrev pub swap_said : List Edn → Option Entry
+swap_said xs = option_map (λ c. Atom c.0 (Alter c.1.code c.1.args) c.2) (call_said xs)
+
+abbrev pub made_ref_said : List Edn → Option Entry
+made_ref_said (v ∷ []) = Some (MadeRef v)
+made_ref_said xs = None
+
+abbrev pub made_atom_said : List Edn → Option Entry
+made_atom_said (v ∷ []) = Some (MadeAtom v)
+made_atom_said xs = None
+
+-- [:tx W S READ [DONE ..] [SEND ..]], [:reset A V], [:swap A F [ARG ..] ANSWER], [:made-ref V] or [:made-atom V]
+abbrev pub entry_said : List ℕ → List Edn → Option Entry
+entry_said tag xs =
+    if bytes_eq tag tx_tag then tx_said xs else
+    if bytes_eq tag reset_tag then reset_said xs else
+    if bytes_eq tag swap_tag then swap_said xs else
+    if bytes_eq tag made_ref_tag then made_ref_said xs else
+    if bytes_eq tag made_atom_tag then made_atom_said xs else
+    None
+
+abbrev pub entry_of : Edn → Option Entry
+entry_of x = option_and_then (λ t. entry_said t.0 t.1) (tagged_of x)
+
+-- All entries, or the position of the first that is none, counted from this number on.
+abbrev pub and_entry : ℕ → Option Entry → Result (List Entry) DumpFault → Result (List Entry) DumpFault
+and_entry n None es = Err (BadEntry n)
+and_entry n (Some e) (Ok es) = Ok (e ∷ es)
+and_entry n (Some e) (Err fault) = Err fault
+
+abbrev pub entries_from : ℕ → List Edn → Result (List Entry) DumpFault
+entries_from n [] = Ok []
+entries_from n (x ∷ xs) = and_entry n (entry_of x) (entries_from (n + 1) xs)
+
+-- ---- references
+
+-- [VALUE LAST]
+abbrev pub changed_said : List Edn → Option Changed
+changed_said (v ∷ last ∷ []) = option_map (λ n. record { value = v; last = n }) (number_of last)
+changed_said xs = None
+
+abbrev pub changed_of : Edn → Option Changed
+changed_of x = option_and_then changed_said (elements_of x)
+
+-- [VALUE RULE]
+abbrev pub kept_said : List Edn → Option Kept
+kept_said (v ∷ rule ∷ []) = option_map (λ r. record { value = v; rule = r }) (rule_of rule)
+kept_said xs = None
+
+abbrev pub kept_of : Edn → Option Kept
+kept_of x = option_and_then kept_said (elements_of x)
+
+abbrev pub mark_said : List ℕ → Option Mark
+mark_said mark =
+    if bytes_eq mark done_mark then Some marks.Done else
+    if bytes_eq mark failed_mark then Some marks.Failed else
+    if bytes_eq mark passed_mark then Some marks.Passed else
+    None
+
+abbrev pub mark_of : Edn → Option Mark
+mark_of x = option_and_then mark_said (keyword_of x)
+
+-- [F [ARG ..] MARK]
+abbrev pub handled_said : List Edn → Option Handled
+handled_said (f ∷ args ∷ mark ∷ []) = both (λ action m. record { action = action; mark = m }) (action_of f args) (mark_of mark)
+handled_said xs = None
+
+abbrev pub handled_of : Edn → Option Handled
+handled_of x = option_and_then handled_said (elements_of x)
+
+-- [F [ARG ..]]
+abbrev pub queued_said : List Edn → Option Action
+queued_said (f ∷ args ∷ []) = action_of f args
+queued_said xs = None
+
+abbrev pub queued_of : Edn → Option Action
+queued_of x = option_and_then queued_said (elements_of x)
+
+-- whether an agent is failed
+abbrev pub status_said : List ℕ → Option Bool
+status_said status =
+    if bytes_eq status ready_status then Some false else
+    if bytes_eq status failed_status then Some true else
+    None
+
+abbrev pub status_of : Edn → Option Bool
+status_of x = option_and_then status_said (keyword_of x)
+
+abbrev pub agent_with : Edn → Edn → Option (List Handled) → Option (List Action) → Option Bool → Option (Option Rule) → Option KeptAgent
+agent_with start value (Some handled) (Some queue) (Some failed) (Some rule) = Some (record { start = start; handled = handled; queue = queue; value = value; failed = failed; rule = rule })
+agent_with start value handled queue failed rule = None
+
+-- [START HANDLED QUEUE VALUE STATUS RULE]
+abbrev pub agent_said : List Edn → Option KeptAgent
+agent_said (start ∷ handled ∷ queue ∷ value ∷ status ∷ rule ∷ []) = agent_with start value (list_said handled_of handled) (list_said queued_of queue) (status_of status) (rule_of rule)
+agent_said xs = None
+
+abbrev pub agent_of : Edn → Option KeptAgent
+agent_of x = option_and_then agent_said (elements_of x)
+
+-- ---- the map
+
+-- [COMMITS ADDED]
+abbrev pub folded_said : List Edn → Option (ℕ × ℕ)
+folded_said (commits ∷ added ∷ []) = both (λ c a. (c, a)) (number_of commits) (number_of added)
+folded_said xs = None
+
+abbrev pub folded_of : Edn → Option (ℕ × ℕ)
+folded_of x = option_and_then folded_said (elements_of x)
+
+-- the number of the tally, or nil where there is none
+abbrev pub tally_of : Edn → Option (Option ℕ)
+tally_of nil = Some None
+tally_of (int n) = option_map Some (reference_of (int n))
+tally_of x = None
+
+abbrev pub key_word : Key → List ℕ
+key_word keys.Added = added_key
+key_word keys.Agents = agents_key
+key_word keys.Atoms = atoms_key
+key_word keys.BaseAtoms = base_atoms_key
+key_word keys.BaseRefs = base_refs_key
+key_word keys.Commits = commits_key
+key_word keys.Dump = dump_key
+key_word keys.Entries = entries_key
+key_word keys.Folded = folded_key
+key_word keys.Point = point_key
+key_word keys.Refs = refs_key
+key_word keys.Tally = tally_key
+
+abbrev pub is_word : List ℕ → Edn → Bool
+is_word word (keyword name) = bytes_eq name word
+is_word word x = false
+
+-- what stands under a keyword
+abbrev pub under : List (Edn × Edn) → List ℕ → Option Edn
+under [] word = None
+under (e ∷ es) word = if is_word word e.0 then Some e.1 else under es word
+
+abbrev pub is_key : Edn → Bool
+is_key x = list_any (λ word. is_word word x) all_keys
+
+-- Each key is one of these, and each of these is there.
+abbrev pub has_keys : List (Edn × Edn) → Bool
+has_keys es = list_all (λ e. is_key e.0) es && list_all (λ word. is_some (under es word)) all_keys
+
+-- what stands under a key, or that it has a wrong form
+abbrev pub part_said : {A : Type 0} → List (Edn × Edn) → Key → (Edn → Option A) → Result A DumpFault
+part_said es key said = ok_or (option_and_then said (under es (key_word key))) (BadPart key)
+
+-- The first fault comes before all that follows it.
+abbrev pub and_then : {A B : Type 0} → Result A DumpFault → (A → Result B DumpFault) → Result B DumpFault
+and_then (Ok x) more = more x
+and_then (Err fault) more = Err fault
+
+abbrev pub base_with : ℕ → List Changed → List Edn → Option ℕ → ℕ × ℕ → Base
+base_with point refs atoms tally folded = record {
+  point = point;
+  refs = lists.map (λ c. c.value) refs;
+  last = lists.map (λ c. c.last) refs;
+  atoms = atoms;
+  tally = tally;
+  commits = folded.0;
+  added = folded.1;
+}
+
+-- What the parts say, read in the order of their keys, and the entries last. Of entries there are at most 2^62, as of points.
+abbrev pub parts_said : List (Edn × Edn) → Result Dump DumpFault
+parts_said es =
+    and_then (part_said es keys.Added number_of) (λ added.
+    and_then (part_said es keys.Agents (list_said agent_of)) (λ agents.
+    and_then (part_said es keys.Atoms (values_said kept_of)) (λ atoms.
+    and_then (part_said es keys.BaseAtoms (values_said Some)) (λ base_atoms.
+    and_then (part_said es keys.BaseRefs (values_said changed_of)) (λ base_refs.
+    and_then (part_said es keys.Commits number_of) (λ commits.
+    and_then (part_said es keys.Entries (elements_within (2 ^ 62))) (λ forms.
+    and_then (part_said es keys.Folded folded_of) (λ folded.
+    and_then (part_said es keys.Point number_of) (λ point.
+    and_then (part_said es keys.Refs (values_said kept_of)) (λ refs.
+    and_then (part_said es keys.Tally tally_of) (λ tally.
+    and_then (entries_from 1 forms) (λ entries.
+    Ok (record {
+      base = base_with point base_refs base_atoms tally folded;
+      entries = entries;
+      refs = refs;
+      atoms = atoms;
+      agents = agents;
+      commits = commits;
+      added = added;
+    })))))))))))))
+
+-- The version is the integer 1.
+abbrev pub is_version : Option Edn → Bool
+is_version (Some (int (pos n))) = n == 1
+is_version x = false
+
+-- why entries are those of no dump, as far as it is known from their keys and the version
+abbrev pub misfit : List (Edn × Edn) → Option DumpFault
+misfit es =
+    if not (has_keys es) then Some NotDump else
+    if not (is_version (under es dump_key)) then Some BadVersion else
+    None
+
+abbrev pub parts_unless : Option DumpFault → List (Edn × Edn) → Result Dump DumpFault
+parts_unless (Some fault) es = Err fault
+parts_unless None es = parts_said es
+
+-- What a dump says, or the first fault.
+abbrev pub dump_of : Edn → Result Dump DumpFault
+dump_of (edn.map es) = parts_unless (misfit (pairs_of es)) (pairs_of es)
+dump_of x = Err NotDump
+
+-- the fault that keys and version tell
+abbrev pub early_fault : Edn → Option DumpFault
+early_fault (edn.map es) = misfit (pairs_of es)
+early_fault x = Some NotDump

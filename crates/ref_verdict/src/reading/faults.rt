@@ -1,0 +1,105 @@
+//! Why a value is no dump.
+ghost use Rattle.std.specs.Prelude.{◌≡◌};
+ghost use Rattle.ref_verdict.specs.DumpForm.{key_word};
+ghost use Rattle.ref_verdict.specs.Faults.{dump_fault_number};
+ghost use Rattle.ref_verdict.specs.declared.reading.faults.DumpFault.TheVariants.{Memory};
+
+use std::alloc::{AllocError, AllocFailed};
+use std::fmt;
+use thiserror::Error;
+
+/// A key of a dump.
+#[derive(Clone, Copy, Debug, Drop, PartialEq, Eq)]
+pub enum Key {
+    Added,
+    Agents,
+    Atoms,
+    BaseAtoms,
+    BaseRefs,
+    Commits,
+    Dump,
+    Entries,
+    Folded,
+    Point,
+    Refs,
+    Tally,
+}
+
+impl Key {
+    /// The key as a keyword, without the colon.
+    pub fn name(&self) -> &'static str
+        ensures { result.now ≡ key_word self.now }
+    {
+        match self {
+            Key::Added => "added",
+            Key::Agents => "agents",
+            Key::Atoms => "atoms",
+            Key::BaseAtoms => "base-atoms",
+            Key::BaseRefs => "base-refs",
+            Key::Commits => "commits",
+            Key::Dump => "dump",
+            Key::Entries => "entries",
+            Key::Folded => "folded",
+            Key::Point => "point",
+            Key::Refs => "refs",
+            Key::Tally => "tally",
+        }
+    }
+}
+
+impl fmt::Display for Key {
+    fn fmt<W: fmt::Write>(&self, f: &mut fmt::Formatter<W>) -> fmt::Result {
+        write!(f, "{}", self.name())
+    }
+}
+
+/// Why a value is no dump: the first reason in the order of the variants. Of wrong parts it is the first in the order of the keys'
+/// names, and of wrong entries the first.
+#[derive(Clone, Copy, Debug, Drop, PartialEq, Eq, Error)]
+pub enum DumpFault {
+    /// It is no map, or its keys aren't those of a dump.
+    #[error("not a dump")]
+    NotDump,
+    /// The version isn't 1.
+    #[error("a version other than 1")]
+    BadVersion,
+    /// The part under this key has a wrong form. Of the entries this says only that they are no vector.
+    #[error("the part :{0} has a wrong form")]
+    BadPart(Key),
+    /// The entry at this position, from 1, has a wrong form, or names no function.
+    #[error("entry {0} has a wrong form")]
+    BadEntry(u64),
+    #[error("out of memory")]
+    Memory,
+}
+
+impl DumpFault {
+    /// The number of the fault, from 1 to 5 in the order of the variants.
+    pub fn number(&self) -> u8
+        ensures { result ≡ dump_fault_number self.now }
+    {
+        match self {
+            DumpFault::NotDump => 1,
+            DumpFault::BadVersion => 2,
+            DumpFault::BadPart(_) => 3,
+            DumpFault::BadEntry(_) => 4,
+            DumpFault::Memory => 5,
+        }
+    }
+}
+
+impl From<AllocError> for DumpFault {
+    ghost from_gives = { λ _ f. f ≡ Memory };
+
+    fn from(_e: AllocError) -> DumpFault {
+        DumpFault::Memory
+    }
+}
+
+impl<T: Drop> From<AllocFailed<T>> for DumpFault {
+    ghost from_gives = { λ _ f. f ≡ Memory };
+
+    fn from(_e: AllocFailed<T>) -> DumpFault {
+        DumpFault::Memory
+    }
+}

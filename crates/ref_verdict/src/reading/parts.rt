@@ -1,0 +1,276 @@
+//! The parts of a dump's map.
+ghost use Rattle.std.specs.Prelude.{◌≡◌, ◌<◌, ◌≤◌, ◌^◌, length, map, None, Some, Ok, Err, IfErr, IfOk, is_some, option_copied};
+ghost use Rattle.std.specs.List.{list_all, list_any};
+ghost use Rattle.ref_edn.specs.Edn.{Edn};
+ghost use Rattle.ref_verdict.specs.DumpForm.{elements_of, elements_within, entries_from, folded_of, folded_said, has_keys, is_key, is_version, is_word, key_word, list_said, misfit, number_of, part_said, reference_of, tally_of, under, values_said};
+ghost use Rattle.ref_verdict.specs.Early.{is_said, parts_fault};
+ghost use Rattle.ref_verdict.specs.Reading.{Told};
+ghost use Rattle.ref_verdict.specs.Words.{all_keys};
+ghost use Rattle.ref_verdict.specs.declared.reading.faults.DumpFault.TheVariants.{BadPart};
+ghost use Rattle.ref_verdict.specs.declared.reading.faults.Key.TheVariants as keys;
+
+use crate::reading::entries::entry_in;
+use crate::reading::faults::{DumpFault, Key};
+use crate::reading::lists::{FromForm, elements_up_to, list_in, values_in};
+use crate::reading::plain::{elements_in, is_word, number_in, reference_in};
+use crate::reading::wrongs::Wrong;
+use ref_edn::{Entries, Items, Node, Value};
+use ref_log::{Entry, SharedVec};
+use ref_pvec::PVec;
+use std::alloc::Global;
+
+/// How many entries a dump may have: points end at 2^62.
+pub const MOST_ENTRIES: usize = 4_611_686_018_427_387_904;
+
+const KEYS: [&str; 12] = [
+    "added",
+    "agents",
+    "atoms",
+    "base-atoms",
+    "base-refs",
+    "commits",
+    "dump",
+    "entries",
+    "folded",
+    "point",
+    "refs",
+    "tally",
+];
+
+// What stands under a key.
+fn under<'a>(entries: &'a Entries, word: &[u8]) -> Option<&'a Value>
+    ensures { option_copied result ≡ under entries.now word.now }
+{
+    for (key, value) in entries {
+        if is_word(key, word) {
+            return Some(value);
+        }
+    }
+    None
+}
+
+fn is_one_of(key: &Value, words: &[&str]) -> bool
+    ensures { result ≡ list_any (λ word. is_word word key.now) (map (λ w. w.now) words.now) }
+{
+    for word in words {
+        if is_word(key, word.as_bytes()) {
+            return true;
+        }
+    }
+    false
+}
+
+fn are_known(entries: &Entries, words: &[&str]) -> bool
+    ensures { result ≡ list_all
+        (λ e. list_any (λ word. is_word word e.0) (map (λ w. w.now) words.now)) entries.now }
+{
+    for (key, _) in entries {
+        if !is_one_of(key, words) {
+            return false;
+        }
+    }
+    true
+}
+
+fn are_there(entries: &Entries, words: &[&str]) -> bool
+    ensures { result ≡ list_all (λ word. is_some (under entries.now word)) (map (λ w. w.now) words.now) }
+{
+    for word in words {
+        if under(entries, word.as_bytes()).is_none() {
+            return false;
+        }
+    }
+    true
+}
+
+fn has_keys(entries: &Entries) -> bool
+    ensures { result ≡ has_keys entries.now }
+{
+    are_known(entries, &KEYS) && are_there(entries, &KEYS)
+}
+
+fn is_version(version: Option<&Value>) -> bool
+    ensures { result ≡ is_version (option_copied version.entry) }
+{
+    match version {
+        Some(version) => match number_in(version) {
+            Some(n) => n == 1,
+            None => false,
+        },
+        None => false,
+    }
+}
+
+/// Why these are the entries of no dump, as far as keys and version say. It takes no memory.
+pub(crate) fn misfit(entries: &Entries) -> Option<DumpFault>
+    ensures { result ≡ misfit entries.now }
+{
+    if !has_keys(entries) {
+        return Some(DumpFault::NotDump);
+    }
+    if !is_version(under(entries, b"dump")) {
+        return Some(DumpFault::BadVersion);
+    }
+    None
+}
+
+fn form_of<'a>(entries: &'a Entries, key: Key) -> Option<&'a Value>
+    ensures { option_copied result ≡ under entries.now (key_word key) }
+{
+    under(entries, key.name().as_bytes())
+}
+
+fn is_number(entries: &Entries, key: Key) -> bool
+    ensures { result ≡ is_said entries.now key number_of }
+{
+    match form_of(entries, key) {
+        Some(form) => number_in(form).is_some(),
+        None => false,
+    }
+}
+
+fn is_list(entries: &Entries, key: Key) -> bool
+    ensures { result ≡ is_said entries.now key elements_of }
+{
+    match form_of(entries, key) {
+        Some(form) => elements_in(form).is_some(),
+        None => false,
+    }
+}
+
+/// Why the first parts are those of no dump, as far as it is known before any memory is taken.
+pub(crate) fn parts_fault(entries: &Entries) -> Option<DumpFault>
+    ensures { result ≡ parts_fault entries.now }
+{
+    if !is_number(entries, Key::Added) {
+        return Some(DumpFault::BadPart(Key::Added));
+    }
+    if !is_list(entries, Key::Agents) {
+        return Some(DumpFault::BadPart(Key::Agents));
+    }
+    None
+}
+
+/// A part that is an integer of 0 or more.
+pub(crate) fn number_part(entries: &Entries, key: Key) -> Result<u64, DumpFault>
+    ensures reads { Told (part_said entries.now key number_of) result }
+    ensures err { IfErr result (λ fault. fault ≡ BadPart key) }
+    ensures limit { IfOk result (λ n. n < 2 ^ 63) }
+{
+    match form_of(entries, key) {
+        Some(form) => number_in(form).ok_or(DumpFault::BadPart(key)),
+        None => Err(DumpFault::BadPart(key)),
+    }
+}
+
+/// A part that is a list.
+pub(crate) fn list_part<T: FromForm>(
+    alloc: Global,
+    entries: &Entries,
+    key: Key,
+) -> Result<SharedVec<T>, DumpFault>
+    ensures { Told (part_said entries.now key (list_said T.said)) result }
+{
+    let Some(form) = form_of(entries, key) else {
+        return Err(DumpFault::BadPart(key));
+    };
+    match list_in(alloc, form) {
+        Ok(list) => Ok(list),
+        Err(wrong) => Err(wrong.at(key)),
+    }
+}
+
+/// A part that is a list of what there is of the references of a kind.
+pub(crate) fn values_part<T: FromForm>(
+    alloc: Global,
+    entries: &Entries,
+    key: Key,
+) -> Result<SharedVec<T>, DumpFault>
+    ensures { Told (part_said entries.now key (values_said T.said)) result }
+{
+    let Some(form) = form_of(entries, key) else {
+        return Err(DumpFault::BadPart(key));
+    };
+    match values_in(alloc, form) {
+        Ok(list) => Ok(list),
+        Err(wrong) => Err(wrong.at(key)),
+    }
+}
+
+fn folded_in(form: &Value) -> Option<(u64, u64)>
+    ensures { result ≡ folded_of form.now }
+{
+    let mut parts = elements_in(form)?.iter();
+    let (Some(commits), Some(added), None) = (parts.next(), parts.next(), parts.next()) else {
+        return None;
+    };
+    Some((number_in(commits)?, number_in(added)?))
+}
+
+/// The books up to the base: commits, and what was added to the tally.
+pub(crate) fn folded_part(entries: &Entries) -> Result<(u64, u64), DumpFault>
+    ensures reads { Told (part_said entries.now keys.Folded folded_of) result }
+    ensures err { IfErr result (λ fault. fault ≡ BadPart keys.Folded) }
+{
+    match form_of(entries, Key::Folded) {
+        Some(form) => folded_in(form).ok_or(DumpFault::BadPart(Key::Folded)),
+        None => Err(DumpFault::BadPart(Key::Folded)),
+    }
+}
+
+fn tally_in(form: &Value) -> Option<Option<u32>>
+    ensures { result ≡ tally_of form.now }
+{
+    match form.node() {
+        Node::Nil => Some(None),
+        Node::Int(_) => Some(Some(reference_in(form)?)),
+        _ => None,
+    }
+}
+
+/// The number of the tally, if there is one.
+pub(crate) fn tally_part(entries: &Entries) -> Result<Option<u32>, DumpFault>
+    ensures reads { Told (part_said entries.now keys.Tally tally_of) result }
+    ensures err { IfErr result (λ fault. fault ≡ BadPart keys.Tally) }
+{
+    match form_of(entries, Key::Tally) {
+        Some(form) => tally_in(form).ok_or(DumpFault::BadPart(Key::Tally)),
+        None => Err(DumpFault::BadPart(Key::Tally)),
+    }
+}
+
+/// The forms of the entries.
+pub(crate) fn entry_forms(entries: &Entries) -> Result<&Items, DumpFault>
+    ensures ok { IfOk result (λ forms.
+        part_said entries.now keys.Entries (elements_within (2 ^ 62)) ≡ Ok forms.now) }
+    ensures limit { IfOk result (λ forms. length forms.now ≤ 2 ^ 62) }
+    ensures err { IfErr result (λ fault.
+        part_said entries.now keys.Entries (elements_within (2 ^ 62)) ≡ Err fault) }
+{
+    let Some(form) = form_of(entries, Key::Entries) else {
+        return Err(DumpFault::BadPart(Key::Entries));
+    };
+    match elements_up_to(form, MOST_ENTRIES) {
+        Some(forms) => Ok(forms),
+        None => Err(DumpFault::BadPart(Key::Entries)),
+    }
+}
+
+/// The entries, or the position of the first that is none.
+pub(crate) fn entries_in(alloc: Global, forms: &Items) -> Result<PVec<Entry>, DumpFault>
+    ensures reads { Told (entries_from 1 forms.now) result }
+    ensures limit { IfOk result (λ es. length es ≤ length forms.now) }
+{
+    let mut entries = PVec::empty();
+    for i in 0..forms.len() {
+        match entry_in(alloc, forms.at(i)) {
+            Ok(entry) => match entries.push(alloc, entry) {
+                Ok(()) => {}
+                Err(_) => return Err(DumpFault::Memory),
+            },
+            Err(Wrong::Form) => return Err(DumpFault::BadEntry(i as u64 + 1)),
+            Err(Wrong::Memory) => return Err(DumpFault::Memory),
+        }
+    }
+    Ok(entries)
+}
