@@ -4,8 +4,8 @@ ghost use Rattle.std.specs.Iterator.Runs.{YieldsRefsInOrder, YieldsRefsInReverse
 ghost use Rattle.std.specs.VecDeque.Iter.{deque_iter_rest, deque_iter_steps, deque_iter_steps_back};
 ghost use Rattle.ref_agents.specs.Account.{restarted, with_ended, with_queued, without_last};
 
-use ref_value::Value;
 use ref_fun::Action;
+use ref_value::Value;
 use std::alloc::{AllocError, Global};
 use std::collections::VecDeque;
 use std::collections::vec_deque::Iter;

@@ -4,9 +4,9 @@ ghost use Rattle.ref_agents.specs.Agents.{AreAgents, account_at, error_at, value
 
 use crate::accounts::Account;
 use crate::faults::{AgentError, ModeFault};
-use ref_value::Value;
 use ref_fun::Meaning;
 use ref_log::Guards;
+use ref_value::Value;
 use std::alloc::Global;
 use std::collections::BTreeSet;
 use std::marker::{Model, PhantomData};

@@ -3,8 +3,8 @@ ghost use Rattle.std.specs.Prelude.{◌≡◌, ◌≢◌, true, false, IfOk, IfE
 ghost use Rattle.ref_agents.specs.declared.faults.JobFault.TheVariants as faults;
 
 use crate::faults::JobFault;
-use ref_value::Value;
 use ref_fun::{Action, CallFault, Cause, Functions, Meaning};
+use ref_value::Value;
 use std::alloc::Global;
 use std::marker::{Model, PhantomData};
 

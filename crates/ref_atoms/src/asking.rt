@@ -15,9 +15,9 @@ ghost use Rattle.ref_atoms.specs.declared.faults.AtomFault.TheVariants as faults
 use crate::atoms::AtomStore;
 use crate::changes::{Change, Swapped};
 use crate::faults::AtomFault;
-use ref_value::Value;
 use ref_fun::{CallFault, Functions, Meaning};
 use ref_log::{Entry, LAST_POINT, Op, Who};
+use ref_value::Value;
 use std::alloc::Global;
 
 impl<M: Meaning> AtomStore<M> {

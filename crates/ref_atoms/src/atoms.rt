@@ -6,9 +6,9 @@ ghost use Rattle.ref_log.specs.Watches.{has_key};
 ghost use Rattle.ref_log.specs.declared.faults.WatchFault.TheVariants as watches;
 ghost use Rattle.ref_atoms.specs.Atoms.{with_guards};
 
-use ref_value::Value;
 use ref_fun::{Functions, Meaning, Rule};
 use ref_log::{Guards, RuleFault, WatchFault};
+use ref_value::Value;
 use std::alloc::Global;
 use std::marker::{Model, PhantomData};
 

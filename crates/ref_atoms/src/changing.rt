@@ -15,9 +15,9 @@ ghost use Rattle.ref_atoms.specs.declared.faults.AtomFault.TheVariants as faults
 use crate::atoms::AtomStore;
 use crate::changes::{Cas, Swapped};
 use crate::faults::AtomFault;
-use ref_value::Value;
 use ref_fun::{Args, Functions, Meaning};
 use ref_log::Op;
+use ref_value::Value;
 use std::alloc::Global;
 
 impl<M: Meaning> AtomStore<M> {

@@ -10,8 +10,8 @@ ghost use Rattle.ref_log.specs.declared.faults.WatchFault.TheVariants as watches
 use crate::faults::{RuleFault, WatchFault};
 use crate::notices::{Notice, Who};
 use crate::watches::Watches;
-use ref_value::Value;
 use ref_fun::{Functions, Meaning, Rule, check_known, passes};
+use ref_value::Value;
 use std::alloc::{AllocError, Global};
 use std::marker::Model;
 

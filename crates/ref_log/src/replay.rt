@@ -7,9 +7,9 @@ use crate::faults::AuditFault;
 use crate::lists::{SharedVec, share_all};
 use crate::operations::{Done, Op, protected_refs};
 use crate::states::{Base, PlainState};
-use ref_value::Value;
 use ref_fun::{CallFault, Functions, Meaning};
 use ref_pvec::PVec;
+use ref_value::Value;
 use std::alloc::{AllocError, Global};
 use std::marker::Model;
 

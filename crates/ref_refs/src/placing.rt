@@ -11,10 +11,10 @@ ghost use Rattle.ref_refs.specs.Seen.{changed_at};
 ghost use Rattle.ref_refs.specs.declared.faults.CommitFault.TheVariants.{Memory};
 
 use crate::faults::CommitFault;
-use ref_value::Value;
 use ref_fun::{CallFault, Functions, Meaning};
 use ref_log::Done;
 use ref_tx::{Snapshot, Tx};
+use ref_value::Value;
 use std::alloc::Global;
 
 // The refs after the operations of a transaction, which come at a point. Each is made on the latest value of its ref, where

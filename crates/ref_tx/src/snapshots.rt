@@ -2,8 +2,8 @@
 ghost use Rattle.std.specs.Prelude.{◌≡◌, ◌<◌, ◌≤◌, ◌^◌, ◌↔◌, ◌++◌, ◌∷◌, [], IfOk, IsTrue, length, option_copied, slice_get, slice_set};
 ghost use Rattle.ref_tx.specs.Snapshots.{changes_of, values_of};
 
-use ref_value::Value;
 use ref_pmap::Numbered;
+use ref_value::Value;
 use std::alloc::{AllocError, Global};
 use std::marker::Model;
 

@@ -13,9 +13,9 @@ ghost use Rattle.ref_tx.specs.declared.faults.TxFault.TheVariants.{NoSuchRef, Me
 use crate::faults::TxFault;
 use crate::owns::Own;
 use crate::snapshots::Snapshot;
-use ref_value::Value;
 use ref_fun::{Action, CallFault, Functions, Meaning, Rule};
 use ref_log::{Args, Done, Op, Sent};
+use ref_value::Value;
 use std::alloc::{AllocError, Global};
 use std::collections::BTreeMap;
 use std::marker::{Model, PhantomData};

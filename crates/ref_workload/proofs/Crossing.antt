@@ -18,8 +18,8 @@ use Rattle.ref_log.specs.contracts.sends.Sent as Sent
 use Rattle.ref_audit.specs.contracts.reports.Reason as Reason
 use Rattle.ref_audit.specs.contracts.reports.Refusal as Refusal
 use Rattle.ref_shared.proofs.Crossing.{crosses as shared_crosses}
-use Rattle.ref_workload.specs.contracts.plans.PlannedOp as PlannedOp
-use Rattle.ref_workload.specs.contracts.plans.Step as Step
+use Rattle.ref_plan.specs.contracts.plans.PlannedOp as PlannedOp
+use Rattle.ref_plan.specs.contracts.plans.Step as Step
 use Rattle.ref_workload.specs.contracts.progress.Progress as Progress
 use Rattle.ref_workload.specs.contracts.running.workers.Ended as Ended
 use Rattle.ref_workload.specs.contracts.running.workers.Job as Job

@@ -17,9 +17,9 @@ ghost use Rattle.ref_world.specs.World.{IsUncounted, point_of, values_now, with_
 use crate::shares::{LogReceipt, Share};
 use crate::worlds::World;
 use ref_atoms::{AtomFault, Cas, Change, Swapped};
-use ref_value::Value;
 use ref_fun::{Args, Functions, Meaning};
 use ref_log::{Op, Share as _};
+use ref_value::Value;
 use std::alloc::{AllocError, Global};
 use std::sync::ledger::Ledger;
 

@@ -9,8 +9,8 @@ use crate::dumping::forms::{Form, name, rule, vector_of, vector_of_all, vector_o
 use crate::faults::DumpMakeFault;
 use crate::words::Word;
 use ref_agents::{Account, Handled, Mark, Queued};
-use ref_value::Value;
 use ref_fun::Rule;
+use ref_value::Value;
 use std::alloc::Global;
 
 #[tactic(auto, using(crate::proofs::Depths::make_faults))]

@@ -7,9 +7,9 @@ ghost use Rattle.ref_audit.specs.Made.{IsMakeFault, word_text};
 use crate::dumping::forms::{Form, name, number, vector_of, vector_of_all, vector_of_values};
 use crate::faults::DumpMakeFault;
 use crate::words::Word;
-use ref_value::Value;
 use ref_fun::Args;
 use ref_log::{Done, Entry, Op, Sent, Transaction};
+use ref_value::Value;
 use std::alloc::Global;
 
 impl Form for Entry {

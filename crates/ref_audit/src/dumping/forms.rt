@@ -9,10 +9,10 @@ ghost use Rattle.ref_audit.specs.Made.{IsMakeFault};
 ghost use Rattle.ref_verdict.specs.Words.{name_form, number_form, rule_form, vector_form};
 
 use crate::faults::DumpMakeFault;
-use ref_value::{Items, Node, Text, Value};
 use ref_fun::{Rule, name_of};
 use ref_log::{Entry, share_all};
 use ref_pvec::PVec;
+use ref_value::{Items, Node, Text, Value};
 use std::alloc::{AllocError, Global};
 
 // What has a form in a dump.

@@ -7,9 +7,9 @@ ghost use Rattle.ref_verdict.specs.Words.{number_form, rule_form, vector_form};
 
 use crate::dumping::forms::{nil, number, rule, vector_of};
 use crate::faults::DumpMakeFault;
-use ref_value::Value;
 use ref_fun::Rule;
 use ref_log::Base;
+use ref_value::Value;
 use std::alloc::{AllocError, Global};
 
 // The refs of the base, with the points of their last changes.
