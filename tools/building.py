@@ -25,6 +25,7 @@ from repository import TOP
 # How many jobs a check takes at most, and how many of them all checks together take beyond one a processor: a job often waits.
 MOST_JOBS = 4
 FURTHER_LANES = 2
+TESTS = " (tests)"
 # The part of the free memory that is planned for, and what a further job of a check takes of what its first one does.
 PLANNED = 0.85
 FURTHER_JOB = 0.6
@@ -104,8 +105,8 @@ def rooms():
 class Room:
     """A copy of a crate's sources with the libraries below it, in which it is proved over what its earlier checks stored."""
 
-    def __init__(self, name, below):
-        self.all, self.libraries = list(below), repository.with_those_below([name], below) - {name}
+    def __init__(self, name, crates, libraries):
+        self.crates, self.libraries = crates, libraries
         self.place, self.own = rooms() / name, TOP / "crates" / name / "out"
         self.crate = self.place / "crates" / name
 
@@ -118,7 +119,7 @@ class Room:
             os.close(held)
         shutil.rmtree(self.place, ignore_errors=True)
         self.place.mkdir(parents=True)
-        repository.copy_sources(self.all, self.place)
+        repository.copy_sources(self.crates, self.place)
         for it in self.libraries:
             repository.link_tree(TOP / "crates" / it / "out" / "rlib", self.place / "crates" / it / "out" / "rlib")
         (self.crate / "out").mkdir()
@@ -161,20 +162,30 @@ class Line:
             print("\r\033[K", end="", file=sys.stderr, flush=True)
 
 
-class Build:
-    """Crates that are to be proved, and the checks that are under way."""
+def words_for(name, jobs):
+    """The toolchain's command that proves a crate and builds it, or proves its tests and runs them."""
+    if name.endswith(TESTS):
+        return ["rt", "test", "--jobs", str(jobs)]
+    return ["rt", "run", "--jobs", str(jobs), "--", "--help"] if is_program(name) else ["rt", "lib", "--jobs", str(jobs)]
 
-    def __init__(self, names, with_times):
+
+class Build:
+    """Crates that are to be proved, and the checks that are under way. A crate's tests stand in it as a crate above it."""
+
+    def __init__(self, names, with_times, with_tests):
         self.below, self.with_times = repository.crates(), with_times
-        self.wanted = repository.lowest_first(repository.with_those_below(names, self.below), self.below)
         for name in filter(is_program, names):
             adopt_from_gate(name, self.below)
-        self.done = {it for it in self.wanted if is_built(it)}
+        tests = [it for it in names if with_tests and repository.has_tests(it)]
+        self.crates = list(self.below)
+        self.below |= {name + TESTS: [*self.below[name], name] for name in tests}
+        self.wanted = repository.lowest_first(repository.with_those_below([*names, *(it + TESTS for it in tests)], self.below), self.below)
+        self.done = {it for it in self.wanted if not it.endswith(TESTS) and is_built(it)}
         self.line = Line(self.wanted, self.done)
         # how many lines stand in the longest chain of crates that begins with this one
         self.behind = dict.fromkeys(self.wanted, 0)
         for name in reversed(self.wanted):
-            self.behind[name] += lines_of(name, ".rt") + lines_of(name, ".antt")
+            self.behind[name] += lines_of(name.removesuffix(TESTS), ".rt") + lines_of(name.removesuffix(TESTS), ".antt")
             for it in self.below[name]:
                 self.behind[it] = max(self.behind[it], self.behind[name])
         self.left = sorted((it for it in self.wanted if it not in self.done), key=lambda it: -self.behind[it])
@@ -184,17 +195,17 @@ class Build:
 
     def prove(self, name, jobs):
         """Proves and builds a crate. Returns what the toolchain said if it isn't proved, and the seconds of a processor that it took."""
-        held = os.open(TOP / "crates" / name, os.O_RDONLY)
+        place = TOP / "crates" / name.removesuffix(TESTS)
+        held = os.open(place, os.O_RDONLY)
         fcntl.flock(held, fcntl.LOCK_EX)
-        room = Room(name, self.below)
+        room = Room(place.name, self.crates, repository.with_those_below([place.name], self.below) - {place.name})
         try:
-            if self.is_ended or is_built(name):
+            if self.is_ended or not name.endswith(TESTS) and is_built(name):
                 return "", 0.0
             room.enter()
             self.line.checked[name] = ""
-            words = ["rt", "run", "--jobs", str(jobs), "--", "--help"] if is_program(name) else ["rt", "lib", "--jobs", str(jobs)]
             how = {"stdin": subprocess.DEVNULL, "stdout": subprocess.PIPE, "stderr": subprocess.STDOUT, "start_new_session": True}
-            ran = self.running[name] = subprocess.Popen(words, cwd=room.crate, text=True, errors="replace", **how)
+            ran = self.running[name] = subprocess.Popen(words_for(name, jobs), cwd=room.crate, text=True, errors="replace", **how)
             said = []
             for it in ran.stdout:
                 said.append(it)
@@ -215,7 +226,7 @@ class Build:
         """Begins what there are processors and memory for."""
         ready = [it for it in self.left if self.done >= set(self.below[it])]
         for at, name in enumerate(ready):
-            need, room = memory_of(name, self.below), self.memory - sum(it[1] for it in self.tasks.values())
+            need, room = memory_of(name.removesuffix(TESTS), self.below), self.memory - sum(it[1] for it in self.tasks.values())
             idle = self.lanes - sum(it[2] for it in self.tasks.values())
             if idle > 0 and (not self.tasks or need <= room):
                 # the longest chain decides when all is done, so it gets all that there is; the others share what it leaves
@@ -248,7 +259,8 @@ class Build:
         def interrupted(*_):
             raise KeyboardInterrupt
 
-        signal.signal(signal.SIGTERM, interrupted)
+        for it in (signal.SIGTERM, signal.SIGHUP):
+            signal.signal(it, interrupted)
         with ThreadPoolExecutor(self.lanes) as pool:
             try:
                 while self.tasks or self.left and not self.failed:
@@ -267,6 +279,6 @@ class Build:
         return 1 if self.failed else 0
 
 
-def build(names, with_times=False):
-    """Proves and builds these crates and all that they stand on."""
-    return Build(names, with_times).run()
+def build(names, with_times=False, with_tests=False):
+    """Proves and builds these crates and all that they stand on; with_tests, proves and runs the tests of these crates too."""
+    return Build(names, with_times, with_tests).run()

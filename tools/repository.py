@@ -85,6 +85,10 @@ def sources(name, top=TOP):
     return sorted(it for part in SOURCES for it in (top / "crates" / name / part).rglob("*") if it.is_file())
 
 
+def has_tests(name, top=TOP):
+    return any(b"#[test]" in it.read_bytes() for it in (top / "crates" / name / "src").rglob("*.rt"))
+
+
 def copy_sources(names, to, top=TOP):
     """Copies what a check reads of these crates, but not what earlier checks made."""
     for file in ("crates.txt", "HANDLES"):
