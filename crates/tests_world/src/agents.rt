@@ -1,11 +1,11 @@
 //! Agents: their queues and jobs, error modes and restarts, and what transactions send them.
-use crate::rows::check_anywhere;
 use std::test::Fail;
+use tests_rows::rows::check_anywhere;
 
 #[test]
 fn agents_by_hand(rt: HostRuntime) -> Result<(), Fail> {
     check_anywhere(
-        &rt,
+        rt.alloc(),
         "",
         r##"
             // An action that the rule refuses fails the agent, which keeps its state and its queue; a restart goes on with it.

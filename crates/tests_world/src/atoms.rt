@@ -1,11 +1,11 @@
 //! Atoms: their changes, rules and watches.
-use crate::rows::check_anywhere;
 use std::test::Fail;
+use tests_rows::rows::check_anywhere;
 
 #[test]
 fn changes_of_atoms_by_hand(rt: HostRuntime) -> Result<(), Fail> {
     check_anywhere(
-        &rt,
+        rt.alloc(),
         "",
         r##"
             // The rule is asked of the new value before the old one is compared. An entry is added only where something is set.
@@ -38,7 +38,7 @@ fn changes_of_atoms_by_hand(rt: HostRuntime) -> Result<(), Fail> {
 #[test]
 fn rules_and_watches_of_atoms_by_hand(rt: HostRuntime) -> Result<(), Fail> {
     check_anywhere(
-        &rt,
+        rt.alloc(),
         "",
         r##"
             // A rule is taken only where the value passes it, and else the old one stands.

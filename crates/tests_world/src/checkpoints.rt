@@ -2,11 +2,8 @@
 ghost use Rattle.std.specs.Prelude.{◌≡◌};
 ghost use Rattle.ref_world.specs.Shares.{all_parts};
 
-use crate::forms::{args_from, read, value_at};
-use crate::subjects::By;
-use crate::tables::table_of;
-use ref_edn::{Node, Value};
-use ref_fun::Core;
+use crate::numbers::int_of;
+use ref_fun::{Core, CoreFunctions, FunTable};
 use ref_log::{Base, Stamp, Who, replay_plain};
 use ref_refs::{CommitFault, Conflict};
 use ref_tx::Tx;
@@ -15,6 +12,7 @@ use std::alloc::{AllocError, Global};
 use std::marker::Brand;
 use std::sync::ledger::{Blank, Ledger};
 use std::test::Fail;
+use tests_rows::forms::{args_from, read, value_at};
 
 type Answer = Result<u64, CheckpointFault>;
 
@@ -34,32 +32,46 @@ fn start(alloc: Global, tally: bool) -> Result<Start, AllocError> {
 
 // Commits `commute r + n`, `alter r + n` or `ref-set r n`, by worker 0 in this step.
 fn commit<C: Ledger, A: Ledger>(
-    by: By,
+    alloc: Global,
     world: &mut World<Core, C, A>,
     share: &mut Share<C, A>,
     step: u32,
     change: &str,
 ) -> Result<bool, AllocError> {
-    let tx = changed(by, world.begin(by.alloc)?, change)?;
-    Ok(commit_tx(by, world, share, step, tx).is_none())
+    let tx = changed(alloc, world.begin(alloc)?, change)?;
+    Ok(commit_tx(alloc, world, share, step, tx).is_none())
+}
+
+// Commits the same so often, by worker 0 in the steps from 0 on.
+fn commit_often<C: Ledger, A: Ledger>(
+    alloc: Global,
+    world: &mut World<Core, C, A>,
+    share: &mut Share<C, A>,
+    count: u32,
+    change: &str,
+) -> Result<bool, AllocError> {
+    let mut done = true;
+    for step in 0..count {
+        done = commit(alloc, world, share, step, change)? && done;
+    }
+    Ok(done)
 }
 
 fn commit_tx<C: Ledger, A: Ledger>(
-    by: By,
+    alloc: Global,
     world: &mut World<Core, C, A>,
     share: &mut Share<C, A>,
     step: u32,
     tx: Tx<Core>,
 ) -> Option<CommitFault> {
     let stamp = Stamp { worker: 0, step };
-    match world.commit_with(by.alloc, by.funs, share, stamp, tx) {
+    match world.commit_with(alloc, &CoreFunctions, share, stamp, tx) {
         Ok(_) => None,
         Err((_, fault)) => Some(fault),
     }
 }
 
-fn changed(by: By, mut tx: Tx<Core>, change: &str) -> Result<Tx<Core>, AllocError> {
-    let By { alloc, funs } = by;
+fn changed(alloc: Global, mut tx: Tx<Core>, change: &str) -> Result<Tx<Core>, AllocError> {
     let (how, n) = match change.split_once(' ') {
         Some(parts) => parts,
         None => return Err(AllocError),
@@ -67,8 +79,8 @@ fn changed(by: By, mut tx: Tx<Core>, change: &str) -> Result<Tx<Core>, AllocErro
     let values = read(alloc, n)?;
     let args = args_from(alloc, &values, 0)?;
     let done = match how {
-        "alter" => tx.alter(alloc, funs, 0, 1, args),
-        "commute" => tx.commute(alloc, funs, 0, 1, args),
+        "alter" => tx.alter(alloc, &CoreFunctions, 0, 1, args),
+        "commute" => tx.commute(alloc, &CoreFunctions, 0, 1, args),
         _ => tx.ref_set(alloc, 0, value_at(&values, 0)?),
     };
     match done {
@@ -89,22 +101,44 @@ struct Told {
     entries: usize,
 }
 
-fn integer(value: &Value) -> Option<i64> {
-    match value.node() {
-        Node::Int(n) => Some(*n),
-        _ => None,
-    }
-}
-
 fn tell(base: &Base, entries: usize) -> Told {
     Told {
         point: base.point,
-        value: base.refs.get(0).and_then(integer),
+        value: base.refs.get(0).and_then(int_of),
         last: base.last.get(0).copied(),
         commits: base.commits,
         added: base.added,
         entries,
     }
+}
+
+// ---- A world of one ref, and what is seen of it once it was used
+
+trait Play: Drop + Sized {
+    fn play<C: Ledger, A: Ledger>(
+        alloc: Global,
+        world: &mut World<Core, C, A>,
+        share: &mut Share<C, A>,
+    ) -> Result<Self, AllocError>;
+}
+
+fn opened<P: Play, C: Ledger, A: Ledger>(
+    alloc: Global,
+    tally: bool,
+    commits: Blank,
+    added: Blank,
+) -> Result<Option<P>, AllocError>
+    requires commits { (commits.name ≡ C.name) × (commits.parts ≡ C.parts) × (commits.parts ≡ all_parts) }
+    requires added { (added.name ≡ A.name) × (added.parts ≡ A.parts) × (added.parts ≡ all_parts) }
+{
+    match World::<Core, C, A>::new(alloc, &CoreFunctions, start(alloc, tally)?, commits, added) {
+        Ok((mut world, mut share)) => Ok(Some(P::play(alloc, &mut world, &mut share)?)),
+        Err(_) => Ok(None),
+    }
+}
+
+fn played<P: Play>(alloc: Global, tally: bool) -> Result<Option<P>, AllocError> {
+    opened::<P, Brand, Brand>(alloc, tally, Blank::new(ALL_PARTS), Blank::new(ALL_PARTS))
 }
 
 // ---- The row of a view and four checkpoints
@@ -120,37 +154,46 @@ struct Seen {
     point: u64,
 }
 
-fn is_replayed(by: By, view: &View<Core>, text: &str) -> Result<bool, AllocError> {
-    let wanted = read(by.alloc, text)?;
-    match replay_plain(by.alloc, by.funs, view.base(), view.log()) {
+fn is_replayed(alloc: Global, view: &View<Core>, text: &str) -> Result<bool, AllocError> {
+    let wanted = read(alloc, text)?;
+    match replay_plain(alloc, &CoreFunctions, view.base(), view.log()) {
         Ok(state) => Ok(state.refs.get(0) == wanted.first()),
         Err(_) => Ok(false),
     }
 }
 
-fn viewed<C: Ledger, A: Ledger>(
-    by: By,
+// What checkpoints at some points answer.
+fn answers<C: Ledger, A: Ledger>(
+    alloc: Global,
     world: &mut World<Core, C, A>,
-    share: &mut Share<C, A>,
-) -> Result<Seen, AllocError> {
-    let mut done = true;
-    for step in 0..3u32 {
-        done = commit(by, world, share, step, "alter 1")? && done;
-    }
-    let view = world.view()?;
-    let mut answers = Vec::new(by.alloc);
+) -> Result<Vec<Answer>, AllocError> {
+    let mut answers = Vec::new(alloc);
     for point in [2, 2, 1, 4] {
-        answers.push(world.checkpoint(by.alloc, by.funs, point))?;
+        answers.push(world.checkpoint(alloc, &CoreFunctions, point))?;
     }
-    Ok(Seen {
-        done,
-        answers,
-        view: tell(view.base(), view.log().len()),
-        replayed: is_replayed(by, &view, "3")?,
-        world: tell(world.base(), world.log().len()),
-        commits: world.commits(),
-        point: world.point(),
-    })
+    Ok(answers)
+}
+
+impl Play for Seen {
+    fn play<C: Ledger, A: Ledger>(
+        alloc: Global,
+        world: &mut World<Core, C, A>,
+        share: &mut Share<C, A>,
+    ) -> Result<Seen, AllocError> {
+        let done = commit_often(alloc, world, share, 3, "alter 1")?;
+        let view = world.view()?;
+        let answers = answers(alloc, world)?;
+        let replayed = is_replayed(alloc, &view, "3")?;
+        Ok(Seen {
+            done,
+            answers,
+            view: tell(view.base(), view.log().len()),
+            replayed,
+            world: tell(world.base(), world.log().len()),
+            commits: world.commits(),
+            point: world.point(),
+        })
+    }
 }
 
 // ---- A conflict with what was folded
@@ -164,23 +207,25 @@ struct Clash {
     commits: u64,
 }
 
-fn clashed<C: Ledger, A: Ledger>(
-    by: By,
-    world: &mut World<Core, C, A>,
-    share: &mut Share<C, A>,
-) -> Result<Clash, AllocError> {
-    let first = world.begin(by.alloc)?;
-    let done = commit(by, world, share, 0, "ref-set 5")?;
-    let answer = world.checkpoint(by.alloc, by.funs, 1);
-    let first = changed(by, first, "ref-set 7")?;
-    let fault = commit_tx(by, world, share, 1, first);
-    Ok(Clash {
-        done,
-        answer,
-        fault,
-        world: tell(world.base(), world.log().len()),
-        commits: world.commits(),
-    })
+impl Play for Clash {
+    fn play<C: Ledger, A: Ledger>(
+        alloc: Global,
+        world: &mut World<Core, C, A>,
+        share: &mut Share<C, A>,
+    ) -> Result<Clash, AllocError> {
+        let first = world.begin(alloc)?;
+        let done = commit(alloc, world, share, 0, "ref-set 5")?;
+        let answer = world.checkpoint(alloc, &CoreFunctions, 1);
+        let first = changed(alloc, first, "ref-set 7")?;
+        let fault = commit_tx(alloc, world, share, 1, first);
+        Ok(Clash {
+            done,
+            answer,
+            fault,
+            world: tell(world.base(), world.log().len()),
+            commits: world.commits(),
+        })
+    }
 }
 
 // ---- Books, and a table that lacks the function
@@ -195,110 +240,25 @@ struct Booked {
     totals: Totals,
 }
 
-fn book_all<C: Ledger, A: Ledger>(
-    by: By,
-    empty: By,
-    world: &mut World<Core, C, A>,
-    share: &mut Share<C, A>,
-) -> Result<Booked, AllocError> {
-    let mut done = true;
-    for step in 0..40u32 {
-        done = commit(by, world, share, step, "commute 7")? && done;
-    }
-    let lacking = world.checkpoint(empty.alloc, empty.funs, 33);
-    let unchanged = tell(world.base(), world.log().len());
-    let answer = world.checkpoint(by.alloc, by.funs, 33);
-    Ok(Booked {
-        done,
-        lacking,
-        unchanged,
-        answer,
-        world: tell(world.base(), world.log().len()),
-        totals: world.totals(share),
-    })
-}
-
-// ---- A world of one ref for each
-
-trait Play: Drop {
-    type Out: Drop;
-
-    fn play<C: Ledger, A: Ledger>(
-        by: By,
-        empty: By,
-        world: &mut World<Core, C, A>,
-        share: &mut Share<C, A>,
-    ) -> Result<Self::Out, AllocError>;
-}
-
-impl Play for Seen {
-    type Out = Seen;
-
-    fn play<C: Ledger, A: Ledger>(
-        by: By,
-        _empty: By,
-        world: &mut World<Core, C, A>,
-        share: &mut Share<C, A>,
-    ) -> Result<Seen, AllocError> {
-        viewed(by, world, share)
-    }
-}
-
-impl Play for Clash {
-    type Out = Clash;
-
-    fn play<C: Ledger, A: Ledger>(
-        by: By,
-        _empty: By,
-        world: &mut World<Core, C, A>,
-        share: &mut Share<C, A>,
-    ) -> Result<Clash, AllocError> {
-        clashed(by, world, share)
-    }
-}
-
 impl Play for Booked {
-    type Out = Booked;
-
     fn play<C: Ledger, A: Ledger>(
-        by: By,
-        empty: By,
+        alloc: Global,
         world: &mut World<Core, C, A>,
         share: &mut Share<C, A>,
     ) -> Result<Booked, AllocError> {
-        book_all(by, empty, world, share)
+        let done = commit_often(alloc, world, share, 40, "commute 7")?;
+        let lacking = world.checkpoint(alloc, &FunTable::empty(alloc), 33);
+        let unchanged = tell(world.base(), world.log().len());
+        let answer = world.checkpoint(alloc, &CoreFunctions, 33);
+        Ok(Booked {
+            done,
+            lacking,
+            unchanged,
+            answer,
+            world: tell(world.base(), world.log().len()),
+            totals: world.totals(share),
+        })
     }
-}
-
-fn opened<P: Play, C: Ledger, A: Ledger>(
-    by: By,
-    empty: By,
-    tally: bool,
-    commits: Blank,
-    added: Blank,
-) -> Result<Option<P::Out>, AllocError>
-    requires commits { (commits.name ≡ C.name) × (commits.parts ≡ C.parts) × (commits.parts ≡ all_parts) }
-    requires added { (added.name ≡ A.name) × (added.parts ≡ A.parts) × (added.parts ≡ all_parts) }
-{
-    let By { alloc, funs } = by;
-    match World::<Core, C, A>::new(alloc, funs, start(alloc, tally)?, commits, added) {
-        Ok((mut world, mut share)) => Ok(Some(P::play(by, empty, &mut world, &mut share)?)),
-        Err(_) => Ok(None),
-    }
-}
-
-fn played<P: Play>(alloc: Global, tally: bool) -> Result<Option<P::Out>, AllocError> {
-    let funs = table_of(alloc, &[1], &[])?;
-    let none = table_of(alloc, &[], &[])?;
-    let by = By { alloc, funs: &funs };
-    let empty = By { alloc, funs: &none };
-    opened::<P, Brand, Brand>(
-        by,
-        empty,
-        tally,
-        Blank::new(ALL_PARTS),
-        Blank::new(ALL_PARTS),
-    )
 }
 
 #[test]

@@ -1,11 +1,11 @@
 //! Commits: their conflicts, what they are made on, and what refuses them.
-use crate::rows::check_anywhere;
 use std::test::Fail;
+use tests_rows::rows::check_anywhere;
 
 #[test]
 fn commits_by_hand(rt: HostRuntime) -> Result<(), Fail> {
     check_anywhere(
-        &rt,
+        rt.alloc(),
         "",
         r##"
             // Another transaction set what was altered here. One that is begun after it meets no conflict.
@@ -52,7 +52,7 @@ fn commits_by_hand(rt: HostRuntime) -> Result<(), Fail> {
 #[test]
 fn foreign_transactions_by_hand(rt: HostRuntime) -> Result<(), Fail> {
     check_anywhere(
-        &rt,
+        rt.alloc(),
         "",
         r##"
             // What of a transaction isn't so in another place; and what is, is committed there.

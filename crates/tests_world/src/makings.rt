@@ -1,11 +1,11 @@
 //! What there is at the start, and references that are made later.
-use crate::rows::check_anywhere;
 use std::test::Fail;
+use tests_rows::rows::check_anywhere;
 
 #[test]
 fn starts_by_hand(rt: HostRuntime) -> Result<(), Fail> {
     check_anywhere(
-        &rt,
+        rt.alloc(),
         "",
         r##"
             [] [] [] [refs 0] [tally :none] [now a :none] [changed a 0]
@@ -22,7 +22,7 @@ fn starts_by_hand(rt: HostRuntime) -> Result<(), Fail> {
 #[test]
 fn makings_by_hand(rt: HostRuntime) -> Result<(), Fail> {
     check_anywhere(
-        &rt,
+        rt.alloc(),
         "",
         r##"
             // A ref gets the next number, and its last change is at the point where it is made.

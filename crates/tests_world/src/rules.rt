@@ -1,11 +1,11 @@
 //! The rules and the watches of refs.
-use crate::rows::check_anywhere;
 use std::test::Fail;
+use tests_rows::rows::check_anywhere;
 
 #[test]
 fn rules_of_refs_by_hand(rt: HostRuntime) -> Result<(), Fail> {
     check_anywhere(
-        &rt,
+        rt.alloc(),
         "",
         r##"
             // Both commutes answer 3, and the second is made again on 3, which its rule doesn't accept.
@@ -37,7 +37,7 @@ fn rules_of_refs_by_hand(rt: HostRuntime) -> Result<(), Fail> {
 #[test]
 fn watches_of_refs_by_hand(rt: HostRuntime) -> Result<(), Fail> {
     check_anywhere(
-        &rt,
+        rt.alloc(),
         "",
         r##"
             // Notices come by ref, and those of one ref in the order of adding; a ref that is only ensured gives none.

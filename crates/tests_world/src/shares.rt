@@ -2,10 +2,7 @@
 ghost use Rattle.std.specs.Prelude.{◌≡◌};
 ghost use Rattle.ref_world.specs.Shares.{all_parts};
 
-use crate::forms::{args_from, read, value_at};
-use crate::subjects::{By, STAMP};
-use crate::tables::table_of;
-use ref_fun::Core;
+use ref_fun::{Core, CoreFunctions};
 use ref_log::{Entry, Who};
 use ref_tx::Tx;
 use ref_world::{ALL_PARTS, AtomStart, LogReceipt, RefStart, Share, Start, Totals, World};
@@ -13,6 +10,8 @@ use std::alloc::{AllocError, Global};
 use std::marker::Brand;
 use std::sync::ledger::{Blank, Ledger};
 use std::test::Fail;
+use tests_rows::forms::{args_from, read, value_at};
+use tests_rows::subjects::STAMP;
 
 // The tally t is 5, and the atom x is 1.
 fn start(alloc: Global) -> Result<Start, AllocError> {
@@ -35,19 +34,21 @@ fn start(alloc: Global) -> Result<Start, AllocError> {
 
 // Commits a transaction that adds 7 to the tally.
 fn add_seven<C: Ledger, A: Ledger>(
-    by: By,
+    alloc: Global,
     world: &mut World<Core, C, A>,
     share: &mut Share<C, A>,
 ) -> Result<bool, AllocError> {
-    let By { alloc, funs } = by;
-    let tx = adding_seven(by, world.begin(alloc)?)?;
-    Ok(world.commit_with(alloc, funs, share, STAMP, tx).is_ok())
+    let tx = adding_seven(alloc, world.begin(alloc)?)?;
+    Ok(
+        world
+            .commit_with(alloc, &CoreFunctions, share, STAMP, tx)
+            .is_ok(),
+    )
 }
 
-fn adding_seven(by: By, mut tx: Tx<Core>) -> Result<Tx<Core>, AllocError> {
-    let By { alloc, funs } = by;
+fn adding_seven(alloc: Global, mut tx: Tx<Core>) -> Result<Tx<Core>, AllocError> {
     let seven = args_from(alloc, &read(alloc, "7")?, 0)?;
-    match tx.commute(alloc, funs, 0, 1, seven) {
+    match tx.commute(alloc, &CoreFunctions, 0, 1, seven) {
         Ok(_) => Ok(tx),
         Err(_) => Err(AllocError),
     }
@@ -55,25 +56,23 @@ fn adding_seven(by: By, mut tx: Tx<Core>) -> Result<Tx<Core>, AllocError> {
 
 // Whether `swap x + 1` is taken.
 fn swaps<C: Ledger, A: Ledger>(
-    by: By,
+    alloc: Global,
     world: &mut World<Core, C, A>,
     share: &mut Share<C, A>,
 ) -> Result<bool, AllocError> {
-    let By { alloc, funs } = by;
     let one = args_from(alloc, &read(alloc, "1")?, 0)?;
-    Ok(world.swap(alloc, funs, share, 0, 1, one).is_ok())
+    Ok(world.swap(alloc, &CoreFunctions, share, 0, 1, one).is_ok())
 }
 
 // Whether x, which isn't 1 any more, stays.
 fn stays<C: Ledger, A: Ledger>(
-    by: By,
+    alloc: Global,
     world: &mut World<Core, C, A>,
     share: &mut Share<C, A>,
 ) -> Result<bool, AllocError> {
-    let By { alloc, funs } = by;
     let values = read(alloc, "1 9")?;
     let (old, new) = (value_at(&values, 0)?, value_at(&values, 1)?);
-    match world.compare_and_set(alloc, funs, share, 0, &old, new) {
+    match world.compare_and_set(alloc, &CoreFunctions, share, 0, &old, new) {
         Ok(cas) => Ok(!cas.done),
         Err(_) => Ok(false),
     }
@@ -126,16 +125,16 @@ fn end_of<C: Ledger, A: Ledger>(
 
 // An atom is changed by the second share, and the tally by each.
 fn change<C: Ledger, A: Ledger>(
-    by: By,
+    alloc: Global,
     world: &mut World<Core, C, A>,
     first: &mut Share<C, A>,
     second: &mut Share<C, A>,
 ) -> Result<bool, AllocError> {
     Ok(
-        swaps(by, world, second)?
-            && stays(by, world, second)?
-            && add_seven(by, world, first)?
-            && add_seven(by, world, second)?,
+        swaps(alloc, world, second)?
+            && stays(alloc, world, second)?
+            && add_seven(alloc, world, first)?
+            && add_seven(alloc, world, second)?,
     )
 }
 
@@ -145,7 +144,7 @@ fn splits_none<C: Ledger, A: Ledger>(share: &mut Share<C, A>) -> (bool, bool) {
 }
 
 fn used<C: Ledger, A: Ledger>(
-    by: By,
+    alloc: Global,
     world: &mut World<Core, C, A>,
     first: &mut Share<C, A>,
 ) -> Result<Option<Seen>, AllocError> {
@@ -154,9 +153,9 @@ fn used<C: Ledger, A: Ledger>(
         return Ok(None);
     };
     let whole_between = (first.is_whole(), second.is_whole());
-    let done = change(by, world, first, &mut second)?;
+    let done = change(alloc, world, first, &mut second)?;
     let joined = first.join(second).is_ok();
-    let ended = end_of(by.alloc, world, first)?;
+    let ended = end_of(alloc, world, first)?;
     Ok(Some(Seen {
         split,
         whole_between,
@@ -167,24 +166,21 @@ fn used<C: Ledger, A: Ledger>(
 }
 
 fn tried<C: Ledger, A: Ledger>(
-    by: By,
+    alloc: Global,
     commits: Blank,
     added: Blank,
 ) -> Result<Option<Seen>, AllocError>
     requires commits { (commits.name ≡ C.name) × (commits.parts ≡ C.parts) × (commits.parts ≡ all_parts) }
     requires added { (added.name ≡ A.name) × (added.parts ≡ A.parts) × (added.parts ≡ all_parts) }
 {
-    let By { alloc, funs } = by;
-    match World::<Core, C, A>::new(alloc, funs, start(alloc)?, commits, added) {
-        Ok((mut world, mut share)) => used(by, &mut world, &mut share),
+    match World::<Core, C, A>::new(alloc, &CoreFunctions, start(alloc)?, commits, added) {
+        Ok((mut world, mut share)) => used(alloc, &mut world, &mut share),
         Err(_) => Ok(None),
     }
 }
 
 fn try_shares(alloc: Global) -> Result<Option<Seen>, AllocError> {
-    let funs = table_of(alloc, &[1], &[])?;
-    let by = By { alloc, funs: &funs };
-    tried::<Brand, Brand>(by, Blank::new(ALL_PARTS), Blank::new(ALL_PARTS))
+    tried::<Brand, Brand>(alloc, Blank::new(ALL_PARTS), Blank::new(ALL_PARTS))
 }
 
 #[test]

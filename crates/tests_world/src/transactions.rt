@@ -1,13 +1,13 @@
 //! Open transactions: what their calls answer.
-use crate::rows::check_anywhere;
 use std::test::Fail;
+use tests_rows::rows::check_anywhere;
 
 // The tally is c too, d is nil, and there is no e.
 #[test]
 fn calls_answer_in_transaction_values(rt: HostRuntime) -> Result<(), Fail> {
     let start = "[0 10 [tally 5] nil] [] [] [begin 1 0]";
     check_anywhere(
-        &rt,
+        rt.alloc(),
         start,
         r##"
             // Before anything is done, the values are those of the beginning.

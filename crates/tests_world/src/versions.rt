@@ -2,7 +2,6 @@
 ghost use Rattle.std.specs.Prelude.{◌≡◌};
 ghost use Rattle.ref_world.specs.Shares.{all_parts};
 
-use crate::subjects::STAMP;
 use ref_edn::{Node, Value};
 use ref_fun::{Args, Core, CoreFunctions};
 use ref_refs::{CommitFault, Conflict};
@@ -12,6 +11,7 @@ use std::alloc::{AllocError, Global};
 use std::marker::Brand;
 use std::sync::ledger::{Blank, Ledger};
 use std::test::Fail;
+use tests_rows::subjects::STAMP;
 
 /// How many refs others change, each by a commit of its own: ref r at point r + 1.
 const CHANGED: u32 = 1000;
@@ -146,25 +146,22 @@ fn reads_new(tx: &Tx<Core>) -> Result<bool, AllocError> {
     Ok(true)
 }
 
+fn done(answer: Result<Value, TxFault>) -> Result<(), TxFault> {
+    match answer {
+        Ok(_) => Ok(()),
+        Err(fault) => Err(fault),
+    }
+}
+
 // Does with a ref what a case says.
 fn perform(alloc: Global, tx: &mut Tx<Core>, what: Act, r: u32) -> Result<(), TxFault> {
-    let (five, args) = (int(5)?, one_arg(alloc, 5)?);
     match what {
-        Act::Read => {}
-        Act::Set => {
-            let _ = tx.ref_set(alloc, r, five)?;
-        }
-        Act::Alter => {
-            let _ = tx.alter(alloc, &CoreFunctions, r, 1, args)?;
-        }
-        Act::Ensure => {
-            let _ = tx.ensure(alloc, r)?;
-        }
-        Act::Commute => {
-            let _ = tx.commute(alloc, &CoreFunctions, r, 1, args)?;
-        }
+        Act::Read => Ok(()),
+        Act::Set => done(tx.ref_set(alloc, r, int(5)?)),
+        Act::Alter => done(tx.alter(alloc, &CoreFunctions, r, 1, one_arg(alloc, 5)?)),
+        Act::Ensure => done(tx.ensure(alloc, r)),
+        Act::Commute => done(tx.commute(alloc, &CoreFunctions, r, 1, one_arg(alloc, 5)?)),
     }
-    Ok(())
 }
 
 // How a case ended.

@@ -25,7 +25,7 @@ const NAMES: &[(&str, Who)] = &[
 ];
 
 /// The reference that a name names. That of the tally is `t`.
-pub(crate) fn who_of(name: &str, tally: Option<u32>) -> Who {
+pub fn who_of(name: &str, tally: Option<u32>) -> Who {
     if name == "t" {
         return Who::Ref(tally.unwrap_or(NOWHERE));
     }
@@ -38,7 +38,7 @@ pub(crate) fn who_of(name: &str, tally: Option<u32>) -> Who {
 }
 
 /// The name of a reference in an answer, where a tally has that of its number.
-pub(crate) fn name_of(who: Who) -> &'static str {
+pub fn name_of(who: Who) -> &'static str {
     for (name, known) in NAMES {
         if *known == who {
             return name;
@@ -48,7 +48,7 @@ pub(crate) fn name_of(who: Who) -> &'static str {
 }
 
 /// The row that a line of a table has. A line that begins with `//` is a remark.
-pub(crate) fn row_of(line: &str) -> Option<&str> {
+pub fn row_of(line: &str) -> Option<&str> {
     let row = line.trim();
     if row.is_empty() || row.starts_with("//") {
         None
@@ -58,12 +58,12 @@ pub(crate) fn row_of(line: &str) -> Option<&str> {
 }
 
 /// The elements of a text.
-pub(crate) fn read(alloc: Global, text: &str) -> Result<Vec<Value>, AllocError> {
+pub fn read(alloc: Global, text: &str) -> Result<Vec<Value>, AllocError> {
     read_all(alloc, text.as_bytes()).map_err(|_| AllocError)
 }
 
 /// The members of a vector, and none of any other value.
-pub(crate) fn members(alloc: Global, form: &Value) -> Result<Vec<Value>, AllocError> {
+pub fn members(alloc: Global, form: &Value) -> Result<Vec<Value>, AllocError> {
     let mut all = Vec::new(alloc);
     if let Node::Vector(items) = form.node() {
         for item in items {
@@ -73,7 +73,7 @@ pub(crate) fn members(alloc: Global, form: &Value) -> Result<Vec<Value>, AllocEr
     Ok(all)
 }
 
-pub(crate) fn word_at(call: &[Value], i: usize) -> &str {
+pub fn word_at(call: &[Value], i: usize) -> &str {
     match call.get(i) {
         Some(value) => match value.node() {
             Node::Symbol(name) => name.as_str(),
@@ -83,7 +83,7 @@ pub(crate) fn word_at(call: &[Value], i: usize) -> &str {
     }
 }
 
-pub(crate) fn number_at(call: &[Value], i: usize) -> u64 {
+pub fn number_at(call: &[Value], i: usize) -> u64 {
     match call.get(i) {
         Some(value) => match value.node() {
             Node::Int(n) => u64::try_from(*n).unwrap_or(u64::MAX),
@@ -94,28 +94,28 @@ pub(crate) fn number_at(call: &[Value], i: usize) -> u64 {
 }
 
 /// The value at a place. A row that has none there can't be run.
-pub(crate) fn value_at(call: &[Value], i: usize) -> Result<Value, AllocError> {
+pub fn value_at(call: &[Value], i: usize) -> Result<Value, AllocError> {
     match call.get(i) {
         Some(value) => value.share(),
         None => Err(AllocError),
     }
 }
 
-pub(crate) fn ref_at(call: &[Value], i: usize, tally: Option<u32>) -> u32 {
+pub fn ref_at(call: &[Value], i: usize, tally: Option<u32>) -> u32 {
     match who_of(word_at(call, i), tally) {
         Who::Ref(r) => r,
         _ => NOWHERE,
     }
 }
 
-pub(crate) fn atom_at(call: &[Value], i: usize) -> u32 {
+pub fn atom_at(call: &[Value], i: usize) -> u32 {
     match who_of(word_at(call, i), None) {
         Who::Atom(a) => a,
         _ => NOWHERE,
     }
 }
 
-pub(crate) fn agent_at(call: &[Value], i: usize) -> u32 {
+pub fn agent_at(call: &[Value], i: usize) -> u32 {
     match who_of(word_at(call, i), None) {
         Who::Agent(g) => g,
         _ => NOWHERE,
@@ -123,7 +123,7 @@ pub(crate) fn agent_at(call: &[Value], i: usize) -> u32 {
 }
 
 /// The code of a function or a predicate by its name, or a code; 0 where neither stands there.
-pub(crate) fn code_at(call: &[Value], i: usize) -> u32 {
+pub fn code_at(call: &[Value], i: usize) -> u32 {
     match u32::try_from(number_at(call, i)) {
         Ok(code) => code,
         Err(_) => code_of(word_at(call, i).as_bytes()).unwrap_or(0),
@@ -131,7 +131,7 @@ pub(crate) fn code_at(call: &[Value], i: usize) -> u32 {
 }
 
 /// The values from a place on, as arguments.
-pub(crate) fn args_from(alloc: Global, call: &[Value], start: usize) -> Result<Args, AllocError> {
+pub fn args_from(alloc: Global, call: &[Value], start: usize) -> Result<Args, AllocError> {
     let mut values = Vec::new(alloc);
     for i in start..call.len() {
         values.push(value_at(call, i)?)?;
@@ -143,11 +143,7 @@ pub(crate) fn args_from(alloc: Global, call: &[Value], start: usize) -> Result<A
 }
 
 /// `+ 1`: a function with its arguments, from a place on.
-pub(crate) fn action_from(
-    alloc: Global,
-    call: &[Value],
-    start: usize,
-) -> Result<Action, AllocError> {
+pub fn action_from(alloc: Global, call: &[Value], start: usize) -> Result<Action, AllocError> {
     Ok(Action {
         code: code_at(call, start),
         args: args_from(alloc, call, start.saturating_add(1))?,
@@ -155,7 +151,7 @@ pub(crate) fn action_from(
 }
 
 /// `[>= 0]` is a rule, and `nil` is none.
-pub(crate) fn rule_at(alloc: Global, call: &[Value], i: usize) -> Result<Option<Rule>, AllocError> {
+pub fn rule_at(alloc: Global, call: &[Value], i: usize) -> Result<Option<Rule>, AllocError> {
     let form = members(alloc, &value_at(call, i)?)?;
     if form.is_empty() {
         return Ok(None);
@@ -168,11 +164,11 @@ pub(crate) fn rule_at(alloc: Global, call: &[Value], i: usize) -> Result<Option<
 
 /// What a reference starts with.
 #[derive(Drop)]
-pub(crate) struct Start {
-    pub(crate) value: Value,
-    pub(crate) rule: Option<Rule>,
-    pub(crate) tally: bool,
-    pub(crate) mode: ErrorMode,
+pub struct Start {
+    pub value: Value,
+    pub rule: Option<Rule>,
+    pub tally: bool,
+    pub mode: ErrorMode,
 }
 
 // The value and the rule that stand behind a word.
@@ -186,7 +182,7 @@ fn ruled_start(alloc: Global, parts: &[Value], mode: ErrorMode) -> Result<Start,
 }
 
 /// A value, `[tally VALUE]`, `[rule VALUE [>= 0]]`, or of an agent `[continue VALUE [>= 0]]`.
-pub(crate) fn start_of(alloc: Global, form: &Value) -> Result<Start, AllocError> {
+pub fn start_of(alloc: Global, form: &Value) -> Result<Start, AllocError> {
     let parts = members(alloc, form)?;
     match word_at(&parts, 0) {
         "tally" => Ok(Start {
@@ -207,7 +203,7 @@ pub(crate) fn start_of(alloc: Global, form: &Value) -> Result<Start, AllocError>
 }
 
 /// What the references of one kind start with, and of those that are left out none.
-pub(crate) fn starts_at(alloc: Global, row: &[Value], i: usize) -> Result<Vec<Start>, AllocError> {
+pub fn starts_at(alloc: Global, row: &[Value], i: usize) -> Result<Vec<Start>, AllocError> {
     let mut starts = Vec::new(alloc);
     if let Some(forms) = row.get(i) {
         for form in members(alloc, forms)? {

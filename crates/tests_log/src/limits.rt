@@ -2,11 +2,6 @@
 ghost use Rattle.std.specs.Prelude.{◌≡◌, true};
 ghost use Rattle.ref_refs.specs.Seen.{are_unchanged_since};
 
-use crate::answers::number;
-use crate::forms::{number_at, read, rule_at};
-use crate::rows::check_apart;
-use crate::tables::table_of;
-use crate::words::{form, variant_form};
 use ref_agents::{AgentStore, ErrorMode};
 use ref_atoms::AtomStore;
 use ref_edn::{Node, Value};
@@ -15,6 +10,12 @@ use ref_log::{MakeFault, check_make};
 use ref_refs::RefStore;
 use std::alloc::{AllocError, Global};
 use std::test::Fail;
+use tests_rows::answers::number;
+use tests_rows::forms::{number_at, read, rule_at};
+use tests_rows::rows::check_apart;
+use tests_rows::subjects::By;
+use tests_rows::tables::{ByTables, Tables, with_tables};
+use tests_rows::words::{form, variant_form};
 
 // A store of which no ref has changed since the start.
 #[derive(Drop)]
@@ -83,15 +84,27 @@ fn tells(
     Ok(row.last() == Some(&told))
 }
 
+// What is asked of one more tells what each row says.
+#[derive(Drop)]
+struct OneMore;
+
+impl ByTables for OneMore {
+    type Out = Result<(), Fail>;
+
+    fn run(self, tables: &Tables) -> Result<(), Fail> {
+        let By { alloc, funs } = tables.all;
+        for (count, is_bad_tally, row) in COUNTS {
+            if !tells(alloc, funs, *count, *is_bad_tally, row)? {
+                return Err(Fail::new(format_args!("{count} {row}")));
+            }
+        }
+        Ok(())
+    }
+}
+
 #[test]
 fn a_full_store_takes_no_ref(rt: HostRuntime) -> Result<(), Fail> {
-    let alloc = rt.alloc();
-    let funs = table_of(alloc, &[], &[101])?;
-    for (count, is_bad_tally, row) in COUNTS {
-        let told = tells(alloc, &funs, *count, *is_bad_tally, row)?;
-        assert!(rt; told, "{count} {row}");
-    }
-    Ok(())
+    with_tables(rt.alloc(), &[], &[101], OneMore)?
 }
 
 // A store with this many atoms, each of which is nil.
@@ -133,16 +146,28 @@ fn is_refused(
     }
 }
 
+// A full store refuses an atom as each row says, and has as many as before.
+#[derive(Drop)]
+struct FullStore;
+
+impl ByTables for FullStore {
+    type Out = Result<(), Fail>;
+
+    fn run(self, tables: &Tables) -> Result<(), Fail> {
+        let By { alloc, funs } = tables.all;
+        let mut store = atoms_of(alloc, funs, 1 << 20)?.ok_or("an atom wasn't made")?;
+        for row in FULL {
+            if !is_refused(alloc, funs, &mut store, row)? || store.len() != 1048576 {
+                return Err(Fail::new(format_args!("{row}")));
+            }
+        }
+        Ok(())
+    }
+}
+
 #[test]
 fn a_full_store_takes_no_atom(rt: HostRuntime) -> Result<(), Fail> {
-    let alloc = rt.alloc();
-    let funs = table_of(alloc, &[], &[101])?;
-    let mut store = atoms_of(alloc, &funs, 1 << 20)?.ok_or("an atom wasn't made")?;
-    for row in FULL {
-        assert!(rt; is_refused(alloc, &funs, &mut store, row)?, "{row}");
-        assert_eq!(rt; store.len(), 1048576);
-    }
-    Ok(())
+    with_tables(rt.alloc(), &[], &[101], FullStore)?
 }
 
 #[test]
@@ -180,7 +205,7 @@ fn a_store_of_agents_begins_empty(rt: HostRuntime) -> Result<(), Fail> {
 #[test]
 fn points_end(rt: HostRuntime) -> Result<(), Fail> {
     check_apart(
-        &rt,
+        rt.alloc(),
         "",
         r##"
             // Commits.

@@ -10,24 +10,23 @@ use ref_tx::Snapshot;
 use std::alloc::{AllocError, Global};
 use std::fmt::Debug;
 
-pub(crate) fn form(alloc: Global, text: &str) -> Form {
+pub fn form(alloc: Global, text: &str) -> Form {
     read_one(alloc, text.as_bytes()).map_err(|_| AllocError)
 }
 
-pub(crate) fn name(alloc: Global, who: Who) -> Form {
+pub fn name(alloc: Global, who: Who) -> Form {
     form(alloc, name_of(who))
 }
 
-pub(crate) fn vector(alloc: Global, values: Vec<Value>) -> Form {
+pub fn vector(alloc: Global, values: Vec<Value>) -> Form {
     Value::of(Node::Vector(Items::of(alloc, values)?)).map_err(|_| AllocError)
 }
 
 /// What Rust's `Debug` writes of a variant, in EDN's words: `NotMet` is `:not-met`, and `Refused(0, Overflow)` is
 /// `[:refused 0 :overflow]`. Names of fields are left out, and a word that comes twice in turn stands once.
-pub(crate) fn variant_form<F: Debug>(alloc: Global, variant: &F) -> Form {
-    let text = format!(in alloc; "{variant:?}")?;
+pub fn variant_form<F: Debug>(alloc: Global, variant: &F) -> Form {
     let mut parts = Vec::new(alloc);
-    for part in read(alloc, words_of(alloc, text.as_str())?.as_str())? {
+    for part in parts_of(alloc, variant)? {
         let is_word = matches!(part.node(), Node::Keyword(_));
         if !is_word || parts.last() != Some(&part) {
             parts.push(part)?;
@@ -36,37 +35,55 @@ pub(crate) fn variant_form<F: Debug>(alloc: Global, variant: &F) -> Form {
     told_form(alloc, parts, &[])
 }
 
+// Adds a character of what `Debug` writes to EDN's words, and says whether a word goes on behind it.
+fn push_next(words: &mut String, c: char, is_inside: bool) -> Result<bool, AllocError> {
+    match c {
+        'A'..='Z' => {
+            words.push(if is_inside { '-' } else { ':' })?;
+            words.push(c.to_ascii_lowercase())?;
+            Ok(true)
+        }
+        'a'..='z' if is_inside => {
+            words.push(c)?;
+            Ok(true)
+        }
+        'a'..='z' | '_' | ':' => Ok(is_inside),
+        '0'..='9' => {
+            words.push(c)?;
+            Ok(is_inside)
+        }
+        _ => {
+            words.push(' ')?;
+            Ok(false)
+        }
+    }
+}
+
 fn words_of(alloc: Global, text: &str) -> Result<String, AllocError> {
     let mut words = String::new(alloc);
     let mut is_inside = false;
     for c in text.chars() {
-        match c {
-            'A'..='Z' => {
-                words.push(if is_inside { '-' } else { ':' })?;
-                words.push(c.to_ascii_lowercase())?;
-                is_inside = true;
-            }
-            'a'..='z' if is_inside => words.push(c)?,
-            'a'..='z' | '_' | ':' => {}
-            '0'..='9' => words.push(c)?,
-            _ => {
-                words.push(' ')?;
-                is_inside = false;
-            }
-        }
+        is_inside = push_next(&mut words, c, is_inside)?;
     }
     Ok(words)
 }
 
+// The elements of what `Debug` writes of a variant, in EDN's words.
+fn parts_of<F: Debug>(alloc: Global, variant: &F) -> Result<Vec<Value>, AllocError> {
+    let text = format!(in alloc; "{variant:?}")?;
+    let words = words_of(alloc, text.as_str())?;
+    read(alloc, words.as_str())
+}
+
 /// A value, or `:none`.
-pub(crate) fn value_form(alloc: Global, value: Option<&Value>) -> Form {
+pub fn value_form(alloc: Global, value: Option<&Value>) -> Form {
     match value {
         Some(value) => value.share(),
         None => word(alloc, "none"),
     }
 }
 
-pub(crate) fn values_form(alloc: Global, values: &SharedVec<Value>) -> Form {
+pub fn values_form(alloc: Global, values: &SharedVec<Value>) -> Form {
     let mut all = Vec::new(alloc);
     for value in values {
         all.push(value.share()?)?;
@@ -74,7 +91,7 @@ pub(crate) fn values_form(alloc: Global, values: &SharedVec<Value>) -> Form {
     vector(alloc, all)
 }
 
-pub(crate) fn snapshot_form(alloc: Global, refs: &Snapshot) -> Form {
+pub fn snapshot_form(alloc: Global, refs: &Snapshot) -> Form {
     let mut all = Vec::new(alloc);
     for version in refs.versions() {
         all.push(version.value.share()?)?;
@@ -83,7 +100,7 @@ pub(crate) fn snapshot_form(alloc: Global, refs: &Snapshot) -> Form {
 }
 
 /// `[>= 0]`: a rule, or `:none`.
-pub(crate) fn rule_form(alloc: Global, rule: Option<&Rule>) -> Form {
+pub fn rule_form(alloc: Global, rule: Option<&Rule>) -> Form {
     let Some(rule) = rule else {
         return word(alloc, "none");
     };
@@ -106,7 +123,7 @@ fn notice_form(alloc: Global, notice: &Notice) -> Form {
 }
 
 /// An answer, or several, with the notices behind it: `2`, `[2 [x :k 1 2]]`, `[1 2]`, `[1 2 [x :k 1 2]]`.
-pub(crate) fn told_form(alloc: Global, mut answers: Vec<Value>, notices: &[Notice]) -> Form {
+pub fn told_form(alloc: Global, mut answers: Vec<Value>, notices: &[Notice]) -> Form {
     if let (Some(only), 1, true) = (answers.first(), answers.len(), notices.is_empty()) {
         return only.share();
     }
@@ -117,7 +134,7 @@ pub(crate) fn told_form(alloc: Global, mut answers: Vec<Value>, notices: &[Notic
 }
 
 /// `[5 :done :failed 2]`: the start, how the handled actions ended, and how many wait.
-pub(crate) fn account_form(alloc: Global, account: Option<&Account>) -> Form {
+pub fn account_form(alloc: Global, account: Option<&Account>) -> Form {
     let Some(account) = account else {
         return word(alloc, "none");
     };
@@ -130,7 +147,7 @@ pub(crate) fn account_form(alloc: Global, account: Option<&Account>) -> Form {
 }
 
 /// `[0 0 5 1 6 1]`: the read point of a transaction, the ref and the answer of each operation, and how much it sends.
-pub(crate) fn open_form(alloc: Global, open: &Open) -> Form {
+pub fn open_form(alloc: Global, open: &Open) -> Form {
     let mut all = vec![in alloc; number(open.read_point())?]?;
     for done in open.dones() {
         all.push(number(u64::from(done.r))?)?;

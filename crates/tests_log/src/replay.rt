@@ -4,12 +4,6 @@
 //! fault. The base has the refs a, 0, and b, 10, and the atom x, 1. An operation ends with the answer that is kept.
 ghost use Rattle.std.specs.Prelude.{◌≡◌, IfOk};
 
-use crate::answers::Form;
-use crate::forms::{
-    args_from, atom_at, code_at, members, number_at, read, ref_at, row_of, value_at, word_at,
-};
-use crate::tables::table_of;
-use crate::words::{values_form, variant_form, vector};
 use ref_edn::Value;
 use ref_fun::FunTable;
 use ref_log::{
@@ -17,8 +11,14 @@ use ref_log::{
     vector_of,
 };
 use std::alloc::{AllocError, Global};
-use std::process::Abort;
 use std::test::Fail;
+use tests_rows::answers::Form;
+use tests_rows::forms::{
+    args_from, atom_at, code_at, members, number_at, read, ref_at, row_of, value_at, word_at,
+};
+use tests_rows::subjects::By;
+use tests_rows::tables::{ByTables, Tables, with_tables};
+use tests_rows::words::{values_form, variant_form, vector};
 
 // `[a + 5 5]`: an `alter`. Its ref may be a number.
 fn done_of(alloc: Global, form: &Value) -> Result<Done, AllocError> {
@@ -46,21 +46,29 @@ fn transaction_of(alloc: Global, forms: &[Value]) -> Result<Transaction, AllocEr
     })
 }
 
+// `swap x + 1`, or `reset x 7`.
+fn op_of(alloc: Global, op: &[Value]) -> Result<Op, AllocError> {
+    match word_at(op, 0) {
+        "swap" => Ok(Op::Alter(code_at(op, 2), args_from(alloc, op, 3)?)),
+        _ => Ok(Op::Set(value_at(op, 2)?)),
+    }
+}
+
+fn atom_entry(alloc: Global, op: &[Value], answer: &Value) -> Result<Entry, AllocError> {
+    let change = op_of(alloc, op)?;
+    Ok(Entry::Atom(atom_at(op, 1), change, answer.share()?))
+}
+
 fn entry_of(alloc: Global, form: &Value) -> Result<Entry, AllocError> {
     let parts = members(alloc, form)?;
     let (Some((_, dones)), Some((answer, op))) = (parts.split_first(), parts.split_last()) else {
         return Err(AllocError);
     };
-    let answer = answer.share()?;
     match word_at(&parts, 0) {
         "commit" => Ok(Entry::Trans(transaction_of(alloc, dones)?)),
-        "swap" => {
-            let swap = Op::Alter(code_at(op, 2), args_from(alloc, op, 3)?);
-            Ok(Entry::Atom(atom_at(op, 1), swap, answer))
-        }
-        "reset" => Ok(Entry::Atom(atom_at(op, 1), Op::Set(value_at(op, 2)?), answer)),
-        "ref" => Ok(Entry::MadeRef(answer)),
-        "atom" => Ok(Entry::MadeAtom(answer)),
+        "swap" | "reset" => atom_entry(alloc, op, answer),
+        "ref" => Ok(Entry::MadeRef(answer.share()?)),
+        "atom" => Ok(Entry::MadeAtom(answer.share()?)),
         _ => Err(AllocError),
     }
 }
@@ -100,34 +108,51 @@ fn entries_of(alloc: Global, forms: &[Value]) -> Result<Vec<Entry>, AllocError> 
     Ok(entries)
 }
 
-// What the replay of these entries gives on a base at this point. The table has `+` and `inc` alone.
-fn replayed(alloc: Global, point: u32, entries: &[Entry]) -> Form {
-    let funs = table_of(alloc, &[1, 3], &[])?;
+// What the replay of these entries gives on a base at this point.
+fn replayed(by: By, point: u32, entries: &[Entry]) -> Form {
+    let By { alloc, funs } = by;
     let base = base_of(alloc, point)?;
     let entries = vector_of(alloc, entries)?;
-    answer_form(alloc, replay_plain(alloc, &funs, &base, &entries))
+    answer_form(alloc, replay_plain(alloc, funs, &base, &entries))
 }
 
 // Whether the replay gives what a row wants, on a base at the point that it begins with.
-fn is_right(alloc: Global, row: &str) -> Result<bool, AllocError> {
-    let row = read(alloc, row)?;
+fn is_right(by: By, row: &str) -> Result<bool, AllocError> {
+    let row = read(by.alloc, row)?;
     let (Some((wanted, forms)), Ok(point)) = (row.split_last(), u32::try_from(number_at(&row, 0)))
     else {
         return Ok(false);
     };
-    let entries = entries_of(alloc, forms.get(1..).unwrap_or(&[]))?;
-    Ok(replayed(alloc, point, &entries)? == *wanted)
+    let entries = entries_of(by.alloc, forms.get(1..).unwrap_or(&[]))?;
+    Ok(replayed(by, point, &entries)? == *wanted)
 }
 
-// Each row of a table is right, where this stands before it.
-fn check(rt: &(impl Abort + AllocGlobal), front: &str, table: &str) -> Result<(), Fail> {
-    for line in table.lines() {
-        if let Some(row) = row_of(line) {
-            let row = format!(in rt.alloc(); "{front} {row}")?;
-            assert!(rt; is_right(rt.alloc(), &row)?, "{row}");
+// The rows of a table, where this stands before each.
+#[derive(Drop)]
+struct Rows<'a> {
+    front: &'a str,
+    table: &'a str,
+}
+
+impl<'a> ByTables for Rows<'a> {
+    type Out = Result<(), Fail>;
+
+    fn run(self, tables: &Tables) -> Result<(), Fail> {
+        for line in self.table.lines() {
+            if let Some(row) = row_of(line) {
+                let row = format!(in tables.all.alloc; "{} {row}", self.front)?;
+                if !is_right(tables.all, &row)? {
+                    return Err(Fail::new(format_args!("{row}")));
+                }
+            }
         }
+        Ok(())
     }
-    Ok(())
+}
+
+// Each row of a table is right, where this stands before it. The functions are `+` and `inc` alone.
+fn check(alloc: Global, front: &str, table: &str) -> Result<(), Fail> {
+    with_tables(alloc, &[1, 3], &[], Rows { front, table })?
 }
 
 const VALUES: &str = "
@@ -148,8 +173,8 @@ const VALUES: &str = "
 
 #[test]
 fn a_log_ends_with_its_values(rt: HostRuntime) -> Result<(), Fail> {
-    check(&rt, "0", VALUES)?;
-    check(&rt, "7", VALUES)
+    check(rt.alloc(), "0", VALUES)?;
+    check(rt.alloc(), "7", VALUES)
 }
 
 const FAULTS: &str = "
@@ -191,5 +216,5 @@ const FAULTS: &str = "
 
 #[test]
 fn the_first_fault_ends_the_replay(rt: HostRuntime) -> Result<(), Fail> {
-    check(&rt, "", FAULTS)
+    check(rt.alloc(), "", FAULTS)
 }

@@ -1,4 +1,4 @@
-use Rattle.tests_world.proofs.whole.WorldsGround.with.Given as goal
+use Rattle.tests_rows.proofs.whole.WorldsGround.with.Given as goal
 
 abbrev pub ghosts-with_world-C-Ledger : goal.ghosts-with_world-C-Ledger
 ghosts-with_world-C-Ledger g a = record { name = a.commits.name; parts = a.commits.parts }

@@ -5,7 +5,7 @@ use crate::forms::{
     word_at,
 };
 use crate::jobs::{agents_answer, is_of_agents};
-use crate::subjects::{By, Kind, Open, STAMP, Subject};
+use crate::subjects::{By, Kind, Open, Receipt, STAMP, Subject};
 use crate::tables::Tables;
 use crate::words::{name, open_form, snapshot_form, told_form, values_form, variant_form, vector};
 use ref_atoms::{AtomFault, Swapped};
@@ -15,46 +15,45 @@ use ref_log::{Base, Done, Entry, Notice, Who};
 use ref_pvec::PVec;
 use ref_refs::CommitFault;
 use ref_tx::{Tx, TxFault};
-use ref_world::Receipt;
 use std::alloc::{AllocError, Global};
 use std::fmt::Debug;
 
 /// A subject, and the open transactions by number.
 #[derive(Drop)]
-pub(crate) struct Stage<S> {
-    pub(crate) subject: S,
-    pub(crate) open: Vec<Option<Open>>,
+pub struct Stage<S> {
+    pub subject: S,
+    pub open: Vec<Option<Open>>,
 }
 
 /// What a call answers, and whether the subject has to be as before.
 #[derive(Drop)]
-pub(crate) struct Told {
-    pub(crate) answer: Value,
-    pub(crate) leaves: bool,
+pub struct Told {
+    pub answer: Value,
+    pub leaves: bool,
 }
 
-pub(crate) type Answer = Result<Told, AllocError>;
+pub type Answer = Result<Told, AllocError>;
 
-pub(crate) fn made(answer: Value) -> Answer {
+pub fn made(answer: Value) -> Answer {
     Ok(Told {
         answer,
         leaves: false,
     })
 }
 
-pub(crate) fn left(answer: Value) -> Answer {
+pub fn left(answer: Value) -> Answer {
     Ok(Told {
         answer,
         leaves: true,
     })
 }
 
-pub(crate) fn refused<F: Debug>(alloc: Global, fault: &F) -> Answer {
+pub fn refused<F: Debug>(alloc: Global, fault: &F) -> Answer {
     left(variant_form(alloc, fault)?)
 }
 
 /// A call that is either done or refused.
-pub(crate) fn settled<F: Debug + Drop>(alloc: Global, answer: Result<(), F>) -> Answer {
+pub fn settled<F: Debug + Drop>(alloc: Global, answer: Result<(), F>) -> Answer {
     match answer {
         Ok(()) => made(word(alloc, "ok")?),
         Err(fault) => refused(alloc, &fault),
@@ -62,20 +61,20 @@ pub(crate) fn settled<F: Debug + Drop>(alloc: Global, answer: Result<(), F>) -> 
 }
 
 /// What a row can't mean, which is what no call answers.
-pub(crate) fn wrong(alloc: Global, why: &str) -> Answer {
+pub fn wrong(alloc: Global, why: &str) -> Answer {
     left(word(alloc, why)?)
 }
 
 // ---- Transactions
 
-pub(crate) fn taken(open: &mut Vec<Option<Open>>, i: usize) -> Option<Open> {
+pub fn taken(open: &mut Vec<Option<Open>>, i: usize) -> Option<Open> {
     match open.get_mut(i) {
         Some(place) => place.take(),
         None => None,
     }
 }
 
-pub(crate) fn put_back(places: &mut Vec<Option<Open>>, i: usize, open: Open) {
+pub fn put_back(places: &mut Vec<Option<Open>>, i: usize, open: Open) {
     if let Some(place) = places.get_mut(i) {
         *place = Some(open);
     }
@@ -88,7 +87,7 @@ fn begin<S: Subject>(alloc: Global, stage: &mut Stage<S>, call: &[Value]) -> Ans
     left(number(read_point)?)
 }
 
-// What is answered where a function or a predicate is asked, which stands behind the ref with its arguments.
+// What is answered where a function is asked, which stands behind the ref with its arguments.
 fn applied(
     by: By,
     tx: &mut Tx<Core>,
@@ -100,11 +99,33 @@ fn applied(
     let (code, args) = (code_at(call, 2), args_from(alloc, call, 3)?);
     match called {
         "alter" => tx.alter(alloc, funs, r, code, args),
-        "commute" => tx.commute(alloc, funs, r, code, args),
-        _ => {
-            tx.require(funs, r, &Rule { code, args })?;
-            Ok(word(alloc, "ok")?)
-        }
+        _ => tx.commute(alloc, funs, r, code, args),
+    }
+}
+
+// What is answered where a predicate is asked, which stands there too.
+fn required(by: By, tx: &Tx<Core>, r: u32, call: &[Value]) -> Result<Value, TxFault> {
+    let rule = Rule {
+        code: code_at(call, 2),
+        args: args_from(by.alloc, call, 3)?,
+    };
+    tx.require(by.funs, r, &rule)?;
+    Ok(word(by.alloc, "ok")?)
+}
+
+// What a call answers that only reads.
+fn read_answer(
+    by: By,
+    tx: &Tx<Core>,
+    called: &str,
+    r: u32,
+    call: &[Value],
+) -> Result<Value, TxFault> {
+    match called {
+        "deref" => Ok(tx.deref(r)?.share()?),
+        "require" => required(by, tx, r, call),
+        "began" => Ok(snapshot_form(by.alloc, tx.began())?),
+        _ => Ok(word(by.alloc, "no-such-call")?),
     }
 }
 
@@ -117,12 +138,10 @@ fn operation(
     call: &[Value],
 ) -> Result<Value, TxFault> {
     match called {
-        "deref" => Ok(tx.deref(r)?.share()?),
         "set" => tx.ref_set(by.alloc, r, value_at(call, 2)?),
         "ensure" => tx.ensure(by.alloc, r),
-        "alter" | "commute" | "require" => applied(by, tx, called, r, call),
-        "began" => Ok(snapshot_form(by.alloc, tx.began())?),
-        _ => Ok(word(by.alloc, "no-such-call")?),
+        "alter" | "commute" => applied(by, tx, called, r, call),
+        _ => read_answer(by, tx, called, r, call),
     }
 }
 
@@ -404,9 +423,9 @@ fn subject_answer<S: Subject>(by: By, subject: &mut S, called: &str, call: &[Val
 }
 
 /// What a call answers. It is without what is wanted.
-pub(crate) fn answer<S: Subject>(tables: &Tables, stage: &mut Stage<S>, call: &[Value]) -> Answer {
+pub fn answer<S: Subject>(tables: &Tables, stage: &mut Stage<S>, call: &[Value]) -> Answer {
     let Some((first, rest)) = call.split_first() else {
-        return wrong(tables.alloc, "no-call");
+        return wrong(tables.all.alloc, "no-call");
     };
     if let Node::Int(_) = first.node() {
         let (called, by) = tables.chosen(word_at(rest, 0));

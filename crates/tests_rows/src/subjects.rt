@@ -10,25 +10,24 @@ use ref_agents::{
 use ref_atoms::{AtomFault, Cas, Swapped};
 use ref_edn::Value;
 use ref_fun::{Action, Args, Core, FunTable, Rule};
-use ref_log::{Base, Entry, MakeFault, RuleFault, Stamp, WatchFault, Who};
+use ref_log::{Base, Entry, MakeFault, Notice, RuleFault, Stamp, WatchFault, Who};
 use ref_pvec::PVec;
 use ref_refs::CommitFault;
 use ref_tx::Tx;
-use ref_world::Receipt;
 use std::alloc::{AllocError, Global};
 
 /// By what a call is made.
 #[derive(Clone, Copy, Drop)]
-pub(crate) struct By<'a> {
-    pub(crate) alloc: Global,
-    pub(crate) funs: &'a FunTable,
+pub struct By<'a> {
+    pub alloc: Global,
+    pub funs: &'a FunTable,
 }
 
 /// The stamp of each commit.
-pub(crate) const STAMP: Stamp = Stamp { worker: 1, step: 2 };
+pub const STAMP: Stamp = Stamp { worker: 1, step: 2 };
 
 #[derive(Clone, Copy, Drop)]
-pub(crate) enum Kind {
+pub enum Kind {
     Ref,
     Atom,
     Agent,
@@ -36,31 +35,60 @@ pub(crate) enum Kind {
 
 /// What the references start with.
 #[derive(Drop)]
-pub(crate) struct Starts {
-    pub(crate) refs: Vec<Start>,
-    pub(crate) atoms: Vec<Start>,
-    pub(crate) agents: Vec<Start>,
+pub struct Starts {
+    pub refs: Vec<Start>,
+    pub atoms: Vec<Start>,
+    pub agents: Vec<Start>,
 }
 
 /// An open transaction.
-pub(crate) type Open = Tx<Core>;
+pub type Open = Tx<Core>;
+
+/// What a commit gives.
+#[derive(Drop)]
+pub struct Receipt {
+    pub point: u64,
+    pub stamp: Stamp,
+    pub notices: Vec<Notice>,
+}
 
 /// What a commit answers. Want of memory is also where the subject is in no state to commit.
-pub(crate) type Committed = Result<Result<Receipt, (Open, CommitFault)>, AllocError>;
+pub type Committed = Result<Result<Receipt, (Open, CommitFault)>, AllocError>;
 
 /// What a reference shows, as forms.
-#[derive(Drop, PartialEq)]
-pub(crate) struct Look {
-    pub(crate) value: Value,
-    pub(crate) rule: Value,
-    pub(crate) changed: Value,
-    pub(crate) error: Value,
-    pub(crate) account: Value,
+#[derive(PartialEq)]
+pub struct Look {
+    pub value: Value,
+    pub rule: Value,
+    pub changed: Value,
+    pub error: Value,
+    pub account: Value,
+}
+
+// A function of its own, which whoever drops one calls; a derived one would be written out there.
+impl Drop for Look {
+    fn drop(self) {
+        let Look {
+            value: _value,
+            rule: _rule,
+            changed: _changed,
+            error: _error,
+            account: _account,
+        } = self;
+    }
+}
+
+// Why an agent is failed, or `:none`.
+fn error_form(alloc: Global, error: Option<AgentError>) -> Form {
+    match error {
+        Some(error) => variant_form(alloc, &error),
+        None => word(alloc, "none"),
+    }
 }
 
 impl Look {
     /// What a ref or an atom shows.
-    pub(crate) fn of(
+    pub fn of(
         alloc: Global,
         value: Option<&Value>,
         rule: Option<&Rule>,
@@ -75,8 +103,25 @@ impl Look {
         })
     }
 
+    /// What an agent shows.
+    pub fn of_agent(
+        alloc: Global,
+        value: Option<&Value>,
+        rule: Option<&Rule>,
+        error: Option<AgentError>,
+        account: Option<&Account>,
+    ) -> Result<Look, AllocError> {
+        Ok(Look {
+            value: value_form(alloc, value)?,
+            rule: rule_form(alloc, rule)?,
+            changed: number(0)?,
+            error: error_form(alloc, error)?,
+            account: account_form(alloc, account)?,
+        })
+    }
+
     /// What a word asks of a reference, if it asks for one of these.
-    pub(crate) fn part(&self, word: &str) -> Option<&Value> {
+    pub fn part(&self, word: &str) -> Option<&Value> {
         match word {
             "now" => Some(&self.value),
             "rule" => Some(&self.rule),
@@ -86,39 +131,22 @@ impl Look {
             _ => None,
         }
     }
-
-    /// With what an agent shows.
-    pub(crate) fn with(
-        self,
-        alloc: Global,
-        error: Option<AgentError>,
-        account: Option<&Account>,
-    ) -> Result<Look, AllocError> {
-        Ok(Look {
-            error: match error {
-                Some(error) => variant_form(alloc, &error)?,
-                None => word(alloc, "none")?,
-            },
-            account: account_form(alloc, account)?,
-            ..self
-        })
-    }
 }
 
 /// How many references of each kind there are, and entries in the log; which ref is the tally; and the present point.
 #[derive(Clone, Copy, Drop, PartialEq)]
-pub(crate) struct Extent {
-    pub(crate) refs: usize,
-    pub(crate) atoms: usize,
-    pub(crate) agents: usize,
-    pub(crate) entries: usize,
-    pub(crate) tally: Option<u32>,
-    pub(crate) point: u64,
+pub struct Extent {
+    pub refs: usize,
+    pub atoms: usize,
+    pub agents: usize,
+    pub entries: usize,
+    pub tally: Option<u32>,
+    pub point: u64,
 }
 
 impl Extent {
     /// How many there are of what a word says, if it is one of these, or the present point.
-    pub(crate) fn number(&self, word: &str) -> Option<u64> {
+    pub fn number(&self, word: &str) -> Option<u64> {
         match word {
             "refs" => Some(self.refs as u64),
             "atoms" => Some(self.atoms as u64),
@@ -131,14 +159,14 @@ impl Extent {
 }
 
 /// What is done with a subject. Each world has a type of its own, by the names of its books.
-pub(crate) trait Visit: Drop + Sized {
+pub trait Visit: Drop + Sized {
     type Out: Drop;
 
     fn visit<S: Subject>(self, tables: &Tables, subject: S) -> Self::Out;
 }
 
 /// Where subjects are made.
-pub(crate) trait Ground {
+pub trait Ground {
     /// What is done with a subject of these references, made one by one at point 0; or the first that can't be made, and why.
     fn with<V: Visit>(
         tables: &Tables,
@@ -148,7 +176,7 @@ pub(crate) trait Ground {
 }
 
 /// References with a log, and the calls on them.
-pub(crate) trait Subject: Drop + Sized {
+pub trait Subject: Drop + Sized {
     fn begin(&self, alloc: Global) -> Result<Open, AllocError>;
 
     fn commit(&mut self, by: By, open: Open) -> Committed;

@@ -35,25 +35,22 @@
 //! log has to give its values. A row that isn't written so ends its test with an `AllocError`.
 use crate::answers::Form;
 use crate::apart::Aparts;
-use crate::calls::{Stage, answer};
+use crate::calls::{Stage, Told, answer};
 use crate::forms::{members, read, row_of, starts_at, word_at};
 use crate::subjects::{By, Extent, Ground, Look, Open, Starts, Subject, Visit};
-use crate::tables::{Tables, table_of};
+use crate::tables::{ByTables, Tables, with_tables};
 use crate::whole::Worlds;
 use crate::words::{form, name, value_form, variant_form, vector};
 use ref_edn::Value;
 use ref_fun::{Core, FunTable};
-use ref_log::{MakeFault, Who, replay_plain};
+use ref_log::{MakeFault, PlainState, Who, replay_plain};
 use std::alloc::{AllocError, Global};
-use std::process::Abort;
 use std::test::Fail;
 
 const LAST_POINT: u64 = 1 << 62;
 
-const ALL_PREDS: [u32; 9] = [101, 102, 103, 104, 105, 106, 107, 108, 109];
-
 /// What the references of a row start with.
-pub(crate) fn starts_of(alloc: Global, row: &[Value]) -> Result<Starts, AllocError> {
+pub fn starts_of(alloc: Global, row: &[Value]) -> Result<Starts, AllocError> {
     Ok(Starts {
         refs: starts_at(alloc, row, 0)?,
         atoms: starts_at(alloc, row, 1)?,
@@ -68,33 +65,47 @@ struct Seen {
     extent: Extent,
 }
 
+fn look_at_one<S: Subject>(
+    alloc: Global,
+    subject: &S,
+    looks: &mut Vec<Look>,
+    who: Who,
+) -> Result<(), AllocError> {
+    looks.push(subject.look(alloc, who)?)?;
+    Ok(())
+}
+
 fn look_at<S: Subject>(alloc: Global, subject: &S) -> Result<Seen, AllocError> {
     let mut looks = Vec::new(alloc);
     for n in 0..6u32 {
-        looks.push(subject.look(alloc, Who::Ref(n))?)?;
-        looks.push(subject.look(alloc, Who::Atom(n))?)?;
-        looks.push(subject.look(alloc, Who::Agent(n))?)?;
+        look_at_one(alloc, subject, &mut looks, Who::Ref(n))?;
+        look_at_one(alloc, subject, &mut looks, Who::Atom(n))?;
+        look_at_one(alloc, subject, &mut looks, Who::Agent(n))?;
     }
     let extent = subject.extent();
     Ok(Seen { looks, extent })
 }
 
-/// Whether the slow replay of a subject's log gives its values.
-pub(crate) fn is_replayed<S: Subject>(by: By, subject: &S) -> Result<bool, AllocError> {
-    let alloc = by.alloc;
-    let Some((base, log)) = subject.log() else {
-        return Ok(true);
-    };
-    if base.point > LAST_POINT || log.len() as u64 > LAST_POINT {
-        return Ok(false);
-    }
-    let Ok(state) = replay_plain::<Core, FunTable>(alloc, by.funs, base, log) else {
-        return Ok(false);
-    };
+// Whether a reference holds a value, or isn't there where there is none.
+fn holds<S: Subject>(
+    alloc: Global,
+    subject: &S,
+    who: Who,
+    value: Option<&Value>,
+) -> Result<bool, AllocError> {
+    let value = value_form(alloc, value)?;
+    Ok(subject.look(alloc, who)?.value == value)
+}
+
+// Whether a subject holds the values of a replay.
+fn holds_all<S: Subject>(
+    alloc: Global,
+    subject: &S,
+    state: &PlainState,
+) -> Result<bool, AllocError> {
     for n in 0..6u32 {
-        let (r, a) = (state.refs.get(n as usize), state.atoms.get(n as usize));
-        if value_form(alloc, r)? != subject.look(alloc, Who::Ref(n))?.value
-            || value_form(alloc, a)? != subject.look(alloc, Who::Atom(n))?.value
+        if !holds(alloc, subject, Who::Ref(n), state.refs.get(n as usize))?
+            || !holds(alloc, subject, Who::Atom(n), state.atoms.get(n as usize))?
         {
             return Ok(false);
         }
@@ -103,25 +114,53 @@ pub(crate) fn is_replayed<S: Subject>(by: By, subject: &S) -> Result<bool, Alloc
     Ok(state.refs.len() == extent.refs && state.atoms.len() == extent.atoms)
 }
 
+/// Whether the slow replay of a subject's log gives its values.
+pub fn is_replayed<S: Subject>(by: By, subject: &S) -> Result<bool, AllocError> {
+    let Some((base, log)) = subject.log() else {
+        return Ok(true);
+    };
+    if base.point > LAST_POINT || log.len() as u64 > LAST_POINT {
+        return Ok(false);
+    }
+    match replay_plain::<Core, FunTable>(by.alloc, by.funs, base, log) {
+        Ok(state) => holds_all(by.alloc, subject, &state),
+        Err(_) => Ok(false),
+    }
+}
+
+// Whether a subject is as it was.
+fn is_as_before<S: Subject>(alloc: Global, subject: &S, before: &Seen) -> Result<bool, AllocError> {
+    Ok(look_at(alloc, subject)? == *before)
+}
+
 // Whether a call answers what is wanted and leaves what it has to leave.
+fn answers<S: Subject>(
+    tables: &Tables,
+    stage: &mut Stage<S>,
+    call: &[Value],
+    wanted: &Value,
+) -> Result<bool, AllocError> {
+    let alloc = tables.all.alloc;
+    let before = look_at(alloc, &stage.subject)?;
+    let Told { answer, leaves } = answer(tables, stage, call)?;
+    Ok(answer == *wanted && (!leaves || is_as_before(alloc, &stage.subject, &before)?))
+}
+
+// Whether a call of a row, which ends with what is wanted, is right.
 fn is_right<S: Subject>(
     tables: &Tables,
     stage: &mut Stage<S>,
     form: &Value,
 ) -> Result<bool, AllocError> {
-    let alloc = tables.alloc;
-    let parts = members(alloc, form)?;
-    let Some((wanted, call)) = parts.split_last() else {
-        return Ok(false);
-    };
-    let before = look_at(alloc, &stage.subject)?;
-    let told = answer(tables, stage, call)?;
-    let stays = !told.leaves || look_at(alloc, &stage.subject)? == before;
-    Ok(stays && told.answer == *wanted)
+    let parts = members(tables.all.alloc, form)?;
+    match parts.split_last() {
+        Some((wanted, call)) => answers(tables, stage, call, wanted),
+        None => Ok(false),
+    }
 }
 
 /// Places for transactions, none of which is open.
-pub(crate) fn no_open(alloc: Global) -> Result<Vec<Option<Open>>, AllocError> {
+pub fn no_open(alloc: Global) -> Result<Vec<Option<Open>>, AllocError> {
     let mut open = Vec::new(alloc);
     for _ in 0..6 {
         open.push(None)?;
@@ -137,11 +176,12 @@ enum Ended {
     Other(usize, Vec<Option<Open>>),
 }
 
-// The part of a row from a place on, with the transactions that are open.
+// The part of a row between two places, with the transactions that are open.
 #[derive(Drop)]
 struct Part<'a> {
     row: &'a [Value],
     from: usize,
+    end: usize,
     open: Vec<Option<Open>>,
 }
 
@@ -151,24 +191,50 @@ fn is_other(alloc: Global, form: &Value) -> Result<bool, AllocError> {
     Ok(matches!(word_at(&parts, 0), "other"))
 }
 
+// Where the part of a row ends that begins at a place.
+fn part_end(alloc: Global, row: &[Value], from: usize) -> Result<usize, AllocError> {
+    for (i, form) in row.iter().enumerate().skip(from) {
+        if is_other(alloc, form)? {
+            return Ok(i);
+        }
+    }
+    Ok(row.len())
+}
+
+// The first wrong call between two places.
+fn wrong_call<S: Subject>(
+    tables: &Tables,
+    stage: &mut Stage<S>,
+    row: &[Value],
+    from: usize,
+    end: usize,
+) -> Result<Option<usize>, AllocError> {
+    for (i, form) in row.iter().enumerate().take(end).skip(from) {
+        if !is_right(tables, stage, form)? {
+            return Ok(Some(i));
+        }
+    }
+    Ok(None)
+}
+
 impl<'a> Visit for Part<'a> {
     type Out = Result<Ended, AllocError>;
 
     fn visit<S: Subject>(self, tables: &Tables, subject: S) -> Result<Ended, AllocError> {
-        let Part { row, from, open } = self;
+        let Part {
+            row,
+            from,
+            end,
+            open,
+        } = self;
         let mut stage = Stage { subject, open };
-        for (i, form) in row.iter().enumerate().skip(from) {
-            if is_other(tables.alloc, form)? {
-                return Ok(Ended::Other(i, stage.open));
-            }
-            if !is_right(tables, &mut stage, form)? {
-                return Ok(Ended::Wrong(i));
-            }
-        }
-        if is_replayed(tables.all(), &stage.subject)? {
-            Ok(Ended::Right)
-        } else {
-            Ok(Ended::Wrong(row.len()))
+        let wrong = wrong_call(tables, &mut stage, row, from, end)?;
+        let Stage { subject, open } = stage;
+        match wrong {
+            Some(i) => Ok(Ended::Wrong(i)),
+            None if end < row.len() => Ok(Ended::Other(end, open)),
+            None if is_replayed(tables.all, &subject)? => Ok(Ended::Right),
+            None => Ok(Ended::Wrong(end)),
         }
     }
 }
@@ -202,29 +268,40 @@ fn part_starts(alloc: Global, row: &[Value], from: usize) -> Result<Starts, Allo
     }
 }
 
+// How the part of a row ends that begins at a place.
+fn end_of_part<G: Ground>(
+    tables: &Tables,
+    row: &[Value],
+    from: usize,
+    open: Vec<Option<Open>>,
+) -> Result<Ended, AllocError> {
+    let alloc = tables.all.alloc;
+    let end = part_end(alloc, row, from)?;
+    let part = Part {
+        row,
+        from,
+        end,
+        open,
+    };
+    match G::with(tables, part_starts(alloc, row, from)?, part) {
+        Ok(ended) => ended,
+        Err((who, fault)) if is_refused_row(alloc, row, who, fault)? => Ok(Ended::Right),
+        Err(_) => Ok(Ended::Wrong(from)),
+    }
+}
+
 // The first element of a row that is a wrong call, by its place; the end of the row where the slow replay disagrees.
 fn wrong_place_of<G: Ground>(tables: &Tables, row: &str) -> Result<Option<usize>, AllocError> {
-    let alloc = tables.alloc;
+    let alloc = tables.all.alloc;
     let row = read(alloc, row)?;
     let (mut from, mut open) = (3usize, no_open(alloc)?);
     for _ in 0..row.len() {
-        let part = Part {
-            row: row.as_slice(),
-            from,
-            open,
-        };
-        match G::with(tables, part_starts(alloc, &row, from)?, part) {
-            Ok(ended) => match ended? {
-                Ended::Right => return Ok(None),
-                Ended::Wrong(i) => return Ok(Some(i)),
-                Ended::Other(i, left) => {
-                    from = i.saturating_add(1);
-                    open = left;
-                }
-            },
-            Err((who, fault)) => {
-                let is_right = is_refused_row(alloc, &row, who, fault)?;
-                return Ok(if is_right { None } else { Some(from) });
+        match end_of_part::<G>(tables, &row, from, open)? {
+            Ended::Right => return Ok(None),
+            Ended::Wrong(i) => return Ok(Some(i)),
+            Ended::Other(i, left) => {
+                from = i.saturating_add(1);
+                open = left;
             }
         }
     }
@@ -232,7 +309,7 @@ fn wrong_place_of<G: Ground>(tables: &Tables, row: &str) -> Result<Option<usize>
 }
 
 // The first row of a table that is wrong on a subject, with the place in it. Each begins with the same start.
-fn first_wrong_by<G: Ground>(
+fn first_wrong<G: Ground>(
     tables: &Tables,
     start: &str,
     table: &str,
@@ -241,47 +318,67 @@ fn first_wrong_by<G: Ground>(
         let Some(row) = row_of(line) else {
             continue;
         };
-        let row = format!(in tables.alloc; "{start} {row}")?;
+        let row = format!(in tables.all.alloc; "{start} {row}")?;
         if let Some(i) = wrong_place_of::<G>(tables, row.as_str())? {
-            return Ok(Some(format!(in tables.alloc; "at {i}: {row}")?));
+            return Ok(Some(format!(in tables.all.alloc; "at {i}: {row}")?));
         }
     }
     Ok(None)
 }
 
-fn first_wrong<G: Ground>(
-    alloc: Global,
+// Whether each row of a table is right on a subject.
+fn are_right<G: Ground>(
+    tables: &Tables,
+    place: &str,
     start: &str,
     table: &str,
-) -> Result<Option<String>, AllocError> {
-    let funs = table_of(alloc, &[1, 2, 3], &ALL_PREDS)?;
-    let fewer = table_of(alloc, &[1], &[])?;
-    let tables = Tables {
-        alloc,
-        funs: &funs,
-        fewer: &fewer,
+) -> Result<(), Fail> {
+    match first_wrong::<G>(tables, start, table)? {
+        None => Ok(()),
+        Some(wrong) => Err(Fail::new(format_args!("{place}, {wrong}"))),
+    }
+}
+
+// The rows of a table, each with the same start, and whether they are right in a world too.
+#[derive(Drop)]
+struct Rows<'a> {
+    start: &'a str,
+    table: &'a str,
+    in_a_world: bool,
+}
+
+impl<'a> ByTables for Rows<'a> {
+    type Out = Result<(), Fail>;
+
+    fn run(self, tables: &Tables) -> Result<(), Fail> {
+        if self.in_a_world {
+            are_right::<Worlds>(tables, "in a world", self.start, self.table)?;
+        }
+        are_right::<Aparts>(tables, "apart", self.start, self.table)
+    }
+}
+
+// The functions of rows: `+`, `-` and `inc`, and all predicates.
+const FUNS: &[u32] = &[1, 2, 3];
+
+const PREDS: &[u32] = &[101, 102, 103, 104, 105, 106, 107, 108, 109];
+
+/// A failure where a row of a table isn't right on the stores apart. A line is a row, or a remark if it begins with `//`.
+pub fn check_apart(alloc: Global, start: &str, table: &str) -> Result<(), Fail> {
+    let rows = Rows {
+        start,
+        table,
+        in_a_world: false,
     };
-    first_wrong_by::<G>(&tables, start, table)
+    with_tables(alloc, FUNS, PREDS, rows)?
 }
 
-/// Each row of a table is right on the stores apart. A line is a row, or a remark if it begins with `//`.
-pub(crate) fn check_apart(
-    rt: &(impl Abort + AllocGlobal),
-    start: &str,
-    table: &str,
-) -> Result<(), Fail> {
-    let wrong = first_wrong::<Aparts>(rt.alloc(), start, table)?;
-    assert!(rt; wrong.is_none(), "{wrong:?}");
-    Ok(())
-}
-
-/// Each row of a table is right in a world, and on the stores apart.
-pub(crate) fn check_anywhere(
-    rt: &(impl Abort + AllocGlobal),
-    start: &str,
-    table: &str,
-) -> Result<(), Fail> {
-    let wrong = first_wrong::<Worlds>(rt.alloc(), start, table)?;
-    assert!(rt; wrong.is_none(), "in a world, {wrong:?}");
-    check_apart(rt, start, table)
+/// A failure where a row of a table isn't right in a world, or on the stores apart.
+pub fn check_anywhere(alloc: Global, start: &str, table: &str) -> Result<(), Fail> {
+    let rows = Rows {
+        start,
+        table,
+        in_a_world: true,
+    };
+    with_tables(alloc, FUNS, PREDS, rows)?
 }

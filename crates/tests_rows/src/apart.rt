@@ -2,7 +2,7 @@
 //! here. The present point can be set by hand, so that rows reach the last one.
 use crate::forms::Start;
 use crate::subjects::{
-    By, Committed, Extent, Ground, Kind, Look, Open, STAMP, Starts, Subject, Visit,
+    By, Committed, Extent, Ground, Kind, Look, Open, Receipt, STAMP, Starts, Subject, Visit,
 };
 use crate::tables::Tables;
 use ref_agents::{
@@ -13,12 +13,10 @@ use ref_edn::Value;
 use ref_fun::{Action, Args, Core, Rule};
 use ref_log::{Base, Entry, MakeFault, Op, RuleFault, SharedVec, WatchFault, Who};
 use ref_pvec::PVec;
-use ref_refs::RefStore;
-use ref_world::Receipt;
+use ref_refs::{Landed, RefStore};
 use std::alloc::{AllocError, Global};
 
-#[derive(Drop)]
-pub(crate) struct Apart {
+pub struct Apart {
     refs: RefStore<Core>,
     atoms: AtomStore<Core>,
     agents: AgentStore<Core>,
@@ -27,12 +25,40 @@ pub(crate) struct Apart {
     log: PVec<Entry>,
 }
 
+// A function of its own, which whoever drops one calls; a derived one would be written out there.
+impl Drop for Apart {
+    fn drop(self) {
+        let Apart {
+            refs: _refs,
+            atoms: _atoms,
+            agents: _agents,
+            base: _base,
+            point: _point,
+            log: _log,
+        } = self;
+    }
+}
+
 fn values_of(alloc: Global, starts: &[Start]) -> Result<SharedVec<Value>, AllocError> {
     let mut values = Vec::new(alloc);
     for start in starts {
         values.push(start.value.share()?)?;
     }
     SharedVec::of(alloc, values)
+}
+
+// The base of these references. It has no tally yet.
+fn base_of(alloc: Global, starts: &Starts) -> Result<Base, AllocError> {
+    let last = vec![in alloc; 0u64; starts.refs.len()]?;
+    Ok(Base {
+        point: 0,
+        refs: values_of(alloc, &starts.refs)?,
+        last: SharedVec::of(alloc, last)?,
+        atoms: values_of(alloc, &starts.atoms)?,
+        tally: None,
+        commits: 0,
+        added: 0,
+    })
 }
 
 // What a making answers, where the test before it told the same.
@@ -47,20 +73,12 @@ fn agreed(told: Result<(), MakeFault>, made: Result<u32, MakeFault>) -> Result<u
 impl Apart {
     // Stores without references, on the base of these.
     fn empty(alloc: Global, starts: &Starts) -> Result<Apart, AllocError> {
-        let last = vec![in alloc; 0u64; starts.refs.len()]?;
+        let base = base_of(alloc, starts)?;
         Ok(Apart {
             refs: RefStore::empty(alloc),
             atoms: AtomStore::empty(alloc),
             agents: AgentStore::empty(alloc),
-            base: Base {
-                point: 0,
-                refs: values_of(alloc, &starts.refs)?,
-                last: SharedVec::of(alloc, last)?,
-                atoms: values_of(alloc, &starts.atoms)?,
-                tally: None,
-                commits: 0,
-                added: 0,
-            },
+            base,
             point: 0,
             log: PVec::empty(),
         })
@@ -99,18 +117,26 @@ impl Apart {
         self.agents.make(by.alloc, by.funs, value, rule, mode)
     }
 
-    fn make_all(&mut self, by: By, starts: Starts) -> Result<(), (Who, MakeFault)> {
-        for start in starts.refs {
+    fn make_refs(&mut self, by: By, starts: Vec<Start>) -> Result<(), (Who, MakeFault)> {
+        for start in starts {
             if let Err(fault) = self.make_ref(by, 0, start) {
                 return Err((Who::Ref(self.refs.len() as u32), fault));
             }
         }
-        for start in starts.atoms {
+        Ok(())
+    }
+
+    fn make_atoms(&mut self, by: By, starts: Vec<Start>) -> Result<(), (Who, MakeFault)> {
+        for start in starts {
             if let Err(fault) = self.make_atom(by, 0, start) {
                 return Err((Who::Atom(self.atoms.len() as u32), fault));
             }
         }
-        for start in starts.agents {
+        Ok(())
+    }
+
+    fn make_agents(&mut self, by: By, starts: Vec<Start>) -> Result<(), (Who, MakeFault)> {
+        for start in starts {
             if let Err(fault) = self.make_agent(by, start) {
                 return Err((Who::Agent(self.agents.len() as u32), fault));
             }
@@ -118,8 +144,34 @@ impl Apart {
         Ok(())
     }
 
+    fn make_all(&mut self, by: By, starts: Starts) -> Result<(), (Who, MakeFault)> {
+        let Starts {
+            refs,
+            atoms,
+            agents,
+        } = starts;
+        self.make_refs(by, refs)?;
+        self.make_atoms(by, atoms)?;
+        self.make_agents(by, agents)
+    }
+
     fn next_point(&self) -> u64 {
         self.point.saturating_add(1)
+    }
+
+    // What a commit at a point sends, and its entry.
+    fn land(&mut self, alloc: Global, at: u64, landed: Landed) -> Result<Receipt, AllocError> {
+        let Landed { entry, notices } = landed;
+        if let Entry::Trans(transaction) = &entry {
+            let sends = transaction.sends.as_slice();
+            self.agents.send_held(alloc, at, sends)?;
+        }
+        self.enter(alloc, entry)?;
+        Ok(Receipt {
+            point: at,
+            stamp: STAMP,
+            notices,
+        })
     }
 
     fn enter(&mut self, alloc: Global, entry: Entry) -> Result<(), AllocError> {
@@ -130,7 +182,7 @@ impl Apart {
 }
 
 /// The stores side by side.
-pub(crate) struct Aparts;
+pub struct Aparts;
 
 impl Ground for Aparts {
     fn with<V: Visit>(
@@ -138,14 +190,14 @@ impl Ground for Aparts {
         starts: Starts,
         visit: V,
     ) -> Result<V::Out, (Who, MakeFault)> {
-        let apart = Apart::start(tables.all(), starts)?;
+        let apart = Apart::start(tables.all, starts)?;
         Ok(visit.visit(tables, apart))
     }
 }
 
 impl Apart {
     /// The references, made one by one at point 0; or the first that can't be made, and why.
-    pub(crate) fn start(by: By, starts: Starts) -> Result<Apart, (Who, MakeFault)> {
+    pub fn start(by: By, starts: Starts) -> Result<Apart, (Who, MakeFault)> {
         let Ok(mut apart) = Apart::empty(by.alloc, &starts) else {
             return Err((Who::Ref(0), MakeFault::Memory));
         };
@@ -168,20 +220,10 @@ impl Subject for Apart {
         }
         let at = self.point + 1;
         let (By { alloc, funs }, agents) = (by, self.agents.len());
-        let landed = match self.refs.commit(alloc, funs, at, agents, STAMP, open) {
-            Ok(landed) => landed,
-            Err(refused) => return Ok(Err(refused)),
-        };
-        if let Entry::Trans(transaction) = &landed.entry {
-            self.agents
-                .send_held(alloc, at, transaction.sends.as_slice())?;
+        match self.refs.commit(alloc, funs, at, agents, STAMP, open) {
+            Ok(landed) => Ok(Ok(self.land(alloc, at, landed)?)),
+            Err(refused) => Ok(Err(refused)),
         }
-        self.enter(by.alloc, landed.entry)?;
-        Ok(Ok(Receipt {
-            point: at,
-            stamp: STAMP,
-            notices: landed.notices,
-        }))
     }
 
     fn swap(&mut self, by: By, a: u32, code: u32, args: Args) -> Result<Swapped, AtomFault> {
@@ -266,8 +308,10 @@ impl Subject for Apart {
         match who {
             Who::Ref(r) => Look::of(alloc, refs.value_of(r), refs.rule_of(r), refs.changed_at(r)),
             Who::Atom(a) => Look::of(alloc, atoms.value_of(a), atoms.rule_of(a), 0),
-            Who::Agent(g) => Look::of(alloc, agents.value_of(g), agents.rule_of(g), 0)?.with(
+            Who::Agent(g) => Look::of_agent(
                 alloc,
+                agents.value_of(g),
+                agents.rule_of(g),
                 agents.error_of(g),
                 agents.account(g),
             ),

@@ -4,7 +4,7 @@ ghost use Rattle.ref_world.specs.Shares.{all_parts};
 
 use crate::forms::Start;
 use crate::subjects::{
-    By, Committed, Extent, Ground, Kind, Look, Open, STAMP, Starts, Subject, Visit,
+    By, Committed, Extent, Ground, Kind, Look, Open, Receipt, STAMP, Starts, Subject, Visit,
 };
 use crate::tables::Tables;
 use ref_agents::{ErrorMode, FinishFault, Finished, Job, ModeFault, Ran, RestartFault, SendFault};
@@ -19,14 +19,23 @@ use std::marker::Brand;
 use std::sync::ledger::{Blank, Ledger};
 
 /// A world, and its whole share.
-#[derive(Drop)]
 struct Whole<C: Ledger, A: Ledger> {
     world: World<Core, C, A>,
     share: Share<C, A>,
 }
 
+// A function of its own, which whoever drops one calls; a derived one would be written out there.
+impl<C: Ledger, A: Ledger> Drop for Whole<C, A> {
+    fn drop(self) {
+        let Whole {
+            world: _world,
+            share: _share,
+        } = self;
+    }
+}
+
 /// Worlds.
-pub(crate) struct Worlds;
+pub struct Worlds;
 
 impl Ground for Worlds {
     fn with<V: Visit>(
@@ -49,7 +58,7 @@ fn with_world<C: Ledger, A: Ledger, V: Visit>(
     requires commits { (commits.name ≡ C.name) × (commits.parts ≡ C.parts) × (commits.parts ≡ all_parts) }
     requires added { (added.name ≡ A.name) × (added.parts ≡ A.parts) × (added.parts ≡ all_parts) }
 {
-    let By { alloc, funs } = tables.all();
+    let By { alloc, funs } = tables.all;
     let Ok(start) = declared(alloc, starts) else {
         return Err((Who::Ref(0), MakeFault::Memory));
     };
@@ -88,6 +97,14 @@ fn declared(alloc: Global, starts: Starts) -> Result<ref_world::Start, AllocErro
         atoms,
         agents,
     })
+}
+
+fn receipt_of(receipt: ref_world::Receipt) -> Receipt {
+    Receipt {
+        point: receipt.point,
+        stamp: receipt.stamp,
+        notices: receipt.notices,
+    }
 }
 
 // Whether a transaction set, altered or commuted a ref.
@@ -138,7 +155,10 @@ impl<C: Ledger, A: Ledger> Subject for Whole<C, A> {
 
     fn commit(&mut self, by: By, open: Open) -> Committed {
         let (By { alloc, funs }, share) = (by, &mut self.share);
-        Ok(self.world.commit_with(alloc, funs, share, STAMP, open))
+        match self.world.commit_with(alloc, funs, share, STAMP, open) {
+            Ok(receipt) => Ok(Ok(receipt_of(receipt))),
+            Err(refused) => Ok(Err(refused)),
+        }
     }
 
     fn swap(&mut self, by: By, a: u32, code: u32, args: Args) -> Result<Swapped, AtomFault> {
@@ -188,15 +208,19 @@ impl<C: Ledger, A: Ledger> Subject for Whole<C, A> {
     }
 
     fn look(&self, alloc: Global, who: Who) -> Result<Look, AllocError> {
-        let changed = match who {
-            Who::Ref(r) => last_change(self.world.base(), self.world.log(), r),
-            _ => 0,
-        };
-        let (value, rule) = (self.world.value_of(who), self.world.rule_of(who));
-        let look = Look::of(alloc, value, rule, changed)?;
+        let world = &self.world;
+        let (value, rule) = (world.value_of(who), world.rule_of(who));
         match who {
-            Who::Agent(g) => look.with(alloc, self.world.error_of(g), self.world.account(g)),
-            _ => Ok(look),
+            Who::Ref(r) => Look::of(
+                alloc,
+                value,
+                rule,
+                last_change(world.base(), world.log(), r),
+            ),
+            Who::Atom(_) => Look::of(alloc, value, rule, 0),
+            Who::Agent(g) => {
+                Look::of_agent(alloc, value, rule, world.error_of(g), world.account(g))
+            }
         }
     }
 

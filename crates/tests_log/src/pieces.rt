@@ -1,12 +1,12 @@
 //! What the stores are made with: shared lists, watches, and changes that are prepared before they are installed.
-use crate::answers::number;
-use crate::forms::{members, read, value_at};
 use ref_atoms::AtomStore;
 use ref_edn::Value;
 use ref_fun::{Core, FunTable};
 use ref_log::{Entry, Notice, Op, SharedVec, Watches, Who};
 use std::alloc::{AllocError, Global};
 use std::test::Fail;
+use tests_rows::answers::number;
+use tests_rows::forms::{members, read, value_at};
 
 #[test]
 fn a_list_is_shared(rt: HostRuntime) -> Result<(), Fail> {

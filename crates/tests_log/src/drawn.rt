@@ -1,51 +1,46 @@
 //! Transactions that are drawn, against the slow replay.
-use crate::apart::Aparts;
-use crate::calls::{Stage, put_back, taken};
-use crate::forms::{args_from, read};
-use crate::rows::{is_replayed, no_open, starts_of};
-use crate::subjects::{By, Ground, Open, STAMP, Subject, Visit};
-use crate::tables::{Tables, table_of};
-use crate::whole::Worlds;
+use crate::drawing::draw;
 use ref_edn::{Node, Value};
-use ref_fun::{Cause, Core, FunTable};
-use ref_log::{Base, Entry, Share, SharedVec, Transaction, replay_plain};
+use ref_fun::{Cause, Core};
+use ref_log::{Base, Entry, PlainState, Share, SharedVec, Transaction, replay_plain};
 use ref_pvec::PVec;
 use ref_refs::CommitFault;
 use ref_tx::{Snapshot, Tx, TxFault};
 use std::alloc::{AllocError, Global};
 use std::test::Fail;
-
-fn next(seed: &mut u64) -> u64 {
-    *seed = seed
-        .wrapping_mul(6364136223846793005)
-        .wrapping_add(1442695040888963407);
-    *seed >> 33
-}
+use tests_rows::apart::Aparts;
+use tests_rows::calls::{Stage, put_back, taken};
+use tests_rows::forms::{args_from, read};
+use tests_rows::rows::{is_replayed, no_open, starts_of};
+use tests_rows::subjects::{By, Ground, Open, STAMP, Subject, Visit};
+use tests_rows::tables::{ByTables, Tables, with_tables};
+use tests_rows::whole::Worlds;
 
 // What is drawn for an operation: a ref, a function, its argument, and the kind of operation.
 #[derive(Clone, Copy, Drop)]
-struct Draw {
-    r: u64,
-    code: u64,
-    n: u64,
-    kind: u64,
+struct Drawn {
+    r: u32,
+    code: u32,
+    n: i64,
+    kind: u32,
 }
 
-fn next_draw(seed: &mut u64) -> Draw {
-    Draw {
-        r: next(seed),
-        code: next(seed),
-        n: next(seed),
-        kind: next(seed),
+// On one of so many refs, with an argument below a number, or 0.
+fn next_draw(seed: &mut u64, refs: u32, below: u32) -> Drawn {
+    Drawn {
+        r: draw(seed, refs),
+        code: if draw(seed, 4) == 0 { 2 } else { 1 },
+        n: i64::from(draw(seed, below)),
+        kind: draw(seed, 4),
     }
 }
 
-fn operate(by: By, tx: &mut Tx<Core>, r: u32, n: i64, drawn: Draw) -> Result<Value, TxFault> {
+fn operate(by: By, tx: &mut Tx<Core>, drawn: Drawn) -> Result<Value, TxFault> {
     let By { alloc, funs } = by;
-    let code = if drawn.code % 4 == 0 { 2 } else { 1 };
+    let Drawn { r, code, n, kind } = drawn;
     let n = Value::of(Node::Int(n)).map_err(|_| AllocError)?;
     let args = args_from(alloc, &vec![in alloc; n.share()?]?, 0)?;
-    match drawn.kind % 4 {
+    match kind {
         0 => tx.ref_set(alloc, r, n),
         1 => tx.alter(alloc, funs, r, code, args),
         2 => tx.ensure(alloc, r),
@@ -53,19 +48,13 @@ fn operate(by: By, tx: &mut Tx<Core>, r: u32, n: i64, drawn: Draw) -> Result<Val
     }
 }
 
+// `+` and `-`.
+const FUNS: &[u32] = &[1, 2];
+
 // ---- One transaction
 
 // Two integers, the tally, and nil.
 const STARTS: &str = "[0 10 [tally 5] nil]";
-
-// One table in the place of both.
-fn only(alloc: Global, funs: &FunTable) -> Tables {
-    Tables {
-        alloc,
-        funs,
-        fewer: funs,
-    }
-}
 
 // Does something with a subject that starts so.
 fn with<G: Ground, V: Visit>(
@@ -73,8 +62,8 @@ fn with<G: Ground, V: Visit>(
     starts: &str,
     visit: V,
 ) -> Result<V::Out, AllocError> {
-    let row = read(tables.alloc, starts)?;
-    match G::with(tables, starts_of(tables.alloc, &row)?, visit) {
+    let row = read(tables.all.alloc, starts)?;
+    match G::with(tables, starts_of(tables.all.alloc, &row)?, visit) {
         Ok(out) => Ok(out),
         Err(_) => Err(AllocError),
     }
@@ -83,10 +72,10 @@ fn with<G: Ground, V: Visit>(
 // Makes up to 8 operations on the first three refs, and tells how many were refused.
 fn operate_often(by: By, tx: &mut Tx<Core>, seed: &mut u64) -> Result<usize, AllocError> {
     let mut refused: usize = 0;
-    for _ in 0..next(seed) % 9 {
-        let drawn = next_draw(seed);
-        let (r, n) = ((drawn.r % 3) as u32, (drawn.n % 7) as i64 - 1);
-        match operate(by, tx, r, n, drawn) {
+    for _ in 0..draw(seed, 9) {
+        let mut drawn = next_draw(seed, 3, 7);
+        drawn.n = drawn.n.wrapping_sub(1);
+        match operate(by, tx, drawn) {
             Ok(_) => {}
             Err(TxFault::Memory) => return Err(AllocError),
             Err(_) => refused = refused.saturating_add(1),
@@ -108,22 +97,33 @@ fn entry_of(alloc: Global, tx: &Tx<Core>) -> Result<Entry, AllocError> {
     }))
 }
 
+// A log of one transaction.
+fn log_of(alloc: Global, tx: &Tx<Core>) -> Result<PVec<Entry>, AllocError> {
+    let mut entries = PVec::empty();
+    entries.push(alloc, entry_of(alloc, tx)?)?;
+    Ok(entries)
+}
+
+// Whether what a replay gives are the in-transaction values.
+fn holds(state: &PlainState, tx: &Tx<Core>) -> bool {
+    for r in 0..4u32 {
+        if state.refs.get(r as usize) != tx.deref(r).ok() {
+            return false;
+        }
+    }
+    state.refs.len() == 4
+}
+
 // Whether the slow replay of the operations, on the values of the beginning, gives the in-transaction values.
 fn agrees(by: By, base: &Base, tx: &Tx<Core>) -> Result<bool, AllocError> {
-    let mut entries = PVec::empty();
-    entries.push(by.alloc, entry_of(by.alloc, tx)?)?;
+    let entries = log_of(by.alloc, tx)?;
     if base.point > 0 {
         return Ok(false);
     }
-    let Ok(state) = replay_plain(by.alloc, by.funs, base, &entries) else {
-        return Ok(false);
-    };
-    for r in 0..4u32 {
-        if state.refs.get(r as usize) != tx.deref(r).ok() {
-            return Ok(false);
-        }
+    match replay_plain(by.alloc, by.funs, base, &entries) {
+        Ok(state) => Ok(holds(&state, tx)),
+        Err(_) => Ok(false),
     }
-    Ok(state.refs.len() == 4)
 }
 
 // How many operations of drawn transactions were kept and refused.
@@ -178,7 +178,7 @@ impl Visit for Counting {
     type Out = Result<Option<Counts>, AllocError>;
 
     fn visit<S: Subject>(self, tables: &Tables, subject: S) -> Result<Option<Counts>, AllocError> {
-        let by = tables.all();
+        let by = tables.all;
         match subject.log() {
             Some((base, _)) => drawn_counts(by, base),
             None => Ok(None),
@@ -186,9 +186,16 @@ impl Visit for Counting {
     }
 }
 
+impl ByTables for Counting {
+    type Out = Result<Option<Counts>, AllocError>;
+
+    fn run(self, tables: &Tables) -> Result<Option<Counts>, AllocError> {
+        with::<Worlds, Counting>(tables, STARTS, self)?
+    }
+}
+
 fn counts_in_a_world(alloc: Global) -> Result<Option<Counts>, AllocError> {
-    let funs = table_of(alloc, &[1, 2], &[])?;
-    with::<Worlds, Counting>(&only(alloc, &funs), STARTS, Counting)?
+    with_tables(alloc, FUNS, &[], Counting)?
 }
 
 #[test]
@@ -229,6 +236,29 @@ fn commit<S: Subject>(
     Ok(true)
 }
 
+// Begins a transaction in a place.
+fn begin<S: Subject>(by: By, stage: &mut Stage<S>, i: usize) -> Result<bool, AllocError> {
+    let begun = stage.subject.begin(by.alloc)?;
+    put_back(&mut stage.open, i, begun);
+    Ok(true)
+}
+
+// Makes a drawn operation in a transaction, which comes back to its place.
+fn go_on<S: Subject>(
+    by: By,
+    stage: &mut Stage<S>,
+    i: usize,
+    mut open: Open,
+    seed: &mut u64,
+) -> Result<bool, AllocError> {
+    let answer = operate(by, &mut open, next_draw(seed, 4, 4));
+    put_back(&mut stage.open, i, open);
+    match answer {
+        Err(TxFault::Memory) => Err(AllocError),
+        _ => Ok(true),
+    }
+}
+
 // Begins a transaction in a place where none is open, and else makes an operation or commits. One that is refused is dropped.
 fn step<S: Subject>(
     by: By,
@@ -236,23 +266,29 @@ fn step<S: Subject>(
     seed: &mut u64,
     outcomes: &mut Outcomes,
 ) -> Result<bool, AllocError> {
-    let i = (next(seed) % 4) as usize;
-    let Some(mut open) = taken(&mut stage.open, i) else {
-        let begun = stage.subject.begin(by.alloc)?;
-        put_back(&mut stage.open, i, begun);
-        return Ok(true);
+    let i = draw(seed, 4) as usize;
+    let Some(open) = taken(&mut stage.open, i) else {
+        return begin(by, stage, i);
     };
-    if next(seed) % 8 == 0 {
+    if draw(seed, 8) == 0 {
         return commit(by, &mut stage.subject, open, outcomes);
     }
-    let drawn = next_draw(seed);
-    let (r, n) = ((drawn.r % 4) as u32, (drawn.n % 4) as i64);
-    let answer = operate(by, &mut open, r, n, drawn);
-    put_back(&mut stage.open, i, open);
-    match answer {
-        Err(TxFault::Memory) => Err(AllocError),
-        _ => Ok(true),
+    go_on(by, stage, i, open, seed)
+}
+
+// Makes 80 steps. Says whether each could be made, and the slow replay agrees.
+fn steps<S: Subject>(
+    by: By,
+    stage: &mut Stage<S>,
+    seed: &mut u64,
+    outcomes: &mut Outcomes,
+) -> Result<bool, AllocError> {
+    for _ in 0..80 {
+        if !step(by, stage, seed, outcomes)? {
+            return Ok(false);
+        }
     }
+    is_replayed(by, &stage.subject)
 }
 
 // 80 steps.
@@ -271,21 +307,14 @@ impl Visit for Interleaving {
         tables: &Tables,
         subject: S,
     ) -> Result<Option<Interleaving>, AllocError> {
-        let by = tables.all();
+        let by = tables.all;
         let Interleaving {
             mut seed,
             mut outcomes,
         } = self;
-        let mut stage: Stage<S> = Stage {
-            subject,
-            open: no_open(by.alloc)?,
-        };
-        for _ in 0..80 {
-            if !step(by, &mut stage, &mut seed, &mut outcomes)? {
-                return Ok(None);
-            }
-        }
-        if is_replayed(by, &stage.subject)? {
+        let open = no_open(by.alloc)?;
+        let mut stage: Stage<S> = Stage { subject, open };
+        if steps(by, &mut stage, &mut seed, &mut outcomes)? {
             Ok(Some(Interleaving { seed, outcomes }))
         } else {
             Ok(None)
@@ -294,20 +323,40 @@ impl Visit for Interleaving {
 }
 
 // What comes of 250 interleavings; none where the slow replay of one disagrees.
-fn counted<G: Ground>(alloc: Global) -> Result<Option<Outcomes>, AllocError> {
-    let funs = table_of(alloc, &[1, 2], &[])?;
-    let tables = only(alloc, &funs);
+fn counted<G: Ground>(tables: &Tables) -> Result<Option<Outcomes>, AllocError> {
     let mut drawn = Interleaving {
         seed: 30,
         outcomes: NOTHING,
     };
     for _ in 0..250 {
-        match with::<G, Interleaving>(&tables, NEAR_THE_END, drawn)?? {
+        match with::<G, Interleaving>(tables, NEAR_THE_END, drawn)?? {
             Some(next) => drawn = next,
             None => return Ok(None),
         }
     }
     Ok(Some(drawn.outcomes))
+}
+
+// Where transactions are interleaved.
+#[derive(Drop)]
+enum Place {
+    World,
+    Apart,
+}
+
+impl ByTables for Place {
+    type Out = Result<Option<Outcomes>, AllocError>;
+
+    fn run(self, tables: &Tables) -> Result<Option<Outcomes>, AllocError> {
+        match self {
+            Place::World => counted::<Worlds>(tables),
+            Place::Apart => counted::<Aparts>(tables),
+        }
+    }
+}
+
+fn counted_in(alloc: Global, place: Place) -> Result<Option<Outcomes>, AllocError> {
+    with_tables(alloc, FUNS, &[], place)?
 }
 
 const NOTHING: Outcomes = Outcomes {
@@ -325,12 +374,12 @@ const WANTED: Outcomes = Outcomes {
 
 #[test]
 fn interleavings_are_replayed_in_a_world(rt: HostRuntime) -> Result<(), Fail> {
-    assert_eq!(rt; counted::<Worlds>(rt.alloc())?, Some(WANTED));
+    assert_eq!(rt; counted_in(rt.alloc(), Place::World)?, Some(WANTED));
     Ok(())
 }
 
 #[test]
 fn interleavings_are_replayed_apart(rt: HostRuntime) -> Result<(), Fail> {
-    assert_eq!(rt; counted::<Aparts>(rt.alloc())?, Some(WANTED));
+    assert_eq!(rt; counted_in(rt.alloc(), Place::Apart)?, Some(WANTED));
     Ok(())
 }

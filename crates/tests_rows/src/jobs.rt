@@ -121,7 +121,7 @@ fn release<S: Subject>(subject: &mut S, call: &[Value]) -> Answer {
 }
 
 /// Whether a call is one on agents.
-pub(crate) fn is_of_agents(called: &str) -> bool {
+pub fn is_of_agents(called: &str) -> bool {
     matches!(
         called,
         "send" | "release" | "act" | "next" | "lose" | "stranger" | "restart" | "mode"
@@ -129,12 +129,7 @@ pub(crate) fn is_of_agents(called: &str) -> bool {
 }
 
 /// What a call on agents answers.
-pub(crate) fn agents_answer<S: Subject>(
-    by: By,
-    subject: &mut S,
-    called: &str,
-    call: &[Value],
-) -> Answer {
+pub fn agents_answer<S: Subject>(by: By, subject: &mut S, called: &str, call: &[Value]) -> Answer {
     match called {
         "send" => send(by.alloc, subject, call),
         "release" => release(subject, call),
