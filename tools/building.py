@@ -28,7 +28,7 @@ FURTHER_LANES = 2
 TESTS = " (tests)"
 # The part of the free memory that is planned for, and what a further job of a check takes of what its first one does.
 PLANNED = 0.85
-FURTHER_JOB = 0.6
+FURTHER_JOB = 0.35
 CHECKED = re.compile(r"so far: (\d+) of (\d+) functions checked")
 
 
