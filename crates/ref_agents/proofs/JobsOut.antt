@@ -4,8 +4,8 @@ use Rattle.std.specs.BTreeMap.{is_at}
 use Rattle.std.specs.Cmp.{unsigned_tied}
 use Rattle.std.specs.Ordering.{eq_by_cmp, nat_cmp}
 use Rattle.std.proofs.lemmas.Bool.{eqb-true}
-use Rattle.ref_edn.specs.Order.{edn_cmp}
-use Rattle.ref_edn.specs.OrderLaws.{edn_eq}
+use Rattle.ref_value.specs.Order.{edn_cmp}
+use Rattle.ref_value.specs.OrderLaws.{edn_eq}
 use Rattle.ref_agents.specs.Account.{has_head, has_point, has_released}
 use Rattle.ref_fun.specs.Meaning.{Means}
 use Rattle.ref_agents.specs.Agents.{AgentsSeen, AreAgents, AreWaiting, has_queue_if_here, head_job, is_ready_at, is_ready_if_here, job_out, out_if_here}

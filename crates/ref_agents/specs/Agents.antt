@@ -4,7 +4,7 @@ use Rattle.std.specs.BTreeMap.{is_at}
 use Rattle.std.specs.BTreeSet.{insert_key}
 use Rattle.std.specs.Set.{remove_key}
 use Rattle.std.specs.Ordering.{nat_cmp}
-use Rattle.ref_edn.specs.Edn.{Edn}
+use Rattle.ref_value.specs.Edn.{Edn}
 use Rattle.ref_fun.specs.Meaning.{Means}
 use Rattle.ref_fun.specs.Rule.{Accepts}
 use Rattle.ref_fun.specs.declared.actions.Action.{Action}

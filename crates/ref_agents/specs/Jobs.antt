@@ -1,6 +1,6 @@
 -- A job: an action of an agent on its way.
 use Rattle.std.specs.Prelude.{ℕ, Result}
-use Rattle.ref_edn.specs.Edn.{Edn}
+use Rattle.ref_value.specs.Edn.{Edn}
 use Rattle.ref_fun.specs.declared.actions.Action.{Action}
 use Rattle.ref_fun.specs.declared.faults.Cause.{Cause}
 

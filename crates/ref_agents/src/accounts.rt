@@ -4,8 +4,8 @@ ghost use Rattle.std.specs.Iterator.Runs.{YieldsRefsInOrder, YieldsRefsInReverse
 ghost use Rattle.std.specs.VecDeque.Iter.{deque_iter_rest, deque_iter_steps, deque_iter_steps_back};
 ghost use Rattle.ref_agents.specs.Account.{restarted, with_ended, with_queued, without_last};
 
-use ref_edn::Value;
 use ref_fun::Action;
+use ref_value::Value;
 use std::alloc::{AllocError, Global};
 use std::collections::VecDeque;
 use std::collections::vec_deque::Iter;
@@ -55,7 +55,7 @@ pub struct Account {
 
 impl Model for Account {
     ghost use Rattle.std.specs.Coded.{codes};
-    ghost use Rattle.ref_edn.specs.Code.{edn_code};
+    ghost use Rattle.ref_value.specs.Code.{edn_code};
     ghost use Rattle.ref_agents.specs.Account.{AccountSeen};
 
     ghost Value = { AccountSeen };

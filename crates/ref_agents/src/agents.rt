@@ -4,9 +4,9 @@ ghost use Rattle.ref_agents.specs.Agents.{AreAgents, account_at, error_at, value
 
 use crate::accounts::Account;
 use crate::faults::{AgentError, ModeFault};
-use ref_edn::Value;
 use ref_fun::Meaning;
 use ref_log::Guards;
+use ref_value::Value;
 use std::alloc::Global;
 use std::collections::BTreeSet;
 use std::marker::{Model, PhantomData};
@@ -52,7 +52,7 @@ pub struct AgentStore<M: Meaning> {
 impl<M: Meaning> Model for AgentStore<M> {
     ghost use Rattle.std.specs.BTreeSet.{keys};
     ghost use Rattle.std.specs.Coded.{codes};
-    ghost use Rattle.ref_edn.specs.Code.{edn_code};
+    ghost use Rattle.ref_value.specs.Code.{edn_code};
     ghost use Rattle.ref_agents.specs.Agents.{AgentsSeen, IsStore};
 
     ghost Value = { AgentsSeen };

@@ -11,9 +11,9 @@ use crate::accounts::Mark;
 use crate::agents::{Agent, AgentStore, ErrorMode};
 use crate::faults::{AgentError, FinishFault};
 use crate::jobs::Ran;
-use ref_edn::Value;
 use ref_fun::{Cause, Functions, Meaning};
 use ref_log::{Guards, Notice, Who};
+use ref_value::Value;
 use std::alloc::{AllocError, Global};
 
 /// How a job ended.

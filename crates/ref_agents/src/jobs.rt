@@ -3,8 +3,8 @@ ghost use Rattle.std.specs.Prelude.{◌≡◌, ◌≢◌, true, false, IfOk, IfE
 ghost use Rattle.ref_agents.specs.declared.faults.JobFault.TheVariants as faults;
 
 use crate::faults::JobFault;
-use ref_edn::Value;
 use ref_fun::{Action, CallFault, Cause, Functions, Meaning};
+use ref_value::Value;
 use std::alloc::Global;
 use std::marker::{Model, PhantomData};
 
@@ -19,7 +19,7 @@ pub struct Job {
 
 impl Model for Job {
     ghost use Rattle.std.specs.Coded.{codes};
-    ghost use Rattle.ref_edn.specs.Code.{edn_code};
+    ghost use Rattle.ref_value.specs.Code.{edn_code};
     ghost use Rattle.ref_agents.specs.Jobs.{JobSeen};
 
     ghost Value = { JobSeen };
@@ -122,7 +122,7 @@ pub struct Ran<M: Meaning> {
 impl<M: Meaning> Model for Ran<M> {
     ghost use Rattle.std.specs.Prelude.{◌≡◌};
     ghost use Rattle.std.specs.Coded.{codes};
-    ghost use Rattle.ref_edn.specs.Code.{edn_code};
+    ghost use Rattle.ref_value.specs.Code.{edn_code};
     ghost use Rattle.ref_agents.specs.Jobs.{RanSeen};
 
     ghost Value = { RanSeen };

@@ -7,9 +7,9 @@ ghost use Rattle.ref_agents.specs.Make.{agent_refusal, with_agent};
 
 use crate::accounts::Account;
 use crate::agents::{Agent, AgentStore, ErrorMode};
-use ref_edn::Value;
 use ref_fun::{Functions, Meaning, Rule};
 use ref_log::{MakeFault, check_make};
+use ref_value::Value;
 use std::alloc::{AllocError, Global};
 
 impl<M: Meaning> AgentStore<M> {

@@ -8,8 +8,8 @@ ghost use Rattle.ref_agents.specs.declared.faults.RestartFault.TheVariants.{Memo
 
 use crate::agents::AgentStore;
 use crate::faults::RestartFault;
-use ref_edn::Value;
 use ref_fun::{Functions, Meaning};
+use ref_value::Value;
 use std::alloc::{AllocError, Global};
 
 impl<M: Meaning> AgentStore<M> {

@@ -7,9 +7,9 @@ ghost use Rattle.ref_log.specs.declared.faults.WatchFault.TheVariants as watches
 ghost use Rattle.ref_agents.specs.Agents.{value_at, values_of, with_guards};
 
 use crate::agents::{AgentStore, value_at};
-use ref_edn::Value;
 use ref_fun::{Functions, Meaning, Rule};
 use ref_log::{RuleFault, WatchFault};
+use ref_value::Value;
 use std::alloc::Global;
 
 impl<M: Meaning> AgentStore<M> {

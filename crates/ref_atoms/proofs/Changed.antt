@@ -1,9 +1,9 @@
 -- The entries of atoms that are changed.
 use Rattle.std.proofs.Common.{◌≡◌, ℕ, true, List, Some, Ok, slice_get, slice_set, refl, sym}
 use Rattle.std.specs.Ordering.{eq_by_cmp}
-use Rattle.ref_edn.specs.Edn.{Edn}
-use Rattle.ref_edn.specs.Order.{edn_cmp}
-use Rattle.ref_edn.specs.OrderLaws.{edn_eq}
+use Rattle.ref_value.specs.Edn.{Edn}
+use Rattle.ref_value.specs.Order.{edn_cmp}
+use Rattle.ref_value.specs.OrderLaws.{edn_eq}
 use Rattle.ref_fun.specs.Meaning.{Means}
 use Rattle.ref_log.specs.Laws.{is_kept-itself}
 use Rattle.ref_log.specs.Replay.{done_of, place, step}

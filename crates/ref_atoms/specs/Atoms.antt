@@ -1,6 +1,6 @@
 -- What a store of atoms shows.
 use Rattle.std.specs.Prelude.{ℕ, ◌∷◌, ◌++◌, [], List, Option, slice_set}
-use Rattle.ref_edn.specs.Edn.{Edn}
+use Rattle.ref_value.specs.Edn.{Edn}
 use Rattle.ref_fun.specs.declared.rules.Rule.{Rule}
 use Rattle.ref_log.specs.Guards.{with_guard}
 use Rattle.ref_log.specs.declared.guards.Guard.{Guard}

@@ -5,8 +5,8 @@
 use Rattle.std.specs.Prelude.{◌≡◌, ℕ, ◌^◌, nat_lt, Bool, false, if◌then◌else◌, Option, None, Some, Result, Ok, Err, slice_get}
 use Rattle.std.specs.Option.{option_map, option_or}
 use Rattle.std.specs.Ordering.{eq_by_cmp}
-use Rattle.ref_edn.specs.Edn.{Edn}
-use Rattle.ref_edn.specs.Order.{edn_cmp}
+use Rattle.ref_value.specs.Edn.{Edn}
+use Rattle.ref_value.specs.Order.{edn_cmp}
 use Rattle.ref_fun.specs.Calls.{Known}
 use Rattle.ref_fun.specs.Meaning.{Means}
 use Rattle.ref_fun.specs.Rule.{Accepts, passes, unknown}

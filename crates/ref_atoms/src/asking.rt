@@ -1,7 +1,7 @@
 //! What is asked before an atom is changed.
 ghost use Rattle.ref_log.specs.Told.{Tells, TellsOrMemory, TellsThenMemory};
 ghost use Rattle.std.specs.Prelude.{◌≡◌, ◌≢◌, ◌<◌, ◌≤◌, ◌^◌, List, true, None, Some, Ok, IfOk, IfErr, IfSome, OnOk, is_some, length, slice_get, slice_set};
-ghost use Rattle.ref_edn.specs.Edn.{Edn};
+ghost use Rattle.ref_value.specs.Edn.{Edn};
 ghost use Rattle.ref_fun.specs.Rule.{unknown};
 ghost use Rattle.ref_log.specs.Guards.{AreAccepted, keys_at, rule_at};
 ghost use Rattle.ref_log.specs.Replay.{codes_of, is_set, missing, place, sets_atom, step};
@@ -15,9 +15,9 @@ ghost use Rattle.ref_atoms.specs.declared.faults.AtomFault.TheVariants as faults
 use crate::atoms::AtomStore;
 use crate::changes::{Change, Swapped};
 use crate::faults::AtomFault;
-use ref_edn::Value;
 use ref_fun::{CallFault, Functions, Meaning};
 use ref_log::{Entry, LAST_POINT, Op, Who};
+use ref_value::Value;
 use std::alloc::Global;
 
 impl<M: Meaning> AtomStore<M> {

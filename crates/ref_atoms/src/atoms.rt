@@ -6,9 +6,9 @@ ghost use Rattle.ref_log.specs.Watches.{has_key};
 ghost use Rattle.ref_log.specs.declared.faults.WatchFault.TheVariants as watches;
 ghost use Rattle.ref_atoms.specs.Atoms.{with_guards};
 
-use ref_edn::Value;
 use ref_fun::{Functions, Meaning, Rule};
 use ref_log::{Guards, RuleFault, WatchFault};
+use ref_value::Value;
 use std::alloc::Global;
 use std::marker::{Model, PhantomData};
 
@@ -25,7 +25,7 @@ pub struct AtomStore<M: Meaning> {
 impl<M: Meaning> Model for AtomStore<M> {
     ghost use Rattle.std.specs.Prelude.{◌≡◌, ◌≤◌, ◌^◌, length};
     ghost use Rattle.std.specs.Coded.{codes};
-    ghost use Rattle.ref_edn.specs.Code.{edn_code};
+    ghost use Rattle.ref_value.specs.Code.{edn_code};
     ghost use Rattle.ref_log.specs.Guards.{AreAccepted};
     ghost use Rattle.ref_atoms.specs.Atoms.{AtomsSeen};
 

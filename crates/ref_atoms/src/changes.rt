@@ -1,7 +1,7 @@
 //! What a change of an atom answers.
 
-use ref_edn::Value;
 use ref_log::{Entry, Notice};
+use ref_value::Value;
 
 /// What `swap` and `reset` answer: the values before and after, as Clojure's `swap-vals!` and `reset-vals!` do, and
 /// what the atom's watches are to be told.

@@ -1,7 +1,7 @@
 //! Changing an atom.
 ghost use Rattle.ref_log.specs.Told.{TellsOrMemory, TellsThenMemory};
 ghost use Rattle.std.specs.Prelude.{◌≡◌, ◌<◌, List, true, false, [], Some, Ok, IfOk, IfErr, OnErr, length, slice_get, slice_set};
-ghost use Rattle.ref_edn.specs.Edn.{Edn};
+ghost use Rattle.ref_value.specs.Edn.{Edn};
 ghost use Rattle.ref_log.specs.Guards.{AreAccepted, keys_at};
 ghost use Rattle.ref_log.specs.Replay.{place, step};
 ghost use Rattle.ref_log.specs.Watches.{notices_of};
@@ -15,9 +15,9 @@ ghost use Rattle.ref_atoms.specs.declared.faults.AtomFault.TheVariants as faults
 use crate::atoms::AtomStore;
 use crate::changes::{Cas, Swapped};
 use crate::faults::AtomFault;
-use ref_edn::Value;
 use ref_fun::{Args, Functions, Meaning};
 use ref_log::Op;
+use ref_value::Value;
 use std::alloc::Global;
 
 impl<M: Meaning> AtomStore<M> {

@@ -7,9 +7,9 @@ ghost use Rattle.ref_log.specs.declared.faults.MakeFault.TheVariants as makes;
 ghost use Rattle.ref_atoms.specs.Atoms.{with_atom};
 
 use crate::atoms::AtomStore;
-use ref_edn::Value;
 use ref_fun::{Functions, Meaning, Rule};
 use ref_log::{MakeFault, check_make};
+use ref_value::Value;
 use std::alloc::{AllocError, Global};
 
 impl<M: Meaning> AtomStore<M> {

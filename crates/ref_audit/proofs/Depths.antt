@@ -1,8 +1,8 @@
 -- What isn't made nests too deep, or memory was refused.
 use Rattle.std.proofs.Common.{◌≡◌, ℕ, ◌<◌, ◌≤◌, true, arith}
-use Rattle.ref_edn.specs.Edn.{Entries, Items, map, vector, nesting}
-use Rattle.ref_edn.specs.Lawful.{AreLawful, AreLawfulEntries, IsLawful}
-use Rattle.ref_edn.specs.Order.{keys_ascend}
+use Rattle.ref_value.specs.Edn.{Entries, Items, map, vector, nesting}
+use Rattle.ref_value.specs.Lawful.{AreLawful, AreLawfulEntries, IsLawful}
+use Rattle.ref_value.specs.Order.{keys_ascend}
 use Rattle.ref_audit.specs.Made.{IsMakeFault}
 use Rattle.ref_audit.specs.declared.faults.DumpMakeFault.{DumpMakeFault}
 use Rattle.ref_audit.specs.declared.faults.DumpMakeFault.TheVariants.{TooDeep, Memory}

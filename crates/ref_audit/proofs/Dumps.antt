@@ -2,7 +2,7 @@
 use Rattle.std.proofs.Common.{◌≡◌, ℕ, ◌≤◌, false, None, Some, if◌then◌else◌, nat_lt, arith, ap, ◌∙◌}
 use Rattle.std.specs.Option.{option_map, option_or}
 use Rattle.std.proofs.lemmas.Bool.Decides.{nat_tests}
-use Rattle.ref_edn.specs.Edn.{nesting}
+use Rattle.ref_value.specs.Edn.{nesting}
 use Rattle.ref_world.specs.Seen.{WorldSeen}
 use Rattle.ref_audit.specs.Dumped.{depth_refusal, dump_refusal, dumped, unnamed}
 use Rattle.ref_audit.specs.declared.faults.DumpMakeFault.TheVariants.{TooDeep, Unnamed}

@@ -3,7 +3,7 @@ use Rattle.std.proofs.Common.{◌≡◌, ℕ, zero, suc, ◌+◌, ◌-◌, ◌^�
 use Rattle.std.proofs.lemmas.Bool.Decides.{nat_tests}
 use Rattle.std.specs.Prelude.{option_and_then}
 use Rattle.std.specs.List.{list_all}
-use Rattle.ref_edn.specs.Edn.{Edn}
+use Rattle.ref_value.specs.Edn.{Edn}
 use Rattle.ref_fun.specs.Names.{core_names, is_function, is_predicate}
 use Rattle.ref_fun.specs.declared.actions.Action.{Action}
 use Rattle.ref_fun.specs.declared.rules.Rule.{Rule}
@@ -17,7 +17,7 @@ use Rattle.ref_agents.specs.declared.accounts.Handled.{Handled}
 use Rattle.ref_agents.specs.declared.accounts.Mark.{Mark}
 use Rattle.ref_agents.specs.declared.accounts.Mark.TheVariants as marks
 use Rattle.ref_agents.specs.declared.accounts.Queued.{Queued}
-use Rattle.ref_edn.specs.OrderLaws.{edn_eq}
+use Rattle.ref_value.specs.OrderLaws.{edn_eq}
 use Rattle.ref_log.specs.Replay.{is_set}
 use Rattle.ref_audit.specs.Dumped.{atom_form, done_form, entry_form, handled_form, op_form, queued_form, sent_form}
 use Rattle.ref_verdict.specs.DumpForm.{action_of, all_said, args_said, code_of, done_of, elements_of, entries_from, entry_of, handled_of, list_said, only_if, queued_of, reference_of, rule_of, sent_of, stamp_number}

@@ -3,7 +3,7 @@ use Rattle.std.proofs.Common.{◌≡◌, ℕ, zero, suc, ◌+◌, ◌<◌, ◌�
 use Rattle.std.specs.List.{zip}
 use Rattle.std.specs.Prelude.{slice_get}
 use Rattle.std.proofs.lemmas.List.{append-nil}
-use Rattle.ref_edn.specs.Edn.{Edn, vector, nesting, items_of, items_depth}
+use Rattle.ref_value.specs.Edn.{Edn, vector, nesting, items_of, items_depth}
 use Rattle.ref_audit.proofs.Depths.{deeper_fault}
 use Rattle.ref_audit.specs.Made.{IsMakeFault}
 use Rattle.ref_audit.specs.declared.faults.DumpMakeFault.{DumpMakeFault}

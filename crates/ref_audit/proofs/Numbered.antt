@@ -2,7 +2,7 @@
 use Rattle.std.proofs.Common.{◌≡◌, ℕ, zero, suc, ◌+◌, ◌≤◌, Bool, List, [], ◌∷◌, ◌++◌, Option, None, Some, map, sym, ap, ◌∙◌, arith, drop, length}
 use Rattle.std.specs.List.{enumerate_from}
 use Rattle.std.specs.Prelude.{is_some, slice_get}
-use Rattle.ref_edn.specs.Edn.{Edn}
+use Rattle.ref_value.specs.Edn.{Edn}
 use Rattle.ref_fun.specs.declared.rules.Rule.{Rule}
 use Rattle.ref_agents.specs.Account.{AccountSeen}
 use Rattle.ref_agents.specs.Agents.{account_at, error_at, error_if_here}

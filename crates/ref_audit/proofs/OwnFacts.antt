@@ -5,7 +5,7 @@ use Rattle.std.proofs.lemmas.Option.{get_or_from_slice_get, slice_get_past, slic
 use Rattle.std.proofs.lemmas.List.Folds.{list_all_more}
 use Rattle.std.specs.List.{list_all}
 use Rattle.std.specs.Prelude.{slice_get}
-use Rattle.ref_edn.specs.Edn.{Edn}
+use Rattle.ref_value.specs.Edn.{Edn}
 use Rattle.ref_fun.specs.Core.{core_accepts}
 use Rattle.ref_fun.specs.declared.rules.Rule.{Rule}
 use Rattle.ref_log.specs.Guards.{passes_if_here}

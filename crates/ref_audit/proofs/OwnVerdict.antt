@@ -2,7 +2,7 @@
 use Rattle.std.proofs.Common.{◌≡◌, ℕ, ◌+◌, ◌<◌, ◌≤◌, ◌&&◌, Bool, true, refl, List, [], ◌∷◌, length, map, Option, None, Some, Result, Ok, ◌∙◌, ap, arith}
 use Rattle.std.specs.List.{enumerate_from, list_all}
 use Rattle.std.specs.Option.{option_map, option_or}
-use Rattle.ref_edn.specs.Edn.{Edn}
+use Rattle.ref_value.specs.Edn.{Edn}
 use Rattle.ref_fun.specs.declared.rules.Rule.{Rule}
 use Rattle.ref_fun.specs.Names.{is_function, is_predicate}
 use Rattle.ref_log.specs.Guards.{rule_at}

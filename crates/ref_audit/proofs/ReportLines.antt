@@ -3,7 +3,7 @@ use Rattle.std.proofs.Common.{◌≡◌, ℕ, ◌+◌, List, [], ◌∷◌, ◌+
 use Rattle.std.specs.Prelude.{is_some, slice_get}
 use Rattle.std.proofs.lemmas.List.{append-nil}
 use Rattle.ref_agents.specs.declared.agents.Agent.{Agent}
-use Rattle.ref_edn.specs.Edn.{Edn}
+use Rattle.ref_value.specs.Edn.{Edn}
 use Rattle.ref_audit.specs.Report.{agent_line, agent_lines, value_line, value_lines}
 use Rattle.ref_audit.proofs.Left.{left_at, left_end}
 

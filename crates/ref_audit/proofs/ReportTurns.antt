@@ -1,7 +1,7 @@
 -- One turn of the loops of a report.
 use Rattle.std.proofs.Common.{◌≡◌, ℕ, ◌+◌, ◌<◌, Bool, List, ◌++◌, Option, None, Some, sym, ap, ◌∙◌, drop, get_or, length}
 use Rattle.std.specs.Prelude.{is_some}
-use Rattle.ref_edn.specs.Edn.{Edn}
+use Rattle.ref_value.specs.Edn.{Edn}
 use Rattle.ref_agents.specs.Agents.{error_at, error_if_here}
 use Rattle.ref_agents.specs.declared.faults.AgentError.{AgentError}
 use Rattle.ref_log.specs.declared.notices.Who.{Who}

@@ -4,7 +4,7 @@ use Rattle.std.proofs.lemmas.Bool.Decides.{nat_tests}
 use Rattle.std.proofs.lemmas.Option.{slice_get-get_or, slice_get_within}
 use Rattle.std.specs.Prelude.{slice_get}
 use Rattle.std.specs.List.{list_all}
-use Rattle.ref_edn.specs.Edn.{Edn, nil}
+use Rattle.ref_value.specs.Edn.{Edn, nil}
 use Rattle.ref_fun.specs.Core.{core_accepts, core_means}
 use Rattle.ref_fun.specs.Rule.{passes}
 use Rattle.ref_fun.specs.declared.rules.Rule.{Rule}

@@ -2,7 +2,7 @@
 use Rattle.std.proofs.Common.{◌≡◌, ℕ, Bool, true, false, List, [], ◌∷◌, ◌==◌, Option, Some, refl, sym, if◌then◌else◌}
 use Rattle.std.specs.List.{list_all}
 use Rattle.std.proofs.lemmas.Bool.{and_parts}
-use Rattle.ref_edn.specs.Names.{is_keyword, is_symbol, is_name, is_name_byte}
+use Rattle.ref_value.specs.Names.{is_keyword, is_symbol, is_name, is_name_byte}
 use Rattle.ref_fun.specs.Names.{core_names, name_in}
 use Rattle.ref_audit.specs.Made.{word_text}
 use Rattle.ref_audit.specs.declared.words.Word.{Word}

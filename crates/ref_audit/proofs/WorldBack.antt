@@ -3,7 +3,7 @@ use Rattle.std.proofs.Common.{◌≡◌, ℕ, suc, ◌+◌, ◌-◌, ◌^◌, �
 use Rattle.std.proofs.lemmas.Bool.Decides.{nat_tests}
 use Rattle.std.specs.Prelude.{option_and_then}
 use Rattle.std.specs.List.{enumerate_from, list_all, zip}
-use Rattle.ref_edn.specs.Edn.{Edn, keyword}
+use Rattle.ref_value.specs.Edn.{Edn, keyword}
 use Rattle.ref_log.specs.Guards.{rule_at}
 use Rattle.ref_log.specs.declared.entries.Entry.{Entry}
 use Rattle.ref_log.specs.declared.guards.Guard.{Guard}

@@ -3,8 +3,8 @@
 use Rattle.std.specs.Prelude.{ℕ, Bool, true, false, min, nat_lt, if◌then◌else◌, is_some, List, [], ◌∷◌, map, Option, None, Some}
 use Rattle.std.specs.List.{enumerate_from, zip}
 use Rattle.std.specs.Option.{option_map, option_or}
-use Rattle.ref_edn.specs.Edn as edn
-use Rattle.ref_edn.specs.Edn.{Edn, nil, keyword, entries_of, nesting}
+use Rattle.ref_value.specs.Edn as edn
+use Rattle.ref_value.specs.Edn.{Edn, nil, keyword, entries_of, nesting}
 use Rattle.ref_fun.specs.declared.rules.Rule.{Rule}
 use Rattle.ref_fun.specs.Names.{is_function}
 use Rattle.ref_agents.specs.Account.{AccountSeen}

@@ -7,13 +7,13 @@
 --   commits NUMBER
 --   audit ..                    the verdict
 use Rattle.std.specs.Prelude.{ℕ, Bool, true, false, is_some, List, [], ◌∷◌, ◌++◌, codes, decimal}
-use Rattle.ref_edn.specs.Edn.{Edn}
+use Rattle.ref_value.specs.Edn.{Edn}
 use Rattle.ref_edn.specs.Printed.{printed}
 use Rattle.ref_fun.specs.declared.faults.Cause.{Cause}
 use Rattle.ref_fun.specs.declared.faults.Cause.TheVariants.{WrongKind, WrongArity, Overflow, TooDeep}
 use Rattle.ref_agents.specs.declared.agents.Agent.{Agent}
 use Rattle.ref_world.specs.Seen.{WorldSeen}
-use Rattle.ref_audit.specs.Names.{NamesSeen}
+use Rattle.ref_start.specs.Names.{NamesSeen}
 use Rattle.ref_audit.specs.declared.reports.Reason.{Reason}
 use Rattle.ref_audit.specs.declared.reports.Reason.TheVariants as reasons
 use Rattle.ref_audit.specs.declared.reports.Refusal.{Refusal}

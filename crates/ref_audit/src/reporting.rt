@@ -7,9 +7,10 @@ ghost use Rattle.ref_audit.specs.Report.{agent_line, agent_lines, cause_text, co
 use crate::kinds::Kind;
 use crate::reports::{Names, Reason, Refusal};
 use itoa::Buffer;
-use ref_edn::{Text, Value, print};
+use ref_edn::print;
 use ref_fun::{Cause, Core};
 use ref_log::Who;
+use ref_value::{Text, Value};
 use ref_verdict::Verdict;
 use ref_world::World;
 use std::alloc::{AllocError, Global};

@@ -1,10 +1,10 @@
 //! The words of dumps: keys, tags, marks and statuses, all of them keywords.
 ghost use Rattle.std.specs.Prelude.{◌≡◌, true, IfOk};
-ghost use Rattle.ref_edn.specs.Edn.{keyword};
-ghost use Rattle.ref_edn.specs.Names.{is_keyword};
+ghost use Rattle.ref_value.specs.Edn.{keyword};
+ghost use Rattle.ref_value.specs.Names.{is_keyword};
 ghost use Rattle.ref_audit.specs.Made.{word_text};
 
-use ref_edn::{Node, Text, Value};
+use ref_value::{Node, Text, Value};
 use std::alloc::{AllocError, Global};
 
 /// A word of dumps.

@@ -11,7 +11,7 @@ use Rattle.ref_edn.specs.declared.faults.ReadError.{ReadError}
 use Rattle.ref_edn.specs.declared.faults.ReadError.TheVariants as errors
 use Rattle.ref_edn.specs.declared.faults.ReadFault.{ReadFault}
 use Rattle.ref_edn.specs.declared.faults.ReadFault.TheVariants as faults
-use Rattle.ref_edn.specs.Edn.{Edn}
+use Rattle.ref_value.specs.Edn.{Edn}
 use Rattle.ref_edn.specs.Grammar.{IsText, AreTexts}
 use Rattle.ref_edn.specs.Faults.{Gives, Answers, fault, fault_at, public_fault}
 use Rattle.ref_edn.specs.ReadParts.{whole_at, series_at, public_error}

@@ -5,7 +5,7 @@ use Rattle.std.proofs.lemmas.Bool.{eqb-true}
 use Rattle.std.proofs.lemmas.Bool.Decides.{nat_tests}
 use Rattle.std.proofs.lemmas.Str.{IsUtf8-nil, is_utf8-from_IsUtf8}
 use Rattle.ref_edn.specs.declared.faults.Fault.{Fault}
-use Rattle.ref_edn.specs.Edn.{Edn, string, vector, map, set, Items, no_items, item, Entries, items_of, list_of, pairs_of}
+use Rattle.ref_value.specs.Edn.{Edn, string, vector, map, set, Items, no_items, item, Entries, items_of, list_of, pairs_of}
 use Rattle.ref_edn.specs.Bytes.{is_space, is_close, is_delimiter}
 use Rattle.ref_edn.specs.Grammar.{from_newline, Token, Ends, Inside, Body, Brackets, square, round, SortsElements, SortsEntries, Blank, nothing, space, comment, discard, Element, token, quoted, sequence, mapping, collection, Elements, closed, more, Pairs, no_more, pair, IsText, Series, ended, next, AreTexts}
 use Rattle.ref_edn.specs.Faults.{◌>>=◌}

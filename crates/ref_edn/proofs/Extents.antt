@@ -4,7 +4,7 @@ use Rattle.std.specs.Prelude.{max}
 use Rattle.std.specs.List.{All}
 use Rattle.std.proofs.lemmas.List.Elements.{All-nil, All-cons, All-head, All-tail}
 use Rattle.std.proofs.lemmas.List.Sorted.{All-permutation}
-use Rattle.ref_edn.specs.Edn.{Edn, Items, no_items, item, Entries, no_entries, entry, list_of, pairs_of, nesting, items_depth, entries_depth}
+use Rattle.ref_value.specs.Edn.{Edn, Items, no_items, item, Entries, no_entries, entry, list_of, pairs_of, nesting, items_depth, entries_depth}
 use Rattle.ref_edn.specs.Grammar.{Token, nil_token, true_token, false_token, integer_token, keyword_token, symbol_token, SortsElements, SortsEntries, Blank, nothing, space, comment, discard, Element, token, quoted, sequence, mapping, collection, Elements, closed, more, Pairs, no_more, pair}
 use Rattle.ref_edn.proofs.Tokens.{StartsToken, token_starts}
 use Rattle.ref_edn.proofs.Strings.{body_shorter}

@@ -1,10 +1,3 @@
-pub mod Depths
-pub mod Edited
-pub mod Pairing
-pub mod Pieces
-pub mod Passing
-pub mod Ascending
-pub mod NameParts
 pub mod Taken
 pub mod PrintedParts
 pub mod Outcomes
@@ -14,7 +7,6 @@ pub mod Tokens
 pub mod Tails
 pub mod Numerals
 pub mod Strings
-pub mod SortedLists
 pub mod SortKeys
 pub mod Sorting
 pub mod Twins
@@ -31,12 +23,7 @@ pub mod Complete
 pub mod BothWays
 pub mod WholeTexts
 pub mod Bodies
-pub mod Searching
-pub mod Compared
-pub mod Places
-pub mod Searched
-pub mod SetMembers
-pub mod MapKeys
 pub mod PrintedTokens
 pub mod PrintedUtf8
 pub mod PrintedBelongs
+pub mod AsciiNames

@@ -5,8 +5,8 @@ use Rattle.std.specs.BTreeSet.{insert_key}
 use Rattle.ref_edn.specs.declared.faults.Fault.{Fault}
 use Rattle.ref_edn.specs.declared.faults.Kind.TheVariants.{EndsEarly, Duplicate}
 use Rattle.ref_edn.specs.declared.faults.ReadError.{ReadError}
-use Rattle.ref_edn.specs.Edn.{Edn}
-use Rattle.ref_edn.specs.Order.{edn_cmp}
+use Rattle.ref_value.specs.Edn.{Edn}
+use Rattle.ref_value.specs.Order.{edn_cmp}
 use Rattle.ref_edn.specs.Faults.{◌>>=◌, Fails, fault}
 use Rattle.ref_edn.specs.Sorting.{is_among, is_key_among}
 use Rattle.ref_edn.specs.ReadParts.{items_at, set_at, map_at, next_at, value_at}

@@ -11,13 +11,13 @@ use Rattle.std.specs.declared.cmp.Ordering.TheVariants.{Less, Equal, Greater}
 use Rattle.ref_edn.specs.declared.faults.Fault.{Fault}
 use Rattle.ref_edn.specs.declared.faults.Kind.TheVariants.{Duplicate}
 use Rattle.ref_edn.specs.declared.faults.ReadError.{ReadError}
-use Rattle.ref_edn.specs.Edn.{Edn, items_of, entries_of}
-use Rattle.ref_edn.specs.Order.{edn_cmp, elements_ascend, keys_ascend}
+use Rattle.ref_value.specs.Edn.{Edn, items_of, entries_of}
+use Rattle.ref_value.specs.Order.{edn_cmp, elements_ascend, keys_ascend}
 use Rattle.ref_edn.specs.Faults.{Fails}
 use Rattle.ref_edn.specs.Marks.{Mark, left_at, elements_of, keys_of, pairs_of, Falls, first_twice}
 use Rattle.ref_edn.specs.ReadParts.{set_at, map_at, next_at, value_at}
 use Rattle.ref_edn.specs.Sorting.{is_among, is_key_among, inserts, inserts_entries}
-use Rattle.ref_edn.proofs.SortedLists.{weaker}
+use Rattle.ref_value.specs.SortedLists.{weaker}
 use Rattle.ref_edn.proofs.Sorting.{sorted_is, sorted_entries_is}
 use Rattle.ref_edn.proofs.Loops.{ReadsSet, ReadsMap, set_start, set_fails, set_closed, set_twice, set_more, map_start, map_fails, map_closed, map_twice, map_value_fails, map_more}
 

@@ -6,7 +6,7 @@ use Rattle.std.proofs.Math.IntN.{neg_ℤ}
 use Rattle.std.proofs.lemmas.Bool.{and_parts}
 use Rattle.std.proofs.lemmas.Bool.Decides.{nat_tests}
 use Rattle.std.proofs.lemmas.List.{drop_all}
-use Rattle.ref_edn.specs.Edn.{int}
+use Rattle.ref_value.specs.Edn.{int}
 use Rattle.ref_edn.specs.Bytes.{is_delimiter, is_digit, is_numeral, all_digits, is_integer, integer_value, value_after, digits_value}
 use Rattle.ref_edn.specs.Grammar.{Token, integer_token, Ends, Inside}
 use Rattle.ref_edn.specs.Fronts.{front_value, StandsFirst}

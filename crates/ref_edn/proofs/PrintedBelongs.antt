@@ -3,10 +3,10 @@ use Rattle.std.proofs.Common.{◌≡◌, ℕ, zero, suc, ◌≤◌, true, false,
 use Rattle.std.specs.Prelude.{◌==◌}
 use Rattle.std.proofs.lemmas.Bool.{cases_Bool, eqb-true}
 use Rattle.std.proofs.lemmas.List.Sorted.{IsPermutation-refl}
-use Rattle.ref_edn.specs.Edn.{Edn, nil, boolean, int, string, keyword, symbol, vector, map, set, Items, no_items, item, Entries, no_entries, entry, nesting, items_depth, entries_depth, list_of, pairs_of}
+use Rattle.ref_value.specs.Edn.{Edn, nil, boolean, int, string, keyword, symbol, vector, map, set, Items, no_items, item, Entries, no_entries, entry, nesting, items_depth, entries_depth, list_of, pairs_of}
 use Rattle.ref_edn.specs.Bytes.{is_delimiter}
-use Rattle.ref_edn.specs.Names.{nil_text, true_text, false_text}
-use Rattle.ref_edn.specs.Lawful.{HasLawfulParts, AreLawful, AreLawfulEntries, IsLawful}
+use Rattle.ref_value.specs.Names.{nil_text, true_text, false_text}
+use Rattle.ref_value.specs.Lawful.{HasLawfulParts, AreLawful, AreLawfulEntries, IsLawful}
 use Rattle.ref_edn.specs.Grammar.{nil_token, true_token, false_token, keyword_token, symbol_token, Ends, Inside, Escape, tab, return, newline, backslash, quote, backspace, form_feed, Body, close, plain, escape, square, nothing, space, Element, token, quoted, sequence, mapping, collection, Elements, closed, more, Pairs, no_more, pair, IsText}
 use Rattle.ref_edn.specs.Printed.{escaped_byte, escaped, text, items_text, more_items, entries_text, more_entries, printed}
 use Rattle.ref_edn.proofs.PrintedTokens.{int_token, int_inside, keyword_inside, symbol_inside}

@@ -3,7 +3,7 @@ use Rattle.std.proofs.Common.{◌≡◌, ℕ, ◌+◌, ◌<◌, ◌≤◌, List,
 use Rattle.std.specs.Prelude.{Bool, true, false, cond}
 use Rattle.std.proofs.lemmas.List.{append-nil, take_more, take-append-drop, take_at, take-take, length-take}
 use Rattle.std.specs.Fmt.{signed_decimal}
-use Rattle.ref_edn.specs.Edn.{Edn, nil, boolean, int, string, keyword, symbol, vector, map, set, Items, no_items, item, items_of, Entries, no_entries, entry, entries_of}
+use Rattle.ref_value.specs.Edn.{Edn, nil, boolean, int, string, keyword, symbol, vector, map, set, Items, no_items, item, items_of, Entries, no_entries, entry, entries_of}
 use Rattle.ref_edn.specs.Printed.{text, items_text, more_items, entries_text, more_entries, printed, escaped, escaped_byte}
 
 -- ---- a text and a rest

@@ -12,9 +12,9 @@ use Rattle.std.proofs.lemmas.Fmt.{decimal_by_steps, decimal_digit, first_decimal
 use Rattle.std.proofs.lemmas.List.{drop_all}
 use Rattle.std.proofs.lemmas.List.Folds.{list_all-append}
 use Rattle.std.proofs.lemmas.List.Sums.{split_at_first, passes_at_first}
-use Rattle.ref_edn.specs.Edn.{int}
+use Rattle.ref_value.specs.Edn.{int}
 use Rattle.ref_edn.specs.Bytes.{is_delimiter, is_digit, is_letter, is_sign, is_one_of, all_digits, is_numeral, value_after, digits_value, is_integer, integer_value}
-use Rattle.ref_edn.specs.Names.{is_name_byte, begins_part, is_part, is_slash, is_name, is_word, is_keyword, is_symbol, bytes_eq}
+use Rattle.ref_value.specs.Names.{is_name_byte, begins_part, is_part, is_slash, is_name, is_word, is_keyword, is_symbol, bytes_eq}
 use Rattle.ref_edn.specs.Grammar.{Token, integer_token, Inside}
 
 -- ---- integers

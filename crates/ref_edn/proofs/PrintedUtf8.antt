@@ -9,9 +9,9 @@ use Rattle.std.proofs.Math.Utf8.{scalar, scalars, encodes, low_scalar}
 use Rattle.std.proofs.lemmas.Fmt.{IsAscii-signed}
 use Rattle.std.proofs.lemmas.Str.{IsUtf8-append, IsUtf8-from_ascii, IsUtf8-nil, encode_ascii, inside_one}
 use Rattle.std.proofs.lemmas.List.{append-nil}
-use Rattle.ref_edn.specs.Edn.{Edn, nil, boolean, int, string, keyword, symbol, vector, map, set, Items, no_items, item, Entries, no_entries, entry}
-use Rattle.ref_edn.specs.Names.{nil_text, true_text, false_text}
-use Rattle.ref_edn.specs.Lawful.{HasLawfulParts, AreLawful, AreLawfulEntries, IsLawful}
+use Rattle.ref_value.specs.Edn.{Edn, nil, boolean, int, string, keyword, symbol, vector, map, set, Items, no_items, item, Entries, no_entries, entry}
+use Rattle.ref_value.specs.Names.{nil_text, true_text, false_text}
+use Rattle.ref_value.specs.Lawful.{HasLawfulParts, AreLawful, AreLawfulEntries, IsLawful}
 use Rattle.ref_edn.specs.Printed.{escaped_byte, escaped, text, items_text, more_items, entries_text, more_entries, printed}
 use Rattle.ref_edn.proofs.PrintedParts.{escaped-append}
 use Rattle.ref_edn.proofs.PrintedTokens.{is_ascii_byte, keyword_ascii, symbol_ascii}

@@ -1,7 +1,7 @@
 -- The collections that are read are lawful.
 use Rattle.std.proofs.Common.{◌≡◌, ℕ, ◌<◌, ◌≤◌, List, [], length, Ok, subst, arith}
-use Rattle.ref_edn.specs.Edn.{Edn, vector, map, set, items_of, entries_of, items_depth, entries_depth}
-use Rattle.ref_edn.specs.Lawful.{AreLawful, AreLawfulEntries, IsLawful}
+use Rattle.ref_value.specs.Edn.{Edn, vector, map, set, items_of, entries_of, items_depth, entries_depth}
+use Rattle.ref_value.specs.Lawful.{AreLawful, AreLawfulEntries, IsLawful}
 use Rattle.ref_edn.specs.Grammar.{SortsElements, SortsEntries}
 use Rattle.ref_edn.specs.ReadParts.{items_at, set_at, map_at}
 use Rattle.ref_edn.proofs.Sorting.{sorts_of, entries_sorts_of}

@@ -3,43 +3,24 @@ use Rattle.std.proofs.Common.{◌≡◌, true, false, List, [], ◌∷◌, ◌++
 use Rattle.std.specs.Prelude.{IsTrue, IsPermutation}
 use Rattle.std.specs.List.{IsDistinct}
 use Rattle.std.specs.List.Sorted.{IsStrictlySortedBy}
-use Rattle.std.specs.Ordering.{is_lt, is_eq, match_ordering, eq_by_cmp}
+use Rattle.std.specs.Ordering.{is_eq, match_ordering, eq_by_cmp}
 use Rattle.std.specs.declared.cmp.Ordering.{Ordering}
 use Rattle.std.specs.declared.cmp.Ordering.TheVariants.{Less, Equal, Greater}
-use Rattle.std.specs.Cmp.{IsTotalOrder, on_total}
 use Rattle.std.specs.BTreeMap.{insert_entry}
 use Rattle.std.specs.BTreeSet.{insert_key}
-use Rattle.std.proofs.lemmas.Bool.{and_parts, and_from, or_parts}
+use Rattle.std.proofs.lemmas.Bool.{or_parts}
 use Rattle.std.proofs.lemmas.List.{append-nil}
 use Rattle.std.proofs.lemmas.List.Sorted.{IsPermutation-refl, IsPermutation-trans, IsPermutation-middle, IsPermutation-append_left, IsPermutation-sym}
 use Rattle.std.proofs.lemmas.Map.Keys.{IsDistinct-from_sorted, IsDistinct-IsPermutation}
-use Rattle.ref_edn.specs.Edn.{Edn, Items, no_items, item, Entries, no_entries, entry, items_of, list_of, entries_of, pairs_of, list_of-items_of, pairs_of-entries_of}
-use Rattle.ref_edn.specs.Order.{edn_cmp, elements_ascend, keys_ascend}
-use Rattle.ref_edn.specs.OrderLaws.{edn_cmp_total}
+use Rattle.ref_value.specs.Edn.{Edn, Items, no_items, item, Entries, no_entries, entry, items_of, list_of, entries_of, pairs_of, list_of-items_of, pairs_of-entries_of}
+use Rattle.ref_value.specs.Order.{edn_cmp, elements_ascend, keys_ascend}
+use Rattle.ref_value.specs.OrderLaws.{edn_cmp_total}
 use Rattle.ref_edn.specs.Grammar.{SortsElements, SortsEntries}
 use Rattle.ref_edn.specs.Sorting.{inserts, NoneTwice, is_key_among, inserts_entries, NoKeyTwice}
-use Rattle.ref_edn.proofs.SortedLists.{sorted_cons, insert_sorted, insert_moves, one_sorted, apart, flips}
+use Rattle.ref_value.specs.AscendLaws.{sorted_from_ascend, ascend_from_sorted, by_key, by_key_total, sorted_from_keys_ascend, keys_ascend_from_sorted}
+use Rattle.ref_value.specs.SortedLists.{insert_sorted, insert_moves, one_sorted, apart, flips}
 
 -- ---- elements
-
-is_less : (r : Ordering) → is_lt r ≡ true → r ≡ Less
-is_less Less e = refl
-is_less Equal e = absurd cc
-is_less Greater e = absurd cc
-
-pub sorted_from_ascend : (xs : List Edn) → IsTrue (elements_ascend (items_of xs)) → IsStrictlySortedBy edn_cmp xs
-unfolding IsStrictlySortedBy
-sorted_from_ascend [] h = tt
-sorted_from_ascend (x ∷ []) h = (tt, tt)
-sorted_from_ascend (x ∷ y ∷ ys) h =
-    let p : (is_lt (edn_cmp x y) ≡ true) × (elements_ascend (items_of (y ∷ ys)) ≡ true) = and_parts _ _ h in
-    sorted_cons edn_cmp_total x y ys (is_less (edn_cmp x y) p.0) (sorted_from_ascend (y ∷ ys) p.1)
-
-pub ascend_from_sorted : (xs : List Edn) → IsStrictlySortedBy edn_cmp xs → IsTrue (elements_ascend (items_of xs))
-unfolding IsStrictlySortedBy
-ascend_from_sorted [] h = refl
-ascend_from_sorted (x ∷ []) h = refl
-ascend_from_sorted (x ∷ y ∷ ys) h = and_from _ _ (ap is_lt h.0.0) (ascend_from_sorted (y ∷ ys) h.1)
 
 inserts_sorted : (seen xs : List Edn) → IsStrictlySortedBy edn_cmp seen → IsStrictlySortedBy edn_cmp (inserts seen xs)
 inserts_sorted seen [] s = s
@@ -82,12 +63,6 @@ items_sorts_again xs ys h =
 
 -- ---- entries
 
-abbrev pub by_key : Edn × Edn → Edn × Edn → Ordering
-by_key e f = edn_cmp e.0 f.0
-
-pub by_key_total : IsTotalOrder by_key
-by_key_total = on_total (λ (e : Edn × Edn). e.0) edn_cmp_total
-
 -- Where no key equals it, an entry goes to its place as an element does.
 insert_entry_is : (es : List (Edn × Edn)) (e : Edn × Edn) → is_key_among e.0 es ≡ false → insert_entry edn_cmp es e.0 e.1 ≡ insert_key by_key es e
 insert_entry_is [] e h = refl
@@ -98,20 +73,6 @@ insert_entry_is (f ∷ fs) e h = let p = or_parts (eq_by_cmp by_key e f) (is_key
     by Less q k = refl
     by Equal q k = absurd cc
     by Greater q k = ap (λ l. f ∷ l) k
-
-pub sorted_from_keys_ascend : (es : List (Edn × Edn)) → IsTrue (keys_ascend (entries_of es)) → IsStrictlySortedBy by_key es
-unfolding IsStrictlySortedBy
-sorted_from_keys_ascend [] h = tt
-sorted_from_keys_ascend (e ∷ []) h = (tt, tt)
-sorted_from_keys_ascend (e ∷ f ∷ fs) h =
-    let p : (is_lt (edn_cmp e.0 f.0) ≡ true) × (keys_ascend (entries_of (f ∷ fs)) ≡ true) = and_parts _ _ h in
-    sorted_cons by_key_total e f fs (is_less (edn_cmp e.0 f.0) p.0) (sorted_from_keys_ascend (f ∷ fs) p.1)
-
-pub keys_ascend_from_sorted : (es : List (Edn × Edn)) → IsStrictlySortedBy by_key es → IsTrue (keys_ascend (entries_of es))
-unfolding IsStrictlySortedBy
-keys_ascend_from_sorted [] h = refl
-keys_ascend_from_sorted (e ∷ []) h = refl
-keys_ascend_from_sorted (e ∷ f ∷ fs) h = and_from _ _ (ap is_lt h.0.0) (keys_ascend_from_sorted (f ∷ fs) h.1)
 
 entries_sorted : (seen es : List (Edn × Edn)) → NoKeyTwice seen es → IsStrictlySortedBy by_key seen → IsStrictlySortedBy by_key (inserts_entries seen es)
 entries_sorted seen [] h s = s

@@ -8,12 +8,12 @@ use Rattle.std.proofs.lemmas.Bool.Decides.{nat_tests}
 use Rattle.std.proofs.lemmas.List.{take-append-drop}
 use Rattle.ref_edn.specs.declared.faults.Kind.{Kind}
 use Rattle.ref_edn.specs.declared.faults.Kind.TheVariants.{BadNumber, TooLarge, LeftOut, BadName}
-use Rattle.ref_edn.specs.Edn.{Edn, nil, boolean, int, keyword, symbol, nesting}
+use Rattle.ref_value.specs.Edn.{Edn, nil, boolean, int, keyword, symbol, nesting}
 use Rattle.ref_edn.specs.Bytes.{is_space, is_close, is_delimiter, is_digit, is_letter, is_sign, is_one_of, token_len, begins_with_digit, is_numeral, all_digits, is_integer, integer_value}
-use Rattle.ref_edn.specs.Names.{is_name_byte, begins_part, is_part, is_slash, is_name, bytes_eq, nil_text, true_text, false_text, is_word, is_keyword, is_symbol}
+use Rattle.ref_value.specs.Names.{is_name_byte, begins_part, is_part, is_slash, is_name, bytes_eq, nil_text, true_text, false_text, is_word, is_keyword, is_symbol}
 use Rattle.ref_edn.specs.Grammar.{Token, nil_token, true_token, false_token, integer_token, keyword_token, symbol_token, Ends, Inside, Element, token}
 use Rattle.ref_edn.specs.ReadTokens.{starts_token, starts_number, after_integer, marks_left_out, fits_i64, number_value, starts_keyword, keyword_value, word_value, token_value, or_fault, token_at}
-use Rattle.ref_edn.proofs.NameParts.{each_of, before_other, bytes_same}
+use Rattle.ref_edn.proofs.AsciiNames.{each_of, before_other, bytes_same}
 use Rattle.ref_edn.proofs.Outcomes.{chosen, done, ok_is, err_isnt_ok}
 
 -- ---- what is read is a token

@@ -16,12 +16,12 @@ use Rattle.std.proofs.lemmas.List.Elements.{All-from_recursion, recursion_from_A
 use Rattle.std.proofs.lemmas.Bool.Decides.{nat_tests}
 use Rattle.std.proofs.lemmas.List.Sorted.{All-permutation, IsPermutation-map, IsPermutation-sym, IsPermutation-trans, IsPermutation-middle, IsPermutation-append_left}
 use Rattle.std.proofs.lemmas.Map.Keys.{IsDistinct-IsPermutation, apart_from_distinct, sorted_from_all_adjacent}
-use Rattle.ref_edn.specs.Edn.{Edn, nil, items_of, entries_of}
-use Rattle.ref_edn.specs.Order.{edn_cmp, elements_ascend, keys_ascend}
-use Rattle.ref_edn.specs.OrderLaws.{edn_cmp_total, edn_same}
+use Rattle.ref_value.specs.Edn.{Edn, nil, items_of, entries_of}
+use Rattle.ref_value.specs.Order.{edn_cmp, elements_ascend, keys_ascend}
+use Rattle.ref_value.specs.OrderLaws.{edn_cmp_total, edn_same}
 use Rattle.ref_edn.specs.Sorting.{is_among}
 use Rattle.ref_edn.specs.Marks.{Mark, left_at, elements_of, keys_of, pairs_of, Falls, first_twice, twin_after, twin_left}
-use Rattle.ref_edn.proofs.SortedLists.{weaker, all_insert, one_sorted, insert_sorted, insert_moves, apart, flips}
+use Rattle.ref_value.specs.SortedLists.{weaker, all_insert, one_sorted, insert_sorted, insert_moves, apart, flips}
 
 -- ---- the order
 

@@ -4,8 +4,8 @@ use Rattle.std.specs.BTreeMap.{insert_entry}
 use Rattle.std.specs.BTreeSet.{insert_key}
 use Rattle.ref_edn.specs.declared.faults.Fault.{Fault}
 use Rattle.ref_edn.specs.declared.faults.Kind.TheVariants.{EndsEarly, Duplicate}
-use Rattle.ref_edn.specs.Edn.{Edn}
-use Rattle.ref_edn.specs.Order.{edn_cmp}
+use Rattle.ref_value.specs.Edn.{Edn}
+use Rattle.ref_value.specs.Order.{edn_cmp}
 use Rattle.ref_edn.specs.Faults.{◌>>=◌, fault}
 use Rattle.ref_edn.specs.Sorting.{is_among, is_key_among, inserts, NoneTwice, inserts_entries, NoKeyTwice}
 use Rattle.ref_edn.specs.ReadParts.{next_at, value_at, pairs_step, pairs_with}

@@ -1,10 +1,8 @@
 -- The bytes of a text by what they do, and the numbers that digits write.
 use Rattle.std.specs.Prelude.{ℕ, ℤ, suc, ◌+◌, ◌-◌, ◌*◌, Bool, ◌||◌, ◌&&◌, ◌==◌, List, [], ◌∷◌, cond, nat_lt, not, false, pos}
-use Rattle.std.specs.List.{list_any, list_all}
+use Rattle.std.specs.List.{list_all}
 use Rattle.std.proofs.Math.IntN.{neg_ℤ}
-
-abbrev pub is_one_of : List ℕ → ℕ → Bool
-is_one_of bytes b = list_any (λ c. c == b) bytes
+pub use Rattle.ref_value.specs.Letters.{is_one_of, is_digit, is_letter, begins_with_digit}
 
 -- space, tab, newline, return, form feed, comma
 abbrev pub is_space : ℕ → Bool
@@ -16,12 +14,6 @@ is_close b = b == 41 || b == 93 || b == 125
 -- what ends a token: whitespace, a quote, a semicolon, a bracket
 unfoldable pub is_delimiter : ℕ → Bool
 is_delimiter b = is_space b || b == 34 || b == 59 || b == 40 || b == 91 || b == 123 || is_close b
-
-abbrev pub is_digit : ℕ → Bool
-is_digit b = not (nat_lt b 48) && nat_lt b 58
-
-abbrev pub is_letter : ℕ → Bool
-is_letter b = (not (nat_lt b 65) && nat_lt b 91) || (not (nat_lt b 97) && nat_lt b 123)
 
 abbrev pub is_sign : ℕ → Bool
 is_sign b = b == 43 || b == 45
@@ -35,10 +27,6 @@ token_len (b ∷ bs) = cond (is_delimiter b) 0 (suc (token_len bs))
 
 abbrev pub all_digits : List ℕ → Bool
 all_digits bs = list_all is_digit bs
-
-abbrev pub begins_with_digit : List ℕ → Bool
-begins_with_digit [] = false
-begins_with_digit (b ∷ bs) = is_digit b
 
 -- 0, or a digit from 1 on and further digits
 abbrev pub is_numeral : List ℕ → Bool

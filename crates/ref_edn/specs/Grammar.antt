@@ -3,10 +3,10 @@
 use Rattle.std.specs.Prelude.{◌≡◌, ℕ, suc, ◌+◌, ◌*◌, ◌<◌, true, false, List, [], ◌∷◌, ◌++◌, IsTrue, ⊤, cond, ◌==◌, IsUtf8, IsPermutation, FitsSigned, encode_utf8}
 use Rattle.std.specs.Int.{w64}
 use Rattle.std.specs.Char.{IsScalar, digit_value}
-use Rattle.ref_edn.specs.Edn.{Edn, nil, boolean, int, string, keyword, symbol, vector, map, set, Items, no_items, item, Entries, no_entries, entry, list_of, pairs_of}
+use Rattle.ref_value.specs.Edn.{Edn, nil, boolean, int, string, keyword, symbol, vector, map, set, Items, no_items, item, Entries, no_entries, entry, list_of, pairs_of}
 use Rattle.ref_edn.specs.Bytes.{is_space, is_delimiter, is_integer, integer_value}
-use Rattle.ref_edn.specs.Names.{is_keyword, is_symbol, nil_text, true_text, false_text}
-use Rattle.ref_edn.specs.Order.{elements_ascend, keys_ascend}
+use Rattle.ref_value.specs.Names.{is_keyword, is_symbol, nil_text, true_text, false_text}
+use Rattle.ref_value.specs.Order.{elements_ascend, keys_ascend}
 
 -- a token, and the value that it writes
 pub data Token : List ℕ → Edn → Type 0 where

@@ -1,19 +1,9 @@
--- To be read and believed: Edn (values), Lawful, Names, Order, Collections, Bytes, Grammar, Printed, Faults, Streams, View, Texts.
+-- To be read and believed: Bytes, Grammar, Printed, Faults, Streams; and, of ref_value, Edn (values), Lawful, Names, Letters, Order,
+-- Collections, View, Texts.
 -- What the reader answers, fault by fault, is told in Reading, ReadTokens and ReadParts; Grammar doesn't depend on it.
--- OrderLaws are proved. The others are for private functions and proofs: Code, Most, Falls, Fronts, SortKeys, Sorting, Marks, and, for the
--- tree of members, Deepest, Members, Chunks, Trees, TreeCode, TreeFalls, Moves, Sides.
-pub mod Edn
-pub mod Code
-pub mod View
-pub mod Texts
-pub mod Most
-pub mod Falls
-pub mod Order
-pub mod OrderLaws
+-- The others are for private functions and proofs: Fronts, SortKeys, Sorting, Marks.
 pub mod SortKeys
 pub mod Bytes
-pub mod Names
-pub mod Lawful
 pub mod Grammar
 pub mod Printed
 pub mod Faults
@@ -23,13 +13,23 @@ pub mod Reading
 pub mod Streams
 pub mod Sorting
 pub mod ReadParts
-pub mod Collections
 pub mod Marks
-pub mod Deepest
-pub mod Members
-pub mod Chunks
-pub mod Trees
-pub mod TreeCode
-pub mod Moves
-pub mod Sides
-pub mod TreeFalls
+pub use Rattle.ref_value.specs.Edn
+pub use Rattle.ref_value.specs.Code
+pub use Rattle.ref_value.specs.View
+pub use Rattle.ref_value.specs.Texts
+pub use Rattle.ref_value.specs.Most
+pub use Rattle.ref_value.specs.Falls
+pub use Rattle.ref_value.specs.Order
+pub use Rattle.ref_value.specs.OrderLaws
+pub use Rattle.ref_value.specs.Names
+pub use Rattle.ref_value.specs.Lawful
+pub use Rattle.ref_value.specs.Collections
+pub use Rattle.ref_value.specs.Deepest
+pub use Rattle.ref_value.specs.Members
+pub use Rattle.ref_value.specs.Chunks
+pub use Rattle.ref_value.specs.Trees
+pub use Rattle.ref_value.specs.TreeCode
+pub use Rattle.ref_value.specs.Moves
+pub use Rattle.ref_value.specs.Sides
+pub use Rattle.ref_value.specs.TreeFalls

@@ -1,8 +1,8 @@
 -- The one text that is printed of a value.
 use Rattle.std.specs.Prelude.{ℕ, ◌==◌, true, false, cond, List, [], ◌∷◌, ◌++◌}
 use Rattle.std.specs.Fmt.{signed_decimal}
-use Rattle.ref_edn.specs.Edn.{Edn, nil, boolean, int, string, keyword, symbol, vector, map, set, Items, no_items, item, Entries, no_entries, entry}
-use Rattle.ref_edn.specs.Names.{nil_text, true_text, false_text}
+use Rattle.ref_value.specs.Edn.{Edn, nil, boolean, int, string, keyword, symbol, vector, map, set, Items, no_items, item, Entries, no_entries, entry}
+use Rattle.ref_value.specs.Names.{nil_text, true_text, false_text}
 
 -- A byte of a string: a quote, a backslash, and what moves the cursor are escaped, each other byte stands as it is.
 abbrev pub escaped_byte : ℕ → List ℕ

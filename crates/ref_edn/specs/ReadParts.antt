@@ -4,7 +4,7 @@ use Rattle.ref_edn.specs.declared.faults.Fault.{Fault}
 use Rattle.ref_edn.specs.declared.faults.Kind.TheVariants.{EndsEarly, BadByte, WrongClose, TooDeep, LeftOut}
 use Rattle.ref_edn.specs.declared.faults.ReadError.{ReadError}
 use Rattle.ref_edn.specs.declared.faults.ReadError.TheVariants as errors
-use Rattle.ref_edn.specs.Edn.{Edn}
+use Rattle.ref_value.specs.Edn.{Edn}
 use Rattle.ref_edn.specs.Bytes.{is_space, is_close}
 use Rattle.ref_edn.specs.declared.faults.ReadFault.{ReadFault}
 use Rattle.ref_edn.specs.declared.faults.ReadFault.TheVariants as faults

@@ -5,9 +5,9 @@ use Rattle.std.specs.Str.{is_utf8}
 use Rattle.ref_edn.specs.declared.faults.Fault.{Fault}
 use Rattle.ref_edn.specs.declared.faults.Kind.{Kind}
 use Rattle.ref_edn.specs.declared.faults.Kind.TheVariants.{EndsEarly, BadNumber, TooLarge, BadEscape, BadName, LeftOut, NotUtf8}
-use Rattle.ref_edn.specs.Edn.{Edn, nil, boolean, int, string, keyword, symbol}
+use Rattle.ref_value.specs.Edn.{Edn, nil, boolean, int, string, keyword, symbol}
 use Rattle.ref_edn.specs.Bytes.{is_one_of, is_digit, is_letter, is_sign, token_len, begins_with_digit, is_integer, integer_value}
-use Rattle.ref_edn.specs.Names.{is_keyword, is_symbol, bytes_eq, nil_text, true_text, false_text}
+use Rattle.ref_value.specs.Names.{is_keyword, is_symbol, bytes_eq, nil_text, true_text, false_text}
 use Rattle.ref_edn.specs.Faults.{◌>>=◌, fault}
 
 -- ---- tokens

@@ -1,8 +1,8 @@
 -- A number that stands for most of a value in a sort: its kind, and an integer or the front of its text.
 use Rattle.std.specs.Prelude.{ℕ, zero, suc, ◌+◌, ◌-◌, ◌*◌, ◌≤◌, min, ℤ, pos, negsuc, List, [], ◌∷◌}
 use Rattle.std.specs.List.{AllByRecursion}
-use Rattle.ref_edn.specs.Edn.{Edn, int, string, keyword, symbol}
-use Rattle.ref_edn.specs.Order.{rank}
+use Rattle.ref_value.specs.Edn.{Edn, int, string, keyword, symbol}
+use Rattle.ref_value.specs.Order.{rank}
 
 -- what k bytes spell behind n, the greatest first, with 0 where there are no more
 abbrev pub spelled : ℕ → ℕ → List ℕ → ℕ

@@ -4,8 +4,8 @@ use Rattle.std.specs.List.{list_any}
 use Rattle.std.specs.Ordering.{is_eq}
 use Rattle.std.specs.BTreeMap.{insert_entry}
 use Rattle.std.specs.BTreeSet.{insert_key}
-use Rattle.ref_edn.specs.Edn.{Edn}
-use Rattle.ref_edn.specs.Order.{edn_cmp}
+use Rattle.ref_value.specs.Edn.{Edn}
+use Rattle.ref_value.specs.Order.{edn_cmp}
 
 -- whether an element is among these
 abbrev pub is_among : Edn → List Edn → Bool

@@ -6,26 +6,23 @@
 //! The members of a map and a set are kept in the order of reading, each with its place, and sorted at the closing
 //! bracket or at a fault. Then equals stand side by side, so that the first one that is there already is known.
 ghost use Rattle.std.specs.Prelude.{◌≡◌, ◌<◌, ◌≤◌, [], ◌∷◌, ◌++◌, length, IsTrue, IfOk};
-ghost use Rattle.ref_edn.specs.Edn.{items_of, entries_of};
+ghost use Rattle.ref_value.specs.Edn.{items_of, entries_of};
 ghost use Rattle.ref_edn.specs.Faults.{Gives};
 ghost use Rattle.ref_edn.specs.Marks.{Falls, elements_of, first_twice, keys_of, pairs_of};
-ghost use Rattle.ref_edn.specs.Order.{elements_ascend, keys_ascend};
+ghost use Rattle.ref_value.specs.Order.{elements_ascend, keys_ascend};
 ghost use Rattle.ref_edn.specs.Sorting.{inserts, inserts_entries};
 ghost use Rattle.ref_edn.specs.ReadParts.{single_at, discarded_at, vector_at, mapping_at, collection_at, items_at, set_at, map_at, next_at, value_at};
 ghost use Rattle.ref_edn.specs.Reading.{skip as skip_of, read as read_of};
 
 use crate::blanks::{after_spaces, is_discard, line_end, may_be_blank, opens_set};
 use crate::bytes::{after, is_close, starts_token};
-use crate::data::{Node, Value};
 use crate::faults::{Kind, ReadError};
-use crate::maps::Entries;
 use crate::members::{into_pairs, into_values, sort_elements, sort_entries};
 use crate::scratch::Scratch;
-use crate::sets::Elements;
 use crate::sort_keys::Keyed;
 use crate::string_reader::string;
 use crate::token_reader::token;
-use crate::vectors::Items;
+use ref_value::{Elements, Entries, Items, Node, Value};
 use std::alloc::Global;
 use std::cmp::Reverse;
 

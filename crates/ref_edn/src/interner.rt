@@ -1,13 +1,10 @@
 //! Names and strings that a text has had lately, and its collections without members. What comes again shares the block of the first
 //! one, and needs no second look at its bytes: most texts write a few names many times, as the keys of their maps.
 ghost use Rattle.std.specs.Prelude.{◌≡◌, ◌<◌, [], IfOk, IfSome, IsTrue, IsUtf8};
-ghost use Rattle.ref_edn.specs.Edn.{Edn, no_items, no_entries, keyword as keyword_of, string as string_of, symbol as symbol_of, vector as vector_of, map as map_of, set as set_of};
-ghost use Rattle.ref_edn.specs.Lawful.{IsLawful};
+ghost use Rattle.ref_value.specs.Edn.{Edn, no_items, no_entries, keyword as keyword_of, string as string_of, symbol as symbol_of, vector as vector_of, map as map_of, set as set_of};
+ghost use Rattle.ref_value.specs.Lawful.{IsLawful};
 
-use crate::data::{Node, Value};
-use crate::maps::Entries;
-use crate::sets::Elements;
-use crate::vectors::Items;
+use ref_value::{Elements, Entries, Items, Node, Value};
 use std::alloc::{AllocError, Global};
 
 // How many names and strings are known at a time. No contract speaks of it.

@@ -1,12 +1,12 @@
 //! Members of a set or a map in the order of reading, each with how many bytes were left where it began.
 ghost use Rattle.std.specs.Prelude.{◌≡◌, [], cond, IsTrue, IsPermutation, IfOk};
 ghost use Rattle.std.specs.Ordering.{is_lt};
-ghost use Rattle.ref_edn.specs.Edn.{items_of, entries_of};
+ghost use Rattle.ref_value.specs.Edn.{items_of, entries_of};
 ghost use Rattle.ref_edn.specs.Marks.{Falls, elements_of, first_twice, keys_of, pairs_of, twin_left};
-ghost use Rattle.ref_edn.specs.Order.{edn_cmp, elements_ascend, keys_ascend};
+ghost use Rattle.ref_value.specs.Order.{edn_cmp, elements_ascend, keys_ascend};
 
-use crate::data::Value;
 use crate::sort_keys::Keyed;
+use ref_value::Value;
 use std::alloc::{AllocError, Global};
 use std::cmp::Reverse;
 

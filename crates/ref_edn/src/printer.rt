@@ -1,17 +1,15 @@
 //! The printer of EDN text.
 ghost use Rattle.std.specs.Prelude.{◌≡◌, ◌≤◌, ◌++◌, ◌∷◌, ◌==◌, [], if◌then◌else◌, OnOk, OnErr, MatchOption, length, take};
 ghost use Rattle.std.specs.Fmt.{signed_decimal};
-ghost use Rattle.ref_edn.specs.Edn.{Edn, items_of, entries_of};
+ghost use Rattle.ref_value.specs.Edn.{Edn, items_of, entries_of};
 ghost use Rattle.ref_edn.specs.Grammar.{IsText};
-ghost use Rattle.ref_edn.specs.Lawful.{IsLawful};
+ghost use Rattle.ref_value.specs.Lawful.{IsLawful};
 ghost use Rattle.ref_edn.specs.Printed.{printed, escaped, escaped_byte, items_text, entries_text};
 
 use crate::bytes::after;
-use crate::data::{Node, Value};
-use crate::maps::{Entries, Iter};
-use crate::sets::Elements;
-use crate::vectors::Items;
 use itoa::Buffer;
+use ref_value::maps::Iter;
+use ref_value::{Elements, Entries, Items, Node, Value};
 use std::alloc::{AllocError, Global};
 
 // How many keys of a map are looked at in one go.

@@ -1,15 +1,16 @@
 //! The reader of EDN text.
 ghost use Rattle.std.specs.Prelude.{◌≡◌, ◌≢◌, ℕ, List, IfOk, IfErr, IsUtf8};
-ghost use Rattle.ref_edn.specs.Edn.{Edn};
+ghost use Rattle.ref_value.specs.Edn.{Edn};
 ghost use Rattle.ref_edn.specs.Faults.{Answers, Gives};
 ghost use Rattle.ref_edn.specs.Grammar.{IsText, AreTexts};
 ghost use Rattle.ref_edn.specs.ReadParts.{whole_at, series_at, public_error};
 ghost use Rattle.ref_edn.specs.Reading.{one, all};
 
-use crate::data::{MOST_NESTED, Value};
 use crate::elements::{read, skip};
 use crate::faults::{Kind, ReadError, ReadFault, fault_at};
 use crate::scratch::Scratch;
+use ref_value::Value;
+use ref_value::data::MOST_NESTED;
 use std::alloc::Global;
 
 /// The value of a text that is one element.

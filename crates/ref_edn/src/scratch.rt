@@ -1,8 +1,8 @@
 //! What the reader carries from element to element of a text. It changes what reading costs, and not what is read.
 ghost use Rattle.std.specs.Prelude.{◌≡◌, []};
 
-use crate::data::Value;
 use crate::interner::Interner;
+use ref_value::Value;
 use std::alloc::Global;
 
 /// Values that may come again, and the room of lists that are used no more.

@@ -1,12 +1,12 @@
 //! Values with a number that tells most of them apart: what a sort looks at first.
 ghost use Rattle.std.specs.Prelude.{◌≡◌, get_or};
-ghost use Rattle.ref_edn.specs.Edn.{Edn};
-ghost use Rattle.ref_edn.specs.Order.{edn_cmp, rank as rank_of};
+ghost use Rattle.ref_value.specs.Edn.{Edn};
+ghost use Rattle.ref_value.specs.Order.{edn_cmp, rank as rank_of};
 ghost use Rattle.ref_edn.specs.SortKeys.{AreBytes, spelled, text_of, int_key as int_key_of, sort_key};
-ghost use Rattle.ref_edn.specs.View.{edn};
+ghost use Rattle.ref_value.specs.View.{edn};
 
-use crate::data::{Node, Value};
-use crate::order::{compare, rank};
+use ref_value::order::{compare, rank};
+use ref_value::{Node, Value};
 use std::cmp::Ordering;
 use std::marker::Model;
 
@@ -21,8 +21,8 @@ pub(crate) struct Keyed {
 
 impl Model for Keyed {
     ghost use Rattle.std.specs.Prelude.{◌≡◌};
-    ghost use Rattle.ref_edn.specs.Edn.{Edn};
-    ghost use Rattle.ref_edn.specs.Code.{edn_code};
+    ghost use Rattle.ref_value.specs.Edn.{Edn};
+    ghost use Rattle.ref_value.specs.Code.{edn_code};
     ghost use Rattle.ref_edn.specs.SortKeys.{AreBytes, text_of, sort_key};
 
     ghost Value = { Edn };
@@ -114,8 +114,8 @@ fn spell(kind: u8, text: &[u8]) -> u64
 }
 
 impl Ord for Keyed {
-    ghost use Rattle.ref_edn.specs.Order.{edn_cmp};
-    ghost use Rattle.ref_edn.specs.OrderLaws.{edn_cmp_total};
+    ghost use Rattle.ref_value.specs.Order.{edn_cmp};
+    ghost use Rattle.ref_value.specs.OrderLaws.{edn_cmp_total};
     ghost use Rattle.std.specs.Prelude.{refl};
 
     ghost cmp = { edn_cmp };
@@ -132,8 +132,8 @@ impl Ord for Keyed {
 }
 
 impl PartialOrd for Keyed {
-    ghost use Rattle.ref_edn.specs.Order.{edn_cmp};
-    ghost use Rattle.ref_edn.specs.OrderLaws.{edn_cmp_total};
+    ghost use Rattle.ref_value.specs.Order.{edn_cmp};
+    ghost use Rattle.ref_value.specs.OrderLaws.{edn_cmp_total};
     ghost use Rattle.std.specs.Cmp.{partial_order_from_total};
     ghost use Rattle.std.specs.Ordering.{as_partial_cmp};
 
@@ -147,8 +147,8 @@ impl PartialOrd for Keyed {
 }
 
 impl PartialEq for Keyed {
-    ghost use Rattle.ref_edn.specs.Order.{edn_cmp};
-    ghost use Rattle.ref_edn.specs.OrderLaws.{edn_cmp_total};
+    ghost use Rattle.ref_value.specs.Order.{edn_cmp};
+    ghost use Rattle.ref_value.specs.OrderLaws.{edn_cmp_total};
     ghost use Rattle.std.specs.Cmp.{partial_equiv_from_equiv, eq_by_cmp_equiv};
     ghost use Rattle.std.specs.Ordering.{eq_by_cmp};
 
@@ -162,7 +162,7 @@ impl PartialEq for Keyed {
 }
 
 impl Eq for Keyed {
-    ghost use Rattle.ref_edn.specs.OrderLaws.{edn_cmp_total};
+    ghost use Rattle.ref_value.specs.OrderLaws.{edn_cmp_total};
     ghost use Rattle.std.specs.Cmp.{eq_by_cmp_equiv};
 
     ghost laws = { eq_by_cmp_equiv edn_cmp_total };

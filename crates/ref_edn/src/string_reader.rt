@@ -2,18 +2,17 @@
 ghost use Rattle.std.specs.Prelude.{◌≡◌, ◌<◌, ℕ, ◌++◌, length, drop, Ok, IfOk, IfSome, IfNone, IsUtf8, OnOk, encode_utf8};
 ghost use Rattle.std.specs.Char.{digit_value};
 ghost use Rattle.std.specs.Option.{SomeIff};
-ghost use Rattle.ref_edn.specs.Edn.{nesting, string as string_of};
+ghost use Rattle.ref_value.specs.Edn.{nesting, string as string_of};
 ghost use Rattle.ref_edn.specs.Faults.{Gives};
 ghost use Rattle.ref_edn.specs.Grammar.{NamesChar};
-ghost use Rattle.ref_edn.specs.Lawful.{IsLawful};
+ghost use Rattle.ref_value.specs.Lawful.{IsLawful};
 ghost use Rattle.ref_edn.specs.ReadTokens.{escape_of, hex_at, escape_at, body_at, string_at};
 
 use crate::bytes::after;
-use crate::data::{Node, Value};
 use crate::faults::{Kind, ReadError};
 use crate::interner::Interner;
-use crate::texts::Text;
 use memchr::memchr2;
+use ref_value::{Node, Text, Value};
 use std::alloc::{AllocError, Global};
 
 // What a letter behind a backslash stands for.

@@ -3,7 +3,7 @@ ghost use Rattle.std.specs.Prelude.{◌≡◌, ◌<◌, ◌≤◌, ◌^◌, leng
 ghost use Rattle.std.specs.Int.{w64};
 ghost use Rattle.std.proofs.Math.IntN.{neg_ℤ};
 ghost use Rattle.std.specs.Option.{SomeIff};
-ghost use Rattle.ref_edn.specs.Edn.{int, nesting};
+ghost use Rattle.ref_value.specs.Edn.{int, nesting};
 ghost use Rattle.ref_edn.specs.Bytes.{all_digits, is_numeral as is_numeral_text, is_integer as is_integer_text, digits_value, integer_value};
 ghost use Rattle.ref_edn.specs.Faults.{Gives};
 ghost use Rattle.ref_edn.specs.Fronts.{front_value, StandsFirst};
@@ -11,11 +11,10 @@ ghost use Rattle.ref_edn.specs.Grammar.{Ends};
 ghost use Rattle.ref_edn.specs.ReadTokens.{starts_number as starts_number_text, after_digits as after_digits_text, after_numeral as after_numeral_text, after_integer as after_integer_text, marks_left_out as marks_left_out_text, fits_i64, number_value, keyword_value, word_value, token_value as value_of_token, token_at};
 
 use crate::bytes::{after, is_delimiter, is_digit, token_end};
-use crate::data::{Node, Value};
 use crate::faults::{Kind, ReadError};
 use crate::interner::Interner;
-use crate::names::{is_keyword, is_same, is_symbol};
-use crate::texts::Text;
+use ref_value::names::{is_keyword, is_same, is_symbol};
+use ref_value::{Node, Text, Value};
 use std::alloc::{AllocError, Global};
 
 fn are_digits(digits: &[u8]) -> bool
@@ -239,7 +238,7 @@ fn number(word: &[u8]) -> Result<Value, Kind>
 }
 
 // The value of a keyword, of which this is what stands behind the colon.
-#[tactic(auto, using(crate::proofs::NameParts::name_utf8), unfolding(crate::specs::ReadTokens::keyword_value))]
+#[tactic(auto, using(crate::proofs::AsciiNames::name_utf8), unfolding(crate::specs::ReadTokens::keyword_value))]
 fn keyword(
     alloc: Global,
     interner: &mut Interner,
@@ -258,7 +257,7 @@ fn keyword(
 }
 
 // The value of a symbol, or of a word that is a value of its own.
-#[tactic(auto, using(crate::proofs::NameParts::symbol_utf8, crate::proofs::Tokens::symbol_word), unfolding(crate::specs::ReadTokens::word_value))]
+#[tactic(auto, using(crate::proofs::AsciiNames::symbol_utf8, crate::proofs::Tokens::symbol_word), unfolding(crate::specs::ReadTokens::word_value))]
 fn symbol(
     alloc: Global,
     interner: &mut Interner,

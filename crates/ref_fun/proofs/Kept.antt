@@ -1,8 +1,8 @@
 -- What the functions of collections give where the collection is known as a list.
 use Rattle.std.proofs.Common.{◌≡◌, ◌≤◌, ◌-◌, List, [], ◌∷◌, ◌++◌, fold, length, get_or, take, drop, Ok, arith}
 use Rattle.std.proofs.lemmas.List.{take_rest}
-use Rattle.ref_edn.specs.Edn.{Edn, vector, map, set, items_of, entries_of, list_of-items_of, pairs_of-entries_of}
-use Rattle.ref_edn.specs.Collections.{elements_without, entries_with, entries_without}
+use Rattle.ref_value.specs.Edn.{Edn, vector, map, set, items_of, entries_of, list_of-items_of, pairs_of-entries_of}
+use Rattle.ref_value.specs.Collections.{elements_without, entries_with, entries_without}
 use Rattle.ref_fun.specs.Collections.{shallow, conj, with_elements, with_pairs_in, with_pairs, dissoc, disj}
 
 pub conj_vector : (args xs : List Edn) → conj args (vector (items_of xs)) ≡ shallow (vector (items_of (xs ++ args)))

@@ -4,10 +4,10 @@ use Rattle.std.specs.Cmp.Lexicographic.{pointwise}
 use Rattle.std.specs.Ordering.{eq_by_cmp}
 use Rattle.std.proofs.Common.{ap, sym, ◌∙◌}
 use Rattle.std.proofs.lemmas.Slice.Eq.{slice_eq-Decides}
-use Rattle.ref_edn.specs.Edn.{Edn}
-use Rattle.ref_edn.specs.Edn.{Edn}
-use Rattle.ref_edn.specs.Order.{edn_cmp}
-use Rattle.ref_edn.specs.OrderLaws.{edn_eq}
+use Rattle.ref_value.specs.Edn.{Edn}
+use Rattle.ref_value.specs.Edn.{Edn}
+use Rattle.ref_value.specs.Order.{edn_cmp}
+use Rattle.ref_value.specs.OrderLaws.{edn_eq}
 use Rattle.ref_fun.specs.declared.actions.Action.{Action}
 
 both : (a b : Action) → a.code ≡ b.code → a.args ≡ b.args → a ≡ b

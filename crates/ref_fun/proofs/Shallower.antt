@@ -1,9 +1,9 @@
 -- A collection without a member is nested no deeper.
 use Rattle.std.proofs.Common.{◌≤◌, List, [], ◌∷◌, true, false, cond, fold, arith}
 use Rattle.std.specs.BTreeMap.{is_at}
-use Rattle.ref_edn.specs.Edn.{Edn, items_of, items_depth, entries_of, entries_depth}
-use Rattle.ref_edn.specs.Order.{edn_cmp}
-use Rattle.ref_edn.specs.Collections.{elements_without, entries_without}
+use Rattle.ref_value.specs.Edn.{Edn, items_of, items_depth, entries_of, entries_depth}
+use Rattle.ref_value.specs.Order.{edn_cmp}
+use Rattle.ref_value.specs.Collections.{elements_without, entries_without}
 
 pub items_depth_without : (xs : List Edn) (x : Edn) → items_depth (items_of (elements_without xs x)) ≤ items_depth (items_of xs)
 items_depth_without [] x = omega arith

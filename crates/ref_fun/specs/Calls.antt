@@ -1,8 +1,8 @@
 -- What calls of stored functions and predicates may answer.
 use Rattle.std.specs.Prelude.{◌≡◌, ◌==◌, ◌<◌, ◌≤◌, ℕ, Bool, true, false, cond, if◌then◌else◌, Option, None, Some, Result, Ok, Err, refl}
 use Rattle.std.specs.Coded.{Coded, Coded-set, Unit-prop, code_by, coded_result, coded_ℕ}
-use Rattle.ref_edn.specs.Edn.{Edn}
-use Rattle.ref_edn.specs.Code.{edn_code}
+use Rattle.ref_value.specs.Edn.{Edn}
+use Rattle.ref_value.specs.Code.{edn_code}
 use Rattle.ref_fun.specs.Cause.{cause_number}
 use Rattle.ref_fun.specs.Meaning.{Answers}
 use Rattle.ref_fun.specs.declared.faults.Cause.{Cause}

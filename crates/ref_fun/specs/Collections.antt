@@ -1,7 +1,7 @@
 -- The functions of vectors, maps and sets.
 use Rattle.std.specs.Prelude.{◌==◌, nat_lt, Bool, true, false, ◌||◌, if◌then◌else◌, List, [], ◌∷◌, ◌++◌, length, fold, Result, Ok, Err}
-use Rattle.ref_edn.specs.Edn.{Edn, nil, vector, map, set, items_of, list_of, entries_of, pairs_of, nesting}
-use Rattle.ref_edn.specs.Collections.{elements_with, elements_without, entries_with, entries_without}
+use Rattle.ref_value.specs.Edn.{Edn, nil, vector, map, set, items_of, list_of, entries_of, pairs_of, nesting}
+use Rattle.ref_value.specs.Collections.{elements_with, elements_without, entries_with, entries_without}
 use Rattle.ref_fun.specs.declared.faults.Cause.{Cause}
 use Rattle.ref_fun.specs.declared.faults.Cause.TheVariants.{WrongKind, WrongArity, Overflow, TooDeep}
 

@@ -24,7 +24,7 @@
 -- An integer of more than 64 bits, also on the way, is an Overflow. A result of `conj` or `assoc` that is nested deeper
 -- than 48 is TooDeep.
 use Rattle.std.specs.Prelude.{◌≡◌, ℕ, ℤ, ◌==◌, ◌&&◌, nat_lt, Bool, false, not, if◌then◌else◌, List, [], ◌∷◌, Result, Err, refl}
-use Rattle.ref_edn.specs.Edn.{Edn, int}
+use Rattle.ref_value.specs.Edn.{Edn, int}
 use Rattle.ref_fun.specs.declared.faults.Cause.{Cause}
 use Rattle.ref_fun.specs.declared.faults.Cause.TheVariants.{WrongArity}
 use Rattle.ref_fun.specs.Integers.{plus, minus, inc, dec, greatest, least}

@@ -2,7 +2,7 @@
 use Rattle.std.specs.Prelude.{◌^◌, nat_lt, ℤ, pos, negsuc, ◌+ℤ◌, ◌-ℤ◌, neg_ℤ, Bool, ◌&&◌, if◌then◌else◌, List, [], ◌∷◌, map, fold, Result, Ok, Err}
 use Rattle.std.specs.List.{list_all}
 use Rattle.std.specs.Int.{int_max, int_min}
-use Rattle.ref_edn.specs.Edn.{Edn, int}
+use Rattle.ref_value.specs.Edn.{Edn, int}
 use Rattle.ref_fun.specs.declared.faults.Cause.{Cause}
 use Rattle.ref_fun.specs.declared.faults.Cause.TheVariants.{WrongKind, WrongArity, Overflow}
 use Rattle.ref_fun.specs.Kinds.{is_int}

@@ -1,6 +1,6 @@
 -- The kinds of values.
 use Rattle.std.specs.Prelude.{Bool, true, false}
-use Rattle.ref_edn.specs.Edn.{Edn, nil, int, string, vector, map, set}
+use Rattle.ref_value.specs.Edn.{Edn, nil, int, string, vector, map, set}
 
 abbrev pub is_int : Edn → Bool
 is_int (int n) = true

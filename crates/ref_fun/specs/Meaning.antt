@@ -1,6 +1,6 @@
 -- What a call of a function may answer.
 use Rattle.std.specs.Prelude.{◌≡◌, ℕ, List, Result, Ok, Err}
-use Rattle.ref_edn.specs.Edn.{Edn}
+use Rattle.ref_value.specs.Edn.{Edn}
 use Rattle.ref_fun.specs.declared.faults.Cause.{Cause}
 use Rattle.ref_fun.specs.declared.faults.FunFault.{FunFault}
 use Rattle.ref_fun.specs.declared.faults.FunFault.TheVariants.{Refused, Memory}

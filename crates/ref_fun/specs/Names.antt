@@ -1,6 +1,6 @@
 -- The codes of the functions and predicates of Core, and their names as they stand in texts.
 use Rattle.std.specs.Prelude.{ℕ, ◌==◌, nat_le, Bool, ◌&&◌, if◌then◌else◌, List, [], ◌∷◌, Option, None, Some, codes}
-use Rattle.ref_edn.specs.Names.{bytes_eq}
+use Rattle.ref_value.specs.Names.{bytes_eq}
 
 -- each code with its name
 unfoldable pub core_names : List (ℕ × List ℕ)

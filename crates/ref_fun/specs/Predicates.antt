@@ -1,8 +1,8 @@
 -- The predicates. With another number of arguments, or arguments of another kind, a predicate accepts nothing.
 use Rattle.std.specs.Prelude.{int_le, Bool, false, List, [], ◌∷◌}
 use Rattle.std.specs.Ordering.{is_eq}
-use Rattle.ref_edn.specs.Edn.{Edn, int}
-use Rattle.ref_edn.specs.Order.{edn_cmp}
+use Rattle.ref_value.specs.Edn.{Edn, int}
+use Rattle.ref_value.specs.Order.{edn_cmp}
 
 -- `>=` and `<=`: an integer of at least, or at most, the one argument
 abbrev pub at_least : List Edn → Edn → Bool

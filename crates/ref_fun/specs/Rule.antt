@@ -1,7 +1,7 @@
 -- Whether a rule accepts a value. A rule is a predicate by its code, with its arguments; `accepts` says what predicates
 -- accept, and `knows` which of them a table has.
 use Rattle.std.specs.Prelude.{ℕ, Bool, true, if◌then◌else◌, List, Option, None, Some}
-use Rattle.ref_edn.specs.Edn.{Edn}
+use Rattle.ref_value.specs.Edn.{Edn}
 use Rattle.ref_fun.specs.declared.rules.Rule.{Rule}
 
 -- what predicates accept

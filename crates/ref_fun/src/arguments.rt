@@ -1,7 +1,7 @@
 //! The arguments of a function.
 ghost use Rattle.std.specs.Prelude.{◌≡◌, ◌≢◌, ◌≤◌, [], length, vec_len, IfOk, OnErr};
 
-use ref_edn::Value;
+use ref_value::Value;
 use std::alloc::{AllocError, Global};
 use std::marker::Model;
 use std::sync::Arc;
@@ -20,8 +20,8 @@ impl Model for Args {
     ghost use Rattle.std.specs.Prelude.{List, [], length, ◌≤◌};
     ghost use Rattle.std.specs.Coded.{coded_list};
     ghost use Rattle.std.specs.Option.{option_map_or};
-    ghost use Rattle.ref_edn.specs.Edn.{Edn};
-    ghost use Rattle.ref_edn.specs.Code.{edn_code};
+    ghost use Rattle.ref_value.specs.Edn.{Edn};
+    ghost use Rattle.ref_value.specs.Code.{edn_code};
 
     ghost Value = { List Edn };
 

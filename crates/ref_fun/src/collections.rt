@@ -3,17 +3,17 @@
 //! Each shares the state's collection and changes the share: log n steps for an argument, or for two of `assoc`. What the
 //! share and the state have in common stays shared.
 ghost use Rattle.std.specs.Prelude.{◌≡◌, ◌<◌, ◌++◌, false, IfOk, IfErr, IsTrue, fold};
-ghost use Rattle.ref_edn.specs.Collections.{elements_without, entries_without};
-ghost use Rattle.ref_edn.specs.Edn.{vector, map, set, items_of, items_depth, entries_of, entries_depth};
-ghost use Rattle.ref_edn.specs.Lawful.{IsLawful};
-ghost use Rattle.ref_edn.specs.Order.{elements_ascend, keys_ascend};
-ghost use Rattle.ref_edn.specs.View.{edn};
+ghost use Rattle.ref_value.specs.Collections.{elements_without, entries_without};
+ghost use Rattle.ref_value.specs.Edn.{vector, map, set, items_of, items_depth, entries_of, entries_depth};
+ghost use Rattle.ref_value.specs.Lawful.{IsLawful};
+ghost use Rattle.ref_value.specs.Order.{elements_ascend, keys_ascend};
+ghost use Rattle.ref_value.specs.View.{edn};
 ghost use Rattle.ref_fun.specs.Collections.{is_early, shallow, conj, with_elements, assoc, are_pairs, with_pairs, dissoc, disj};
 ghost use Rattle.ref_fun.specs.Meaning.{Answers};
 ghost use Rattle.ref_fun.specs.declared.faults.FunFault.TheVariants.{Memory};
 
 use crate::faults::{Cause, FunFault};
-use ref_edn::{Elements, Entries, Items, Node, Value};
+use ref_value::{Elements, Entries, Items, Node, Value};
 use std::alloc::{AllocError, Global};
 
 /// How many collections may be open at a place of what a function makes.

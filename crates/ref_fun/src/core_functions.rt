@@ -8,7 +8,7 @@ use crate::meanings::Core;
 use crate::names::{is_function, is_predicate};
 use crate::predicates::core_test;
 use crate::tables::Functions;
-use ref_edn::Value;
+use ref_value::Value;
 use std::alloc::Global;
 
 /// All functions and predicates of Core, by their codes. Use it where a program has no functions of its own: it holds no closures,

@@ -7,7 +7,7 @@ ghost use Rattle.ref_fun.specs.declared.faults.FunFault.TheVariants.{Memory};
 use crate::collections::{assoc, conj, disj, dissoc};
 use crate::faults::{Cause, FunFault};
 use crate::integers::{dec, greatest, inc, least, minus, plus};
-use ref_edn::Value;
+use ref_value::Value;
 use std::alloc::Global;
 
 /// Calls the function of Core that has this code. A function of a collection of n members takes log n steps for each argument, in

@@ -2,13 +2,13 @@
 ghost use Rattle.std.specs.Prelude.{◌≡◌, ◌+ℤ◌, ◌-ℤ◌, neg_ℤ, ◌&&◌, map, fold};
 ghost use Rattle.std.specs.Int.{int_max, int_min};
 ghost use Rattle.std.specs.List.{list_all};
-ghost use Rattle.ref_edn.specs.Edn.{int};
+ghost use Rattle.ref_value.specs.Edn.{int};
 ghost use Rattle.ref_fun.specs.Integers.{plus, minus, inc, dec, greatest, least, difference, int_of, fit, fold_ints};
 ghost use Rattle.ref_fun.specs.Kinds.{is_int};
 
 use crate::faults::Cause;
 use crate::kinds::is_int;
-use ref_edn::{Node, Value};
+use ref_value::{Node, Value};
 
 /// State and arguments added up from left to right.
 pub(crate) fn plus(state: &Value, args: &[Value]) -> Result<Value, Cause>

@@ -2,7 +2,7 @@
 ghost use Rattle.std.specs.Prelude.{◌≡◌};
 ghost use Rattle.ref_fun.specs.Kinds.{is_int, is_string, is_vector, is_map, is_set, is_not_nil};
 
-use ref_edn::{Node, Value};
+use ref_value::{Node, Value};
 
 pub(crate) fn is_int(value: &Value) -> bool
     ensures { result ≡ is_int value.now }

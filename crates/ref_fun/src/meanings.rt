@@ -1,6 +1,6 @@
 //! What codes mean.
 ghost use Rattle.std.specs.Prelude.{◌≡◌, ℕ, ℤ, ◌∷◌, [], List, Bool, Result};
-ghost use Rattle.ref_edn.specs.Edn.{Edn, int};
+ghost use Rattle.ref_value.specs.Edn.{Edn, int};
 ghost use Rattle.ref_fun.specs.Core.{core_means, core_accepts, core_adds};
 ghost use Rattle.ref_fun.specs.declared.faults.Cause.{Cause};
 ghost use Rattle.ref_fun.specs.Integers.{plus};

@@ -1,6 +1,6 @@
 //! The codes and names of the functions and predicates of Core.
 ghost use Rattle.std.specs.Prelude.{◌≡◌, map, option_copied};
-ghost use Rattle.ref_edn.specs.Names.{bytes_eq};
+ghost use Rattle.ref_value.specs.Names.{bytes_eq};
 ghost use Rattle.ref_fun.specs.Names.{core_names, code_in, name_in, is_function, is_predicate};
 
 const NAMES: [(u32, &str); 19] = [

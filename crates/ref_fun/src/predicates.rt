@@ -4,7 +4,7 @@ ghost use Rattle.ref_fun.specs.Core.{core_accepts};
 ghost use Rattle.ref_fun.specs.Predicates.{at_least, at_most, equals};
 
 use crate::kinds::{is_int, is_map, is_not_nil, is_set, is_string, is_vector};
-use ref_edn::{Node, Value};
+use ref_value::{Node, Value};
 
 /// Whether the predicate of Core that has this code accepts the state. It takes constant time, but for the comparison of
 /// two values.

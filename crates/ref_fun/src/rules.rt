@@ -5,7 +5,7 @@ ghost use Rattle.ref_fun.specs.Rule.{is_known, passes, unknown};
 use crate::arguments::Args;
 use crate::meanings::Meaning;
 use crate::tables::Functions;
-use ref_edn::Value;
+use ref_value::Value;
 use std::alloc::AllocError;
 
 /// A predicate by its code, with its arguments: which values a reference may have. In contracts rules are equal where

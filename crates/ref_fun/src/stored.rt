@@ -7,7 +7,7 @@ ghost use Rattle.ref_fun.specs.Core.{core_means, core_accepts};
 ghost use Rattle.ref_fun.specs.Meaning.{Answers};
 
 use crate::faults::FunFault;
-use ref_edn::Value;
+use ref_value::Value;
 use std::alloc::Global;
 
 /// What runs as a function: it takes the allocator for the value that it gives, the state and the arguments.

@@ -7,7 +7,7 @@ ghost use Rattle.ref_fun.specs.Calls.{AddFaultComes, CallAnswers, HasCore, HasRo
 use crate::faults::{AddFault, CallFault};
 use crate::meanings::{Core, Meaning};
 use crate::stored::{StoredFun, StoredPred};
-use ref_edn::Value;
+use ref_value::Value;
 use std::alloc::Global;
 use std::collections::BTreeMap;
 

@@ -1,8 +1,8 @@
 -- A replay that goes on from the answers that the log keeps.
 use Rattle.std.proofs.Common.{◌≡◌, ◌∙◌, ℕ, Bool, true, false, List, Some, Ok, slice_get, slice_set, refl, sym, ap}
 use Rattle.std.specs.Ordering.{eq_by_cmp}
-use Rattle.ref_edn.specs.Edn.{Edn}
-use Rattle.ref_edn.specs.Order.{edn_cmp}
+use Rattle.ref_value.specs.Edn.{Edn}
+use Rattle.ref_value.specs.Order.{edn_cmp}
 use Rattle.ref_fun.specs.Meaning.{Means}
 use Rattle.ref_log.specs.Laws.{same_value}
 use Rattle.ref_log.specs.Replay.{after_found, after_one, after_place, place}

@@ -2,7 +2,7 @@
 -- watches for refs, atoms and agents alike. Guards and values are lists by number.
 use Rattle.std.specs.Prelude.{◌≡◌, ℕ, Bool, true, if◌then◌else◌, List, [], ◌∷◌, ◌++◌, Option, None, Some, slice_get, slice_set}
 use Rattle.std.specs.List.{list_all}
-use Rattle.ref_edn.specs.Edn.{Edn}
+use Rattle.ref_value.specs.Edn.{Edn}
 use Rattle.ref_fun.specs.Rule.{Accepts, is_known, passes, unknown}
 use Rattle.ref_fun.specs.declared.rules.Rule.{Rule}
 use Rattle.ref_log.specs.Watches.{with_key, without_key}

@@ -5,9 +5,9 @@ use Rattle.std.specs.Ordering.{eq_by_cmp, is_eq}
 use Rattle.std.proofs.lemmas.Bool.{eqb-false, or_parts}
 use Rattle.std.proofs.lemmas.Cmp.{tied_itself}
 use Rattle.std.proofs.lemmas.List.{length-set}
-use Rattle.ref_edn.specs.Edn.{Edn}
-use Rattle.ref_edn.specs.Order.{edn_cmp}
-use Rattle.ref_edn.specs.OrderLaws.{edn_cmp_total, edn_eq}
+use Rattle.ref_value.specs.Edn.{Edn}
+use Rattle.ref_value.specs.Order.{edn_cmp}
+use Rattle.ref_value.specs.OrderLaws.{edn_cmp_total, edn_eq}
 use Rattle.ref_fun.specs.declared.faults.Cause.{Cause}
 use Rattle.ref_fun.specs.Meaning.{Means}
 use Rattle.ref_log.specs.declared.faults.AuditFault.{AuditFault}

@@ -1,7 +1,7 @@
 -- Making a reference.
 use Rattle.std.specs.Prelude.{ℕ, ◌^◌, nat_lt, Bool, not, if◌then◌else◌, Option, None, Some}
 use Rattle.std.specs.Option.{option_map, option_or}
-use Rattle.ref_edn.specs.Edn.{Edn}
+use Rattle.ref_value.specs.Edn.{Edn}
 use Rattle.ref_fun.specs.Rule.{Accepts, passes, unknown}
 use Rattle.ref_fun.specs.declared.rules.Rule.{Rule}
 use Rattle.ref_log.specs.declared.faults.MakeFault.{MakeFault}

@@ -2,7 +2,7 @@
 -- more, and by nothing else.
 use Rattle.std.specs.Prelude.{ℕ, pos, ◌==◌, ◌+◌, ◌&&◌, ◌||◌, not, Bool, true, false, if◌then◌else◌, List, [], ◌∷◌, Option, None, Some, slice_get, ◌≡◌}
 use Rattle.std.specs.List.{list_all}
-use Rattle.ref_edn.specs.Edn.{Edn, int}
+use Rattle.ref_value.specs.Edn.{Edn, int}
 use Rattle.ref_log.specs.declared.entries.Entry.{Entry}
 use Rattle.ref_log.specs.declared.entries.Entry.TheVariants.{Trans, Atom, MadeRef, MadeAtom}
 use Rattle.ref_log.specs.declared.operations.Done.{Done}

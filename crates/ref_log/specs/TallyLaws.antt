@@ -3,7 +3,7 @@ use Rattle.std.specs.Prelude.{◌≡◌, ℕ, ℤ, pos, negsuc, zero, suc, ◌+�
 use Rattle.std.specs.List.{list_all}
 use Rattle.std.proofs.Common.{◌∙◌, ap, sym, arith}
 use Rattle.std.proofs.lemmas.Bool.{and_from, and_parts, eqb-true, eqb-false, ne_eqb}
-use Rattle.ref_edn.specs.Edn.{Edn, nil, boolean, int, string, keyword, symbol, vector, map, set}
+use Rattle.ref_value.specs.Edn.{Edn, nil, boolean, int, string, keyword, symbol, vector, map, set}
 use Rattle.ref_fun.specs.Integers.{int_value, is_i64, plus}
 use Rattle.ref_fun.specs.Meaning.{Means}
 use Rattle.ref_fun.specs.declared.faults.Cause.TheVariants.{Overflow}

@@ -2,8 +2,8 @@
 use Rattle.std.specs.Prelude.{◌≡◌, ◌++◌, [], ◌∷◌, Bool, false, not, if◌then◌else◌, List, map}
 use Rattle.std.specs.List.{filter, list_any}
 use Rattle.std.specs.Ordering.{eq_by_cmp}
-use Rattle.ref_edn.specs.Edn.{Edn}
-use Rattle.ref_edn.specs.Order.{edn_cmp}
+use Rattle.ref_value.specs.Edn.{Edn}
+use Rattle.ref_value.specs.Order.{edn_cmp}
 use Rattle.ref_log.specs.declared.notices.Notice.{Notice}
 use Rattle.ref_log.specs.declared.notices.Who.{Who}
 

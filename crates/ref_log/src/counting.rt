@@ -5,8 +5,8 @@ ghost use Rattle.ref_log.specs.Tally.{added_by, added_by_done, added_by_dones, a
 use crate::entries::Entry;
 use crate::lists::SharedVec;
 use crate::operations::{Done, Op};
-use ref_edn::{Node, Value};
 use ref_pvec::PVec;
+use ref_value::{Node, Value};
 
 // How many of these entries are transactions.
 pub(crate) fn commits_of(entries: &PVec<Entry>) -> u64

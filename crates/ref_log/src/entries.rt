@@ -2,7 +2,7 @@
 use crate::lists::{Share, SharedVec};
 use crate::operations::{Done, Op};
 use crate::sends::Sent;
-use ref_edn::Value;
+use ref_value::Value;
 use std::alloc::AllocError;
 
 /// Who made a commit: the number of the worker, and of the step in its work.

@@ -1,7 +1,7 @@
 //! The guards of references: the rule and the watches of each.
 ghost use Rattle.ref_log.specs.Told.{Tells};
 ghost use Rattle.std.specs.Prelude.{◌≡◌, ◌<◌, ◌↔◌, ◌++◌, ◌∷◌, [], List, true, false, not, None, IsTrue, IfOk, IfErr, IfSome, OnErr, OnOk, length, option_copied, slice_get, slice_set};
-ghost use Rattle.ref_edn.specs.Edn.{Edn};
+ghost use Rattle.ref_value.specs.Edn.{Edn};
 ghost use Rattle.ref_fun.specs.Rule.{Accepts, passes, unknown};
 ghost use Rattle.ref_log.specs.Guards.{AreAccepted, are_known, keys_at, rule_at, rule_refusal, with_guard, with_rule, with_watch, without_watch};
 ghost use Rattle.ref_log.specs.Watches.{has_key, notices_of};
@@ -10,8 +10,8 @@ ghost use Rattle.ref_log.specs.declared.faults.WatchFault.TheVariants as watches
 use crate::faults::{RuleFault, WatchFault};
 use crate::notices::{Notice, Who};
 use crate::watches::Watches;
-use ref_edn::Value;
 use ref_fun::{Functions, Meaning, Rule, check_known, passes};
+use ref_value::Value;
 use std::alloc::{AllocError, Global};
 use std::marker::Model;
 
@@ -32,7 +32,7 @@ pub struct Guards {
 impl Model for Guards {
     ghost use Rattle.std.specs.Prelude.{List};
     ghost use Rattle.std.specs.Coded.{codes};
-    ghost use Rattle.ref_edn.specs.Code.{edn_code};
+    ghost use Rattle.ref_value.specs.Code.{edn_code};
     ghost use Rattle.ref_log.specs.declared.guards.Guard.{Guard};
 
     ghost Value = { List Guard };

@@ -6,8 +6,8 @@ ghost use Rattle.ref_log.specs.Make.{make_refusal};
 ghost use Rattle.ref_log.specs.declared.faults.MakeFault.TheVariants.{Memory};
 
 use crate::faults::MakeFault;
-use ref_edn::Value;
 use ref_fun::{Functions, Meaning, Rule, check_known, passes};
+use ref_value::Value;
 
 /// The last point.
 pub const LAST_POINT: u64 = 1 << 62;

@@ -1,5 +1,5 @@
 //! What watches are told.
-use ref_edn::Value;
+use ref_value::Value;
 
 /// A reference, by its kind and its number.
 #[derive(Clone, Copy, Debug, Drop, PartialEq, Eq)]

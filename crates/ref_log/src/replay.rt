@@ -7,9 +7,9 @@ use crate::faults::AuditFault;
 use crate::lists::{SharedVec, share_all};
 use crate::operations::{Done, Op, protected_refs};
 use crate::states::{Base, PlainState};
-use ref_edn::Value;
 use ref_fun::{CallFault, Functions, Meaning};
 use ref_pvec::PVec;
+use ref_value::Value;
 use std::alloc::{AllocError, Global};
 use std::marker::Model;
 
@@ -47,7 +47,7 @@ struct Values {
 
 impl Model for Values {
     ghost use Rattle.std.specs.Coded.{codes};
-    ghost use Rattle.ref_edn.specs.Code.{edn_code};
+    ghost use Rattle.ref_value.specs.Code.{edn_code};
     ghost use Rattle.ref_log.specs.declared.states.PlainState.{PlainState};
 
     ghost Value = { PlainState };

@@ -6,9 +6,9 @@ use crate::entries::{Entry, Transaction};
 use crate::lists::SharedVec;
 use crate::operations::{Done, Op};
 use crate::sends::Sent;
-use ref_edn::Value;
-use ref_edn::order::equal_values_are_the_same;
 use ref_fun::{Action, Args};
+use ref_value::Value;
+use ref_value::order::equal_values_are_the_same;
 
 /// What can be compared whole.
 pub trait Same {

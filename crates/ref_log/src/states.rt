@@ -1,6 +1,6 @@
 //! The values of all references at one point.
 use crate::lists::SharedVec;
-use ref_edn::Value;
+use ref_value::Value;
 
 /// What a log begins with.
 #[derive(Drop)]

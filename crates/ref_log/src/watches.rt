@@ -3,7 +3,7 @@ ghost use Rattle.std.specs.Prelude.{◌≡◌, ◌++◌, ◌↔◌, [], false, n
 ghost use Rattle.ref_log.specs.Watches.{AreDistinct, has_key, notices_of, with_key, without_key};
 
 use crate::notices::{Notice, Who};
-use ref_edn::Value;
+use ref_value::Value;
 use std::alloc::{AllocError, Global};
 use std::marker::Model;
 
@@ -18,8 +18,8 @@ pub struct Watches {
 impl Model for Watches {
     ghost use Rattle.std.specs.Prelude.{List};
     ghost use Rattle.std.specs.Coded.{coded_list};
-    ghost use Rattle.ref_edn.specs.Edn.{Edn};
-    ghost use Rattle.ref_edn.specs.Code.{edn_code};
+    ghost use Rattle.ref_value.specs.Edn.{Edn};
+    ghost use Rattle.ref_value.specs.Code.{edn_code};
     ghost use Rattle.ref_log.specs.Watches.{AreDistinct};
 
     ghost Value = { List Edn };

@@ -7,9 +7,9 @@ use Rattle.std.proofs.lemmas.Bool.{eqb-true, eqb-false, eq-eqb, and_from, both_w
 use Rattle.std.proofs.lemmas.List.{append_assoc, append-nil, set-get_or, take_more}
 use Rattle.std.proofs.lemmas.List.Folds.{find-append}
 use Rattle.std.proofs.lemmas.Option.{get_or_from_slice_get, slice_get-get_or}
-use Rattle.ref_edn.specs.Order.{edn_cmp}
-use Rattle.ref_edn.specs.OrderLaws.{edn_eq}
-use Rattle.ref_edn.specs.Edn.{Edn, nil}
+use Rattle.ref_value.specs.Order.{edn_cmp}
+use Rattle.ref_value.specs.OrderLaws.{edn_eq}
+use Rattle.ref_value.specs.Edn.{Edn, nil}
 use Rattle.ref_fun.specs.declared.faults.Cause.{Cause}
 use Rattle.ref_fun.specs.Meaning.{Means}
 use Rattle.ref_log.specs.declared.faults.AuditFault.{AuditFault}

@@ -3,7 +3,7 @@ use Rattle.std.proofs.Common.{◌≡◌, ℕ, zero, suc, cond, ◌+◌, ◌<◌,
 use Rattle.std.specs.List.{find, range_with_len}
 use Rattle.std.specs.Option.{MatchOption}
 use Rattle.std.proofs.lemmas.Bool.{eqb-true, eq-eqb, or_cases, and_parts, and_from, or_left, or_right, both_ways, not-true, ltb-true, ltb-false, lt-ltb, le-ltb, cases_order, cond-true, cond-false, false_from_ne_true}
-use Rattle.ref_edn.specs.Edn.{Edn}
+use Rattle.ref_value.specs.Edn.{Edn}
 use Rattle.ref_log.specs.declared.operations.Done.{Done}
 use Rattle.ref_tx.specs.Own.{AreProtected}
 use Rattle.ref_refs.specs.Commit.{alien_ref, first_protected}

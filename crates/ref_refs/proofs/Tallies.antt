@@ -1,6 +1,6 @@
 -- The tally stays an integer of 0 or more.
 use Rattle.std.proofs.Common.{◌≡◌, ℕ, ◌+◌, ◌++◌, ◌∷◌, [], true, List, Option, Ok}
-use Rattle.ref_edn.specs.Edn.{Edn}
+use Rattle.ref_value.specs.Edn.{Edn}
 use Rattle.ref_fun.specs.Meaning.{Means}
 use Rattle.ref_log.specs.Replay.{after_dones}
 use Rattle.ref_log.specs.Tally.{IsTally, added_by_dones, fit_tally, tally_value}

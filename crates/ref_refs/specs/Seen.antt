@@ -1,7 +1,7 @@
 -- What a store of refs shows.
 use Rattle.std.specs.Prelude.{ℕ, nat_lt, Bool, not, List, Option, slice_index_or}
 use Rattle.std.specs.List.{list_all}
-use Rattle.ref_edn.specs.Edn.{Edn}
+use Rattle.ref_value.specs.Edn.{Edn}
 use Rattle.ref_log.specs.declared.guards.Guard.{Guard}
 
 -- The values of the refs by number, and the point of each ref's last change: 0 where it was declared at the start and never

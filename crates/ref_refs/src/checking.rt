@@ -8,10 +8,10 @@ ghost use Rattle.ref_refs.specs.Seen.{are_unchanged_since};
 ghost use Rattle.ref_refs.specs.Smaller.{smaller};
 
 use crate::faults::{Alien, CommitFault};
-use ref_edn::{Node, Value};
 use ref_fun::{Functions, Meaning};
 use ref_log::{Done, Op, Sent};
 use ref_tx::{Snapshot, Tx};
+use ref_value::{Node, Value};
 
 // Tells the first operation on a ref that isn't here.
 pub(crate) fn check_refs(refs: &Snapshot, dones: &[Done]) -> Result<(), CommitFault>

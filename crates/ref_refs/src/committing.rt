@@ -3,7 +3,7 @@ ghost use Rattle.ref_log.specs.Told.{Tells, TellsBack, TellsOrMemory};
 ghost use Rattle.std.specs.Prelude.{◌≡◌, ◌≢◌, ◌≤◌, ◌-◌, ◌+◌, ◌^◌, ◌==◌, ℕ, List, true, None, Some, Ok, IfOk, IfErr, OnOk, OnErr, length, slice_get};
 ghost use Rattle.std.specs.List.{list_any};
 ghost use Rattle.std.specs.Option.{option_map};
-ghost use Rattle.ref_edn.specs.Edn.{Edn};
+ghost use Rattle.ref_value.specs.Edn.{Edn};
 ghost use Rattle.ref_log.specs.Guards.{AreAccepted};
 ghost use Rattle.ref_log.specs.Replay.{after_dones, is_protected, is_touched, step};
 ghost use Rattle.ref_log.specs.declared.operations.Done.{Done};

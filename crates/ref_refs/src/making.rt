@@ -8,9 +8,9 @@ ghost use Rattle.ref_refs.specs.Seen.{are_unchanged_since, changed_at};
 
 use crate::checking::is_count;
 use crate::store::RefStore;
-use ref_edn::Value;
 use ref_fun::{Functions, Meaning, Rule};
 use ref_log::{MakeFault, check_make};
+use ref_value::Value;
 use std::alloc::{AllocError, Global};
 
 impl<M: Meaning> RefStore<M> {

@@ -3,7 +3,7 @@ ghost use Rattle.std.specs.Option.{option_map};
 ghost use Rattle.std.specs.Prelude.{◌≡◌, ◌≢◌, ◌<◌, ◌==◌, ℕ, List, ◌∷◌, true, false, Option, None, Some, Ok, IfOk, IfErr, OnOk, length, slice_get};
 ghost use Rattle.ref_log.specs.Replay.{after_dones, after_one, is_commute, is_protected, missing, place};
 ghost use Rattle.ref_tx.specs.Inner.{inner_value};
-ghost use Rattle.ref_edn.specs.Edn.{Edn};
+ghost use Rattle.ref_value.specs.Edn.{Edn};
 ghost use Rattle.ref_log.specs.declared.operations.Done.{Done};
 ghost use Rattle.ref_refs.specs.declared.faults.CommitFault.{CommitFault as Fault};
 ghost use Rattle.ref_refs.specs.Commit.{alien_ref, alien_value, changed_by, changed_by_one, commuted_code, lacking, refused, refused_at};
@@ -11,10 +11,10 @@ ghost use Rattle.ref_refs.specs.Seen.{changed_at};
 ghost use Rattle.ref_refs.specs.declared.faults.CommitFault.TheVariants.{Memory};
 
 use crate::faults::CommitFault;
-use ref_edn::Value;
 use ref_fun::{CallFault, Functions, Meaning};
 use ref_log::Done;
 use ref_tx::{Snapshot, Tx};
+use ref_value::Value;
 use std::alloc::Global;
 
 // The refs after the operations of a transaction, which come at a point. Each is made on the latest value of its ref, where

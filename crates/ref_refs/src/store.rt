@@ -8,10 +8,10 @@ ghost use Rattle.ref_log.specs.declared.faults.WatchFault.TheVariants as watches
 ghost use Rattle.ref_refs.specs.Seen.{changed_at, are_unchanged_since, with_guards};
 
 use crate::checking::{are_unchanged_since, counted};
-use ref_edn::Value;
 use ref_fun::{Functions, Meaning, Rule};
 use ref_log::{Guards, RuleFault, WatchFault};
 use ref_tx::{Snapshot, Tx};
+use ref_value::Value;
 use std::alloc::{AllocError, Global};
 use std::marker::{Model, PhantomData};
 
@@ -30,7 +30,7 @@ pub struct RefStore<M: Meaning> {
 impl<M: Meaning> Model for RefStore<M> {
     ghost use Rattle.std.specs.Prelude.{◌≡◌, ◌≤◌, ◌^◌, length};
     ghost use Rattle.std.specs.Coded.{codes};
-    ghost use Rattle.ref_edn.specs.Code.{edn_code};
+    ghost use Rattle.ref_value.specs.Code.{edn_code};
     ghost use Rattle.ref_log.specs.Guards.{AreAccepted};
     ghost use Rattle.ref_log.specs.Tally.{IsTally, tally_value};
     ghost use Rattle.ref_refs.specs.Seen.{RefsSeen};

@@ -4,9 +4,9 @@ ghost use Rattle.std.specs.BTreeSet.{keys};
 ghost use Rattle.ref_log.specs.Guards.{keys_at};
 ghost use Rattle.ref_refs.specs.Watches.{notices, notices_at, notices_if_here, touched_refs};
 
-use ref_edn::Value;
 use ref_log::{Done, Guards, Notice, Who};
 use ref_tx::Snapshot;
+use ref_value::Value;
 use std::alloc::{AllocError, Global};
 use std::collections::BTreeSet;
 

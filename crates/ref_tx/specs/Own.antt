@@ -1,7 +1,7 @@
 -- How a transaction keeps its in-transaction values: a table of the refs that it has operated on.
 use Rattle.std.specs.Prelude.{ℕ, ◌==◌, Bool, false, Option, None, Some, List, ◌≡◌, slice_get}
 use Rattle.std.specs.List.{list_any}
-use Rattle.ref_edn.specs.Edn.{Edn}
+use Rattle.ref_value.specs.Edn.{Edn}
 use Rattle.ref_fun.specs.Meaning.{Means}
 use Rattle.ref_log.specs.Replay.{is_protected}
 use Rattle.ref_log.specs.declared.operations.Done.{Done}

@@ -1,6 +1,6 @@
 -- What a transaction shows.
 use Rattle.std.specs.Prelude.{ℕ, List, Option}
-use Rattle.ref_edn.specs.Edn.{Edn}
+use Rattle.ref_value.specs.Edn.{Edn}
 use Rattle.ref_log.specs.declared.operations.Done.{Done}
 use Rattle.ref_log.specs.declared.sends.Sent.{Sent}
 

@@ -1,6 +1,6 @@
 -- What a snapshot shows.
 use Rattle.std.specs.Prelude.{ℕ, List, map}
-use Rattle.ref_edn.specs.Edn.{Edn}
+use Rattle.ref_value.specs.Edn.{Edn}
 use Rattle.ref_tx.specs.declared.snapshots.Version.{Version}
 
 -- The values of the refs by number, and the point of each ref's last change: 0 where it was declared at the start and never

@@ -1,5 +1,5 @@
 //! What a transaction keeps of a ref that it has operated on.
-use ref_edn::Value;
+use ref_value::Value;
 
 /// The in-transaction value of a ref, whether it was commuted, and whether it is protected.
 #[derive(Drop)]

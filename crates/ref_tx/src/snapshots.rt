@@ -2,8 +2,8 @@
 ghost use Rattle.std.specs.Prelude.{◌≡◌, ◌<◌, ◌≤◌, ◌^◌, ◌↔◌, ◌++◌, ◌∷◌, [], IfOk, IsTrue, length, option_copied, slice_get, slice_set};
 ghost use Rattle.ref_tx.specs.Snapshots.{changes_of, values_of};
 
-use ref_edn::Value;
 use ref_pmap::Numbered;
+use ref_value::Value;
 use std::alloc::{AllocError, Global};
 use std::marker::Model;
 
@@ -31,7 +31,7 @@ impl Drop for Snapshot {
 
 impl Model for Snapshot {
     ghost use Rattle.std.specs.Coded.{codes};
-    ghost use Rattle.ref_edn.specs.Code.{edn_code};
+    ghost use Rattle.ref_value.specs.Code.{edn_code};
     ghost use Rattle.ref_tx.specs.Snapshots.{SnapshotSeen, changes_of, values_of};
 
     ghost Value = { SnapshotSeen };

@@ -13,9 +13,9 @@ ghost use Rattle.ref_tx.specs.declared.faults.TxFault.TheVariants.{NoSuchRef, Me
 use crate::faults::TxFault;
 use crate::owns::Own;
 use crate::snapshots::Snapshot;
-use ref_edn::Value;
 use ref_fun::{Action, CallFault, Functions, Meaning, Rule};
 use ref_log::{Args, Done, Op, Sent};
+use ref_value::Value;
 use std::alloc::{AllocError, Global};
 use std::collections::BTreeMap;
 use std::marker::{Model, PhantomData};
@@ -42,7 +42,7 @@ impl<M: Meaning> Model for Tx<M> {
     ghost use Rattle.std.specs.BTreeMap.{get};
     ghost use Rattle.std.specs.Coded.{codes};
     ghost use Rattle.std.specs.Ordering.{nat_cmp};
-    ghost use Rattle.ref_edn.specs.Code.{edn_code};
+    ghost use Rattle.ref_value.specs.Code.{edn_code};
     ghost use Rattle.ref_tx.specs.Inner.{IsTx};
     ghost use Rattle.ref_tx.specs.Own.{AreProtected, IsTableOf};
     ghost use Rattle.ref_tx.specs.Seen.{TxSeen};

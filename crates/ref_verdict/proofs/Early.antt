@@ -1,8 +1,8 @@
 -- What is told of a dump before any memory is taken is its first fault.
 use Rattle.std.proofs.Common.{◌≡◌, ◌≢◌, Bool, true, false, not, cond, List, Option, None, Some, Result, Ok, Err, IfErr, IfOk, refl, sym, ap, ◌∙◌}
 use Rattle.std.specs.Prelude.{is_some, ok_or, option_and_then}
-use Rattle.ref_edn.specs.Edn.{Edn, entries_of, pairs_of, pairs_of-entries_of}
-use Rattle.ref_edn.specs.Edn as edn
+use Rattle.ref_value.specs.Edn.{Edn, entries_of, pairs_of, pairs_of-entries_of}
+use Rattle.ref_value.specs.Edn as edn
 use Rattle.ref_log.specs.Told.{AnswersOrMemory}
 use Rattle.ref_verdict.specs.DumpForm.{agent_of, all_said, dump_of, elements_of, key_word, list_said, misfit, number_of, part_said, parts_said, parts_unless, under}
 use Rattle.ref_verdict.specs.Early.{fault_of_parts, first_fault, is_said, parts_fault}

@@ -1,6 +1,6 @@
 -- A fold of done actions that refused.
 use Rattle.std.proofs.Common.{◌≡◌, ℕ, suc, ◌+◌, ◌<◌, List, [], ◌∷◌, drop, length, get_or, Ok, Err, refl, sym, ap, ◌∙◌, add-one, drop-cons}
-use Rattle.ref_edn.specs.Edn.{Edn}
+use Rattle.ref_value.specs.Edn.{Edn}
 use Rattle.ref_fun.specs.Meaning.{Means}
 use Rattle.ref_fun.specs.declared.faults.Cause.{Cause}
 use Rattle.ref_agents.specs.Account.{after_handled, after_marked}

@@ -1,7 +1,7 @@
 -- Lists of forms: what a loop over them has read, and what is left.
 use Rattle.std.proofs.Common.{◌≡◌, ℕ, ◌+◌, ◌<◌, List, [], ◌∷◌, ◌++◌, drop, length, get_or, refl, sym, ◌∙◌, ap, suc, add-one, append_assoc, drop-cons, Option, None, Some, Result, Ok, Err}
 use Rattle.std.specs.Prelude.{option_map}
-use Rattle.ref_edn.specs.Edn.{Edn}
+use Rattle.ref_value.specs.Edn.{Edn}
 use Rattle.ref_log.specs.declared.entries.Entry.{Entry}
 use Rattle.ref_verdict.specs.DumpForm.{and_entry, and_said, entries_from, entry_of}
 use Rattle.ref_verdict.specs.declared.reading.faults.DumpFault.{DumpFault}

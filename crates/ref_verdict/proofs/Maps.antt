@@ -1,8 +1,8 @@
 -- A map's entries as a list.
 use Rattle.std.proofs.Common.{◌≡◌, ◌≢◌, Bool, true, false, not, cond, List, None, Some, ap}
-use Rattle.ref_edn.specs.Edn.{Edn, entries_of, pairs_of-entries_of}
-use Rattle.ref_edn.specs.Edn as edn
-use Rattle.ref_edn.specs.Edn.{pairs_of}
+use Rattle.ref_value.specs.Edn.{Edn, entries_of, pairs_of-entries_of}
+use Rattle.ref_value.specs.Edn as edn
+use Rattle.ref_value.specs.Edn.{pairs_of}
 use Rattle.ref_verdict.specs.DumpForm.{dump_of, has_keys, is_version, misfit, parts_unless, under}
 use Rattle.ref_verdict.specs.Words.{dump_key}
 use Rattle.ref_verdict.specs.declared.reading.faults.DumpFault.{DumpFault}

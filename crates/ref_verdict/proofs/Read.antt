@@ -2,10 +2,10 @@
 use Rattle.std.proofs.Common.{◌≡◌, ℕ, ◌&&◌, Bool, true, false, cond, List, [], ◌∷◌, Option, None, Some, Result, Ok, Err, refl, sym, ap, ◌∙◌}
 use Rattle.std.specs.Prelude.{option_map, option_and_then, ok_or, ◌+◌, ◌-◌, ◌^◌}
 use Rattle.std.specs.List.{list_all}
-use Rattle.ref_edn.specs.Edn.{Edn}
-use Rattle.ref_edn.specs.Edn as edn
-use Rattle.ref_edn.specs.Edn.{list_of}
-use Rattle.ref_edn.specs.Names.{bytes_eq}
+use Rattle.ref_value.specs.Edn.{Edn}
+use Rattle.ref_value.specs.Edn as edn
+use Rattle.ref_value.specs.Edn.{list_of}
+use Rattle.ref_value.specs.Names.{bytes_eq}
 use Rattle.ref_fun.specs.declared.actions.Action.{Action}
 use Rattle.ref_fun.specs.declared.rules.Rule.{Rule}
 use Rattle.ref_fun.specs.Names.{is_function, is_predicate}

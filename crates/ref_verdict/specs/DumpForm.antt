@@ -17,9 +17,9 @@
 use Rattle.std.specs.Prelude.{ℕ, pos, ◌+◌, ◌-◌, ◌^◌, ◌==◌, ok_or, nat_le, nat_lt, min, Bool, true, false, not, ◌&&◌, if◌then◌else◌, List, [], ◌∷◌, length, Option, None, Some, is_some, option_map, option_and_then, Result, Ok, Err}
 use Rattle.std.specs.Prelude as lists
 use Rattle.std.specs.List.{list_all, list_any}
-use Rattle.ref_edn.specs.Edn.{Edn, nil, int, keyword, symbol, vector, list_of, pairs_of}
-use Rattle.ref_edn.specs.Edn as edn
-use Rattle.ref_edn.specs.Names.{bytes_eq}
+use Rattle.ref_value.specs.Edn.{Edn, nil, int, keyword, symbol, vector, list_of, pairs_of}
+use Rattle.ref_value.specs.Edn as edn
+use Rattle.ref_value.specs.Names.{bytes_eq}
 use Rattle.ref_fun.specs.Names.{code_in, core_names, is_function, is_predicate}
 use Rattle.ref_fun.specs.declared.actions.Action.{Action}
 use Rattle.ref_fun.specs.declared.rules.Rule.{Rule}

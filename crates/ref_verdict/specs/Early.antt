@@ -1,8 +1,8 @@
 -- Which faults of a dump are told before any memory is taken: those of its keys and its version, that its first part is no number, and
 -- that its second one is no list.
 use Rattle.std.specs.Prelude.{Bool, not, if◌then◌else◌, List, Option, None, Some, is_some, option_and_then}
-use Rattle.ref_edn.specs.Edn.{Edn, pairs_of}
-use Rattle.ref_edn.specs.Edn as edn
+use Rattle.ref_value.specs.Edn.{Edn, pairs_of}
+use Rattle.ref_value.specs.Edn as edn
 use Rattle.ref_verdict.specs.DumpForm.{early_fault, elements_of, key_word, number_of, under}
 use Rattle.ref_verdict.specs.declared.reading.faults.DumpFault.{DumpFault}
 use Rattle.ref_verdict.specs.declared.reading.faults.DumpFault.TheVariants.{BadPart}

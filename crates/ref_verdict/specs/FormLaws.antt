@@ -2,7 +2,7 @@
 use Rattle.std.specs.Prelude.{◌≡◌, ◌<◌, ◌≤◌, Bool, true, false, nat_le, List, length, None, Some, option_map, refl}
 use Rattle.std.proofs.Common.{ap, arith}
 use Rattle.std.proofs.lemmas.Bool.Decides.{nat_tests}
-use Rattle.ref_edn.specs.Edn.{Edn, vector, items_of, list_of-items_of}
+use Rattle.ref_value.specs.Edn.{Edn, vector, items_of, list_of-items_of}
 use Rattle.ref_verdict.specs.DumpForm.{args_said, elements_of, only_if, rule_of, rule_said}
 
 pub elements_of_vector : (xs : List Edn) → elements_of (vector (items_of xs)) ≡ Some xs

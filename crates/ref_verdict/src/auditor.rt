@@ -10,8 +10,8 @@ use crate::reading::faults::DumpFault;
 use crate::reading::read_dump;
 use crate::reports::Verdict;
 use crate::verdicts::verdict;
-use ref_edn::Value;
 use ref_fun::{Core, Functions};
+use ref_value::Value;
 use std::alloc::Global;
 
 /// The verdict on a dump: whether its entries, replayed one by one on its base, give its values, its rules accept them, its agents'

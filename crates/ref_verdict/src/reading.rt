@@ -24,8 +24,8 @@ use crate::reading::parts::{
     entries_in, entry_forms, folded_part, list_part, misfit, number_part, parts_fault, tally_part,
     values_part,
 };
-use ref_edn::{Entries, Node, Value};
 use ref_log::{Base, SharedVec};
+use ref_value::{Entries, Node, Value};
 use std::alloc::{AllocError, Global};
 
 /// What a dump says, or the first reason why a value is none. docs/DUMPS.md has the form. Linear in the value.

@@ -1,11 +1,11 @@
 -- What the tests of a base say together.
 use Rattle.std.proofs.Common.{◌≡◌, ℕ, ◌<◌, List, [], ◌∷◌, Option, get_or, length, map, refl, ap, ◌∙◌, zero, suc, arith}
 use Rattle.std.specs.Prelude.{position}
-use Rattle.ref_edn.specs.Edn.{Edn}
+use Rattle.ref_value.specs.Edn.{Edn}
 use Rattle.ref_log.specs.declared.states.Base.{Base}
 use Rattle.ref_workload.specs.Orderly.{base_declared}
-use Rattle.ref_world.specs.declared.starts.AtomStart.{AtomStart}
-use Rattle.ref_world.specs.declared.starts.RefStart.{RefStart}
+use Rattle.ref_start.specs.declared.starts.AtomStart.{AtomStart}
+use Rattle.ref_start.specs.declared.starts.RefStart.{RefStart}
 
 abbrev base_of : ℕ → List Edn → List ℕ → List Edn → Option ℕ → ℕ → ℕ → Base
 base_of point refs last atoms tally commits added = record {

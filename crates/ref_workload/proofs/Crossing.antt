@@ -7,8 +7,8 @@ use denote.Param.Send.{IsSend, IsSync, sendable}
 use denote.Param.SendFields.{declared_send, declared_sync, variants_send, variants_sync}
 use Rattle.std.proofs.Crossing as std
 use Rattle.std.specs.declared.sync.ledger.Ledger as Ledger
-use Rattle.ref_edn.proofs.data.Value.TheLaws.TheKnot as knot
-use Rattle.ref_edn.specs.contracts.data.Value as Value
+use Rattle.ref_value.proofs.data.Value.TheLaws.TheKnot as knot
+use Rattle.ref_value.specs.contracts.data.Value as Value
 use Rattle.ref_fun.specs.contracts.actions.Action as Action
 use Rattle.ref_fun.specs.contracts.arguments.Args as Args
 use Rattle.ref_fun.specs.contracts.rules.Rule as Rule
@@ -18,8 +18,8 @@ use Rattle.ref_log.specs.contracts.sends.Sent as Sent
 use Rattle.ref_audit.specs.contracts.reports.Reason as Reason
 use Rattle.ref_audit.specs.contracts.reports.Refusal as Refusal
 use Rattle.ref_shared.proofs.Crossing.{crosses as shared_crosses}
-use Rattle.ref_workload.specs.contracts.plans.PlannedOp as PlannedOp
-use Rattle.ref_workload.specs.contracts.plans.Step as Step
+use Rattle.ref_plan.specs.contracts.plans.PlannedOp as PlannedOp
+use Rattle.ref_plan.specs.contracts.plans.Step as Step
 use Rattle.ref_workload.specs.contracts.progress.Progress as Progress
 use Rattle.ref_workload.specs.contracts.running.workers.Ended as Ended
 use Rattle.ref_workload.specs.contracts.running.workers.Job as Job

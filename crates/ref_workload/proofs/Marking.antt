@@ -15,12 +15,12 @@ use Rattle.ref_log.specs.declared.entries.Transaction.{Transaction}
 use Rattle.ref_shared.specs.Gather.{InOrder}
 use Rattle.ref_workload.specs.Marks.{AreMarks, EntriesStand, EntryTaken, IsDone, RefusedStand, Takes, TransactionTaken, mark_of}
 use Rattle.ref_workload.specs.Orderly.{IsOfStep, IsOrderly, IsPlanned, IsStep, at_stamp, base_declared, has_entry, in_row, is_entry_of, is_of_same_step, is_refused, is_stamp}
-use Rattle.ref_workload.specs.Plan.{PlanSeen}
+use Rattle.ref_plan.specs.Plan.{PlanSeen}
 use Rattle.ref_workload.specs.declared.order.board.Mark.{Mark}
 use Rattle.ref_workload.specs.declared.order.board.Mark.TheVariants.{Open, Refused, Committed}
-use Rattle.ref_workload.specs.declared.plans.PlannedOp.{PlannedOp}
-use Rattle.ref_workload.specs.declared.plans.Step.{Step}
-use Rattle.ref_workload.specs.declared.plans.Step.TheVariants.{Tx}
+use Rattle.ref_plan.specs.declared.plans.PlannedOp.{PlannedOp}
+use Rattle.ref_plan.specs.declared.plans.Step.{Step}
+use Rattle.ref_plan.specs.declared.plans.Step.TheVariants.{Tx}
 use Rattle.ref_world.specs.Seen.{WorldSeen}
 
 -- ---- stamps

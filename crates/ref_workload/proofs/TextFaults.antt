@@ -1,17 +1,17 @@
 -- What the faults of a text and of its value say.
 use Rattle.std.proofs.Common.{◌≡◌, ℕ, List}
 use Rattle.std.specs.Prelude.{◌≢◌, Result, Ok, Err, IfErr, IsErrAnd}
-use Rattle.ref_edn.specs.Edn.{Edn}
+use Rattle.ref_value.specs.Edn.{Edn}
 use Rattle.ref_edn.specs.Grammar.{IsText}
 use Rattle.ref_edn.specs.declared.faults.ReadFault.{ReadFault}
 use Rattle.ref_edn.specs.declared.faults.ReadFault.TheVariants as reads
 use Rattle.ref_workload.specs.declared.faults.RunFault.{RunFault}
-use Rattle.ref_workload.specs.declared.plan_faults.PlanFault.{PlanFault}
-use Rattle.ref_workload.specs.declared.plan_faults.PlanFault.TheVariants as plans
-use Rattle.ref_workload.specs.Plan.{PlanSeen}
+use Rattle.ref_plan.specs.declared.plan_faults.PlanFault.{PlanFault}
+use Rattle.ref_plan.specs.declared.plan_faults.PlanFault.TheVariants as plans
+use Rattle.ref_plan.specs.Plan.{PlanSeen}
 use Rattle.ref_workload.specs.Run.{IsAtFault}
 use Rattle.ref_workload.specs.RunFaults.{edn_fault_of, plan_fault_of}
-use Rattle.ref_workload.specs.Workload.{IsWorkload}
+use Rattle.ref_plan.specs.Workload.{IsWorkload}
 
 not_edn : (text : List ℕ) (f : ReadFault) → (f ≢ reads.Memory → (v : Edn) → IsText text v → ⊥) → IsAtFault text (edn_fault_of f)
 not_edn text reads.Memory none = tt

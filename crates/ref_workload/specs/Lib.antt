@@ -1,18 +1,18 @@
--- To be read and believed: Plan, Workload with what it cites (Declarations, Steps, Operations, Calls, Named, Words), Orderly, Streams, Run,
--- and PlanFaults and RunFaults, which have numbers. Kinds, Tables and Marks are for private functions.
-pub mod Plan
-pub mod PlanFaults
-pub mod Words
-pub mod Named
-pub mod Calls
-pub mod Operations
-pub mod Steps
-pub mod Declarations
-pub mod Workload
+-- To be read and believed: Orderly, Streams, Run, and RunFaults, which has numbers. Marks is for private functions. What a workload and
+-- its plan are stands in ref_plan.
+pub use Rattle.ref_plan.specs.Plan
+pub use Rattle.ref_plan.specs.PlanFaults
+pub use Rattle.ref_plan.specs.Words
+pub use Rattle.ref_plan.specs.Named
+pub use Rattle.ref_plan.specs.Calls
+pub use Rattle.ref_plan.specs.Operations
+pub use Rattle.ref_plan.specs.Steps
+pub use Rattle.ref_plan.specs.Declarations
+pub use Rattle.ref_plan.specs.Workload
+pub use Rattle.ref_plan.specs.Kinds
+pub use Rattle.ref_plan.specs.Tables
 pub mod Orderly
 pub mod RunFaults
 pub mod Streams
 pub mod Run
-pub mod Kinds
-pub mod Tables
 pub mod Marks

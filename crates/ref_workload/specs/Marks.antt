@@ -9,9 +9,9 @@ use Rattle.ref_log.specs.declared.entries.Transaction.{Transaction}
 use Rattle.ref_workload.specs.Orderly.{IsNamedBy, IsPlanned, IsStep, at_stamp, has_entry, is_of_same_step, is_refused, is_stamp}
 use Rattle.ref_workload.specs.declared.order.board.Mark.{Mark}
 use Rattle.ref_workload.specs.declared.order.board.Mark.TheVariants.{Open, Refused, Committed}
-use Rattle.ref_workload.specs.declared.plans.PlannedOp.{PlannedOp}
-use Rattle.ref_workload.specs.declared.plans.Step.{Step}
-use Rattle.ref_workload.specs.declared.plans.Step.TheVariants.{Tx, Swap, Reset, CompareAndSet, Send, Restart, Mode, Validator}
+use Rattle.ref_plan.specs.declared.plans.PlannedOp.{PlannedOp}
+use Rattle.ref_plan.specs.declared.plans.Step.{Step}
+use Rattle.ref_plan.specs.declared.plans.Step.TheVariants.{Tx, Swap, Reset, CompareAndSet, Send, Restart, Mode, Validator}
 
 -- the mark of a step that is there, by whether it is refused and whether it has an entry
 abbrev pub mark_of : Option Step → Bool → Bool → Option Mark

@@ -11,14 +11,14 @@ use Rattle.ref_log.specs.declared.operations.Op.{Op}
 use Rattle.ref_log.specs.declared.sends.Sent.{Sent}
 use Rattle.ref_log.specs.declared.states.Base.{Base}
 use Rattle.ref_shared.specs.Gather.{InOrder}
-use Rattle.ref_workload.specs.Plan.{PlanSeen}
-use Rattle.ref_workload.specs.declared.plans.PlannedOp.{PlannedOp}
-use Rattle.ref_workload.specs.declared.plans.PlannedOp.TheVariants.{On, Require, Send}
-use Rattle.ref_workload.specs.declared.plans.Step.{Step}
-use Rattle.ref_workload.specs.declared.plans.Step.TheVariants.{Tx}
+use Rattle.ref_plan.specs.Plan.{PlanSeen}
+use Rattle.ref_plan.specs.declared.plans.PlannedOp.{PlannedOp}
+use Rattle.ref_plan.specs.declared.plans.PlannedOp.TheVariants.{On, Require, Send}
+use Rattle.ref_plan.specs.declared.plans.Step.{Step}
+use Rattle.ref_plan.specs.declared.plans.Step.TheVariants.{Tx}
 use Rattle.ref_world.specs.Seen.{WorldSeen}
-use Rattle.ref_world.specs.declared.starts.AtomStart.{AtomStart}
-use Rattle.ref_world.specs.declared.starts.RefStart.{RefStart}
+use Rattle.ref_start.specs.declared.starts.AtomStart.{AtomStart}
+use Rattle.ref_start.specs.declared.starts.RefStart.{RefStart}
 
 -- ---- steps
 

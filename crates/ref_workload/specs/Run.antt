@@ -1,6 +1,6 @@
 -- What a run of a workload reads, writes and answers.
 use Rattle.std.specs.Prelude.{◌≡◌, ◌≢◌, ℕ, Bool, true, false, List, [], ◌∷◌, ◌++◌, Ok}
-use Rattle.ref_edn.specs.Edn.{Edn}
+use Rattle.ref_value.specs.Edn.{Edn}
 use Rattle.ref_edn.specs.Grammar.{IsText}
 use Rattle.ref_edn.specs.Printed.{printed}
 use Rattle.ref_audit.specs.DumpForm.{dump_of}
@@ -11,12 +11,12 @@ use Rattle.ref_audit.specs.declared.reports.Refusal.{Refusal}
 use Rattle.ref_verdict.specs.declared.reports.Verdict.TheVariants as verdicts
 use Rattle.ref_world.specs.Seen.{WorldSeen}
 use Rattle.ref_workload.specs.Orderly.{AreInOrder, IsOrderly}
-use Rattle.ref_workload.specs.Plan.{PlanSeen}
+use Rattle.ref_plan.specs.Plan.{PlanSeen}
 use Rattle.ref_workload.specs.Streams.{IsInputAtFault}
-use Rattle.ref_workload.specs.Workload.{IsWorkload}
+use Rattle.ref_plan.specs.Workload.{IsWorkload}
 use Rattle.ref_workload.specs.declared.faults.RunFault.{RunFault}
 use Rattle.ref_workload.specs.declared.faults.RunFault.TheVariants as faults
-use Rattle.ref_workload.specs.declared.plan_faults.PlanFault.TheVariants as plans
+use Rattle.ref_plan.specs.declared.plan_faults.PlanFault.TheVariants as plans
 
 -- the printed dump of a world and a newline, or else the report of a run that ended well
 abbrev pub told : Bool → PlanSeen → WorldSeen → List Refusal → List ℕ

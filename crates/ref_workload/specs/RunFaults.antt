@@ -2,8 +2,8 @@
 use Rattle.std.specs.Prelude.{ℕ}
 use Rattle.ref_edn.specs.declared.faults.ReadFault.{ReadFault}
 use Rattle.ref_edn.specs.declared.faults.ReadFault.TheVariants as reads
-use Rattle.ref_workload.specs.declared.plan_faults.PlanFault.{PlanFault}
-use Rattle.ref_workload.specs.declared.plan_faults.PlanFault.TheVariants as plans
+use Rattle.ref_plan.specs.declared.plan_faults.PlanFault.{PlanFault}
+use Rattle.ref_plan.specs.declared.plan_faults.PlanFault.TheVariants as plans
 use Rattle.ref_workload.specs.declared.faults.RunFault.{RunFault}
 use Rattle.ref_workload.specs.declared.faults.RunFault.TheVariants as faults
 use Rattle.ref_workload.specs.declared.faults.Stop.{Stop}

@@ -2,8 +2,8 @@
 ghost use Rattle.std.specs.Prelude.{◌≡◌};
 ghost use Rattle.ref_workload.specs.RunFaults.{edn_fault_of, plan_fault_of, run_fault_number, stop_fault_of};
 
-use crate::plan_faults::PlanFault;
 use ref_edn::ReadFault;
+use ref_plan::PlanFault;
 use std::alloc::AllocError;
 
 /// Why a workload wasn't run to its end.

@@ -1,21 +1,26 @@
-//! Workloads: what their text says must be run, and their run by threads on a shared world.
+//! Workloads: their run by threads on a shared world.
 //!
-//! [`plan::plan`] tests that a value is a workload (docs/WORKLOADS.md) and numbers its names; [`run::run_plan`] runs a [`Plan`], each
-//! worker in a thread of its own beside a pool for the actions of agents, and compares what came of it with the plan;
-//! [`run::run_workload`] does both from a reader to a writer. A [`Step`] is what a worker does next, a [`PlannedOp`] one operation of
-//! its transaction, a [`PlanFault`] why a value is no workload, and [`Progress`] tells another thread how far a run is.
+//! [`run::run_plan`] runs a [`Plan`], each worker in a thread of its own beside a pool for the actions of agents, and compares what
+//! came of it with the plan. [`run::run_workload`] reads a workload, plans it by [`plan::plan`], runs it, and writes the report or the
+//! dump. Plans are those of `ref_plan`, whose items stand here too.
 //!
-//! Planning is linear in the text, but for the look-ups of names; a run costs what its steps do, and the comparison is linear in steps
-//! and log. What is promised is that the world's transactions are the plan's, each once and each worker's in order, but for those that
-//! were refused, which are told. Not promised is which steps are refused, in which order workers get on, or that a thread can be had.
+//! | Module | Is |
+//! |---|---|
+//! | [`plan`], [`plans`], [`plan_faults`] | the modules of `ref_plan` |
+//! | [`run`] | the run of a plan, and what comes out ([`RunOut`]) |
+//! | [`order`] | whether a world and the refused steps are those of a run of the plan |
+//! | [`progress`] | counters by which another thread sees how far a run is ([`Progress`]) |
+//! | [`texts`] | the run of a workload from its text ([`run_text`]), or from a reader to a writer ([`run_workload`]) |
+//! | [`streams`] | an input that is read whole, and an output that is written whole |
+//! | [`faults`] | why a workload isn't run to its end ([`RunFault`]) |
+//!
+//! A run costs what its steps do, and the comparison is linear in steps and log. Guaranteed: the world's transactions are the plan's,
+//! each once and each worker's in order, except the refused ones, which are returned. Not guaranteed: which steps are refused, in which
+//! order workers get on, or that a thread can be had.
 #![tactic(auto)]
 
 pub mod faults;
 pub mod order;
-pub mod plan;
-pub mod plan_faults;
-mod planning;
-pub mod plans;
 pub mod progress;
 pub mod run;
 mod running;
@@ -24,8 +29,7 @@ pub mod texts;
 
 pub use faults::{RunFault, Stop};
 pub use order::is_orderly;
-pub use plan_faults::PlanFault;
-pub use plans::{Plan, PlannedOp, Step};
 pub use progress::Progress;
+pub use ref_plan::{Plan, PlanFault, PlannedOp, Step, plan, plan_faults, plans};
 pub use run::{RunOut, run_plan, run_plan_with};
 pub use texts::{Options, run_text, run_workload};

@@ -9,11 +9,11 @@ mod named;
 mod refusals;
 mod start;
 
-use crate::plans::Plan;
 use board::Board;
 use entries::{is_done, mark_entries, mark_refused};
 use ref_audit::Refusal;
 use ref_fun::Core;
+use ref_plan::Plan;
 use ref_world::World;
 pub(crate) use refusals::are_in_order;
 use start::{are_agents, is_base};

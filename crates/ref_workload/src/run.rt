@@ -7,12 +7,12 @@ ghost use Rattle.ref_world.specs.Shares.{all_parts};
 
 use crate::faults::{RunFault, Stop};
 use crate::order::{are_in_order, is_orderly};
-use crate::plans::{Plan, Step};
 use crate::progress::Progress;
 use crate::running::{Run, run_threads, share_start};
 use ref_audit::Refusal;
 use ref_fun::{Core, Functions};
 use ref_log::{MakeFault, SharedVec};
+use ref_plan::{Plan, Step};
 use ref_shared::{Gate, GatherFault, Shared};
 use ref_world::{Share, Totals, World};
 use std::alloc::Global;

@@ -13,15 +13,16 @@ ghost use Rattle.ref_workload.specs.Streams.{CountsReads, CountsWrites, HasBroke
 ghost use Rattle.ref_world.specs.Shares.{all_parts};
 
 use crate::faults::RunFault;
-use crate::plan::plan;
-use crate::plans::Plan;
 use crate::progress::Progress;
 use crate::run::{RunOut, run_plan_with};
 use crate::streams::{read_input, write_output};
 use ref_audit::{DumpFault, DumpMakeFault, Verdict, audit, audit_world, dump, report};
-use ref_edn::{Sink, Source, Value, print, read_one};
+use ref_edn::{Sink, Source, print, read_one};
 use ref_fun::{Core, Functions};
+use ref_plan::Plan;
+use ref_plan::plan::plan;
 use ref_shared::Open;
+use ref_value::Value;
 use ref_world::{ALL_PARTS, World};
 use std::alloc::Global;
 use std::marker::Brand;

@@ -8,11 +8,11 @@ use denote.Param.SendFields.{declared_send, declared_sync, variants_send, varian
 use Rattle.std.proofs.Crossing.{crosses, Arc-send}
 use Rattle.std.proofs.MapsCrossingOver as over
 use Rattle.std.specs.declared.sync.ledger.Ledger as Ledger
-use Rattle.ref_edn.proofs.data.Value.TheLaws.TheKnot as knot
+use Rattle.ref_value.proofs.data.Value.TheLaws.TheKnot as knot
 use Rattle.ref_log.proofs.lists.SharedVec.TheSendSync as lists
 use Rattle.ref_pmap.proofs.Crossing.{numbered_send}
 use Rattle.ref_pvec.proofs.Crossing.{vector_send}
-use Rattle.ref_edn.specs.contracts.data.Value as Value
+use Rattle.ref_value.specs.contracts.data.Value as Value
 use Rattle.ref_fun.specs.contracts.arguments.Args as Args
 use Rattle.ref_fun.specs.declared.meanings.Meaning as Meaning
 use Rattle.ref_log.specs.contracts.operations.Op as Op

@@ -1,6 +1,6 @@
 -- The references of a world by kind and number.
 use Rattle.std.specs.Prelude.{ℕ, Bool, ◌&&◌, List, Option, slice_get}
-use Rattle.ref_edn.specs.Edn.{Edn}
+use Rattle.ref_value.specs.Edn.{Edn}
 use Rattle.ref_fun.specs.Rule.{Accepts}
 use Rattle.ref_fun.specs.declared.rules.Rule.{Rule}
 use Rattle.ref_log.specs.Guards as guards

@@ -2,7 +2,7 @@
 use Rattle.std.specs.Prelude.{◌≡◌, ◌≤◌, ℕ, ◌^◌, ◌+◌, nat_lt, not, Bool, true, List, [], ◌∷◌, ◌++◌, if◌then◌else◌, length, Option, Ok}
 use Rattle.std.specs.List.{list_all}
 use Rattle.std.specs.Result.{is_ok}
-use Rattle.ref_edn.specs.Edn.{Edn}
+use Rattle.ref_value.specs.Edn.{Edn}
 use Rattle.ref_fun.specs.Meaning.{Means}
 use Rattle.ref_log.specs.Replay.{last_change, point_after, replay, sets_atom}
 use Rattle.ref_log.specs.Tally.{IsTally, added_in, added_of, commits_in, commits_of, counted, fits_entry}

@@ -17,9 +17,9 @@ use ref_agents::{
     Account, AgentError, ErrorMode, FinishFault, Finished, Job, ModeFault, Ran, RestartFault,
     SendFault,
 };
-use ref_edn::Value;
 use ref_fun::{Action, Functions, Meaning, Rule};
 use ref_log::MakeFault;
+use ref_value::Value;
 use std::alloc::{AllocError, Global};
 use std::sync::ledger::Ledger;
 

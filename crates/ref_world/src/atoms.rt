@@ -1,7 +1,7 @@
 //! The calls that change one atom.
 ghost use Rattle.ref_log.specs.Told.{TellsOrMemory, TellsThenMemory};
 ghost use Rattle.std.specs.Prelude.{◌≡◌, ◌≤◌, ◌<◌, ◌^◌, ◌+◌, ℕ, List, true, false, [], Option, Some, Ok, IfOk, IfErr, OnErr, OnOk, length, slice_get, slice_set};
-ghost use Rattle.ref_edn.specs.Edn.{Edn};
+ghost use Rattle.ref_value.specs.Edn.{Edn};
 ghost use Rattle.ref_log.specs.Guards.{AreAccepted, keys_at};
 ghost use Rattle.ref_atoms.specs.Atoms.{with_value};
 ghost use Rattle.ref_atoms.specs.Change.{change_refusal, compare_refusal, early_refusal, is_same_at};
@@ -17,9 +17,9 @@ ghost use Rattle.ref_world.specs.World.{IsUncounted, point_of, values_now, with_
 use crate::shares::{LogReceipt, Share};
 use crate::worlds::World;
 use ref_atoms::{AtomFault, Cas, Change, Swapped};
-use ref_edn::Value;
 use ref_fun::{Args, Functions, Meaning};
 use ref_log::{Op, Share as _};
+use ref_value::Value;
 use std::alloc::{AllocError, Global};
 use std::sync::ledger::Ledger;
 

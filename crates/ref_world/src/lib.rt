@@ -45,13 +45,12 @@ pub mod faults;
 mod making;
 mod references;
 pub mod shares;
-pub mod starts;
 pub mod views;
 pub mod worlds;
 
 pub use commits::Receipt;
 pub use faults::CheckpointFault;
+pub use ref_start::{AgentStart, AtomStart, RefStart, Start, starts};
 pub use shares::{ALL_PARTS, LogReceipt, Share};
-pub use starts::{AgentStart, AtomStart, RefStart, Start};
 pub use views::View;
 pub use worlds::{Totals, World};

@@ -9,10 +9,10 @@ ghost use Rattle.ref_refs.specs.Make as refs;
 ghost use Rattle.ref_world.specs.World.{point_of, with_entry, with_made_ref, with_tally};
 
 use crate::worlds::World;
-use ref_edn::Value;
 use ref_fun::{Functions, Meaning, Rule};
 use ref_log::{Base, Entry, MakeFault};
 use ref_refs::RefStore;
+use ref_value::Value;
 use std::alloc::{AllocError, Global};
 use std::sync::Arc;
 use std::sync::ledger::Ledger;

@@ -7,9 +7,9 @@ ghost use Rattle.ref_world.specs.References.{are_known, is_accepted_at, keys_at,
 ghost use Rattle.ref_world.specs.World.{IsReplayed};
 
 use crate::worlds::World;
-use ref_edn::Value;
 use ref_fun::{Functions, Meaning, Rule};
 use ref_log::{RuleFault, WatchFault, Who};
+use ref_value::Value;
 use std::alloc::Global;
 use std::sync::ledger::Ledger;
 

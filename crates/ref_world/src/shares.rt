@@ -34,7 +34,7 @@ pub struct Share<C: Ledger, A: Ledger> {
 impl<C: Ledger, A: Ledger> Model for Share<C, A> {
     ghost use Rattle.std.specs.Prelude.{◌≡◌, ◌<◌, ◌≤◌};
     ghost use Rattle.std.specs.Coded.{codes};
-    ghost use Rattle.ref_edn.specs.Code.{edn_code};
+    ghost use Rattle.ref_value.specs.Code.{edn_code};
     ghost use Rattle.ref_world.specs.Seen.{ShareSeen};
     ghost use Rattle.ref_world.specs.Shares.{all_parts};
 

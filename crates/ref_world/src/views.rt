@@ -27,7 +27,7 @@ pub struct View<M: Meaning> {
 impl<M: Meaning> Model for View<M> {
     ghost use Rattle.std.specs.Prelude.{◌≡◌, ◌≤◌, ◌^◌, length};
     ghost use Rattle.std.specs.Coded.{codes};
-    ghost use Rattle.ref_edn.specs.Code.{edn_code};
+    ghost use Rattle.ref_value.specs.Code.{edn_code};
     ghost use Rattle.ref_log.specs.Replay.{point_after};
     ghost use Rattle.ref_world.specs.Seen.{ViewSeen};
     ghost use Rattle.ref_world.specs.World.{HasReplay};

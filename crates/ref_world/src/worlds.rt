@@ -13,13 +13,13 @@ ghost use Rattle.ref_world.specs.World.{HasLastChanges, are_past, point_of};
 use crate::books::Books;
 use crate::declared::{base_of, declared_agents, declared_atoms, declared_refs};
 use crate::shares::Share;
-use crate::starts::Start;
 use ref_agents::AgentStore;
 use ref_atoms::AtomStore;
 use ref_fun::{Functions, Meaning};
 use ref_log::{Base, Entry, MakeFault, Who};
 use ref_pvec::PVec;
 use ref_refs::RefStore;
+use ref_start::Start;
 use std::alloc::Global;
 use std::marker::Model;
 use std::sync::Arc;
@@ -48,7 +48,7 @@ pub struct World<M: Meaning, C: Ledger, A: Ledger> {
 
 impl<M: Meaning, C: Ledger, A: Ledger> Model for World<M, C, A> {
     ghost use Rattle.std.specs.Coded.{codes};
-    ghost use Rattle.ref_edn.specs.Code.{edn_code};
+    ghost use Rattle.ref_value.specs.Code.{edn_code};
     ghost use Rattle.ref_world.specs.Seen.{WorldSeen};
     ghost use Rattle.ref_world.specs.World.{AreBooks, IsWorld};
 

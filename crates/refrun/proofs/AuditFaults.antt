@@ -1,7 +1,7 @@
 -- What the verdict on a text's value and the faults of an audit say.
 use Rattle.std.proofs.Common.{◌≡◌, ℕ, List, sym, ap, arith}
 use Rattle.std.specs.Prelude.{◌≢◌, Result, Ok, Err, IfErr, IsErrAnd}
-use Rattle.ref_edn.specs.Edn.{Edn}
+use Rattle.ref_value.specs.Edn.{Edn}
 use Rattle.ref_edn.specs.Grammar.{IsText}
 use Rattle.ref_edn.specs.declared.faults.ReadFault.{ReadFault}
 use Rattle.ref_edn.specs.declared.faults.ReadFault.TheVariants as reads

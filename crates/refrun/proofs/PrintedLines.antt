@@ -1,6 +1,6 @@
 -- Printed values from a place on.
 use Rattle.std.proofs.Common.{◌≡◌, ℕ, ◌+◌, ◌<◌, List, ◌++◌, refl, drop, get_or, length, drop-cons, add-one}
-use Rattle.ref_edn.specs.Edn.{Edn}
+use Rattle.ref_value.specs.Edn.{Edn}
 use Rattle.ref_edn.specs.Printed.{printed}
 use Rattle.refrun.specs.Printing.{newline, printed_lines}
 

@@ -1,6 +1,6 @@
 -- What the audit of a dump's text reads, writes and answers.
 use Rattle.std.specs.Prelude.{◌≡◌, ◌≢◌, ◌<◌, ℕ, List, length, Result, Ok, Err}
-use Rattle.ref_edn.specs.Edn.{Edn}
+use Rattle.ref_value.specs.Edn.{Edn}
 use Rattle.ref_edn.specs.Grammar.{IsText}
 use Rattle.ref_edn.specs.Streams.{counted}
 use Rattle.ref_edn.specs.declared.faults.ReadFault.{ReadFault}

@@ -1,6 +1,6 @@
 -- What the check of a workload writes.
 use Rattle.std.specs.Prelude.{◌≡◌, ℕ, List, [], ◌∷◌, ◌++◌, codes}
-use Rattle.ref_edn.specs.Edn.{Edn}
+use Rattle.ref_value.specs.Edn.{Edn}
 use Rattle.ref_edn.specs.Grammar.{IsText}
 use Rattle.ref_workload.specs.Plan.{PlanSeen}
 use Rattle.ref_workload.specs.Workload.{IsWorkload}

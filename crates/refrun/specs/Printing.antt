@@ -1,6 +1,6 @@
 -- What is printed of a text: each of its elements on a line.
 use Rattle.std.specs.Prelude.{◌≡◌, List, ℕ, [], ◌∷◌, ◌++◌}
-use Rattle.ref_edn.specs.Edn.{Edn}
+use Rattle.ref_value.specs.Edn.{Edn}
 use Rattle.ref_edn.specs.Grammar.{AreTexts}
 use Rattle.ref_edn.specs.Printed.{printed}
 use Rattle.ref_workload.specs.declared.faults.RunFault.{RunFault}

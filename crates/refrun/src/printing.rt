@@ -5,7 +5,8 @@ ghost use Rattle.ref_edn.specs.Streams.{ConsumesUpTo};
 ghost use Rattle.refrun.specs.Printing.{IsOfElements, IsOfPrinting, IsPrintOf, printed_lines};
 ghost use Rattle.ref_workload.specs.Streams.{CountsReads, CountsWrites, HasBrokenOff, HasWritten, IsInputAtFault};
 
-use ref_edn::{Sink, Source, Value, print, read_all};
+use ref_edn::{Sink, Source, print, read_all};
+use ref_value::Value;
 use ref_workload::RunFault;
 use ref_workload::streams::{read_input, write_output};
 use std::alloc::{AllocError, Global};

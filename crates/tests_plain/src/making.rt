@@ -3,8 +3,8 @@ ghost use Rattle.std.specs.Prelude.{◌≤◌, length};
 
 use crate::model::PlainStart;
 use crate::plain::{Given, Plain, PlainCall};
-use ref_edn::{Node, Value};
 use ref_fun::{Args, MOST_ARGUMENTS, Rule};
+use ref_value::{Node, Value};
 use std::alloc::{AllocError, Global};
 
 /// The value that the model has.

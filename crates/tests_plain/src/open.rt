@@ -7,10 +7,10 @@ use crate::player::Player;
 use crate::shows::{Shows, agree};
 use crate::tables::Table;
 use crate::transactions::{PlainReceipt, PlainTx};
-use ref_edn::Value;
 use ref_fun::{Cause, Core};
 use ref_refs::{Alien, CommitFault};
 use ref_tx::{Tx, TxFault};
+use ref_value::Value;
 use std::alloc::Global;
 
 /// An open transaction, its model, and the number of the world that it was begun in.

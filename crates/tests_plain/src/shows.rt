@@ -6,11 +6,11 @@ use crate::tables::Table;
 use crate::transactions::{PlainDone, PlainSent, PlainTx};
 use ref_agents::{Account, Finished, Handled, Job, Mark};
 use ref_atoms::{Cas, Swapped};
-use ref_edn::{Node, Value};
 use ref_fun::{Action, Args, Core, Rule};
 use ref_log::{AuditFault, Base, Done, Entry, Notice, Op, PlainState, Sent, Transaction};
 use ref_pvec::PVec;
 use ref_tx::{Snapshot, Tx};
+use ref_value::{Node, Value};
 use std::alloc::AllocError;
 
 /// What shows something of the model.

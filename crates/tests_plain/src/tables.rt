@@ -3,8 +3,8 @@ ghost use Rattle.ref_fun.specs.Names.{is_function, is_predicate};
 ghost use Rattle.std.specs.Prelude.{◌&&◌, nat_le};
 
 use crate::plain::{PlainCall, PlainOp};
-use ref_edn::Value;
 use ref_fun::{CallFault, Core, CoreFunctions, Functions};
+use ref_value::Value;
 use std::alloc::Global;
 
 /// The functions of Core up to one code, and the predicates up to another.

@@ -6,11 +6,11 @@ ghost use Rattle.ref_world.specs.Shares.{all_parts};
 
 use crate::flags::{Flags, Place};
 use crate::waits::wait_for;
-use ref_edn::Value;
 use ref_fun::{CallFault, Core, CoreFunctions, Functions};
 use ref_log::{Notice, Who};
 use ref_shared::{Gate, Shared, Spot, WatchSink, Worked};
 use ref_tx::Tx;
+use ref_value::Value;
 use ref_world::{ALL_PARTS, Share};
 use std::alloc::Global;
 use std::marker::Brand;

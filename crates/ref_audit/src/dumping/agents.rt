@@ -1,6 +1,6 @@
 //! The forms of agents.
 ghost use Rattle.std.specs.Prelude.{◌≡◌, map, IfErr, IfOk, option_copied};
-ghost use Rattle.ref_edn.specs.Edn.{nesting};
+ghost use Rattle.ref_value.specs.Edn.{nesting};
 ghost use Rattle.ref_audit.specs.Dumped.{agent_parts, handled_form, mark_word, queued_form, status_word};
 ghost use Rattle.ref_audit.specs.Made.{IsMakeFault, word_text};
 ghost use Rattle.ref_verdict.specs.Words.{vector_form};
@@ -9,8 +9,8 @@ use crate::dumping::forms::{Form, name, rule, vector_of, vector_of_all, vector_o
 use crate::faults::DumpMakeFault;
 use crate::words::Word;
 use ref_agents::{Account, Handled, Mark, Queued};
-use ref_edn::Value;
 use ref_fun::Rule;
+use ref_value::Value;
 use std::alloc::Global;
 
 #[tactic(auto, using(crate::proofs::Depths::make_faults))]

@@ -1,15 +1,15 @@
 //! The forms of entries.
 ghost use Rattle.std.specs.Prelude.{◌≡◌, IfErr, IfOk};
-ghost use Rattle.ref_edn.specs.Edn.{nesting};
+ghost use Rattle.ref_value.specs.Edn.{nesting};
 ghost use Rattle.ref_audit.specs.Dumped.{atom_form, call_form, done_form, entry_form, made_form, op_form, reset_form, sent_form};
 ghost use Rattle.ref_audit.specs.Made.{IsMakeFault, word_text};
 
 use crate::dumping::forms::{Form, name, number, vector_of, vector_of_all, vector_of_values};
 use crate::faults::DumpMakeFault;
 use crate::words::Word;
-use ref_edn::Value;
 use ref_fun::Args;
 use ref_log::{Done, Entry, Op, Sent, Transaction};
+use ref_value::Value;
 use std::alloc::Global;
 
 impl Form for Entry {

@@ -1,18 +1,18 @@
 //! What has a form in a dump, and the forms that others are made of.
 ghost use Rattle.std.specs.Prelude.{◌≡◌, ◌<◌, true, map, IfErr, IfOk, OnErr, option_copied};
-ghost use Rattle.ref_edn.specs.Edn.{Edn, nesting, nil, symbol};
-ghost use Rattle.ref_edn.specs.Lawful.{IsLawful};
-ghost use Rattle.ref_edn.specs.Names.{is_symbol};
-ghost use Rattle.ref_edn.specs.View.{edn};
+ghost use Rattle.ref_value.specs.Edn.{Edn, nesting, nil, symbol};
+ghost use Rattle.ref_value.specs.Lawful.{IsLawful};
+ghost use Rattle.ref_value.specs.Names.{is_symbol};
+ghost use Rattle.ref_value.specs.View.{edn};
 ghost use Rattle.ref_audit.specs.Dumped.{entry_form};
 ghost use Rattle.ref_audit.specs.Made.{IsMakeFault};
 ghost use Rattle.ref_verdict.specs.Words.{name_form, number_form, rule_form, vector_form};
 
 use crate::faults::DumpMakeFault;
-use ref_edn::{Items, Node, Text, Value};
 use ref_fun::{Rule, name_of};
 use ref_log::{Entry, share_all};
 use ref_pvec::PVec;
+use ref_value::{Items, Node, Text, Value};
 use std::alloc::{AllocError, Global};
 
 // What has a form in a dump.

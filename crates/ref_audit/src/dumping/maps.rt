@@ -1,8 +1,8 @@
 //! The map of a dump, made of its parts.
 ghost use Rattle.std.specs.Prelude.{◌≡◌, ◌≤◌, ◌∷◌, [], true, map, IfErr, IfOk, OnOk};
-ghost use Rattle.ref_edn.specs.Edn as edn;
-ghost use Rattle.ref_edn.specs.Edn.{keyword, nesting};
-ghost use Rattle.ref_edn.specs.Order.{keys_ascend};
+ghost use Rattle.ref_value.specs.Edn as edn;
+ghost use Rattle.ref_value.specs.Edn.{keyword, nesting};
+ghost use Rattle.ref_value.specs.Order.{keys_ascend};
 ghost use Rattle.ref_audit.specs.Dumped.{agents_form, base_refs_form, dump_entries, dumped, entry_form, folded_form, tally_form, values_form};
 ghost use Rattle.ref_audit.specs.Made.{AreFew, AreParts, IsMakeFault, word_text};
 ghost use Rattle.ref_verdict.specs.Words.{number_form, vector_form};
@@ -13,8 +13,8 @@ use crate::dumping::worlds::{agents_now, values_now};
 use crate::faults::DumpMakeFault;
 use crate::kinds::Kind;
 use crate::words::Word;
-use ref_edn::{Entries, Node, Value};
 use ref_fun::Core;
+use ref_value::{Entries, Node, Value};
 use ref_world::World;
 use std::alloc::{AllocError, Global};
 use std::sync::ledger::Ledger;

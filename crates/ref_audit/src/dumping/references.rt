@@ -1,15 +1,15 @@
 //! The forms of refs and atoms.
 ghost use Rattle.std.specs.Prelude.{◌≡◌, ◌∷◌, [], length, IfErr, IfOk, IsOk, option_copied};
-ghost use Rattle.ref_edn.specs.Edn.{nesting};
+ghost use Rattle.ref_value.specs.Edn.{nesting};
 ghost use Rattle.ref_audit.specs.Dumped.{base_refs_form, folded_form, tally_form};
 ghost use Rattle.ref_audit.specs.Made.{IsMakeFault};
 ghost use Rattle.ref_verdict.specs.Words.{number_form, rule_form, vector_form};
 
 use crate::dumping::forms::{nil, number, rule, vector_of};
 use crate::faults::DumpMakeFault;
-use ref_edn::Value;
 use ref_fun::Rule;
 use ref_log::Base;
+use ref_value::Value;
 use std::alloc::{AllocError, Global};
 
 // The refs of the base, with the points of their last changes.

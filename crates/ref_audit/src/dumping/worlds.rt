@@ -1,6 +1,6 @@
 //! What a dump says of a world's references now.
 ghost use Rattle.std.specs.Prelude.{◌≡◌, ◌≤◌, length, IfErr, IfOk};
-ghost use Rattle.ref_edn.specs.Edn.{nesting};
+ghost use Rattle.ref_value.specs.Edn.{nesting};
 ghost use Rattle.ref_world.specs.References.{guards_of, values_of};
 ghost use Rattle.ref_audit.specs.Dumped.{agents_form, lesser, unnamed, values_form};
 ghost use Rattle.ref_audit.specs.Made.{AreFew, IsMakeFault, who_of};
@@ -11,9 +11,9 @@ use crate::dumping::references::value_now;
 use crate::dumping::unnamed::{least_in_account, least_in_log, lesser};
 use crate::faults::DumpMakeFault;
 use crate::kinds::Kind;
-use ref_edn::Value;
 use ref_fun::Core;
 use ref_log::{MOST_REFERENCES, Who};
+use ref_value::Value;
 use ref_world::World;
 use std::alloc::Global;
 use std::sync::ledger::Ledger;

@@ -8,9 +8,9 @@ ghost use Rattle.ref_fun.specs.Names.{is_function, is_predicate};
 use crate::reading::lists::FromForm;
 use crate::reading::plain::elements_in;
 use crate::reading::wrongs::Wrong;
-use ref_edn::vectors::Iter;
-use ref_edn::{Node, Value};
 use ref_fun::{Action, Args, MOST_ARGUMENTS, Rule, is_function, is_predicate};
+use ref_value::vectors::Iter;
+use ref_value::{Node, Value};
 use std::alloc::Global;
 
 fn named_code(form: &Value) -> Option<u32>

@@ -1,9 +1,9 @@
 //! What a dump says, as plain data.
 use ref_agents::accounts::Handled;
-use ref_edn::Value;
 use ref_fun::{Action, Rule};
 use ref_log::{Base, Entry, SharedVec};
 use ref_pvec::PVec;
+use ref_value::Value;
 
 /// A dump of a world.
 #[derive(Drop)]

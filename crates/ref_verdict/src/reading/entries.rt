@@ -9,10 +9,10 @@ use crate::reading::plain::{
     elements_in, is_same, keyword_in, number_in, reference_in, stamp_number_in,
 };
 use crate::reading::wrongs::Wrong;
-use ref_edn::vectors::Iter;
-use ref_edn::{Text, Value};
 use ref_fun::Action;
 use ref_log::{Done, Entry, Op, Sent, Stamp, Transaction};
+use ref_value::vectors::Iter;
+use ref_value::{Text, Value};
 use std::alloc::Global;
 
 /// The keyword that a form begins with, and what follows it.

@@ -1,14 +1,14 @@
 //! Lists of forms.
 ghost use Rattle.std.specs.Prelude.{◌≡◌, ◌≤◌, length, Option, None, Some, IfErr, IfOk, IfNone, IfSome};
-ghost use Rattle.ref_edn.specs.Edn.{Edn};
+ghost use Rattle.ref_value.specs.Edn.{Edn};
 ghost use Rattle.ref_verdict.specs.DumpForm.{all_said, elements_within, list_said, values_said};
 ghost use Rattle.ref_verdict.specs.Reading.{Reads};
 ghost use Rattle.ref_verdict.specs.declared.reading.wrongs.Wrong.TheVariants.{Form};
 
 use crate::reading::plain::elements_in;
 use crate::reading::wrongs::Wrong;
-use ref_edn::{Items, Value};
 use ref_log::SharedVec;
+use ref_value::{Items, Value};
 use std::alloc::Global;
 
 /// How many references of a kind a dump may have.

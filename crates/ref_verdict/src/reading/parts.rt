@@ -1,7 +1,7 @@
 //! The parts of a dump's map.
 ghost use Rattle.std.specs.Prelude.{◌≡◌, ◌<◌, ◌≤◌, ◌^◌, length, map, None, Some, Ok, Err, IfErr, IfOk, is_some, option_copied};
 ghost use Rattle.std.specs.List.{list_all, list_any};
-ghost use Rattle.ref_edn.specs.Edn.{Edn};
+ghost use Rattle.ref_value.specs.Edn.{Edn};
 ghost use Rattle.ref_verdict.specs.DumpForm.{elements_of, elements_within, entries_from, folded_of, folded_said, has_keys, is_key, is_version, is_word, key_word, list_said, misfit, number_of, part_said, reference_of, tally_of, under, values_said};
 ghost use Rattle.ref_verdict.specs.Early.{is_said, parts_fault};
 ghost use Rattle.ref_verdict.specs.Reading.{Told};
@@ -14,9 +14,9 @@ use crate::reading::faults::{DumpFault, Key};
 use crate::reading::lists::{FromForm, elements_up_to, list_in, values_in};
 use crate::reading::plain::{elements_in, is_word, number_in, reference_in};
 use crate::reading::wrongs::Wrong;
-use ref_edn::{Entries, Items, Node, Value};
 use ref_log::{Entry, SharedVec};
 use ref_pvec::PVec;
+use ref_value::{Entries, Items, Node, Value};
 use std::alloc::Global;
 
 /// How many entries a dump may have: points end at 2^62.

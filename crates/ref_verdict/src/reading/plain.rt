@@ -1,9 +1,9 @@
 //! The plain forms: numbers, keywords, vectors of a few elements.
 ghost use Rattle.std.specs.Prelude.{◌≡◌, ◌<◌, ◌^◌, None, Some, IfNone, IfSome};
-ghost use Rattle.ref_edn.specs.Names.{bytes_eq};
+ghost use Rattle.ref_value.specs.Names.{bytes_eq};
 ghost use Rattle.ref_verdict.specs.DumpForm.{elements_of, is_word, keyword_of, number_of, reference_of, stamp_number};
 
-use ref_edn::{Items, Node, Text, Value};
+use ref_value::{Items, Node, Text, Value};
 
 /// An integer of 0 or more.
 pub(crate) fn number_in(form: &Value) -> Option<u64>

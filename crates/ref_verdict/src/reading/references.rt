@@ -9,8 +9,8 @@ use crate::reading::lists::{FromForm, list_in};
 use crate::reading::plain::{elements_in, is_same, keyword_in, number_in};
 use crate::reading::wrongs::Wrong;
 use ref_agents::accounts::{Handled, Mark};
-use ref_edn::Value;
-use ref_edn::vectors::Iter;
+use ref_value::Value;
+use ref_value::vectors::Iter;
 use std::alloc::Global;
 
 // `[VALUE LAST]`

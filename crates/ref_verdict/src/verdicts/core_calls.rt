@@ -7,8 +7,8 @@ ghost use Rattle.ref_fun.specs.Rule.{passes};
 ghost use Rattle.ref_fun.specs.Names.{is_function};
 ghost use Rattle.ref_verdict.specs.OfCore.{is_rule_of_core};
 
-use ref_edn::Value;
 use ref_fun::{Action, CallFault, Core, FunFault, Functions, Rule, passes};
+use ref_value::Value;
 use std::alloc::Global;
 
 /// Applies an action to a state.

@@ -5,9 +5,9 @@ ghost use Rattle.ref_log.specs.Tally.{added_by_done, added_by_dones, added_in, a
 ghost use Rattle.ref_verdict.specs.Verdict.{are_counts};
 
 use crate::reading::dumps::Dump;
-use ref_edn::{Node, Value};
 use ref_log::{Done, Entry, Op};
 use ref_pvec::PVec;
+use ref_value::{Node, Value};
 
 // The number that arguments are, where they are one integer of 0 or more.
 fn counted(args: &[Value]) -> u64

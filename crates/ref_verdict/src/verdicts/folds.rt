@@ -11,8 +11,8 @@ ghost use Rattle.ref_verdict.specs.Verdict.{breaks_fold};
 use crate::reading::dumps::KeptAgent;
 use crate::verdicts::core_calls::apply;
 use ref_agents::accounts::{Handled, Mark};
-use ref_edn::Value;
 use ref_fun::{Core, FunFault, Functions};
+use ref_value::Value;
 use std::alloc::{AllocError, Global};
 
 // The state after an action that ended, by its mark.

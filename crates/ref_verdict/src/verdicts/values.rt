@@ -3,7 +3,7 @@ ghost use Rattle.std.specs.Prelude.{◌≡◌};
 ghost use Rattle.ref_verdict.specs.Verdict.{first_difference, values_of};
 
 use crate::reading::dumps::Kept;
-use ref_edn::Value;
+use ref_value::Value;
 
 /// The first number at which the values differ, or which only one side has.
 #[tactic(auto, using(crate::proofs::Differences::difference_here, crate::proofs::Differences::difference_past, crate::proofs::Differences::difference_behind))]

@@ -4,8 +4,8 @@ ghost use Rattle.std.specs.Bool.{MatchBool};
 ghost use Rattle.ref_workload.specs.Marks.{Takes};
 ghost use Rattle.ref_workload.specs.declared.order.board.Mark.TheVariants.{Open};
 
-use crate::plans::Step;
 use ref_log::{SharedVec, Stamp};
+use ref_plan::Step;
 use std::alloc::{AllocError, Global};
 use std::marker::Model;
 

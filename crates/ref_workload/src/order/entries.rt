@@ -4,9 +4,9 @@ ghost use Rattle.ref_workload.specs.Marks.{AreMarks, EntriesStand, EntryTaken, I
 
 use crate::order::board::{Board, Mark};
 use crate::order::named::is_named;
-use crate::plans::Step;
 use ref_audit::Refusal;
 use ref_log::{Entry, SharedVec, Transaction};
+use ref_plan::Step;
 use ref_pvec::PVec;
 
 // Marks the refused steps, where each is open.

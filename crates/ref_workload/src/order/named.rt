@@ -3,8 +3,8 @@ ghost use Rattle.std.specs.Prelude.{◌≡◌, ◌≤◌, ◌++◌, ◌∷◌, [
 ghost use Rattle.std.specs.List.{filter_map};
 ghost use Rattle.ref_workload.specs.Orderly.{IsNamedBy, asked, op_named, send_named};
 
-use crate::plans::PlannedOp;
 use ref_log::{Done, Same, Sent, Transaction};
+use ref_plan::PlannedOp;
 
 // Whether operations and sends are those that are named, in order.
 pub(crate) fn is_named(ops: &[PlannedOp], transaction: &Transaction) -> bool

@@ -1,12 +1,12 @@
 //! Whether a world began with what is declared.
 ghost use Rattle.std.specs.Prelude.{◌≡◌, length, map, position, true};
 ghost use Rattle.ref_workload.specs.Orderly.{base_declared};
-ghost use Rattle.ref_world.specs.declared.starts.AtomStart.{AtomStart};
-ghost use Rattle.ref_world.specs.declared.starts.RefStart.{RefStart};
+ghost use Rattle.ref_start.specs.declared.starts.AtomStart.{AtomStart};
+ghost use Rattle.ref_start.specs.declared.starts.RefStart.{RefStart};
 
-use ref_edn::Value;
 use ref_fun::Core;
 use ref_log::{Base, Same, Who};
+use ref_value::Value;
 use ref_world::{AtomStart, RefStart, Start, World};
 use std::sync::ledger::Ledger;
 

@@ -1,8 +1,8 @@
 //! One more owner of all that is declared.
 ghost use Rattle.std.specs.Prelude.{◌≡◌, IfOk};
 
-use ref_edn::Value;
 use ref_fun::Rule;
+use ref_value::Value;
 use ref_world::{AgentStart, AtomStart, RefStart, Start};
 use std::alloc::{AllocError, Global};
 

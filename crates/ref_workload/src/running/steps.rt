@@ -1,5 +1,4 @@
 //! One step of a worker.
-use crate::plans::{PlannedOp, Step};
 use crate::running::reasons::{
     Outcome, of_atom, of_mode, of_restart, of_rule, of_send, of_transaction,
 };
@@ -7,6 +6,7 @@ use crate::running::starts::share_rule;
 use crate::running::workers::Run;
 use ref_fun::{Core, Functions};
 use ref_log::{Op, Share as _, Stamp};
+use ref_plan::{PlannedOp, Step};
 use ref_shared::{Gate, Quiet};
 use ref_tx::{Tx, TxFault};
 use ref_world::Share;

@@ -1,11 +1,11 @@
 //! What the threads of a run are lent, what they are started with, and what they hand back.
 use crate::faults::Stop;
-use crate::plans::Step;
 use crate::progress::Progress;
 use crate::running::steps::run_step;
 use ref_audit::Refusal;
 use ref_fun::{Core, Functions};
 use ref_log::{SharedVec, Stamp};
+use ref_plan::Step;
 use ref_shared::{Gate, Quiet, Shared, WorkFault, Worked};
 use ref_world::Share;
 use std::alloc::Global;

@@ -2,8 +2,8 @@ use Rattle.std.proofs.Common.{◌≡◌, ◌<◌, ◌-◌, true, false, sym, ◌
 use Rattle.std.specs.Prelude.{◌==◌}
 use Rattle.std.proofs.lemmas.Result.{err_from_is_err_and}
 use Rattle.std.proofs.lemmas.Bool.Decides.{nat_tests}
-use Rattle.ref_edn.specs.Edn.{items_of, entries_of}
-use Rattle.ref_edn.specs.Lawful.{AreLawful, AreLawfulEntries}
+use Rattle.ref_value.specs.Edn.{items_of, entries_of}
+use Rattle.ref_value.specs.Lawful.{AreLawful, AreLawfulEntries}
 use Rattle.ref_edn.specs.Fronts.{may_be_blank}
 use Rattle.ref_edn.specs.ReadParts.{items_at, set_at, map_at, front_is_discard}
 use Rattle.ref_edn.specs.Reading.{skip}

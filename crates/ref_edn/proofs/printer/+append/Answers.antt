@@ -1,6 +1,6 @@
 use Rattle.std.proofs.Common.{arith, ap, subst, ◌≡◌, ◌∙◌, ◌++◌, ◌∷◌, [], length, take}
 use Rattle.std.specs.Prelude.{cond, true}
-use Rattle.ref_edn.specs.Edn.{items_of, entries_of}
+use Rattle.ref_value.specs.Edn.{items_of, entries_of}
 use Rattle.ref_edn.specs.Printed.{printed, items_text, entries_text}
 use Rattle.ref_edn.proofs.PrintedParts.{tail, entries_tail, tail_first, entries_tail_first, step, kept_twice}
 use Rattle.ref_edn.proofs.printer.+append.Goals as goal

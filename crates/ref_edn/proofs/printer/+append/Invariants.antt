@@ -1,5 +1,5 @@
 use Rattle.std.proofs.Common.{◌≡◌, ◌≤◌, ◌+◌, ◌*◌, ◌++◌, ◌∷◌, [], take, length, max}
-use Rattle.ref_edn.specs.Edn.{nesting, items_depth, items_of, entries_depth, entries_of}
+use Rattle.ref_value.specs.Edn.{nesting, items_depth, items_of, entries_depth, entries_of}
 use Rattle.ref_edn.specs.Printed.{items_text, entries_text}
 use Rattle.ref_edn.proofs.PrintedParts.{tail, entries_tail}
 use Rattle.ref_edn.proofs.printer.+append.Given as goal

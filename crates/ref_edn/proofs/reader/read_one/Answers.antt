@@ -1,5 +1,5 @@
 use Rattle.std.proofs.Common.{◌<◌, ◌∙◌, Ok, Err, length}
-use Rattle.ref_edn.specs.Edn.{Edn}
+use Rattle.ref_value.specs.Edn.{Edn}
 use Rattle.ref_edn.specs.Faults.{Answers}
 use Rattle.ref_edn.specs.ReadParts.{whole_at, public_error}
 use Rattle.ref_edn.specs.Reading.{one}

@@ -1,7 +1,7 @@
 use Rattle.std.proofs.Common.{sym, ap, subst, rules}
 use Rattle.std.specs.Prelude.{IsUtf8}
 use Rattle.std.proofs.lemmas.Str.{IsUtf8-string_bytes}
-use Rattle.ref_edn.specs.Lawful.{IsLawful}
+use Rattle.ref_value.specs.Lawful.{IsLawful}
 use Rattle.ref_edn.proofs.Strings.{string_read}
 use Rattle.ref_edn.proofs.string_reader.string.Goals as goal
 

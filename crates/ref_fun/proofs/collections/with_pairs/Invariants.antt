@@ -1,7 +1,7 @@
 use Rattle.std.proofs.Common.{◌≡◌, length}
 use Rattle.std.specs.Prelude.{IsTrue}
-use Rattle.ref_edn.specs.Edn.{entries_of}
-use Rattle.ref_edn.specs.Order.{keys_ascend}
+use Rattle.ref_value.specs.Edn.{entries_of}
+use Rattle.ref_value.specs.Order.{keys_ascend}
 use Rattle.ref_fun.specs.Collections.{with_pairs}
 use Rattle.ref_fun.proofs.collections.with_pairs.Given as goal
 

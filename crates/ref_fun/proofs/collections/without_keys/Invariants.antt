@@ -1,8 +1,8 @@
 use Rattle.std.proofs.Common.{◌≡◌, drop, fold}
 use Rattle.std.specs.Prelude.{IsTrue}
-use Rattle.ref_edn.specs.Edn.{entries_of}
-use Rattle.ref_edn.specs.Collections.{entries_without}
-use Rattle.ref_edn.specs.Order.{keys_ascend}
+use Rattle.ref_value.specs.Edn.{entries_of}
+use Rattle.ref_value.specs.Collections.{entries_without}
+use Rattle.ref_value.specs.Order.{keys_ascend}
 use Rattle.ref_fun.proofs.collections.without_keys.Given as goal
 
 abbrev pub invariant-loop-key : goal.invariant-loop-key

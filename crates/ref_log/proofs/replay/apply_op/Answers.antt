@@ -1,7 +1,7 @@
 use Rattle.std.proofs.Common.{rules, ◌≡◌, Ok, Some, true, length, slice_get, refl}
 use Rattle.std.proofs.lemmas.Option.{slice_get_read}
 use Rattle.std.specs.Ordering.{eq_by_cmp}
-use Rattle.ref_edn.specs.Order.{edn_cmp}
+use Rattle.ref_value.specs.Order.{edn_cmp}
 use Rattle.ref_log.specs.Replay.{done_of, place}
 use Rattle.ref_log.proofs.Kept.{goes_on}
 use Rattle.ref_log.proofs.replay.apply_op.Goals as goal

@@ -1,6 +1,6 @@
 use Rattle.std.proofs.Common.{◌≡◌, ap, ◌∙◌, Some, rules}
-use Rattle.ref_edn.specs.Edn as edn
-use Rattle.ref_edn.specs.Edn.{entries_of}
+use Rattle.ref_value.specs.Edn as edn
+use Rattle.ref_value.specs.Edn.{entries_of}
 use Rattle.ref_verdict.specs.DumpForm.{dump_of, misfit, parts_unless}
 use Rattle.ref_verdict.proofs.Maps.{dump_of_map, misfit_told}
 use Rattle.ref_verdict.proofs.reading.read_dump.Goals as goal

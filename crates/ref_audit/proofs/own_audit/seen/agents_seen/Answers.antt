@@ -2,7 +2,7 @@ use Rattle.std.proofs.Common.{◌≡◌, Bool, List, None, Option, map, ap, sym,
 use Rattle.ref_agents.specs.Account.{AccountSeen}
 use Rattle.ref_agents.specs.Agents.{account_at}
 use Rattle.ref_agents.specs.declared.accounts.Handled.{Handled}
-use Rattle.ref_edn.specs.Edn.{Edn}
+use Rattle.ref_value.specs.Edn.{Edn}
 use Rattle.ref_fun.specs.declared.actions.Action.{Action}
 use Rattle.ref_fun.specs.declared.rules.Rule.{Rule}
 use Rattle.ref_log.specs.declared.notices.Who.TheVariants.{Agent}

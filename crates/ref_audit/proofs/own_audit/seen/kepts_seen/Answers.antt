@@ -1,5 +1,5 @@
 use Rattle.std.proofs.Common.{◌≡◌, None, Option, ap, sym, ◌∙◌, refl, option_copied}
-use Rattle.ref_edn.specs.Edn.{Edn}
+use Rattle.ref_value.specs.Edn.{Edn}
 use Rattle.ref_fun.specs.declared.rules.Rule.{Rule}
 use Rattle.ref_world.specs.References.{guards_of, value_at, values_of}
 use Rattle.ref_audit.specs.Made.{who_of}

@@ -1,7 +1,0 @@
-use Rattle.std.proofs.Common.{◌≡◌, ◌-◌, drop}
-use Rattle.ref_edn.specs.Edn.{entries_of}
-use Rattle.ref_edn.specs.Order.{keys_ascend}
-use Rattle.ref_edn.proofs.maps.do_keys_ascend.Given as goal
-
-abbrev pub invariant-loop-i : goal.invariant-loop-i
-invariant-loop-i l = keys_ascend (entries_of l.pairs) ≡ keys_ascend (entries_of (drop (l.i - 1) l.pairs))

@@ -1,6 +1,0 @@
-use Rattle.std.proofs.Common.{◌<◌, ◌^◌, sym, subst}
-use Rattle.ref_edn.proofs.Pairing.{length_singles}
-use Rattle.ref_edn.proofs.sets.Elements.iter.Goals as goal
-
-pub returns-clause-fits : goal.returns-clause-fits
-returns-clause-fits c = subst (λ n. n < 2 ^ 64) (sym (length_singles c.walk.result)) c.walk.ensures.fits

@@ -1,9 +1,0 @@
--- The depth of the deepest member, as a tree keeps it beside its members.
-use Rattle.std.specs.Prelude.{ℕ, ◌≡◌, ◌≤◌, List}
-use Rattle.ref_edn.specs.Edn.{Edn, entries_of, entries_depth}
-use Rattle.ref_edn.specs.Lawful.{AreLawfulEntries}
-
-pub record IsDeepestEntry (deepest : ℕ) (es : List (Edn × Edn)) : Type 0 where
-  pub value : deepest ≡ entries_depth (entries_of es)
-  pub bound : deepest ≤ 64
-  pub lawful : AreLawfulEntries (entries_of es)

@@ -1,0 +1,13 @@
+pub mod SameTexts
+pub mod Elements
+pub mod Turns
+pub mod Words
+pub mod Weaker
+pub mod Operations
+pub mod Steps
+pub mod Collected
+pub mod References
+pub mod Tables
+pub mod Loops
+pub mod Parts
+pub mod Workloads

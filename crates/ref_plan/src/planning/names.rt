@@ -1,0 +1,160 @@
+//! The names of references.
+ghost use Rattle.std.specs.Prelude.{◌≡◌, ℕ, [], List, None, Some, IfOk, IfSome, cond, false, is_none, nat_eq};
+ghost use Rattle.std.specs.Bool.{OnFalse, OnTrue};
+ghost use Rattle.std.specs.Cmp.Lexicographic.{pointwise};
+ghost use Rattle.ref_log.specs.declared.notices.Who.{Who as Reference};
+ghost use Rattle.ref_plan.specs.Named.{AreApart, IsNamed};
+ghost use Rattle.ref_plan.specs.Tables.{Knows, found};
+
+use crate::planning::hashing::NameHashing;
+use indexmap::IndexMap;
+use ref_log::Who;
+use ref_start::Names;
+use ref_value::Text;
+use std::alloc::{AllocError, Global};
+use std::hash::{Hash, Hasher};
+use std::marker::Model;
+
+/// The name of a reference. Contracts see its bytes.
+#[derive(Drop)]
+pub struct Name {
+    text: Text,
+}
+
+impl Model for Name {
+    ghost use Rattle.std.specs.Prelude.{List, ℕ};
+
+    ghost Value = { List ℕ };
+
+    ghost view = { λ a. a.text };
+}
+
+impl PartialEq for Name {
+    ghost use Rattle.std.specs.Prelude.{nat_eq};
+    ghost use Rattle.std.specs.Cmp.{partial_equiv_from_equiv};
+    ghost use Rattle.std.specs.Cmp.Lexicographic.{pointwise};
+    ghost use Rattle.std.proofs.lemmas.Cmp.{nat_list_eq_equiv};
+
+    ghost eq = { pointwise nat_eq };
+
+    ghost laws = { partial_equiv_from_equiv nat_list_eq_equiv };
+
+    fn eq(&self, other: &Name) -> bool {
+        self.text.as_bytes() == other.text.as_bytes()
+    }
+}
+
+impl Eq for Name {
+    ghost use Rattle.std.proofs.lemmas.Cmp.{nat_list_eq_equiv};
+
+    ghost laws = { nat_list_eq_equiv };
+}
+
+impl Hash for Name {
+    ghost use Rattle.std.specs.Hash as fed;
+    ghost use Rattle.std.specs.Cmp.Rules.{hashing};
+    ghost use Rattle.std.proofs.Common.{rules};
+
+    ghost hash_input = { λ a. fed.str a };
+
+    ghost respects_eq = { Prim.search (hashing, rules) };
+
+    fn hash<H: Hasher>(&self, state: &mut H) {
+        state.write(self.text.as_bytes());
+        state.write_u8(0xff);
+    }
+}
+
+/// References by their names. Contracts see a list of names, each with its reference.
+#[derive(Drop)]
+pub struct NameTable {
+    references: IndexMap<Name, Who, NameHashing>,
+}
+
+impl Model for NameTable {
+    ghost use Rattle.ref_plan.specs.Tables.{Table};
+
+    ghost Value = { Table };
+
+    ghost view = { λ a. a.references.entries };
+}
+
+impl NameTable {
+    pub fn empty(alloc: Global, hashing: NameHashing) -> NameTable
+        ensures { result ≡ [] }
+    {
+        NameTable {
+            references: IndexMap::with_hasher(alloc, hashing),
+        }
+    }
+
+    /// Adds the name of a reference and answers true; where the name is there already, it answers false.
+    pub fn add(&mut self, name: &Text, who: Who) -> Result<bool, AllocError>
+        ensures new { IfOk result (λ added. OnTrue added ((q : List ℕ)
+            → found self.new q ≡ cond (pointwise nat_eq name.now q) (Some who) (found self.old q))) }
+        ensures absent { IfOk result (λ added. OnTrue added (found self.old name.now ≡ None)) }
+        ensures there { IfOk result (λ added. OnFalse added (is_none (found self.old name.now) ≡ false)) }
+    {
+        let name = Name {
+            text: name.share()?,
+        };
+        if self.references.get(&name).is_some() {
+            return Ok(false);
+        }
+        self.references.insert(name, who)?;
+        Ok(true)
+    }
+
+    /// The reference of a name, and None for a name that isn't there.
+    pub fn find(&self, name: &Text) -> Result<Option<Who>, AllocError>
+        ensures { IfOk result (λ who. who ≡ found self.now name.now) }
+    {
+        let name = Name {
+            text: name.share()?,
+        };
+        Ok(self.references.get(&name).copied())
+    }
+}
+
+/// The names of all references that a workload declares, no two of them equal. Contracts see them by number.
+#[derive(Drop)]
+pub struct Declared {
+    names: Names,
+    table: NameTable,
+}
+
+impl Model for Declared {
+    ghost use Rattle.ref_start.specs.Names.{NamesSeen};
+    ghost use Rattle.ref_plan.specs.Tables.{Knows};
+
+    ghost Value = { NamesSeen };
+
+    ghost view = { λ a. a.names };
+
+    ghost invariant = { λ a. Knows a.table a.names };
+}
+
+impl Declared {
+    pub fn of(names: Names, table: NameTable) -> Declared
+        requires { Knows table names }
+        ensures { result ≡ names }
+    {
+        Declared { names, table }
+    }
+
+    /// The reference of a name, and None for a name that isn't there.
+    pub fn find(&self, name: &Text) -> Result<Option<Who>, AllocError>
+        ensures named { IfOk result (λ found. IfSome found (λ who. IsNamed self.now who name.now)) }
+        ensures only { IfOk result (λ found. (who : Reference) → IsNamed self.now who name.now → found ≡ Some who) }
+    {
+        self.table.find(name)
+    }
+
+    pub fn into_names(self) -> Names
+        ensures names { result ≡ self }
+        ensures apart { AreApart self }
+    {
+        let Declared { names, table: _ } = self;
+        names
+    }
+}

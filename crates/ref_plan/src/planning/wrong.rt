@@ -1,0 +1,29 @@
+//! Why a step, or a part of one, isn't taken.
+ghost use Rattle.std.specs.Prelude.{◌≡◌};
+ghost use Rattle.ref_plan.specs.declared.planning.wrong.Wrong.TheVariants.{Memory};
+
+use std::alloc::{AllocError, AllocFailed};
+
+#[derive(Clone, Copy, Debug, Drop, PartialEq, Eq)]
+pub enum Wrong {
+    Form,
+    Name,
+    Function,
+    Memory,
+}
+
+impl From<AllocError> for Wrong {
+    ghost from_gives = { λ _ w. w ≡ Memory };
+
+    fn from(_e: AllocError) -> Wrong {
+        Wrong::Memory
+    }
+}
+
+impl<T: Drop> From<AllocFailed<T>> for Wrong {
+    ghost from_gives = { λ _ w. w ≡ Memory };
+
+    fn from(_e: AllocFailed<T>) -> Wrong {
+        Wrong::Memory
+    }
+}

@@ -1,0 +1,2 @@
+-- To be read and believed: Names.
+pub mod Names

@@ -1,0 +1,13 @@
+pub mod Depths
+pub mod Edited
+pub mod Pairing
+pub mod Pieces
+pub mod Passing
+pub mod Ascending
+pub mod NameParts
+pub mod Searching
+pub mod Compared
+pub mod Places
+pub mod Searched
+pub mod SetMembers
+pub mod MapKeys

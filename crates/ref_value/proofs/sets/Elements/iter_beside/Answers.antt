@@ -1,0 +1,6 @@
+use Rattle.std.proofs.Common.{sym}
+use Rattle.ref_value.proofs.Passing.{singles_passed}
+use Rattle.ref_value.proofs.sets.Elements.iter_beside.Goals as goal
+
+pub returns : goal.returns
+returns c = rw (sym c.self.view_is, sym c.other.view_is) (singles_passed _ _ _ _ c.walk_beside-walk.ensures)

@@ -1,0 +1,20 @@
+-- Each part of a value weighs less than what it is in. A value weighs 300 for each level of nesting, so that there is room for
+-- the levels of the trees inside a collection.
+use Rattle.std.specs.Prelude.{◌≤◌, max, ◌*◌}
+use Rattle.std.proofs.Common.{arith}
+use Rattle.ref_value.specs.Edn.{nesting}
+use Rattle.ref_value.specs.View.{edn}
+use Rattle.ref_value.specs.declared.data.Node.{Node}
+use Rattle.ref_value.specs.declared.data.Node.TheVariants.{Nil, Bool, Int, Str, Keyword, Symbol, Vector, Map, Set}
+use Rattle.ref_value.specs.declared.data.Value.TheDeep.{deep-Node}
+
+pub falls : (n : Node) → max (deep-Node n) 0 ≤ 300 * nesting (edn n)
+falls Nil = omega arith
+falls (Bool b) = omega arith
+falls (Int b) = omega arith
+falls (Str b) = omega arith
+falls (Keyword b) = omega arith
+falls (Symbol b) = omega arith
+falls (Vector v) = omega arith
+falls (Map v) = omega arith
+falls (Set v) = omega arith

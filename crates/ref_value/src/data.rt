@@ -1,0 +1,179 @@
+//! A value, and the node that it is made of.
+ghost use Rattle.std.specs.Prelude.{◌≡◌, ◌↔◌, ◌≤◌, IfOk, IfErr, OnOk, OnErr, IsTrue, max};
+ghost use Rattle.ref_value.specs.Edn.{nesting};
+ghost use Rattle.ref_value.specs.Lawful.{IsLawful};
+ghost use Rattle.ref_value.specs.View.{edn};
+
+use crate::maps::Entries;
+use crate::names::{is_keyword, is_symbol};
+use crate::sets::Elements;
+use crate::texts::Text;
+use crate::vectors::Items;
+use std::alloc::AllocError;
+use std::marker::Model;
+
+/// The greatest number of collections that may be open at a place of a value.
+pub const MOST_NESTED: u8 = 64;
+
+/// An EDN datum. Contracts see it as EDN data, without where it lies in memory.
+///
+/// It is always lawful: names are names, the keys of a map and the elements of a set stand in value order without
+/// equals, and at most 64 collections are open at its deepest place. Texts and collections may have several
+/// owners.
+#[cycle(value)]
+pub struct Value {
+    node: Node,
+}
+
+// A function of its own, which whoever lets a value go calls; a derived one would be written out there, with all that a
+// value may be made of.
+impl Drop for Value {
+    #[cycle(drop)]
+    fn drop(self) {
+        let Value { node: _node } = self;
+    }
+}
+
+/// What a value is made of. A node may be unlawful; [`Value::of`] is the test.
+#[cycle(value)]
+#[derive(Drop)]
+pub enum Node {
+    Nil,
+    Bool(bool),
+    Int(i64),
+    Str(Text),
+    /// The name without the colon.
+    Keyword(Text),
+    Symbol(Text),
+    Vector(Items),
+    Map(Entries),
+    Set(Elements),
+}
+
+impl Model for Value {
+    ghost use Rattle.std.specs.Prelude.{◌*◌};
+    ghost use Rattle.ref_value.specs.Edn.{Edn, nesting};
+    ghost use Rattle.ref_value.specs.Code.{edn_code};
+
+    ghost Value = { Edn };
+
+    ghost coded = { edn_code };
+
+    ghost use Rattle.ref_value.specs.View.{edn};
+
+    ghost view = { λ a. edn a.node };
+
+    ghost use Rattle.ref_value.specs.Lawful.{IsLawful};
+
+    ghost invariant = { λ a. IsLawful (edn a.node) };
+
+    ghost size = { λ v. 300 * nesting v };
+
+    ghost use Rattle.ref_value.specs.Falls.{falls};
+
+    ghost size_decreases = { λ a h. falls a.node };
+}
+
+impl Node {
+    /// One more owner of what the node holds. It takes no memory; only a count of owners can refuse.
+    pub fn share(&self) -> Result<Node, AllocError>
+        ensures { IfOk result (λ n. edn n ≡ edn self.now) }
+    {
+        Ok(match self {
+            Node::Nil => Node::Nil,
+            Node::Bool(b) => Node::Bool(*b),
+            Node::Int(n) => Node::Int(*n),
+            Node::Str(s) => Node::Str(s.share()?),
+            Node::Keyword(s) => Node::Keyword(s.share()?),
+            Node::Symbol(s) => Node::Symbol(s.share()?),
+            Node::Vector(xs) => Node::Vector(xs.share()?),
+            Node::Map(es) => Node::Map(es.share()?),
+            Node::Set(xs) => Node::Set(xs.share()?),
+        })
+    }
+
+    // One more than the deepest child, for a collection.
+    fn depth(&self) -> u8
+        ensures value { result ≡ nesting (edn self.now) }
+        ensures bound { result ≤ 65 }
+    {
+        match self {
+            Node::Vector(xs) => xs.deepest() + 1,
+            Node::Map(es) => es.deepest() + 1,
+            Node::Set(xs) => xs.deepest() + 1,
+            _ => 0,
+        }
+    }
+
+    fn is_lawful(&self) -> bool
+        ensures { IsTrue result ↔ IsLawful (edn self.now) }
+    {
+        match self {
+            Node::Nil | Node::Bool(_) => true,
+            Node::Int(n) => {
+                // The type says that it has 64 bits.
+                let _n = *n;
+                true
+            }
+            Node::Str(s) => {
+                // The type of a text says that it is UTF-8.
+                let _bytes = s.as_bytes();
+                true
+            }
+            Node::Keyword(s) => is_keyword(s.as_bytes()),
+            Node::Symbol(s) => is_symbol(s.as_bytes()),
+            Node::Vector(xs) => xs.deepest() < MOST_NESTED,
+            Node::Map(es) => es.deepest() < MOST_NESTED && es.ascends(),
+            Node::Set(xs) => xs.deepest() < MOST_NESTED && xs.ascends(),
+        }
+    }
+}
+
+impl Value {
+    /// The value of a node, where the node is lawful, and else the node again. It takes no memory. It costs a look at
+    /// the name of a keyword or a symbol, and constant time for all else.
+    pub fn of(node: Node) -> Result<Value, Node>
+        ensures ok { IfOk result (λ v. v ≡ edn node) }
+        ensures lawful { OnOk result (IsLawful (edn node)) }
+        ensures err { IfErr result (λ n. n ≡ node) }
+        ensures unlawful { OnErr result (¬ IsLawful (edn node)) }
+    {
+        if node.is_lawful() {
+            Ok(Value { node })
+        } else {
+            Err(node)
+        }
+    }
+
+    /// The value of a node that is known to be lawful, without a look at it.
+    pub fn of_lawful(node: Node) -> Value
+        requires { IsLawful (edn node) }
+        ensures { result ≡ edn node }
+    {
+        Value { node }
+    }
+
+    pub fn node(&self) -> &Node
+        ensures value { edn result.now ≡ self.now }
+        ensures lawful { IsLawful self.now }
+    {
+        &self.node
+    }
+
+    /// One more owner. It takes no memory; only a count of owners can refuse.
+    pub fn share(&self) -> Result<Value, AllocError>
+        ensures { IfOk result (λ v. v ≡ self.now) }
+    {
+        Ok(Value {
+            node: self.node.share()?,
+        })
+    }
+
+    /// How many collections are open at the deepest place, 0 for what is no collection. Constant time.
+    pub fn depth(&self) -> u8
+        ensures value { result ≡ nesting self.now }
+        ensures lawful { IsLawful self.now }
+    {
+        self.node.depth()
+    }
+}

@@ -1,5 +1,0 @@
-use Rattle.ref_workload.proofs.Loops.{AgentsSoFar}
-use Rattle.ref_workload.proofs.planning.declarations.agents.Given as goal
-
-abbrev pub invariant-loop-i : goal.invariant-loop-i
-invariant-loop-i l = AgentsSoFar l.forms l.i l.names.items l.starts.items l.initial.table l.table
