@@ -105,8 +105,8 @@ fn replayed_line<F: Functions<Core>>(
     Ok(count_line(dump))
 }
 
-/// The first line that holds of a dump of the functions of Core, as each is that `read_dump` returns. Linear in the dump and in what
-/// its functions cost, but for look-ups.
+/// The first line that holds of a dump whose functions are those of Core, as in each dump that `read_dump` returns. Linear in the dump
+/// and in what its functions cost, but for look-ups.
 #[tactic(auto, using(crate::proofs::Needed::nothing_missing))]
 pub fn verdict<F: Functions<Core>>(
     alloc: Global,
