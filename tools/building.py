@@ -222,9 +222,12 @@ class Build:
             room.leave()
             os.close(held)
 
+    def ready(self):
+        return [it for it in self.left if self.done >= set(self.below[it])]
+
     def begin(self, pool):
         """Begins what there are processors and memory for."""
-        ready = [it for it in self.left if self.done >= set(self.below[it])]
+        ready = self.ready()
         for at, name in enumerate(ready):
             need, room = memory_of(name.removesuffix(TESTS), self.below), self.memory - sum(it[1] for it in self.tasks.values())
             idle = self.lanes - sum(it[2] for it in self.tasks.values())
@@ -263,9 +266,9 @@ class Build:
             signal.signal(it, interrupted)
         with ThreadPoolExecutor(self.lanes) as pool:
             try:
-                while self.tasks or self.left and not self.failed:
-                    if not self.failed:
-                        self.begin(pool)
+                # what stands above a crate that isn't proved is never ready
+                while self.tasks or self.ready():
+                    self.begin(pool)
                     ended = wait(self.tasks, timeout=1, return_when=FIRST_COMPLETED).done
                     self.line.show()
                     for task in ended:
