@@ -4,6 +4,7 @@ ghost use Rattle.ref_fun.specs.Core.{core_accepts, core_means};
 ghost use Rattle.ref_fun.specs.Meaning.{Answers};
 
 use crate::calls::{Call, call_of};
+use crate::equal::equal;
 use ref_edn::Value;
 use ref_fun::{
     AddFault, CallFault, Cause, Fun, FunFault, FunTable, Functions, Pred, StoredFun, StoredPred,
@@ -194,10 +195,18 @@ fn a_table_takes_64_of_each_kind(rt: HostRuntime) -> Result<(), Fail> {
     let mut table = FunTable::empty(alloc);
     for (i, code) in (1000..1065u32).chain([1000, 1063]).enumerate() {
         let is_right = is_added(alloc, &mut table, code, adding_fault(i))?;
-        assert!(rt; is_right, "code {i}");
+        equal(&rt, (i, is_right), (i, true));
     }
-    assert!(rt; table.has_fun(1063) && table.has_pred(1063));
-    assert!(rt; !table.has_fun(1064) && !table.has_pred(1064));
+    equal(
+        &rt,
+        (table.has_fun(1063), table.has_pred(1063)),
+        (true, true),
+    );
+    equal(
+        &rt,
+        (table.has_fun(1064), table.has_pred(1064)),
+        (false, false),
+    );
     Ok(())
 }
 

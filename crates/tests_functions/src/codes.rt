@@ -1,4 +1,5 @@
 //! The names and codes of Core, the codes that have no meaning, the words of its faults, and the owners of arguments.
+use crate::equal::equal;
 use ref_edn::{Node, Value};
 use ref_fun::{Args, Cause, FunFault, MOST_ARGUMENTS, Rule, code_of, core_fun, core_test, name_of};
 use std::alloc::Global;
@@ -34,18 +35,18 @@ const NO_NAMES: &[&str] = &[
 #[test]
 fn names_stand_for_codes(rt: HostRuntime) {
     for (name, code) in NAMES {
-        assert!(rt; code_of(name.as_bytes()) == Some(*code), "{name}");
-        assert!(rt; name_of(*code) == Some(*name), "{code}");
+        equal(&rt, (*name, code_of(name.as_bytes())), (*name, Some(*code)));
+        equal(&rt, (*code, name_of(*code)), (*code, Some(*name)));
     }
 }
 
 #[test]
 fn other_names_and_codes_stand_for_nothing(rt: HostRuntime) {
     for name in NO_NAMES {
-        assert!(rt; code_of(name.as_bytes()).is_none(), "{name}");
+        equal(&rt, (*name, code_of(name.as_bytes())), (*name, None));
     }
     for code in [0, 11, 100, 110, u32::MAX] {
-        assert!(rt; name_of(code).is_none(), "{code}");
+        equal(&rt, (code, name_of(code)), (code, None));
     }
 }
 
@@ -116,7 +117,7 @@ fn arguments_are_shared(rt: HostRuntime) -> Result<(), Fail> {
     let args = two_integers(rt.alloc())?;
     let rule = Rule { code: 101, args };
     let shared = rule.share()?;
-    assert!(rt; shared.code == 101 && shared.args.as_slice().len() == 2);
-    assert!(rt; *rule.args.as_slice() == *shared.args.as_slice());
+    equal(&rt, (shared.code, shared.args.as_slice().len()), (101, 2));
+    equal(&rt, *rule.args.as_slice() == *shared.args.as_slice(), true);
     Ok(())
 }

@@ -8,4 +8,6 @@ mod closures;
 #[cfg(test)]
 mod codes;
 #[cfg(test)]
+mod equal;
+#[cfg(test)]
 mod functions;

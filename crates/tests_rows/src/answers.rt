@@ -1,7 +1,7 @@
 //! The plain answers of a row: words, numbers and truths. They stand outside of the tests, since wrong bodies are tried without
 //! them.
 ghost use Rattle.std.specs.Prelude.{◌≡◌, ◌≤◌, ◌^◌, pos, IfOk, IsOkAnd, OnErr};
-ghost use Rattle.ref_edn.specs.Edn.{boolean, int, keyword};
+ghost use Rattle.ref_value.specs.Edn.{boolean, int, keyword};
 
 use ref_edn::{Node, Text, Value};
 use std::alloc::{AllocError, Global};

@@ -1,11 +1,11 @@
 //! Each call by one thread.
-ghost use Rattle.std.specs.Prelude.{◌≡◌};
-ghost use Rattle.ref_world.specs.Shares.{all_parts};
-
 use crate::numbers::int_of;
+use crate::same::same;
+use crate::scenarios::{CommitCount, Inspection, Scenario, run_shared, run_to_end};
+use crate::steps::{commit, commit_set, watch};
 use crate::worlds::{
-    Listener, PLUS, STAMP, Stop, Told, add, all_told, at_least, closed, done, int_at, one_arg,
-    opened, plain_start, value,
+    Listener, PLUS, STAMP, Stop, Told, add, all_told, at_least, done, int_at, one_arg, plain_start,
+    value,
 };
 use ref_agents::ErrorMode;
 use ref_atoms::Swapped;
@@ -14,11 +14,10 @@ use ref_log::{Entry, MakeFault, RuleFault, Stamp, Who};
 use ref_pvec::PVec;
 use ref_shared::{Open, Shared};
 use ref_tx::Tx;
-use ref_world::{ALL_PARTS, RefStart, Share, Start, Totals};
+use ref_world::{RefStart, Share, Start, Totals, World};
 use std::alloc::{AllocError, Global};
-use std::marker::Brand;
 use std::sync::Wait;
-use std::sync::ledger::{Blank, Ledger};
+use std::sync::ledger::Ledger;
 use std::test::Fail;
 
 // The point of a commit, and what the next transaction reads.
@@ -29,23 +28,34 @@ struct Read {
     value: Option<i64>,
 }
 
-fn try_commit<C: Ledger, A: Ledger, R: Wait>(
+// A commit of `ref-set`, and a transaction after it.
+#[derive(Drop)]
+struct Committing;
+
+impl<R: Wait> Scenario<R> for Committing {
+    type Outcome = Read;
+
+    fn run<C: Ledger, A: Ledger>(
+        &self,
+        rt: &R,
+        alloc: Global,
+        shared: &Shared<Core, C, A>,
+        share: &mut Share<C, A>,
+    ) -> Result<Read, Stop> {
+        let point = commit_set(rt, alloc, shared, share, STAMP, "5")?;
+        read_after(rt, alloc, shared, point)
+    }
+}
+
+fn read_after<C: Ledger, A: Ledger, R: Wait>(
     rt: &R,
     alloc: Global,
-    commits: Blank,
-    added: Blank,
-) -> Result<Read, Stop>
-    requires commits { (commits.name ≡ C.name) × (commits.parts ≡ C.parts) × (commits.parts ≡ all_parts) }
-    requires added { (added.name ≡ A.name) × (added.parts ≡ A.parts) × (added.parts ≡ all_parts) }
-{
-    let start = plain_start(alloc, "0", "")?;
-    let (shared, mut share) = opened::<C, A>(alloc, start, commits, added)?;
-    let mut tx = shared.begin(rt, alloc)?;
-    let _ = done(tx.ref_set(alloc, 0, value(alloc, "5")?))?;
-    let receipt = done(shared.commit(rt, alloc, &CoreFunctions, &mut share, STAMP, tx))?;
+    shared: &Shared<Core, C, A>,
+    point: u64,
+) -> Result<Read, Stop> {
     let tx = shared.begin(rt, alloc)?;
     Ok(Read {
-        point: receipt.point,
+        point,
         read_point: tx.read_point(),
         value: int_of(done(tx.deref(0))?),
     })
@@ -54,14 +64,13 @@ fn try_commit<C: Ledger, A: Ledger, R: Wait>(
 #[test]
 fn a_transaction_reads_what_was_committed(rt: HostRuntime) -> Result<(), Fail> {
     let alloc = rt.alloc();
-    let (commits, added) = (Blank::new(ALL_PARTS), Blank::new(ALL_PARTS));
-    let read = try_commit::<Brand, Brand, _>(&rt, alloc, commits, added)?;
+    let read = run_shared(&rt, alloc, plain_start(alloc, "0", "")?, &Committing)?;
     let wanted = Read {
         point: 1,
         read_point: 1,
         value: Some(5),
     };
-    assert_eq!(rt; read, wanted);
+    same(&rt, read, wanted);
     Ok(())
 }
 
@@ -101,11 +110,9 @@ fn first_answers(
     Ok(all)
 }
 
-// What came of two transactions that commute the tally, of which the one that was begun first is committed last.
+// What is kept of two transactions that commute the tally, of which the one that was begun first is committed last.
 #[derive(Debug, Drop, PartialEq)]
 struct Counted {
-    answers: (Option<i64>, Option<i64>),
-    value: Option<i64>,
     kept: Vec<(Stamp, Option<i64>)>,
     totals: Totals,
     // Commits and additions by the world's books.
@@ -114,6 +121,18 @@ struct Counted {
 
 const OTHER: Stamp = Stamp { worker: 1, step: 0 };
 
+// A transaction that commutes the tally, and what that answers.
+fn begin_counting<C: Ledger, A: Ledger, R: Wait>(
+    rt: &R,
+    alloc: Global,
+    shared: &Shared<Core, C, A>,
+    n: &str,
+) -> Result<(Tx<Core>, Option<i64>), Stop> {
+    let mut tx = shared.begin(rt, alloc)?;
+    let answer = count(alloc, &mut tx, n)?;
+    Ok((tx, answer))
+}
+
 // Two transactions that commute the tally, of which the first is committed last, and what they answered.
 fn count_both<C: Ledger, A: Ledger, R: Wait>(
     rt: &R,
@@ -121,47 +140,55 @@ fn count_both<C: Ledger, A: Ledger, R: Wait>(
     shared: &Shared<Core, C, A>,
     share: &mut Share<C, A>,
 ) -> Result<(Option<i64>, Option<i64>), Stop> {
-    let mut first = shared.begin(rt, alloc)?;
-    let one = count(alloc, &mut first, "1")?;
-    let mut second = shared.begin(rt, alloc)?;
-    let ten = count(alloc, &mut second, "10")?;
-    let _ = done(shared.commit(rt, alloc, &CoreFunctions, share, OTHER, second))?;
-    let _ = done(shared.commit(rt, alloc, &CoreFunctions, share, STAMP, first))?;
+    let (first, one) = begin_counting(rt, alloc, shared, "1")?;
+    let (second, ten) = begin_counting(rt, alloc, shared, "10")?;
+    let _ = commit(rt, alloc, shared, share, OTHER, second)?;
+    let _ = commit(rt, alloc, shared, share, STAMP, first)?;
     Ok((one, ten))
 }
 
-fn try_counting<C: Ledger, A: Ledger, R: Wait>(
-    rt: &R,
-    alloc: Global,
-    commits: Blank,
-    added: Blank,
-) -> Result<Counted, Stop>
-    requires commits { (commits.name ≡ C.name) × (commits.parts ≡ C.parts) × (commits.parts ≡ all_parts) }
-    requires added { (added.name ≡ A.name) × (added.parts ≡ A.parts) × (added.parts ≡ all_parts) }
-{
-    let (shared, mut share) = opened::<C, A>(alloc, tally_start(alloc)?, commits, added)?;
-    let answers = count_both(rt, alloc, &shared, &mut share)?;
-    let value = int_at(rt, &shared, Who::Ref(0));
-    let (world, totals) = closed(alloc, shared, share)?;
-    let kept = first_answers(alloc, world.log())?;
-    let books = (world.commits(), world.added());
-    Ok(Counted {
-        answers,
-        value,
-        kept,
-        totals,
-        books,
-    })
+// What the two answered, and the tally then.
+#[derive(Drop)]
+struct Counting;
+
+impl<R: Wait> Scenario<R> for Counting {
+    type Outcome = ((Option<i64>, Option<i64>), Option<i64>);
+
+    fn run<C: Ledger, A: Ledger>(
+        &self,
+        rt: &R,
+        alloc: Global,
+        shared: &Shared<Core, C, A>,
+        share: &mut Share<C, A>,
+    ) -> Result<((Option<i64>, Option<i64>), Option<i64>), Stop> {
+        let answers = count_both(rt, alloc, shared, share)?;
+        Ok((answers, int_at(rt, shared, Who::Ref(0))))
+    }
+}
+
+impl Inspection for Counting {
+    type Seen = Counted;
+
+    fn inspect<C: Ledger, A: Ledger>(
+        &self,
+        alloc: Global,
+        world: &World<Core, C, A>,
+        totals: Totals,
+    ) -> Result<Counted, Stop> {
+        Ok(Counted {
+            kept: first_answers(alloc, world.log())?,
+            totals,
+            books: (world.commits(), world.added()),
+        })
+    }
 }
 
 #[test]
 fn what_is_commuted_is_made_on_the_latest_value(rt: HostRuntime) -> Result<(), Fail> {
     let alloc = rt.alloc();
-    let (commits, added) = (Blank::new(ALL_PARTS), Blank::new(ALL_PARTS));
-    let counted = try_counting::<Brand, Brand, _>(&rt, alloc, commits, added)?;
+    let (answered, counted) = run_to_end(&rt, alloc, tally_start(alloc)?, &Counting, &Counting)?;
+    same(&rt, answered, ((Some(1), Some(10)), Some(11)));
     let wanted = Counted {
-        answers: (Some(1), Some(10)),
-        value: Some(11),
         kept: vec![in alloc; (OTHER, Some(10)), (STAMP, Some(1))]?,
         totals: Totals {
             commits: 2,
@@ -169,40 +196,54 @@ fn what_is_commuted_is_made_on_the_latest_value(rt: HostRuntime) -> Result<(), F
         },
         books: (2, 11),
     };
-    assert_eq!(rt; counted, wanted);
+    same(&rt, counted, wanted);
     Ok(())
 }
 
-// What a sink was told, and what the receipt says.
-fn try_telling<C: Ledger, A: Ledger, R: Wait>(
+// What a sink is told, and what the receipt says.
+#[derive(Drop)]
+struct Telling;
+
+impl<R: Wait> Scenario<R> for Telling {
+    type Outcome = (Vec<Told>, Vec<Told>);
+
+    fn run<C: Ledger, A: Ledger>(
+        &self,
+        rt: &R,
+        alloc: Global,
+        shared: &Shared<Core, C, A>,
+        share: &mut Share<C, A>,
+    ) -> Result<(Vec<Told>, Vec<Told>), Stop> {
+        watch(rt, alloc, shared, Who::Ref(0), ":k")?;
+        watch(rt, alloc, shared, Who::Ref(0), ":j")?;
+        watch(rt, alloc, shared, Who::Ref(1), ":k")?;
+        let mut sink = Listener {
+            told: Vec::new(alloc),
+        };
+        let receipt = change_both(rt, alloc, shared, share, &mut sink)?;
+        Ok((sink.told, receipt))
+    }
+}
+
+fn change_both<C: Ledger, A: Ledger, R: Wait>(
     rt: &R,
     alloc: Global,
-    commits: Blank,
-    added: Blank,
-) -> Result<(Vec<Told>, Vec<Told>), Stop>
-    requires commits { (commits.name ≡ C.name) × (commits.parts ≡ C.parts) × (commits.parts ≡ all_parts) }
-    requires added { (added.name ≡ A.name) × (added.parts ≡ A.parts) × (added.parts ≡ all_parts) }
-{
-    let start = plain_start(alloc, "0 5", "")?;
-    let (shared, mut share) = opened::<C, A>(alloc, start, commits, added)?;
-    let _ = done(shared.add_watch(rt, alloc, Who::Ref(0), value(alloc, ":k")?))?;
-    let _ = done(shared.add_watch(rt, alloc, Who::Ref(0), value(alloc, ":j")?))?;
-    let _ = done(shared.add_watch(rt, alloc, Who::Ref(1), value(alloc, ":k")?))?;
-    let mut sink = Listener {
-        told: Vec::new(alloc),
-    };
+    shared: &Shared<Core, C, A>,
+    share: &mut Share<C, A>,
+    sink: &mut Listener,
+) -> Result<Vec<Told>, Stop> {
     let (_, receipt) = done(shared.transact(
         rt,
         alloc,
         &CoreFunctions,
-        &mut share,
+        share,
         STAMP,
         1,
         &mut Open,
-        &mut sink,
+        sink,
         |tx: &mut Tx<Core>| add_to_both(alloc, tx),
     ))?;
-    Ok((sink.told, all_told(alloc, &receipt.notices)?))
+    Ok(all_told(alloc, &receipt.notices)?)
 }
 
 fn add_to_both(alloc: Global, tx: &mut Tx<Core>) -> Result<(), Stop> {
@@ -211,18 +252,20 @@ fn add_to_both(alloc: Global, tx: &mut Tx<Core>) -> Result<(), Stop> {
 }
 
 // By refs, and of one ref in the order of adding.
-#[test]
-fn a_sink_is_told_what_the_receipt_has(rt: HostRuntime) -> Result<(), Fail> {
-    let alloc = rt.alloc();
-    let (commits, added) = (Blank::new(ALL_PARTS), Blank::new(ALL_PARTS));
-    let (told, receipt) = try_telling::<Brand, Brand, _>(&rt, alloc, commits, added)?;
-    let wanted = vec![in alloc;
+fn wanted_of_both(alloc: Global) -> Result<Vec<Told>, AllocError> {
+    Ok(vec![in alloc;
         (Who::Ref(0), true, Some(0), Some(1)),
         (Who::Ref(0), false, Some(0), Some(1)),
         (Who::Ref(1), true, Some(5), Some(7)),
-    ]?;
-    assert_eq!(rt; told, wanted);
-    assert_eq!(rt; receipt, wanted);
+    ]?)
+}
+
+#[test]
+fn a_sink_is_told_what_the_receipt_has(rt: HostRuntime) -> Result<(), Fail> {
+    let alloc = rt.alloc();
+    let (told, receipt) = run_shared(&rt, alloc, plain_start(alloc, "0 5", "")?, &Telling)?;
+    same(&rt, told, wanted_of_both(alloc)?);
+    same(&rt, receipt, wanted_of_both(alloc)?);
     Ok(())
 }
 
@@ -231,9 +274,7 @@ fn a_sink_is_told_what_the_receipt_has(rt: HostRuntime) -> Result<(), Fail> {
 struct Compared {
     done: (bool, bool),
     value: Option<i64>,
-    entries: usize,
     receipts: usize,
-    commits: u64,
 }
 
 // Whether a comparison of the atom was true, and how many receipts the share has then.
@@ -250,43 +291,55 @@ fn compare<C: Ledger, A: Ledger, R: Wait>(
     Ok((set.done, share.receipts().len()))
 }
 
-fn try_comparing<C: Ledger, A: Ledger, R: Wait>(
-    rt: &R,
-    alloc: Global,
-    commits: Blank,
-    added: Blank,
-) -> Result<Compared, Stop>
-    requires commits { (commits.name ≡ C.name) × (commits.parts ≡ C.parts) × (commits.parts ≡ all_parts) }
-    requires added { (added.name ≡ A.name) × (added.parts ≡ A.parts) × (added.parts ≡ all_parts) }
-{
-    let start = plain_start(alloc, "", "1")?;
-    let (shared, mut share) = opened::<C, A>(alloc, start, commits, added)?;
-    let (first, _) = compare(rt, alloc, &shared, &mut share, "1", "2")?;
-    let (second, receipts) = compare(rt, alloc, &shared, &mut share, "1", "3")?;
-    let value = int_at(rt, &shared, Who::Atom(0));
-    let (world, totals) = closed(alloc, shared, share)?;
-    Ok(Compared {
-        done: (first, second),
-        value,
-        entries: world.log().len(),
-        receipts,
-        commits: totals.commits,
-    })
+#[derive(Drop)]
+struct Comparing;
+
+impl<R: Wait> Scenario<R> for Comparing {
+    type Outcome = Compared;
+
+    fn run<C: Ledger, A: Ledger>(
+        &self,
+        rt: &R,
+        alloc: Global,
+        shared: &Shared<Core, C, A>,
+        share: &mut Share<C, A>,
+    ) -> Result<Compared, Stop> {
+        let (first, _) = compare(rt, alloc, shared, share, "1", "2")?;
+        let (second, receipts) = compare(rt, alloc, shared, share, "1", "3")?;
+        Ok(Compared {
+            done: (first, second),
+            value: int_at(rt, shared, Who::Atom(0)),
+            receipts,
+        })
+    }
+}
+
+// How many entries the log has, and how many transactions were committed.
+impl Inspection for Comparing {
+    type Seen = (usize, u64);
+
+    fn inspect<C: Ledger, A: Ledger>(
+        &self,
+        _alloc: Global,
+        world: &World<Core, C, A>,
+        totals: Totals,
+    ) -> Result<(usize, u64), Stop> {
+        Ok((world.log().len(), totals.commits))
+    }
 }
 
 #[test]
 fn an_atom_is_set_where_it_is_as_told(rt: HostRuntime) -> Result<(), Fail> {
     let alloc = rt.alloc();
-    let (commits, added) = (Blank::new(ALL_PARTS), Blank::new(ALL_PARTS));
-    let compared = try_comparing::<Brand, Brand, _>(&rt, alloc, commits, added)?;
+    let start = plain_start(alloc, "", "1")?;
+    let (compared, kept) = run_to_end(&rt, alloc, start, &Comparing, &Comparing)?;
     let wanted = Compared {
         done: (true, false),
         value: Some(2),
-        entries: 1,
         receipts: 1,
-        commits: 0,
     };
-    assert_eq!(rt; compared, wanted);
+    same(&rt, compared, wanted);
+    same(&rt, kept, (1, 0));
     Ok(())
 }
 
@@ -358,28 +411,29 @@ fn change_atom<C: Ledger, A: Ledger, R: Wait>(
     })
 }
 
-fn try_atoms<C: Ledger, A: Ledger, R: Wait>(
-    rt: &R,
-    alloc: Global,
-    commits: Blank,
-    added: Blank,
-) -> Result<(Changes, u64), Stop>
-    requires commits { (commits.name ≡ C.name) × (commits.parts ≡ C.parts) × (commits.parts ≡ all_parts) }
-    requires added { (added.name ≡ A.name) × (added.parts ≡ A.parts) × (added.parts ≡ all_parts) }
-{
-    let start = plain_start(alloc, "", "1")?;
-    let (shared, mut share) = opened::<C, A>(alloc, start, commits, added)?;
-    let _ = done(shared.add_watch(rt, alloc, Who::Atom(0), value(alloc, ":k")?))?;
-    let changes = change_atom(rt, alloc, &shared, &mut share)?;
-    let (_, totals) = closed(alloc, shared, share)?;
-    Ok((changes, totals.commits))
+#[derive(Drop)]
+struct Changing;
+
+impl<R: Wait> Scenario<R> for Changing {
+    type Outcome = Changes;
+
+    fn run<C: Ledger, A: Ledger>(
+        &self,
+        rt: &R,
+        alloc: Global,
+        shared: &Shared<Core, C, A>,
+        share: &mut Share<C, A>,
+    ) -> Result<Changes, Stop> {
+        watch(rt, alloc, shared, Who::Atom(0), ":k")?;
+        change_atom(rt, alloc, shared, share)
+    }
 }
 
 #[test]
 fn atoms_change_and_tell_their_watches(rt: HostRuntime) -> Result<(), Fail> {
     let alloc = rt.alloc();
-    let (commits, added) = (Blank::new(ALL_PARTS), Blank::new(ALL_PARTS));
-    let (changes, commits) = try_atoms::<Brand, Brand, _>(&rt, alloc, commits, added)?;
+    let start = plain_start(alloc, "", "1")?;
+    let (changes, commits) = run_to_end(&rt, alloc, start, &Changing, &CommitCount)?;
     let swap = Change {
         values: (Some(1), Some(2)),
         told: vec![in alloc; (Who::Atom(0), true, Some(1), Some(2))]?,
@@ -395,8 +449,8 @@ fn atoms_change_and_tell_their_watches(rt: HostRuntime) -> Result<(), Fail> {
         from_nine: (false, 2),
         from_seven: (true, 3),
     };
-    assert_eq!(rt; changes, wanted);
-    assert_eq!(rt; commits, 0);
+    same(&rt, changes, wanted);
+    same(&rt, commits, 0);
     Ok(())
 }
 
@@ -510,27 +564,28 @@ fn make_all<C: Ledger, A: Ledger, R: Wait>(
     })
 }
 
-fn try_makings<C: Ledger, A: Ledger, R: Wait>(
-    rt: &R,
-    alloc: Global,
-    commits: Blank,
-    added: Blank,
-) -> Result<(Made, u64), Stop>
-    requires commits { (commits.name ≡ C.name) × (commits.parts ≡ C.parts) × (commits.parts ≡ all_parts) }
-    requires added { (added.name ≡ A.name) × (added.parts ≡ A.parts) × (added.parts ≡ all_parts) }
-{
-    let start = plain_start(alloc, "", "")?;
-    let (shared, share) = opened::<C, A>(alloc, start, commits, added)?;
-    let made = make_all(rt, alloc, &shared)?;
-    let (_, totals) = closed(alloc, shared, share)?;
-    Ok((made, totals.commits))
+#[derive(Drop)]
+struct Making;
+
+impl<R: Wait> Scenario<R> for Making {
+    type Outcome = Made;
+
+    fn run<C: Ledger, A: Ledger>(
+        &self,
+        rt: &R,
+        alloc: Global,
+        shared: &Shared<Core, C, A>,
+        _share: &mut Share<C, A>,
+    ) -> Result<Made, Stop> {
+        make_all(rt, alloc, shared)
+    }
 }
 
 #[test]
 fn references_are_made_and_get_rules_and_watches(rt: HostRuntime) -> Result<(), Fail> {
     let alloc = rt.alloc();
-    let (commits, added) = (Blank::new(ALL_PARTS), Blank::new(ALL_PARTS));
-    let (made, commits) = try_makings::<Brand, Brand, _>(&rt, alloc, commits, added)?;
+    let start = plain_start(alloc, "", "")?;
+    let (made, commits) = run_to_end(&rt, alloc, start, &Making, &CommitCount)?;
     let wanted = Made {
         refs: (Ok(0), Ok(1)),
         atoms: (Ok(0), Ok(1)),
@@ -540,7 +595,7 @@ fn references_are_made_and_get_rules_and_watches(rt: HostRuntime) -> Result<(), 
         watches: (true, false, true, false),
         values: (Some(6), Some(8), Some(10)),
     };
-    assert_eq!(rt; made, wanted);
-    assert_eq!(rt; commits, 0);
+    same(&rt, made, wanted);
+    same(&rt, commits, 0);
     Ok(())
 }

@@ -1,21 +1,20 @@
 //! Transactions that are tried again, and those that aren't.
-ghost use Rattle.std.specs.Prelude.{◌≡◌, ◌<◌};
-ghost use Rattle.ref_world.specs.Shares.{all_parts};
+ghost use Rattle.std.specs.Prelude.{◌<◌};
 
-use crate::worlds::{
-    MINUS, PLUS, STAMP, Stop, all_commits, at_least, closed, done, int_at, one_arg, opened,
-    plain_start, value,
-};
+use crate::same::same;
+use crate::scenarios::{AllCommits, Scenario, run_to_end};
+use crate::steps::commit_set;
+use crate::worlds::{MINUS, PLUS, STAMP, Stop, at_least, done, int_at, one_arg, plain_start};
 use ref_fun::{Core, CoreFunctions};
 use ref_log::{Stamp, Who};
 use ref_refs::{CommitFault, Conflict};
 use ref_shared::{Gate, Quiet, Shared, Spot, TransactFault};
 use ref_tx::Tx;
-use ref_world::{ALL_PARTS, Share};
+use ref_world::Share;
 use std::alloc::Global;
-use std::marker::Brand;
+use std::process::Abort;
 use std::sync::Wait;
-use std::sync::ledger::{Blank, Ledger};
+use std::sync::ledger::Ledger;
 use std::test::Fail;
 
 // The stamp of another caller's commit.
@@ -59,9 +58,7 @@ fn set_ten<R: Wait, C: Ledger, A: Ledger>(
     share: &mut Share<C, A>,
     stamp: Stamp,
 ) -> Result<(), Stop> {
-    let mut tx = shared.begin(rt, alloc)?;
-    let _ = done(tx.ref_set(alloc, 0, value(alloc, "10")?))?;
-    let _ = done(shared.commit(rt, alloc, &CoreFunctions, share, stamp, tx))?;
+    let _ = commit_set(rt, alloc, shared, share, stamp, "10")?;
     Ok(())
 }
 
@@ -75,26 +72,18 @@ struct Case {
     tries: u32,
     // How many times another caller comes between.
     between: u32,
+    ghost some: { 0 < tries },
 }
 
 // What came of its tries.
-#[derive(Debug, Drop, PartialEq)]
-struct Tries {
+#[derive(Clone, Copy, Debug, Drop, PartialEq)]
+struct Tried {
     answer: Result<(), TransactFault<Stop>>,
     // How many bodies were begun, by the gate and by the body.
     bodies: (u32, u32),
     // How many receipts the caller's share has.
     receipts: usize,
-}
-
-// What there is after them.
-#[derive(Debug, Drop, PartialEq)]
-struct Tried {
-    tries: Tries,
     value: Option<i64>,
-    // The stamp and the read point of each commit.
-    log: Vec<(Stamp, u64)>,
-    commits: u64,
 }
 
 fn alter(alloc: Global, case: Case, tx: &mut Tx<Core>) -> Result<(), Stop> {
@@ -114,9 +103,7 @@ fn transact<C: Ledger, A: Ledger, R: Wait, G: Gate>(
     shared: &Shared<Core, C, A>,
     share: &mut Share<C, A>,
     gate: &mut G,
-) -> (Result<(), TransactFault<Stop>>, u32)
-    requires tries { 0 < case.tries }
-{
+) -> (Result<(), TransactFault<Stop>>, u32) {
     let mut calls = 0u32;
     let answer = shared.transact(
         rt,
@@ -138,17 +125,15 @@ fn transact<C: Ledger, A: Ledger, R: Wait, G: Gate>(
     }
 }
 
-// The tries of a case, and what a gate saw of them, whose share is joined with the caller's.
-fn try_beside<C: Ledger, A: Ledger, R: Wait>(
+// The tries of a case, and what a gate saw of them, which has this share and gives it back.
+fn try_between<C: Ledger, A: Ledger, R: Wait>(
     rt: &R,
     alloc: Global,
     case: Case,
     shared: &Shared<Core, C, A>,
     share: &mut Share<C, A>,
-) -> Result<Tries, Stop>
-    requires tries { 0 < case.tries }
-{
-    let other = done(share.split(1).ok_or(Stop::Refused))?;
+    other: Share<C, A>,
+) -> (Tried, Share<C, A>) {
     let mut gate = Between {
         rt,
         shared,
@@ -159,183 +144,163 @@ fn try_beside<C: Ledger, A: Ledger, R: Wait>(
         bodies: 0,
     };
     let (answer, calls) = transact(rt, alloc, case, shared, share, &mut gate);
-    let Between {
-        share: other,
-        bodies,
-        ..
-    } = gate;
-    let receipts = share.receipts().len();
-    done(share.join(other))?;
-    Ok(Tries {
+    let tried = Tried {
         answer,
-        bodies: (bodies, calls),
-        receipts,
-    })
+        bodies: (gate.bodies, calls),
+        receipts: share.receipts().len(),
+        value: int_at(rt, shared, Who::Ref(0)),
+    };
+    let Between { share: other, .. } = gate;
+    (tried, other)
 }
 
-fn try_case<C: Ledger, A: Ledger, R: Wait>(
+// The same, where the gate has a part of the share, which is joined again.
+fn try_beside<C: Ledger, A: Ledger, R: Wait>(
     rt: &R,
     alloc: Global,
     case: Case,
-    commits: Blank,
-    added: Blank,
-) -> Result<Tried, Stop>
-    requires tries { 0 < case.tries }
-    requires commits { (commits.name ≡ C.name) × (commits.parts ≡ C.parts) × (commits.parts ≡ all_parts) }
-    requires added { (added.name ≡ A.name) × (added.parts ≡ A.parts) × (added.parts ≡ all_parts) }
-{
+    shared: &Shared<Core, C, A>,
+    share: &mut Share<C, A>,
+) -> Result<Tried, Stop> {
+    let other = done(share.split(1).ok_or(Stop::Refused))?;
+    let (tried, other) = try_between(rt, alloc, case, shared, share, other);
+    done(share.join(other))?;
+    Ok(tried)
+}
+
+fn give_rule<C: Ledger, A: Ledger, R: Wait>(
+    rt: &R,
+    alloc: Global,
+    shared: &Shared<Core, C, A>,
+) -> Result<(), Stop> {
+    let rule = at_least(alloc, "0")?;
+    done(shared.set_validator(rt, &CoreFunctions, Who::Ref(0), Some(rule)))
+}
+
+impl<R: Wait> Scenario<R> for Case {
+    type Outcome = Tried;
+
+    fn run<C: Ledger, A: Ledger>(
+        &self,
+        rt: &R,
+        alloc: Global,
+        shared: &Shared<Core, C, A>,
+        share: &mut Share<C, A>,
+    ) -> Result<Tried, Stop> {
+        give_rule(rt, alloc, shared)?;
+        try_beside(rt, alloc, *self, shared, share)
+    }
+}
+
+// What a case comes to: its tries, the value of a after them, and the stamp and the read point of each commit.
+fn check<R: AllocGlobal + Wait + Abort>(
+    rt: &R,
+    case: &Case,
+    wanted: Tried,
+    log: &[(Stamp, u64)],
+) -> Result<(), Fail> {
+    let alloc = rt.alloc();
     let start = plain_start(alloc, "0", "")?;
-    let (shared, mut share) = opened::<C, A>(alloc, start, commits, added)?;
-    let rule = Some(at_least(alloc, "0")?);
-    done(shared.set_validator(rt, &CoreFunctions, Who::Ref(0), rule))?;
-    let tries = try_beside(rt, alloc, case, &shared, &mut share)?;
-    let now = int_at(rt, &shared, Who::Ref(0));
-    let (world, totals) = closed(alloc, shared, share)?;
-    Ok(Tried {
-        tries,
-        value: now,
-        log: all_commits(alloc, world.log())?,
-        commits: totals.commits,
-    })
+    let (tried, commits) = run_to_end(rt, alloc, start, case, &AllCommits)?;
+    same(rt, tried, wanted);
+    assert_eq!(rt; commits.log.as_slice(), log);
+    same(rt, commits.commits, log.len() as u64);
+    Ok(())
 }
 
 #[test]
 fn a_caller_gives_up_after_the_last_conflict(rt: HostRuntime) -> Result<(), Fail> {
-    let alloc = rt.alloc();
     let case = Case {
         code: PLUS,
         refuses: false,
         tries: 1,
         between: 1,
     };
-    let (commits, added) = (Blank::new(ALL_PARTS), Blank::new(ALL_PARTS));
-    let tried = try_case::<Brand, Brand, _>(&rt, alloc, case, commits, added)?;
     let conflict = Conflict {
         r: 0,
         read_point: 0,
         changed_at: 1,
     };
-    let tries = Tries {
+    let wanted = Tried {
         answer: Err(TransactFault::GaveUp { tries: 1, conflict }),
         bodies: (1, 1),
         receipts: 0,
-    };
-    let wanted = Tried {
-        tries,
         value: Some(10),
-        log: vec![in alloc; (other(0), 0)]?,
-        commits: 1,
     };
-    assert_eq!(rt; tried, wanted);
-    Ok(())
+    check(&rt, &case, wanted, &[(other(0), 0)])
 }
 
 // The conflict that is told is the last one.
 #[test]
 fn a_caller_gives_up_after_as_many_tries_as_it_said(rt: HostRuntime) -> Result<(), Fail> {
-    let alloc = rt.alloc();
     let case = Case {
         code: PLUS,
         refuses: false,
         tries: 3,
         between: 3,
     };
-    let (commits, added) = (Blank::new(ALL_PARTS), Blank::new(ALL_PARTS));
-    let tried = try_case::<Brand, Brand, _>(&rt, alloc, case, commits, added)?;
     let conflict = Conflict {
         r: 0,
         read_point: 2,
         changed_at: 3,
     };
-    let tries = Tries {
+    let wanted = Tried {
         answer: Err(TransactFault::GaveUp { tries: 3, conflict }),
         bodies: (3, 3),
         receipts: 0,
-    };
-    let wanted = Tried {
-        tries,
         value: Some(10),
-        log: vec![in alloc; (other(0), 0), (other(1), 1), (other(2), 2)]?,
-        commits: 3,
     };
-    assert_eq!(rt; tried, wanted);
-    Ok(())
+    let log = [(other(0), 0), (other(1), 1), (other(2), 2)];
+    check(&rt, &case, wanted, &log)
 }
 
 #[test]
 fn after_a_conflict_the_body_reads_the_new_value(rt: HostRuntime) -> Result<(), Fail> {
-    let alloc = rt.alloc();
     let case = Case {
         code: PLUS,
         refuses: false,
         tries: 2,
         between: 1,
     };
-    let (commits, added) = (Blank::new(ALL_PARTS), Blank::new(ALL_PARTS));
-    let tried = try_case::<Brand, Brand, _>(&rt, alloc, case, commits, added)?;
-    let tries = Tries {
+    let wanted = Tried {
         answer: Ok(()),
         bodies: (2, 2),
         receipts: 1,
-    };
-    let wanted = Tried {
-        tries,
         value: Some(11),
-        log: vec![in alloc; (other(0), 0), (STAMP, 1)]?,
-        commits: 2,
     };
-    assert_eq!(rt; tried, wanted);
-    Ok(())
+    check(&rt, &case, wanted, &[(other(0), 0), (STAMP, 1)])
 }
 
 #[test]
 fn a_fault_of_the_body_ends_it(rt: HostRuntime) -> Result<(), Fail> {
-    let alloc = rt.alloc();
     let case = Case {
         code: PLUS,
         refuses: true,
         tries: 3,
         between: 0,
     };
-    let (commits, added) = (Blank::new(ALL_PARTS), Blank::new(ALL_PARTS));
-    let tried = try_case::<Brand, Brand, _>(&rt, alloc, case, commits, added)?;
-    let tries = Tries {
+    let wanted = Tried {
         answer: Err(TransactFault::Body(Stop::Late)),
         bodies: (1, 1),
         receipts: 0,
-    };
-    let wanted = Tried {
-        tries,
         value: Some(0),
-        log: Vec::new(alloc),
-        commits: 0,
     };
-    assert_eq!(rt; tried, wanted);
-    Ok(())
+    check(&rt, &case, wanted, &[])
 }
 
 #[test]
 fn a_value_that_the_rule_refuses_is_tried_once(rt: HostRuntime) -> Result<(), Fail> {
-    let alloc = rt.alloc();
     let case = Case {
         code: MINUS,
         refuses: false,
         tries: 3,
         between: 0,
     };
-    let (commits, added) = (Blank::new(ALL_PARTS), Blank::new(ALL_PARTS));
-    let tried = try_case::<Brand, Brand, _>(&rt, alloc, case, commits, added)?;
-    let tries = Tries {
+    let wanted = Tried {
         answer: Err(TransactFault::Commit(CommitFault::Invalid(0))),
         bodies: (1, 1),
         receipts: 0,
-    };
-    let wanted = Tried {
-        tries,
         value: Some(0),
-        log: Vec::new(alloc),
-        commits: 0,
     };
-    assert_eq!(rt; tried, wanted);
-    Ok(())
+    check(&rt, &case, wanted, &[])
 }

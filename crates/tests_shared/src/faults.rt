@@ -1,4 +1,5 @@
 //! What the faults of shared worlds say.
+use crate::same::same;
 use ref_refs::{CommitFault, Conflict};
 use ref_shared::{GatherFault, TransactFault, WorkFault};
 use ref_tx::TxFault;
@@ -17,7 +18,7 @@ fn check<F: Display>(
 ) -> Result<(), Fail> {
     let said = format!(in rt.alloc(); "{told} {fault}")?;
     let wanted = format!(in rt.alloc(); "{number} {words}")?;
-    assert_eq!(rt; said, wanted);
+    same(rt, said, wanted);
     Ok(())
 }
 

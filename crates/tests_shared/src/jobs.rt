@@ -1,9 +1,13 @@
 //! Worlds of two agents, what is sent to them, and what runs their actions.
-use crate::worlds::{PLUS, Stop, agent, at_least, done, one_arg, plain_start, value};
+use crate::steps::commit;
+use crate::worlds::{
+    PLUS, STAMP, Stop, agent, at_least, done, int_at, one_arg, plain_start, value,
+};
 use ref_fun::{Core, CoreFunctions};
+use ref_log::Who;
 use ref_shared::{Open, Quiet, Shared, WorkFault, Worked};
 use ref_tx::Tx;
-use ref_world::Start;
+use ref_world::{Share, Start};
 use std::alloc::{AllocError, Global};
 use std::sync::Wait;
 use std::sync::ledger::Ledger;
@@ -34,4 +38,27 @@ pub fn two_agents(alloc: Global) -> Result<Start, AllocError> {
 pub fn send_four(alloc: Global, tx: &mut Tx<Core>) -> Result<(), Stop> {
     let args = one_arg(alloc, "4")?;
     done(tx.send(alloc, &CoreFunctions, 1, PLUS, args))
+}
+
+/// Commits `send h + 4`, which is held, and returns the point.
+pub fn commit_four<C: Ledger, A: Ledger, R: Wait>(
+    rt: &R,
+    alloc: Global,
+    shared: &Shared<Core, C, A>,
+    share: &mut Share<C, A>,
+) -> Result<u64, Stop> {
+    let mut tx = shared.begin(rt, alloc)?;
+    send_four(alloc, &mut tx)?;
+    commit(rt, alloc, shared, share, STAMP, tx)
+}
+
+/// The numbers that both agents hold now.
+pub fn agents_at<C: Ledger, A: Ledger, R: Wait>(
+    rt: &R,
+    shared: &Shared<Core, C, A>,
+) -> (Option<i64>, Option<i64>) {
+    (
+        int_at(rt, shared, Who::Agent(0)),
+        int_at(rt, shared, Who::Agent(1)),
+    )
 }

@@ -3,11 +3,13 @@ ghost use Rattle.std.specs.Prelude.{◌≡◌};
 ghost use Rattle.ref_world.specs.Shares.{all_parts};
 
 use crate::jobs::two_agents;
+use crate::same::same;
 use crate::worlds::{PLUS, STAMP, Stop, action, closed, done, one_arg, value};
 use ref_agents::{AgentError, ErrorMode, Finished, Job};
 use ref_fun::{Cause, Core, CoreFunctions};
 use ref_log::Who;
 use ref_shared::Shared;
+use ref_tx::Tx;
 use ref_world::{ALL_PARTS, Share, World};
 use std::alloc::{AllocError, Global};
 use std::marker::Brand;
@@ -63,6 +65,56 @@ fn continued<C: Ledger, A: Ledger>(
     }
 }
 
+// Adds a watch to the ref, and sends h, which goes on after an error, an action that its function refuses.
+fn watch_and_send<C: Ledger, A: Ledger>(
+    alloc: Global,
+    world: &mut World<Core, C, A>,
+) -> Result<(), Stop> {
+    let key = value(alloc, ":w")?;
+    done(world.add_watch(alloc, Who::Ref(0), key))?;
+    done(world.set_error_mode(1, ErrorMode::Continue))?;
+    let action = action(alloc, PLUS, ":k")?;
+    done(world.send(alloc, 1, action))
+}
+
+fn send_one(alloc: Global, tx: &mut Tx<Core>) -> Result<(), Stop> {
+    let one = one_arg(alloc, "1")?;
+    done(tx.send(alloc, &CoreFunctions, 0, PLUS, one))
+}
+
+// Commits `send g + 1`, which is held, and returns the point.
+fn commit_send<C: Ledger, A: Ledger>(
+    alloc: Global,
+    world: &mut World<Core, C, A>,
+    share: &mut Share<C, A>,
+) -> Result<u64, Stop> {
+    let mut tx = world.begin(alloc)?;
+    send_one(alloc, &mut tx)?;
+    let receipt = done(world.commit_with(alloc, &CoreFunctions, share, STAMP, tx))?;
+    Ok(receipt.point)
+}
+
+fn prepare<C: Ledger, A: Ledger>(
+    alloc: Global,
+    world: &mut World<Core, C, A>,
+    share: &mut Share<C, A>,
+) -> Result<u64, Stop> {
+    watch_and_send(alloc, world)?;
+    commit_send(alloc, world, share)
+}
+
+fn two_agents_made<C: Ledger, A: Ledger>(
+    alloc: Global,
+    commits: Blank,
+    added: Blank,
+) -> Result<(World<Core, C, A>, Share<C, A>), Stop>
+    requires commits { (commits.name ≡ C.name) × (commits.parts ≡ C.parts) × (commits.parts ≡ all_parts) }
+    requires added { (added.name ≡ A.name) × (added.parts ≡ A.parts) × (added.parts ≡ all_parts) }
+{
+    let start = two_agents(alloc)?;
+    done(World::<Core, C, A>::new(alloc, &CoreFunctions, start, commits, added))
+}
+
 // The world of two agents: a ref with a watch; h, which goes on after an error, with an action that its function refuses; and an action
 // of g that a commit sent and that is held. It is shared, and comes out again.
 fn shared_and_back<C: Ledger, A: Ledger>(
@@ -73,17 +125,10 @@ fn shared_and_back<C: Ledger, A: Ledger>(
     requires commits { (commits.name ≡ C.name) × (commits.parts ≡ C.parts) × (commits.parts ≡ all_parts) }
     requires added { (added.name ≡ A.name) × (added.parts ≡ A.parts) × (added.parts ≡ all_parts) }
 {
-    let start = two_agents(alloc)?;
-    let made = World::<Core, C, A>::new(alloc, &CoreFunctions, start, commits, added);
-    let (mut world, mut share): (World<Core, C, A>, Share<C, A>) = done(made)?;
-    done(world.add_watch(alloc, Who::Ref(0), value(alloc, ":w")?))?;
-    done(world.set_error_mode(1, ErrorMode::Continue))?;
-    done(world.send(alloc, 1, action(alloc, PLUS, ":k")?))?;
-    let mut tx = world.begin(alloc)?;
-    done(tx.send(alloc, &CoreFunctions, 0, PLUS, one_arg(alloc, "1")?))?;
-    let receipt = done(world.commit_with(alloc, &CoreFunctions, &mut share, STAMP, tx))?;
+    let (mut world, mut share) = two_agents_made::<C, A>(alloc, commits, added)?;
+    let point = prepare(alloc, &mut world, &mut share)?;
     let (world, _totals) = closed(alloc, Shared::new(world), share)?;
-    Ok((world, receipt.point))
+    Ok((world, point))
 }
 
 // Whose jobs are taken before and after the release of what a commit sent, and whether that was held.
@@ -97,28 +142,51 @@ fn taken_around_release<C: Ledger, A: Ledger>(
     Ok(([before, after], was_held))
 }
 
-fn try_kept<C: Ledger, A: Ledger>(
+// What the world has: the error with which h goes on, whose jobs are taken before and after the release, whether it had sends, and
+// whether the watch is there.
+#[derive(Debug, Drop, PartialEq)]
+struct Kept {
+    first: Option<(u32, AgentError)>,
+    others: [Option<u32>; 2],
+    was_held: bool,
+    was_watched: bool,
+}
+
+fn look_at<C: Ledger, A: Ledger>(
     alloc: Global,
-    commits: Blank,
-    added: Blank,
-) -> Result<(Option<(u32, AgentError)>, [Option<u32>; 2], bool, bool), Stop>
+    world: &mut World<Core, C, A>,
+    point: u64,
+) -> Result<Kept, Stop> {
+    let key = value(alloc, ":w")?;
+    let first = continued(alloc, world)?;
+    let (others, was_held) = taken_around_release(world, point)?;
+    Ok(Kept {
+        first,
+        others,
+        was_held,
+        was_watched: world.remove_watch(Who::Ref(0), &key),
+    })
+}
+
+fn try_kept<C: Ledger, A: Ledger>(alloc: Global, commits: Blank, added: Blank) -> Result<Kept, Stop>
     requires commits { (commits.name ≡ C.name) × (commits.parts ≡ C.parts) × (commits.parts ≡ all_parts) }
     requires added { (added.name ≡ A.name) × (added.parts ≡ A.parts) × (added.parts ≡ all_parts) }
 {
     let (mut world, point) = shared_and_back::<C, A>(alloc, commits, added)?;
-    let first = continued(alloc, &mut world)?;
-    let (others, was_held) = taken_around_release(&mut world, point)?;
-    let was_watched = world.remove_watch(Who::Ref(0), &value(alloc, ":w")?);
-    Ok((first, others, was_held, was_watched))
+    look_at(alloc, &mut world, point)
 }
 
 #[test]
 fn a_shared_world_keeps_what_the_world_had(rt: HostRuntime) -> Result<(), Fail> {
     let alloc = rt.alloc();
     let (commits, added) = (Blank::new(ALL_PARTS), Blank::new(ALL_PARTS));
-    let (first, others, was_held, was_watched) = try_kept::<Brand, Brand>(alloc, commits, added)?;
-    assert_eq!(rt; first, Some((1, AgentError::Refused(Cause::WrongKind))));
-    assert_eq!(rt; others, [None, Some(0)]);
-    assert_eq!(rt; (was_held, was_watched), (true, true));
+    let kept = try_kept::<Brand, Brand>(alloc, commits, added)?;
+    let wanted = Kept {
+        first: Some((1, AgentError::Refused(Cause::WrongKind))),
+        others: [None, Some(0)],
+        was_held: true,
+        was_watched: true,
+    };
+    same(&rt, kept, wanted);
     Ok(())
 }

@@ -6,8 +6,9 @@
 //! | `calls`, `conflicts`, `finishing` | each call, transactions that are tried again, the end |
 //! | `work`, `kept` | agents, and what a world has when it comes out again |
 //! | `faults` | what faults say |
-//! | `tables` | a table that may want memory or predicates |
+//! | `tables`, `same` | a table that may want memory or predicates; an assertion |
 //! | [`worlds`], [`jobs`] | making worlds and values, and what is read of them; two agents, and what runs their actions |
+//! | [`scenarios`], [`steps`] | running a scenario on a new shared world; single steps on one |
 //! | [`numbers`] | the number that a value is |
 #![tactic(auto)]
 
@@ -23,6 +24,10 @@ pub mod jobs;
 #[cfg(test)]
 mod kept;
 pub mod numbers;
+#[cfg(test)]
+mod same;
+pub mod scenarios;
+pub mod steps;
 #[cfg(test)]
 mod tables;
 #[cfg(test)]

@@ -1,6 +1,6 @@
 //! The number that a value is. It stands outside of the tests, since wrong bodies are tried without them.
 ghost use Rattle.std.specs.Prelude.{◌≡◌, IfSome, is_some};
-ghost use Rattle.ref_edn.specs.Edn.{int};
+ghost use Rattle.ref_value.specs.Edn.{int};
 ghost use Rattle.ref_fun.specs.Kinds.{is_int};
 
 use ref_edn::{Node, Value};

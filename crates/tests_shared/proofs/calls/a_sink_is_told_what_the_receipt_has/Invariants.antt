@@ -1,7 +1,0 @@
-use Rattle.tests_shared.proofs.calls.a_sink_is_told_what_the_receipt_has.Given as goal
-
-abbrev pub ghosts-try_telling-C-Ledger : goal.ghosts-try_telling-C-Ledger
-ghosts-try_telling-C-Ledger g a = record { name = a.commits.name; parts = a.commits.parts }
-
-abbrev pub ghosts-try_telling-A-Ledger : goal.ghosts-try_telling-A-Ledger
-ghosts-try_telling-A-Ledger g a = record { name = a.added.name; parts = a.added.parts }

@@ -1,7 +1,0 @@
-use Rattle.tests_shared.proofs.conflicts.a_fault_of_the_body_ends_it.Given as goal
-
-abbrev pub ghosts-try_case-C-Ledger : goal.ghosts-try_case-C-Ledger
-ghosts-try_case-C-Ledger g a = record { name = a.commits.name; parts = a.commits.parts }
-
-abbrev pub ghosts-try_case-A-Ledger : goal.ghosts-try_case-A-Ledger
-ghosts-try_case-A-Ledger g a = record { name = a.added.name; parts = a.added.parts }

@@ -1,7 +1,0 @@
-use Rattle.tests_shared.proofs.conflicts.after_a_conflict_the_body_reads_the_new_value.Given as goal
-
-abbrev pub ghosts-try_case-C-Ledger : goal.ghosts-try_case-C-Ledger
-ghosts-try_case-C-Ledger g a = record { name = a.commits.name; parts = a.commits.parts }
-
-abbrev pub ghosts-try_case-A-Ledger : goal.ghosts-try_case-A-Ledger
-ghosts-try_case-A-Ledger g a = record { name = a.added.name; parts = a.added.parts }

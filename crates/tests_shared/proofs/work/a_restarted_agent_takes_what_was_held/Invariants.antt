@@ -1,7 +1,0 @@
-use Rattle.tests_shared.proofs.work.a_restarted_agent_takes_what_was_held.Given as goal
-
-abbrev pub ghosts-try_failing-C-Ledger : goal.ghosts-try_failing-C-Ledger
-ghosts-try_failing-C-Ledger g a = record { name = a.commits.name; parts = a.commits.parts }
-
-abbrev pub ghosts-try_failing-A-Ledger : goal.ghosts-try_failing-A-Ledger
-ghosts-try_failing-A-Ledger g a = record { name = a.added.name; parts = a.added.parts }

@@ -1,0 +1,84 @@
+//! Single steps on a shared world that are not to be refused.
+use crate::worlds::{Stop, action, add, done, value};
+use ref_fun::{Core, CoreFunctions};
+use ref_log::{Stamp, Who};
+use ref_shared::Shared;
+use ref_tx::Tx;
+use ref_world::Share;
+use std::alloc::Global;
+use std::sync::Wait;
+use std::sync::ledger::Ledger;
+
+/// Adds a watch with this key.
+pub fn watch<C: Ledger, A: Ledger, R: Wait>(
+    rt: &R,
+    alloc: Global,
+    shared: &Shared<Core, C, A>,
+    who: Who,
+    key: &str,
+) -> Result<(), Stop> {
+    let key = value(alloc, key)?;
+    let _ = done(shared.add_watch(rt, alloc, who, key))?;
+    Ok(())
+}
+
+/// Sends an action of one argument to an agent.
+pub fn send<C: Ledger, A: Ledger, R: Wait>(
+    rt: &R,
+    alloc: Global,
+    shared: &Shared<Core, C, A>,
+    g: u32,
+    code: u32,
+    argument: &str,
+) -> Result<(), Stop> {
+    let action = action(alloc, code, argument)?;
+    done(shared.send(rt, alloc, g, action))
+}
+
+/// `ref-set r text`.
+pub fn set(alloc: Global, tx: &mut Tx<Core>, r: u32, text: &str) -> Result<(), Stop> {
+    let new = value(alloc, text)?;
+    let _ = done(tx.ref_set(alloc, r, new))?;
+    Ok(())
+}
+
+/// Commits a transaction, and returns the point.
+pub fn commit<C: Ledger, A: Ledger, R: Wait>(
+    rt: &R,
+    alloc: Global,
+    shared: &Shared<Core, C, A>,
+    share: &mut Share<C, A>,
+    stamp: Stamp,
+    tx: Tx<Core>,
+) -> Result<u64, Stop> {
+    let receipt = done(shared.commit(rt, alloc, &CoreFunctions, share, stamp, tx))?;
+    Ok(receipt.point)
+}
+
+/// Commits `ref-set 0 text`, and returns the point.
+pub fn commit_set<C: Ledger, A: Ledger, R: Wait>(
+    rt: &R,
+    alloc: Global,
+    shared: &Shared<Core, C, A>,
+    share: &mut Share<C, A>,
+    stamp: Stamp,
+    text: &str,
+) -> Result<u64, Stop> {
+    let mut tx = shared.begin(rt, alloc)?;
+    set(alloc, &mut tx, 0, text)?;
+    commit(rt, alloc, shared, share, stamp, tx)
+}
+
+/// Commits `alter 0 + 1`.
+pub fn commit_add<C: Ledger, A: Ledger, R: Wait>(
+    rt: &R,
+    alloc: Global,
+    shared: &Shared<Core, C, A>,
+    share: &mut Share<C, A>,
+    stamp: Stamp,
+) -> Result<(), Stop> {
+    let mut tx = shared.begin(rt, alloc)?;
+    add(alloc, &mut tx, 0, "1")?;
+    let _ = commit(rt, alloc, shared, share, stamp, tx)?;
+    Ok(())
+}
