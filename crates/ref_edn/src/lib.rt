@@ -1,8 +1,8 @@
 //! The text of EDN data: reading, printing, readers and writers.
 //!
 //! [`read_one`] makes a [`Value`] of a text in the profile that docs/EDN.md describes, [`print()`] appends a value's text, and reading
-//! what was printed gives an equal value. Values themselves are `ref_value`'s. This crate exports all its names, so a program that reads
-//! or prints needs this crate alone.
+//! what was printed gives an equal value. Values themselves are `ref_value`'s. This crate exports all its names; `crates.txt` has to list
+//! `ref_value` too for a crate that uses a trait of theirs, as a `for` over members does.
 //!
 //! | Name | Is |
 //! |---|---|

@@ -1,8 +1,8 @@
 //! EDN data in memory: values and their order.
 //!
 //! A [`Value`] is any EDN datum of the profile that docs/EDN.md describes. Contracts see it as EDN data. Values share what they
-//! hold, so that one more owner of a large collection costs no copy. Reading and printing their text is `ref_edn`'s, which exports
-//! all names of this crate too: a program that reads or prints needs `ref_edn` alone.
+//! hold, so that one more owner of a large collection costs no copy. `ref_edn` reads and prints their text, and exports all names of
+//! this crate.
 //!
 //! | Name | Is |
 //! |---|---|
