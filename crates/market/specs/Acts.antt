@@ -7,7 +7,7 @@
 --
 -- Predicate 1 accepts an integer of 0 or more, without an argument. Other codes have no function, and accept nothing.
 use Rattle.std.specs.Prelude.{◌≡◌, ℕ, ℤ, pos, int_le, ◌==◌, ◌&&◌, Bool, false, is_some, if◌then◌else◌, List, [], ◌∷◌, Option, None, Some, Result, Ok, Err}
-use Rattle.ref_value.specs.Edn.{Edn, int}
+use Rattle.ref_edn.specs.Edn.{Edn, int}
 use Rattle.ref_fun.specs.Calls.{Known}
 use Rattle.ref_fun.specs.Core.{core_means, core_adds}
 use Rattle.ref_fun.specs.Integers.{plus}

@@ -1,7 +1,7 @@
 //! Functions of this program's own: what they mean, and the table that runs them.
 ghost use Rattle.std.specs.Prelude.{◌≡◌, ◌≤◌, length, pos};
 ghost use Rattle.market.specs.Acts.{act_accepts, act_adds, act_means, act_of, all_acts, closed, done, is_group, is_left};
-ghost use Rattle.ref_value.specs.Edn.{int};
+ghost use Rattle.ref_edn.specs.Edn.{int};
 ghost use Rattle.ref_fun.specs.Meaning.{Answers};
 
 use ref_edn::{Node, Value};
