@@ -5,9 +5,9 @@
 #   bench/run.sh [--against PROGRAM] [--quick] [--rounds N] [--seconds S] [--bytes N] [--members N] [SHAPE..]
 #
 # README.md beside this says what the figures mean. The program that is measured is no crate of the repository, so that
-# the gate needs no time for it: this copies ref_edn into a folder of its own, adds the program there, and has rt prove
-# and build both. The folder is $REF_BENCH, or ref-bench among the temporary files; it is kept, so that a second run
-# builds only what has changed.
+# the gate needs no time for it: this copies ref_edn and ref_value into a folder of its own, adds the program there, and has
+# rt prove and build all three. The folder is $REF_BENCH, or ref-bench among the temporary files; it is kept, so that a second
+# run builds only what has changed.
 set -eu
 here=$(cd "$(dirname "$0")" && pwd)
 top=$(dirname "$here")
@@ -18,17 +18,20 @@ for tool in rt python3; do
   command -v $tool >/dev/null || { echo "bench/run.sh needs $tool" >&2; exit 2; }
 done
 
-# What rt kept of earlier checks, there or in the repository, spares a proof of all of ref_edn.
-mkdir -p "$tree/crates/ref_edn" "$tree/crates/edn_bench/src" "$room/data"
-if [ ! -d "$tree/crates/ref_edn/out" ] && [ -d "$top/crates/ref_edn/out" ]; then
-  cp -a "$top/crates/ref_edn/out" "$tree/crates/ref_edn/"
-fi
-for part in src specs proofs; do
-  rm -rf "$tree/crates/ref_edn/$part"
-  cp -a "$top/crates/ref_edn/$part" "$tree/crates/ref_edn/"
+# What rt kept of earlier checks, there or in the repository, spares a proof of all of them.
+mkdir -p "$tree/crates/edn_bench/src" "$room/data"
+for crate in ref_value ref_edn; do
+  mkdir -p "$tree/crates/$crate"
+  if [ ! -d "$tree/crates/$crate/out" ] && [ -d "$top/crates/$crate/out" ]; then
+    cp -a "$top/crates/$crate/out" "$tree/crates/$crate/"
+  fi
+  for part in src specs proofs; do
+    rm -rf "$tree/crates/$crate/$part"
+    cp -a "$top/crates/$crate/$part" "$tree/crates/$crate/"
+  done
 done
 cp "$here/edn_bench.rt.txt" "$tree/crates/edn_bench/src/main.rt"
-{ grep '^ref_edn *:' "$top/crates.txt"; echo 'edn_bench: ref_edn anyhow'; } > "$tree/crates.txt"
+{ grep '^ref_\(value\|edn\) *:' "$top/crates.txt"; echo 'edn_bench: ref_edn ref_value anyhow'; } > "$tree/crates.txt"
 
 echo "building in $tree"
 program=$tree/crates/edn_bench/out/edn_bench
