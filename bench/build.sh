@@ -1,5 +1,5 @@
 # Builds a program of this folder in a folder of its own. Read by threads.sh, stress.sh and begins.sh, which set `here`, the
-# program's `name`, the highest `library` that it stands on, and what it is told for a short `try`; it sets `room`, the folder,
+# program's `name`, the highest `library` that it stands on, or several, and what it is told for a short `try`; it sets `room`, the folder,
 # and `program`.
 top=$(dirname "$here")
 room=${REF_BENCH:-${TMPDIR:-/tmp}/ref-bench}/$name
@@ -20,7 +20,7 @@ libraries=$(awk -F: -v library="$library" '
     for (i = 1; i <= many; i++) visit(names[i])
   }
   { split($1, head, " "); line[head[1]] = $0; below[head[1]] = $2 }
-  END { visit(library) }' "$top/crates.txt")
+  END { many = split(library, wanted, " "); for (i = 1; i <= many; i++) visit(wanted[i]) }' "$top/crates.txt")
 
 # What the repository keeps of a library's proof is taken over, where it is another one than was taken before.
 for below in $libraries; do
