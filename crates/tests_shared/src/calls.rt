@@ -74,7 +74,6 @@ fn a_transaction_reads_what_was_committed(rt: HostRuntime) -> Result<(), Fail> {
     Ok(())
 }
 
-// A tally, which is 0.
 fn tally_start(alloc: Global) -> Result<Start, AllocError> {
     let mut start = plain_start(alloc, "", "")?;
     let tally = RefStart {
