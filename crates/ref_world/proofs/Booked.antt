@@ -13,7 +13,7 @@ use Rattle.ref_log.specs.declared.entries.Entry.TheVariants.{MadeRef}
 use Rattle.ref_log.specs.declared.states.Base.{Base}
 use Rattle.ref_world.specs.Seen.{BooksSeen}
 use Rattle.ref_world.specs.World.{AreBooks, IsUncounted, booked, with_tally}
-use Rattle.ref_world.proofs.Entered.{point_more}
+use Rattle.ref_world.specs.Entered.{point_more}
 
 fits_more : (tally : Option ℕ) (log : List Entry) (e : Entry) → list_all (fits_entry tally) log ≡ true → fits_entry tally e ≡ true → list_all (fits_entry tally) (log ++ e ∷ []) ≡ true
 fits_more tally log e all one =

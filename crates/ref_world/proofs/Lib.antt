@@ -1,4 +1,3 @@
-pub mod Entered
 pub mod Booked
 pub mod Starting
 pub mod Crossing

@@ -1,4 +1,4 @@
--- To be read and believed: all. IsWorld and AreBooks, in World, are what is always so.
+-- To be read and believed: all but Entered. IsWorld and AreBooks, in World, are what is always so.
 pub mod Seen
 pub mod World
 pub mod References
@@ -6,3 +6,5 @@ pub mod Shares
 pub mod Starts
 pub mod Checkpoint
 pub mod Faults
+-- Proved of them, for the crates above: what is always so stays so with an entry more.
+pub mod Entered

@@ -17,6 +17,8 @@ impl<M: Meaning, C: Ledger, A: Ledger> World<M, C, A> {
     /// How many refs there are, at most 2^20.
     pub fn ref_count(&self) -> usize
         ensures value { result ≡ length self.now.refs.values }
+        // Each of them has a last change.
+        ensures lasts { length self.now.refs.lasts ≡ result }
         ensures bound { result ≤ 2 ^ 20 }
     {
         self.refs.len()

@@ -8,7 +8,7 @@ use Rattle.ref_refs.specs.Seen.{are_unchanged_since, changed_at}
 use Rattle.ref_world.specs.World.{AreBooks, IsWorld, are_past, point_of, values_now}
 use Rattle.ref_agents.specs.Agents.{with_commit, with_unreleased}
 use Rattle.ref_world.proofs.Booked.{books_committed}
-use Rattle.ref_world.proofs.Entered.{entered_same, held_commit, held_still}
+use Rattle.ref_world.specs.Entered.{entered_same, held_commit, held_still}
 use Rattle.ref_world.proofs.worlds.World.commit_with.Goals as goal
 
 first_none : (first later : Option CommitFault) → or_fault first later ≡ None → first ≡ None

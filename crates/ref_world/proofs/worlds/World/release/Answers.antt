@@ -3,7 +3,7 @@ use Rattle.std.specs.BTreeMap.{is_at}
 use Rattle.std.specs.Ordering.{nat_cmp}
 use Rattle.ref_log.specs.Replay.{point_after}
 use Rattle.ref_world.specs.World.{are_past}
-use Rattle.ref_world.proofs.Entered.{held_as, held_fewer}
+use Rattle.ref_world.specs.Entered.{held_as, held_fewer}
 use Rattle.ref_world.proofs.worlds.World.release.Goals as goal
 
 pub invariant_of-self : goal.invariant_of-self

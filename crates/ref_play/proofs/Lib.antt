@@ -1,0 +1,15 @@
+pub mod Placed
+pub mod Later
+pub mod Grows
+pub mod Native
+pub mod Kept
+pub mod Acting
+pub mod Laws
+pub mod Standing
+pub mod Slots
+pub mod Given
+pub mod KeptJobs
+pub mod WorkDone
+pub mod Answering
+pub mod BackAll
+pub mod Puts

@@ -1,0 +1,26 @@
+use Rattle.std.proofs.Common.{Err, Ok, subst}
+use Rattle.ref_play.specs.Sims.{Serves, SimSeen}
+use Rattle.ref_play.specs.declared.events.Act.TheVariants as acts
+use Rattle.ref_play.specs.declared.events.Reply.TheVariants as replies
+use Rattle.ref_play.proofs.Answering.{rule_refused, rule_set}
+use Rattle.ref_play.proofs.looking.set_validator.Goals as goal
+
+pub returns-in-Ok-set_validator : goal.returns-in-Ok-set_validator
+returns-in-Ok-set_validator g c = λ s actor.
+    let means = g.M.Meaning.means in
+    let accepts = g.M.Meaning.accepts in
+    let knows = g.F.Functions.knows c.args.funs.now in
+    let did = c.in-Ok-set_validator.ensures in
+    let old : SimSeen = record s { world = c.args.world.now } in
+    subst (λ x. Serves means accepts knows old actor (acts.SetValidator c.args.who x) (replies.SetValidator (Ok tt)) (record s { world = c.set_validator.new.self })) c.in-Ok.ensures
+    (rule_set means accepts knows old actor c.args.who c.in-Ok.rule c.set_validator.new.self did.refused did.sets)
+
+pub returns-in-Err : goal.returns-in-Err
+returns-in-Err g c = λ s actor.
+    let means = g.M.Meaning.means in
+    let accepts = g.M.Meaning.accepts in
+    let knows = g.F.Functions.knows c.args.funs.now in
+    let did = c.in-Err.ensures in
+    let old : SimSeen = record s { world = c.args.world.now } in
+    subst (λ x. Serves means accepts knows old actor (acts.SetValidator c.args.who x) (replies.SetValidator (Err c.in-Err.fault)) (record s { world = c.set_validator.new.self })) c.in-Ok.ensures
+    (rule_refused means accepts knows old actor c.args.who c.in-Ok.rule c.set_validator.new.self c.in-Err.fault did.refused did.err)

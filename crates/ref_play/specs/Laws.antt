@@ -1,0 +1,228 @@
+-- The laws of every run.
+use Rattle.std.specs.Prelude.{◌≢◌, ◌≡◌, ℕ, ◌+◌, true, false, Bool, List, [], ◌∷◌, ◌++◌, if◌then◌else◌, take, slice_get, Option, None, Some, Result, Ok, Err}
+use Rattle.std.specs.List.{AllByRecursion}
+use Rattle.ref_value.specs.Edn.{Edn}
+use Rattle.ref_fun.specs.Calls.{Known}
+use Rattle.ref_fun.specs.Meaning.{Means}
+use Rattle.ref_fun.specs.Rule.{Accepts, is_accepted}
+use Rattle.ref_fun.specs.declared.rules.Rule.{Rule}
+use Rattle.ref_log.specs.Replay.{after_dones, is_protected, point_after, replay}
+use Rattle.ref_log.specs.Tally.{added_by_dones}
+use Rattle.ref_log.specs.declared.entries.Entry.{Entry}
+use Rattle.ref_log.specs.declared.entries.Entry.TheVariants.{Trans, Atom, MadeRef, MadeAtom}
+use Rattle.ref_log.specs.declared.entries.Stamp.{Stamp}
+use Rattle.ref_log.specs.declared.faults.AuditFault.{AuditFault}
+use Rattle.ref_log.specs.declared.operations.Done.{Done}
+use Rattle.ref_log.specs.declared.operations.Op.{Op}
+use Rattle.ref_log.specs.declared.operations.Op.TheVariants.{Set, Alter, Commute, Ensure}
+use Rattle.ref_log.specs.declared.states.Base.{Base}
+use Rattle.ref_log.specs.declared.states.PlainState.{PlainState}
+use Rattle.ref_tx.specs.Inner.{and_place, inner_value}
+use Rattle.ref_tx.specs.Seen.{TxSeen}
+use Rattle.ref_tx.specs.declared.faults.TxFault.TheVariants as txs
+use Rattle.ref_refs.specs.Commit.{entry_of}
+use Rattle.ref_refs.specs.declared.faults.CommitFault.{CommitFault}
+use Rattle.ref_refs.specs.declared.faults.CommitFault.TheVariants as commits
+use Rattle.ref_world.specs.Seen.{ShareSeen}
+use Rattle.ref_world.specs.Shares.{with_commit, with_receipt}
+use Rattle.ref_world.specs.World.{values_now}
+use Rattle.ref_play.specs.Given.{accepted, ended_by, given_at, handled_at}
+use Rattle.ref_play.specs.Machine.{IsStep, Look, Machine, Run, history}
+use Rattle.ref_play.specs.Present.{Present, WithTx, value_at}
+use Rattle.ref_play.specs.Runs.{AreJobs, AreOpen, IsLawful, IsServed}
+use Rattle.ref_play.specs.declared.events.Act.{Act}
+use Rattle.ref_play.specs.declared.events.Act.TheVariants as acts
+use Rattle.ref_play.specs.declared.events.Event.{Event}
+use Rattle.ref_play.specs.declared.events.Reply.{Reply}
+use Rattle.ref_play.specs.declared.events.Reply.TheVariants as replies
+
+-- ---- no stranger
+
+-- No commit fails because its transaction is foreign, or because the table lacks a function.
+abbrev pub IsNative : CommitFault → Type 0
+IsNative (commits.Foreign alien) = ⊥
+IsNative (commits.NoSuchFun code) = ⊥
+IsNative fault = Unit {0}
+
+abbrev pub IsNativeReply : Reply → Type 0
+IsNativeReply (replies.Commit (Err fault)) = IsNative fault
+IsNativeReply reply = Unit {0}
+
+-- ---- what a reply says
+
+-- whether a call was refused, or not made
+abbrev pub is_fault : {T Fault : Type 0} → Result T Fault → Bool
+is_fault (Ok x) = false
+is_fault (Err f) = true
+
+abbrev pub is_refused : Reply → Bool
+is_refused replies.NoTx = true
+is_refused replies.NoJob = true
+is_refused replies.Busy = true
+is_refused (replies.Begin told) = is_fault told
+is_refused (replies.Deref told) = is_fault told
+is_refused (replies.RefSet told) = is_fault told
+is_refused (replies.Alter told) = is_fault told
+is_refused (replies.Commute told) = is_fault told
+is_refused (replies.Ensure told) = is_fault told
+is_refused (replies.SendInTx told) = is_fault told
+is_refused (replies.Require told) = is_fault told
+is_refused (replies.ReadPoint p) = false
+is_refused (replies.Commit told) = is_fault told
+is_refused replies.Abort = false
+is_refused (replies.Release freed) = false
+is_refused (replies.Swap told) = is_fault told
+is_refused (replies.Reset told) = is_fault told
+is_refused (replies.CompareAndSet told) = is_fault told
+is_refused (replies.Send told) = is_fault told
+is_refused (replies.Take told) = is_fault told
+is_refused (replies.Run told) = is_fault told
+is_refused replies.PutBack = false
+is_refused (replies.Finish told) = is_fault told
+is_refused (replies.Restart told) = is_fault told
+is_refused (replies.SetErrorMode told) = is_fault told
+is_refused (replies.SetValidator told) = is_fault told
+is_refused (replies.AddWatch told) = is_fault told
+is_refused (replies.RemoveWatch was) = false
+is_refused (replies.MakeRef told) = is_fault told
+is_refused (replies.MakeAtom told) = is_fault told
+is_refused (replies.MakeAgent told) = is_fault told
+is_refused (replies.Checkpoint told) = is_fault told
+is_refused (replies.ValueOf told) = is_fault told
+is_refused (replies.ErrorOf error) = false
+
+-- what is so of the transaction that an actor has open
+abbrev pub Of : Option TxSeen → (TxSeen → Type 0) → Type 0
+Of tx says = WithTx tx says ⊥
+
+-- An operation answers its place at the in-transaction value.
+abbrev pub IsInner : Means → Op → ℕ → Edn → TxSeen → Type 0
+IsInner means op r v tx = and_place means op (inner_value means tx r) ≡ Some v
+
+-- The in-transaction value is there, and the rule accepts it or not.
+abbrev pub IsJudged : Means → Accepts → Rule → ℕ → Bool → TxSeen → Type 0
+IsJudged means accepts rule r verdict tx = (v : Edn) × (inner_value means tx r ≡ Some v) × (is_accepted accepts rule v ≡ verdict)
+
+-- Each value that an actor is told: in a transaction the in-transaction value, outside of one the value now.
+abbrev pub IsTold : Means → Accepts → Present → Option TxSeen → Act → Reply → Type 0
+IsTold means accepts now tx (acts.Deref r) (replies.Deref (Ok v)) = Of tx (λ t. inner_value means t r ≡ Some v)
+IsTold means accepts now tx (acts.RefSet r w) (replies.RefSet (Ok v)) = Of tx (IsInner means (Set w) r v)
+IsTold means accepts now tx (acts.Alter r code args) (replies.Alter (Ok v)) = Of tx (IsInner means (Alter code args) r v)
+IsTold means accepts now tx (acts.Commute r code args) (replies.Commute (Ok v)) = Of tx (IsInner means (Commute code args) r v)
+IsTold means accepts now tx (acts.Ensure r) (replies.Ensure (Ok v)) = Of tx (IsInner means Ensure r v)
+IsTold means accepts now tx (acts.Require r rule) (replies.Require (Ok u)) = Of tx (IsJudged means accepts rule r true)
+IsTold means accepts now tx (acts.Require r rule) (replies.Require (Err txs.NotMet)) = Of tx (IsJudged means accepts rule r false)
+IsTold means accepts now tx acts.ReadPoint (replies.ReadPoint p) = Of tx (λ t. p ≡ t.read_point)
+IsTold means accepts now tx (acts.Swap n code args) (replies.Swap (Ok s)) = (slice_get now.atoms.values n ≡ Some s.old) × (means code args s.old ≡ Ok s.new)
+IsTold means accepts now tx (acts.Reset n v) (replies.Reset (Ok s)) = (slice_get now.atoms.values n ≡ Some s.old) × (v ≡ s.new)
+IsTold means accepts now tx (acts.ValueOf w) (replies.ValueOf (Ok v)) = v ≡ value_at now w
+IsTold means accepts now tx act reply = Unit {0}
+
+-- ---- where a transaction begins
+
+-- The state of all refs at a point of a history on a base.
+abbrev pub IsStateAt : Means → Base → List Entry → ℕ → List Edn → Type 0
+IsStateAt means base entries p values = (before after : List Entry) × (state : PlainState) × (entries ≡ before ++ after) × (point_after base before ≡ p)
+    × (replay means base before ≡ Ok state) × (state.refs ≡ values)
+
+-- A transaction begins, without an operation, on the state at the present point; no act changes where one began.
+abbrev pub IsFrom : Means → Base → List Entry → Present → Option TxSeen → Act → Reply → TxSeen → Type 0
+IsFrom means base entries now was acts.Begin (replies.Begin (Ok p)) tx =
+    (p ≡ now.point) × (tx.read_point ≡ p) × IsStateAt means base entries p tx.began × (tx.dones ≡ []) × (tx.sends ≡ [])
+IsFrom means base entries now was act reply tx = Of was (λ before. (tx.read_point ≡ before.read_point) × (tx.began ≡ before.began))
+
+-- ---- what a committed transaction was told
+
+-- the value of a ref after the first n operations of an entry at a point, on the values before it
+abbrev pub value_in : Result (List Edn) AuditFault → ℕ → Option Edn
+value_in (Ok values) r = slice_get values r
+value_in (Err fault) r = None
+
+abbrev pub placed_value : Means → List Done → ℕ → List Edn → ℕ → ℕ → Option Edn
+placed_value means dones point values n r = value_in (after_dones means dones point (take n dones) (Ok values)) r
+
+-- What a transaction was told of a ref that it protects is right at its place in the history: an answer of an operation is the value
+-- after it, and `deref` and `require` told of the value there.
+pub record IsPlaced (means : Means) (now : Present) (tx : TxSeen) (looks : List Look) : Type 0 where
+  pub answers : (n : ℕ) (d : Done) → slice_get tx.dones n ≡ Some d → is_protected tx.dones d.r ≡ true
+      → placed_value means tx.dones (now.point + 1) now.refs.values (n + 1) d.r ≡ Some d.answer
+  pub heard : AllByRecursion (λ look. is_protected tx.dones look.r ≡ true
+      → placed_value means tx.dones (now.point + 1) now.refs.values look.after look.r ≡ look.value) looks
+
+abbrev pub PlacedAt : Means → Present → List Look → Option TxSeen → Act → Reply → Type 0
+PlacedAt means now looks tx (acts.Commit stamp) (replies.Commit (Ok receipt)) = Of tx (λ t. IsPlaced means now t looks)
+PlacedAt means now looks tx act reply = Unit {0}
+
+-- ---- what is added to the history
+
+abbrev pub committed : Option TxSeen → Stamp → List Entry
+committed None stamp = []
+committed (Some tx) stamp = entry_of stamp tx ∷ []
+
+-- The entries that an act adds: an answered commit, a change of an atom and a making one each, and nothing else any.
+abbrev pub entered : Option TxSeen → Act → Reply → List Entry
+entered tx (acts.Commit stamp) (replies.Commit (Ok receipt)) = committed tx stamp
+entered tx (acts.Swap n code args) (replies.Swap (Ok s)) = Atom n (Alter code args) s.new ∷ []
+entered tx (acts.Reset n v) (replies.Reset (Ok s)) = Atom n (Set v) s.new ∷ []
+entered tx (acts.CompareAndSet n was v) (replies.CompareAndSet (Ok cas)) = if cas.done then Atom n (Set v) v ∷ [] else []
+entered tx (acts.MakeRef v rule tally) (replies.MakeRef (Ok r)) = MadeRef v ∷ []
+entered tx (acts.MakeAtom v rule) (replies.MakeAtom (Ok n)) = MadeAtom v ∷ []
+entered tx act reply = []
+
+-- ---- what the share gets
+
+-- with what an entry at a point gives it: the receipt of a commit or of a change of an atom, and of a commit what it counts
+abbrev pub with_counted : Option ℕ → ℕ → ShareSeen → Entry → ShareSeen
+with_counted tally point share (Trans t) = with_commit share point (Trans t) (added_by_dones tally t.dones)
+with_counted tally point share (Atom n op v) = with_receipt share point (Atom n op v)
+with_counted tally point share (MadeRef v) = share
+with_counted tally point share (MadeAtom v) = share
+
+-- with what these entries give it, the first of them at the point after this one
+abbrev pub with_all_counted : Option ℕ → ℕ → ShareSeen → List Entry → ShareSeen
+with_all_counted tally point share [] = share
+with_all_counted tally point share (e ∷ es) = with_all_counted tally (point + 1) (with_counted tally (point + 1) share e) es
+
+-- ---- all laws of a step
+
+pub record HasLaws (means : Means) (accepts : Accepts) (k : Machine) (e : Event) (r : Reply) (l : Machine) : Type 0 where
+  -- No commit fails because its transaction is foreign, or because the table lacks a function.
+  pub native : IsNativeReply r
+  -- Every answer in a transaction is its in-transaction value over the state at its beginning, whatever came between.
+  pub told : IsTold means accepts k.now (k.now.txs e.actor) e.act r
+  pub opens : AreOpen means l.now
+  pub begun : WithTx (l.now.txs e.actor) (IsFrom means k.base (history k) k.now (k.now.txs e.actor) e.act r) (Unit {0})
+  -- What a committed transaction was told of a ref that it protects is also right at its place in the history.
+  pub placed : PlacedAt means k.now (k.looks e.actor) (k.now.txs e.actor) e.act r
+  -- The values are the replay of the whole history, to which each act adds its own entry: no update is lost.
+  pub replayed : replay means l.base (history l) ≡ Ok (values_now l.now.refs l.now.atoms)
+  pub base : l.base ≡ k.base
+  pub later : history l ≡ history k ++ entered (k.now.txs e.actor) e.act r
+  pub counted : l.now.share ≡ with_all_counted k.now.refs.tally k.now.point k.now.share (entered (k.now.txs e.actor) e.act r)
+  -- At most one job of an agent is out, an actor has it, and actions are handled in the order in which they were accepted.
+  pub jobs : AreJobs means l.now
+  pub handled : (g : ℕ) → handled_at l.now.agents.agents g ≡ ended_by k.now (k.now.jobs e.actor) e.act r g
+  -- Only an answered send or commit gives an agent something: nothing of an aborted or refused transaction is in a queue.
+  pub given : (g : ℕ) → given_at l.now.agents.agents g ≡ accepted k.now (k.now.txs e.actor) e.act r g
+  -- A refusal changes nothing, and what an actor has open no other actor changes.
+  pub refused : is_refused r ≡ true → (l.now ≡ k.now) × (history l ≡ history k)
+  pub others : (a : ℕ) → a ≢ e.actor → (l.now.txs a ≡ k.now.txs a) × (l.now.jobs a ≡ k.now.jobs a)
+
+-- A step of a lawful machine that the table serves has the laws, and what comes of it is lawful and served.
+abbrev pub StepsHaveLaws : Means → Accepts → Type 0
+StepsHaveLaws means accepts =
+    (knows : Known) (k l : Machine) (e : Event) (r : Reply) → IsLawful means k → IsServed knows k.now
+    → IsStep means accepts knows k e r l → HasLaws means accepts k e r l × IsLawful means l × IsServed knows l.now
+
+-- The laws along a run, at each of its steps.
+abbrev pub LawsAlong : (means : Means) (accepts : Accepts) (knows : Known) (k : Machine) (es : List Event) (rs : List Reply) (last : Machine) → Run means accepts knows k es rs last → Type 0
+LawsAlong means accepts knows k [] [] last run = Unit {0}
+LawsAlong means accepts knows k (e ∷ es) (r ∷ rs) last run = HasLaws means accepts k e r run.0 × LawsAlong means accepts knows run.0 es rs last run.2
+LawsAlong means accepts knows k [] (r ∷ rs) last run = Unit {0}
+LawsAlong means accepts knows k (e ∷ es) [] last run = Unit {0}
+
+-- Every run of a lawful machine that the table serves has the laws at each of its steps, and ends so.
+abbrev pub RunsHaveLaws : Means → Accepts → Type 0
+RunsHaveLaws means accepts =
+    (knows : Known) (first last : Machine) (es : List Event) (rs : List Reply) → IsLawful means first → IsServed knows first.now
+    → (run : Run means accepts knows first es rs last) → LawsAlong means accepts knows first es rs last run × IsLawful means last × IsServed knows last.now

@@ -1,0 +1,85 @@
+//! Acts on references of all kinds: rules, watches, and reads.
+ghost use Rattle.std.specs.Prelude.{ℕ, []};
+ghost use Rattle.ref_fun.specs.Calls.{Known};
+ghost use Rattle.ref_play.specs.Present.{ReadsError, ReadsValue};
+ghost use Rattle.ref_play.specs.Sims.{Serves, SimSeen, present};
+ghost use Rattle.ref_play.specs.declared.events.Act.TheVariants as acts;
+
+use crate::events::Reply;
+use crate::sending::share_rule;
+use ref_fun::{Functions, Meaning, Rule};
+use ref_log::{RuleFault, WatchFault, Who};
+use ref_value::Value;
+use ref_world::World;
+use std::alloc::{AllocError, Global};
+use std::sync::ledger::Ledger;
+
+// Gives a reference another rule, or none.
+pub(crate) fn set_validator<M: Meaning, C: Ledger, A: Ledger, F: Functions<M>>(
+    funs: &F,
+    world: &mut World<M, C, A>,
+    who: Who,
+    rule: &Option<Rule>,
+) -> Reply
+    ensures { (s : SimSeen) (actor : ℕ) → Serves M.means M.accepts (F.knows funs.now) (record s { world = world.old }) actor (acts.SetValidator who rule.now) result
+        (record s { world = world.new }) }
+{
+    let Ok(rule) = share_rule(rule) else {
+        return Reply::SetValidator(Err(RuleFault::Memory));
+    };
+    match world.set_validator(funs, who, rule) {
+        Ok(()) => Reply::SetValidator(Ok(())),
+        Err(fault) => Reply::SetValidator(Err(fault)),
+    }
+}
+
+// Adds a watch to a reference.
+pub(crate) fn add_watch<M: Meaning, C: Ledger, A: Ledger>(
+    alloc: Global,
+    world: &mut World<M, C, A>,
+    who: Who,
+    key: &Value,
+) -> Reply
+    ensures { (s : SimSeen) (knows : Known) (actor : ℕ) → Serves M.means M.accepts knows (record s { world = world.old }) actor (acts.AddWatch who key.now) result
+        (record s { world = world.new }) }
+{
+    let Ok(key) = key.share() else {
+        return Reply::AddWatch(Err(WatchFault::Memory));
+    };
+    match world.add_watch(alloc, who, key) {
+        Ok(is_new) => Reply::AddWatch(Ok(is_new)),
+        Err(fault) => Reply::AddWatch(Err(fault)),
+    }
+}
+
+// Takes a watch away from a reference.
+pub(crate) fn remove_watch<M: Meaning, C: Ledger, A: Ledger>(
+    world: &mut World<M, C, A>,
+    who: Who,
+    key: &Value,
+) -> Reply
+    ensures { (s : SimSeen) (knows : Known) (actor : ℕ) → Serves M.means M.accepts knows (record s { world = world.old }) actor (acts.RemoveWatch who key.now) result
+        (record s { world = world.new }) }
+{
+    Reply::RemoveWatch(world.remove_watch(who, key))
+}
+
+// The value of a reference now, if it is there.
+pub(crate) fn value_of<M: Meaning, C: Ledger, A: Ledger>(world: &World<M, C, A>, who: Who) -> Reply
+    ensures { (s : SimSeen) → ReadsValue (present (record s { world = world.now })) who result [] (present (record s { world = world.now })) }
+{
+    let Some(value) = world.value_of(who) else {
+        return Reply::ValueOf(Ok(None));
+    };
+    match value.share() {
+        Ok(value) => Reply::ValueOf(Ok(Some(value))),
+        Err(_) => Reply::ValueOf(Err(AllocError)),
+    }
+}
+
+// The error of a failed agent.
+pub(crate) fn error_of<M: Meaning, C: Ledger, A: Ledger>(world: &World<M, C, A>, g: u32) -> Reply
+    ensures { (s : SimSeen) → ReadsError (present (record s { world = world.now })) g result [] (present (record s { world = world.now })) }
+{
+    Reply::ErrorOf(world.error_of(g))
+}

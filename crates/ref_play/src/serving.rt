@@ -1,0 +1,68 @@
+//! One event: the act of an actor on a world and on what the actors have.
+ghost use Rattle.ref_play.specs.Runs.{AreHeld};
+ghost use Rattle.ref_play.specs.Sims.{Serves, jobs_of};
+
+use crate::actors::Actors;
+use crate::changing::{checkpoint, commit, compare_and_set, make_atom, make_ref, reset, swap};
+use crate::events::{Act, Event, Reply};
+use crate::jobs::Jobs;
+use crate::looking::{add_watch, error_of, remove_watch, set_validator, value_of};
+use crate::sending::{make_agent, release, restart, send, set_error_mode};
+use crate::transacting::{
+    abort, alter, begin, commute, deref, ensure, read_point, ref_set, require, send_in_tx,
+};
+use crate::working::{finish, put_back, run, take};
+use ref_fun::{Functions, Meaning};
+use ref_world::{Share, World};
+use std::alloc::Global;
+use std::sync::ledger::Ledger;
+
+// One event.
+pub(crate) fn serve<M: Meaning, C: Ledger, A: Ledger, F: Functions<M>>(
+    alloc: Global,
+    funs: &F,
+    world: &mut World<M, C, A>,
+    share: &mut Share<C, A>,
+    actors: &mut Actors<M>,
+    jobs: &mut Jobs<M>,
+    event: &Event,
+) -> Reply
+    requires { AreHeld M.means world.old.agents.agents (jobs_of jobs.old) }
+    ensures { Serves M.means M.accepts (F.knows funs.now) (record { world = world.old; share = share.old; slots = actors.old; jobs = jobs.old }) event.now.actor event.now.act result
+        (record { world = world.new; share = share.new; slots = actors.new; jobs = jobs.new }) }
+{
+    let actor = event.actor;
+    match &event.act {
+        Act::Begin => begin(alloc, world, actors, actor),
+        Act::Deref(r) => deref(actors, actor, *r),
+        Act::RefSet(r, value) => ref_set(alloc, actors, actor, *r, value),
+        Act::Alter(r, code, args) => alter(alloc, funs, actors, actor, *r, *code, args),
+        Act::Commute(r, code, args) => commute(alloc, funs, actors, actor, *r, *code, args),
+        Act::Ensure(r) => ensure(alloc, actors, actor, *r),
+        Act::SendInTx(g, code, args) => send_in_tx(alloc, funs, actors, actor, *g, *code, args),
+        Act::Require(r, rule) => require(funs, actors, actor, *r, rule),
+        Act::ReadPoint => read_point(actors, actor),
+        Act::Commit(stamp) => commit(alloc, funs, world, share, actors, actor, *stamp),
+        Act::Abort => abort(actors, actor),
+        Act::Release(point) => release(world, *point),
+        Act::Swap(n, code, args) => swap(alloc, funs, world, share, *n, *code, args),
+        Act::Reset(n, value) => reset(alloc, funs, world, share, *n, value),
+        Act::CompareAndSet(n, old, new) => compare_and_set(alloc, funs, world, share, *n, old, new),
+        Act::Send(g, action) => send(alloc, world, *g, action),
+        Act::Take => take(world, jobs, actor),
+        Act::Run => run(alloc, funs, jobs, actor),
+        Act::PutBack => put_back(world, jobs, actor),
+        Act::Finish => finish(alloc, funs, world, jobs, actor),
+        Act::Restart(g, state, clear) => restart(alloc, funs, world, *g, state, *clear),
+        Act::SetErrorMode(g, mode) => set_error_mode(world, *g, *mode),
+        Act::SetValidator(who, rule) => set_validator(funs, world, *who, rule),
+        Act::AddWatch(who, key) => add_watch(alloc, world, *who, key),
+        Act::RemoveWatch(who, key) => remove_watch(world, *who, key),
+        Act::MakeRef(value, rule, tally) => make_ref(alloc, funs, world, value, rule, *tally),
+        Act::MakeAtom(value, rule) => make_atom(alloc, funs, world, value, rule),
+        Act::MakeAgent(value, rule, mode) => make_agent(alloc, funs, world, value, rule, *mode),
+        Act::Checkpoint(point) => checkpoint(alloc, funs, world, *point),
+        Act::ValueOf(who) => value_of(world, *who),
+        Act::ErrorOf(g) => error_of(world, *g),
+    }
+}

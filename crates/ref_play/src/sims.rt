@@ -1,0 +1,125 @@
+//! A world with the actors that act on it.
+ghost use Rattle.std.specs.Prelude.{◌≡◌, ◌≢◌, ℕ, None, Some, Ok, [], false, length, IfOk, IfErr, OnOk, OnErr};
+ghost use Rattle.ref_log.specs.declared.faults.MakeFault.TheVariants as makes;
+ghost use Rattle.ref_play.specs.Laws.{RunsHaveLaws, StepsHaveLaws};
+ghost use Rattle.ref_play.specs.Machine.{Machine};
+ghost use Rattle.ref_play.specs.Runs.{IsServed, is_out_at};
+ghost use Rattle.ref_play.specs.Sims.{IsPlayed, Stands, all_back, machine_of, present};
+ghost use Rattle.ref_world.specs.Shares.{all_parts};
+ghost use Rattle.ref_world.specs.World.{IsWorld, with_agents};
+
+use crate::actors::Actors;
+use crate::events::{Event, Reply};
+use crate::jobs::Jobs;
+use crate::serving::serve;
+use ref_fun::{Functions, Meaning};
+use ref_log::Who;
+use ref_world::{Share, World};
+use std::alloc::{AllocError, Global};
+use std::marker::Model;
+use std::sync::ledger::Ledger;
+
+/// A world, its whole share, and of each actor at most one open transaction and one job. It has to be ended, since jobs have to be
+/// spent.
+pub struct Sim<M: Meaning, C: Ledger, A: Ledger> {
+    world: World<M, C, A>,
+    share: Share<C, A>,
+    actors: Actors<M>,
+    jobs: Jobs<M>,
+}
+
+impl<M: Meaning, C: Ledger, A: Ledger> Model for Sim<M, C, A> {
+    ghost use Rattle.std.specs.Coded.{codes};
+    ghost use Rattle.ref_value.specs.Code.{edn_code};
+    ghost use Rattle.ref_play.specs.Sims.{IsSim, SimSeen};
+
+    ghost Value = { SimSeen };
+
+    ghost coded = { Prim.hlevel (codes, edn_code) };
+
+    ghost view = { λ a. record { world = a.world; share = a.share; slots = a.actors; jobs = a.jobs } };
+
+    ghost invariant = { λ a. IsSim M.means (record { world = a.world; share = a.share; slots = a.actors; jobs = a.jobs }) };
+}
+
+impl<M: Meaning, C: Ledger, A: Ledger> Sim<M, C, A> {
+    /// The world that its actors act on.
+    pub fn world(&self) -> &World<M, C, A>
+        ensures world { result.now ≡ self.now.world }
+        // There is a machine that has seen what is kept: the one that begins with it.
+        ensures stands { Stands M.means (machine_of self.now) self.now }
+    {
+        always_so(&self.world);
+        &self.world
+    }
+
+    /// Plays events, one after the other, and returns what the actors are told, a reply each.
+    pub fn play<F: Functions<M>>(
+        &mut self,
+        alloc: Global,
+        funs: &F,
+        events: &[Event],
+    ) -> Result<Vec<Reply>, AllocError>
+        requires served { IsServed (F.knows funs.now) (present self.old) }
+        ensures run { IfOk result (λ replies. (m : Machine) → Stands M.means m self.old
+            → IsPlayed M.means M.accepts (F.knows funs.now) m events.now replies.items self.new) }
+        ensures served { OnOk result (IsServed (F.knows funs.now) (present self.new)) }
+        ensures err { OnErr result (self.new ≡ self.old) }
+    {
+        let mut replies = Vec::with_capacity(alloc, events.len())?;
+        for event in events {
+            always_so(&self.world);
+            let reply = serve(
+                alloc,
+                funs,
+                &mut self.world,
+                &mut self.share,
+                &mut self.actors,
+                &mut self.jobs,
+                event,
+            );
+            replies.push_reserved(reply);
+        }
+        Ok(replies)
+    }
+
+    /// Puts every job back, drops the open transactions, and hands out the world and its whole share.
+    pub fn end(self) -> (World<M, C, A>, Share<C, A>)
+        ensures world { result.0 ≡ with_agents self.world (all_back self.jobs self.world.agents) }
+        ensures share { result.1 ≡ self.share }
+        ensures whole { result.1.parts ≡ all_parts }
+        // No job is out.
+        ensures jobs { (g : ℕ) → is_out_at result.0.agents.agents g ≡ false }
+    {
+        let Sim {
+            mut world,
+            share,
+            actors: _actors,
+            jobs,
+        } = self;
+        jobs.put_all_back(&mut world);
+        (world, share)
+    }
+}
+
+// What is always so of a world.
+fn always_so<M: Meaning, C: Ledger, A: Ledger>(world: &World<M, C, A>)
+    ensures world { IsWorld M.means world.now.base world.now.log world.now.refs world.now.atoms world.now.agents.unreleased }
+    ensures count { length world.now.refs.lasts ≡ length world.now.refs.values }
+{
+    let _ = world.point();
+    let _ = world.base().point;
+    let _ = world.log().len();
+    let _ = world.value_of(Who::Ref(0)).is_some();
+    let _ = world.ref_count();
+}
+
+/// A step of a machine has the laws, wherever the machine is lawful and served.
+pub fn steps_have_laws<M: Meaning>()
+    ensures { StepsHaveLaws M.means M.accepts }
+{}
+
+/// Every run of a machine has the laws.
+pub fn runs_have_laws<M: Meaning>()
+    ensures { RunsHaveLaws M.means M.accepts }
+{}
