@@ -13,3 +13,4 @@ pub mod WorkDone
 pub mod Answering
 pub mod BackAll
 pub mod Puts
+pub mod Starting

@@ -77,11 +77,15 @@ AreJobs means now = AreHeld means now.agents.agents now.jobs
 
 -- ---- the table
 
--- Whether a table has the predicate of each rule, and each function that an open transaction commutes by.
+-- A table has each function that an open transaction commutes by.
+abbrev pub AreServed : (ℕ → Bool) → (ℕ → Option TxSeen) → Type 0
+AreServed knows txs = (a : ℕ) → WithTx (txs a) (λ tx. lacking knows tx.dones ≡ None) (Unit {0})
+
+-- A table has the predicate of each rule, and each function that an open transaction commutes by.
 abbrev pub IsServed : Known → Present → Type 0
 IsServed knows now =
     (are_known knows.preds now.refs.guards ≡ true) × (are_known knows.preds now.atoms.guards ≡ true) × (are_known knows.preds now.agents.guards ≡ true)
-    × ((a : ℕ) → WithTx (now.txs a) (λ tx. lacking knows.funs tx.dones ≡ None) (Unit {0}))
+    × AreServed knows.funs now.txs
 
 -- ---- the machine
 

@@ -1,9 +1,12 @@
 //! The transactions that actors have open.
 ghost use Rattle.std.specs.Prelude.{◌≡◌, ◌≢◌, None, Some, IsSome, IfSome, OnOk, OnErr, option_copied};
+ghost use Rattle.std.specs.Bool.{OnTrue, OnFalse};
 ghost use Rattle.ref_play.specs.Present.{put};
+ghost use Rattle.ref_play.specs.Runs.{AreServed};
 ghost use Rattle.ref_play.specs.Sims.{slot_of, txs_of};
 
-use ref_fun::Meaning;
+use ref_fun::{Functions, Meaning};
+use ref_refs::check_served;
 use ref_tx::Tx;
 use std::alloc::{AllocError, Global};
 use std::collections::BTreeMap;
@@ -44,6 +47,21 @@ impl<M: Meaning> Actors<M> {
             Some(Some(tx)) => Some(tx),
             _ => None,
         }
+    }
+
+    // Whether a table has each function that an open transaction commutes by.
+    pub(crate) fn are_served<F: Functions<M>>(&self, funs: &F) -> bool
+        ensures yes { OnTrue result (AreServed (F.knows funs.now).funs (txs_of self.now)) }
+        ensures no { OnFalse result (AreServed (F.knows funs.now).funs (txs_of self.now) → ⊥) }
+    {
+        for (_actor, slot) in self.slots.iter() {
+            if let Some(tx) = slot {
+                if check_served(funs, tx.dones()).is_err() {
+                    return false;
+                }
+            }
+        }
+        true
     }
 
     // An actor has this transaction open.

@@ -1,11 +1,13 @@
 //! A world with the actors that act on it.
-ghost use Rattle.std.specs.Prelude.{◌≡◌, ◌≢◌, ℕ, None, Some, Ok, [], false, length, IfOk, IfErr, OnOk, OnErr};
+ghost use Rattle.std.specs.Prelude.{◌≡◌, ◌≢◌, ◌↔◌, ℕ, None, Some, Ok, [], true, false, length, IfOk, IfErr, OnOk, OnErr};
 ghost use Rattle.ref_log.specs.declared.faults.MakeFault.TheVariants as makes;
 ghost use Rattle.ref_play.specs.Laws.{RunsHaveLaws, StepsHaveLaws};
 ghost use Rattle.ref_play.specs.Machine.{Machine};
 ghost use Rattle.ref_play.specs.Runs.{IsServed, is_out_at};
-ghost use Rattle.ref_play.specs.Sims.{IsPlayed, Stands, all_back, machine_of, present};
-ghost use Rattle.ref_world.specs.Shares.{all_parts};
+ghost use Rattle.ref_play.specs.Sims.{IsPlayed, Stands, all_back, jobs_of, machine_of, present, txs_of};
+ghost use Rattle.ref_world.specs.Shares.{all_parts, whole};
+ghost use Rattle.ref_world.specs.Starts as starts;
+ghost use Rattle.ref_world.specs.Starts.{first_refusal, start_refusal};
 ghost use Rattle.ref_world.specs.World.{IsWorld, with_agents};
 
 use crate::actors::Actors;
@@ -13,11 +15,12 @@ use crate::events::{Event, Reply};
 use crate::jobs::Jobs;
 use crate::serving::serve;
 use ref_fun::{Functions, Meaning};
-use ref_log::Who;
+use ref_log::{MakeFault, Who};
+use ref_start::Start;
 use ref_world::{Share, World};
 use std::alloc::{AllocError, Global};
 use std::marker::Model;
-use std::sync::ledger::Ledger;
+use std::sync::ledger::{Blank, Ledger};
 
 /// A world, its whole share, and of each actor at most one open transaction and one job. It has to be ended, since jobs have to be
 /// spent.
@@ -43,6 +46,50 @@ impl<M: Meaning, C: Ledger, A: Ledger> Model for Sim<M, C, A> {
 }
 
 impl<M: Meaning, C: Ledger, A: Ledger> Sim<M, C, A> {
+    /// A new world with these references, as [`World::new`] makes it; no actor has anything.
+    pub fn new<F: Functions<M>>(
+        alloc: Global,
+        funs: &F,
+        start: Start,
+        commits: Blank,
+        added: Blank,
+    ) -> Result<Sim<M, C, A>, (Who, MakeFault)>
+        requires commits { (commits.name ≡ C.name) × (commits.parts ≡ C.parts) × (commits.parts ≡ all_parts) }
+        requires added { (added.name ≡ A.name) × (added.parts ≡ A.parts) × (added.parts ≡ all_parts) }
+        ensures ok { OnOk result (start_refusal M.accepts (F.knows funs.now).preds start ≡ None) }
+        ensures refs { IfOk result (λ s. starts.declared_refs M.accepts (F.knows funs.now).preds start.refs.items
+            ≡ Ok s.world.refs) }
+        ensures atoms { IfOk result (λ s. starts.declared_atoms M.accepts (F.knows funs.now).preds start.atoms.items
+            ≡ Ok s.world.atoms) }
+        ensures agents { IfOk result (λ s. starts.declared_agents M.accepts
+            (F.knows funs.now).preds start.agents.items ≡ Ok s.world.agents) }
+        ensures base { IfOk result (λ s. s.world.base ≡ starts.base_of s.world.refs s.world.atoms) }
+        ensures log { IfOk result (λ s. s.world.log ≡ []) }
+        ensures books { IfOk result (λ s. s.world.books ≡ starts.books_of s.world.refs) }
+        ensures share { IfOk result (λ s. s.share ≡ whole) }
+        ensures actors { IfOk result (λ s. (a : ℕ) → (txs_of s.slots a ≡ None) × (jobs_of s.jobs a ≡ None)) }
+        ensures fault { IfErr result (λ e. e.1 ≢ makes.Memory
+            → start_refusal M.accepts (F.knows funs.now).preds start ≡ Some e) }
+        ensures memory { IfErr result (λ e. e.1 ≡ makes.Memory
+            → first_refusal M.accepts (F.knows funs.now).preds start ≡ None) }
+    {
+        let (world, share) = World::new(alloc, funs, start, commits, added)?;
+        Ok(Sim {
+            world,
+            share,
+            actors: Actors::none(alloc),
+            jobs: Jobs::none(alloc),
+        })
+    }
+
+    /// Whether a table has the predicate of each rule and each function that an open transaction commutes by, which
+    /// [`Sim::play`] asks for. Linear in the number of references and of operations that are open. It takes no memory.
+    pub fn served_by<F: Functions<M>>(&self, funs: &F) -> bool
+        ensures { result ≡ true ↔ IsServed (F.knows funs.now) (present self.now) }
+    {
+        self.world.served_by(funs) && self.actors.are_served(funs)
+    }
+
     /// The world that its actors act on.
     pub fn world(&self) -> &World<M, C, A>
         ensures world { result.now ≡ self.now.world }

@@ -55,8 +55,8 @@ pub(crate) fn fits_tally(tally: Option<u32>, dones: &[Done]) -> bool
     true
 }
 
-// Tells the first function of a `commute` that the table lacks.
-pub(crate) fn check_served<M: Meaning, F: Functions<M>>(
+/// Fails with the first function that these operations commute by and that the table lacks.
+pub fn check_served<M: Meaning, F: Functions<M>>(
     funs: &F,
     dones: &[Done],
 ) -> Result<(), CommitFault>

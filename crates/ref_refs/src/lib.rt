@@ -41,6 +41,7 @@ mod rules;
 pub mod store;
 mod watches;
 
+pub use checking::check_served;
 pub use committing::{Landed, Prepared};
 pub use faults::{Alien, CommitFault, Conflict};
 pub use store::RefStore;
