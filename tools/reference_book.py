@@ -168,12 +168,12 @@ class Book:
                 self.lost.append(f"{path}: `{name}` is named, and has no entry")
         return links
 
-    def type_links(self, page, text, module, without=None):
-        """Links to the types and traits that a signature names, but for one."""
+    def type_links(self, page, text, module, without=None, words=()):
+        """Links to the types and traits that a signature or a contract names, but for one, and for words that mean something else."""
         links = []
         for word in dict.fromkeys(re.findall(r"(?<![\w'.])(?:\w+::)*[A-Z]\w*", text)):
             place = self.scopes.find(module, word.split("::"))
-            if place and place != without and self.target(place):
+            if place and place != without and word not in words and self.target(place):
                 links.append(page.link(f"`{word}`", self.target(place)))
         return links
 

@@ -36,6 +36,7 @@ WORDS = (
     ("`record r { a = x }`", "the record `r` with another value in the field `a`"),
     ("`M.means`, `F.knows`", "what a type parameter gives to contracts; its trait says what"),
     ("`B.FnMut`", "what calls of a closure may return"),
+    ("`Fun.pre f ..`, `Fun.post f .. r`", "a closure `f` of the type `Fun` may be called with these arguments; such a call may return `r`"),
     ("`B.IsAlwaysCallable body`", "the closure may be called with all arguments, each time"),
     ("`≡`, `≢`", "equal, not equal"),
     ("`<`, `≤`, `+`, `-`, `^`", "less, at most, plus, minus (0 at least), power; all of numbers"),

@@ -132,13 +132,18 @@ def plain_impl(text):
 
 
 def add_contract(book, page, it, bounds, owner=None):
-    """The clauses of a function, and the links to all that it names. What a trait has for proofs has no clauses and is text itself."""
-    clauses = it.item.clauses if it.kind != "ghost" else it.item.text
-    page.add(code(clauses) if it.item.clauses else "")
-    words = book.word_links(page, clauses, it.module.words + (it.block.words if it.block else []))
-    words += book.ghost_links(page, it, it.item.clauses, bounds)
-    types = book.type_links(page, it.item.text, it.module, owner.place if owner else None) if it.kind != "ghost" else []
-    page.add(links_line(types, words, source(page, it.module) if owner and it.module is not owner.module else None))
+    """The clauses of a function, and links to all that it names. What a trait has for proofs is a text of definitions itself."""
+    scope = it.module.words + (it.block.words if it.block else [])
+    file = source(page, it.module) if owner and it.module is not owner.module else None
+    if it.kind == "ghost":
+        page.add(links_line([], book.word_links(page, it.item.text, scope), file))
+        return
+    clauses = it.item.clauses
+    page.add(code(clauses) if clauses else "")
+    words = book.word_links(page, clauses, scope) + book.ghost_links(page, it, clauses, bounds)
+    meant = book.scopes.words_in(clauses, scope)
+    types = book.type_links(page, f"{it.item.text} {clauses}", it.module, owner.place if owner else None, meant)
+    page.add(links_line(types, words, file))
 
 
 def add_impls(book, page, entry):
