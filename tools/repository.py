@@ -1,4 +1,4 @@
-"""What the commands `quick` and `wrong-bodies` share: the crates, and the wrong bodies beside them."""
+"""What the commands here, `quick` and `wrong-bodies` share: the crates, and the wrong bodies beside them."""
 
 import fnmatch
 import os
@@ -83,6 +83,11 @@ def misfit(edit):
 def sources(name, top=TOP):
     """The files that a check reads of a crate."""
     return sorted(it for part in SOURCES for it in (top / "crates" / name / part).rglob("*") if it.is_file())
+
+
+def is_library(name, top=TOP):
+    """Whether a crate is a library for programs: no program, and not for the tests alone."""
+    return not name.startswith("tests_") and (top / "crates" / name / "src" / "lib.rt").is_file()
 
 
 def has_tests(name, top=TOP):
