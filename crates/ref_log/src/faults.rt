@@ -76,7 +76,7 @@ pub enum WatchFault {
 }
 
 impl AuditFault {
-    /// The number of the fault. Where a table lacks a function, it is 9 in each kind of fault.
+    /// The number of the fault, from 1 to 4 in the order of the variants, and 9 where the table lacks a function.
     pub fn number(&self) -> u8
         ensures { result ≡ audit_fault_number self.now }
     {

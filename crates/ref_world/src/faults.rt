@@ -20,7 +20,7 @@ pub enum CheckpointFault {
 }
 
 impl CheckpointFault {
-    /// The number of the fault. Where a table lacks a function, it is 9 in each kind of fault.
+    /// The number of the fault: 1, 2, and 9 where the table lacks a function.
     pub fn number(&self) -> u8
         ensures { result ≡ checkpoint_fault_number self.now }
     {
