@@ -15,3 +15,7 @@ pub mod BackAll
 pub mod Puts
 pub mod Starting
 pub mod Tables
+pub mod PlainLists
+pub mod PlainCommits
+pub mod PlainAgents
+pub mod PlainFaults

@@ -129,11 +129,11 @@ rules_known knows guards (d ∷ ds) all = rw (known_needed knows guards d (is_en
 
 -- ---- protected refs
 
-mapped_none : {X Y : Type 0} (f : X → Y) (o : Option X) → option_map f o ≡ None → o ≡ None
+pub mapped_none : {X Y : Type 0} (f : X → Y) (o : Option X) → option_map f o ≡ None → o ≡ None
 mapped_none f None is = refl
 mapped_none f (Some x) is = absurd cc
 
-none_parts : (b : Bool) (x : ℕ) (later : Option ℕ) → cond b (Some x) later ≡ None → (b ≡ false) × (later ≡ None)
+pub none_parts : (b : Bool) (x : ℕ) (later : Option ℕ) → cond b (Some x) later ≡ None → (b ≡ false) × (later ≡ None)
 none_parts true x later e = absurd cc
 none_parts false x later e = (refl, e)
 
@@ -143,7 +143,7 @@ find_weaker p q (x ∷ xs) weaker none =
     let parts = none_parts (p x) x (find p xs) none in
     rw (weaker x parts.0) (find_weaker p q xs weaker parts.1)
 
-differs_itself : (v : Option Edn) → differs v v ≡ false
+pub differs_itself : (v : Option Edn) → differs v v ≡ false
 differs_itself None = refl
 differs_itself (Some v) = ap (λ b. not b) (ap is_eq (tied_itself edn_cmp_total v))
 
@@ -202,7 +202,7 @@ native_told reason Memory native told = tt
 
 -- ---- a commit that is made: what it protects has the value that it began with
 
-range_none : (p : ℕ → Bool) (n from r : ℕ) → find p (range_with_len from n) ≡ None → from ≤ r → r < from + n → p r ≡ false
+pub range_none : (p : ℕ → Bool) (n from r : ℕ) → find p (range_with_len from n) ≡ None → from ≤ r → r < from + n → p r ≡ false
 range_none p zero from r none after below = absurd (omega (arith, after, below))
 range_none p (suc n) from r none after below =
     let parts = none_parts (p from) from (find p (range_with_len (from + 1) n)) none in
@@ -217,7 +217,7 @@ past [] r after = refl
 past (x ∷ xs) zero after = absurd (omega (arith, after))
 past (x ∷ xs) (suc r) after = past xs r (omega (arith, after))
 
-changed_by_protected : (b c : Bool) → b ≡ true → (b && c) ≡ false → c ≡ false
+pub changed_by_protected : (b c : Bool) → b ≡ true → (b && c) ≡ false → c ≡ false
 changed_by_protected true c is none = none
 changed_by_protected false c is none = absurd cc
 
@@ -231,7 +231,7 @@ agrees_first means now tx is none r protected = by (cases_lt r (length now.refs.
       sym (is.same r before)
   by (inr after) = past now.refs.values r after ∙ sym (past tx.began r (omega (arith, after, is.count)))
 
-none_of : (first later : Option CommitFault) → or_fault first later ≡ None → (first ≡ None) × (later ≡ None)
+pub none_of : (first later : Option CommitFault) → or_fault first later ≡ None → (first ≡ None) × (later ≡ None)
 none_of None later none = (refl, none)
 none_of (Some fault) later none = absurd cc
 
@@ -243,7 +243,7 @@ no_conflict means accepts knows refs at agents tx none =
     let c = none_of (lacking_rule knows.preds refs.guards tx.dones) _ b.1 in
     (none_of (conflict refs tx) (alien_value refs.values tx) c.1).0
 
-not_past : (at : ℕ) (b : Bool) → nat_lt (2 ^ 62) at ≡ b → cond b (Some PointLimit) None ≡ None → at ≤ 2 ^ 62
+pub not_past : (at : ℕ) (b : Bool) → nat_lt (2 ^ 62) at ≡ b → cond b (Some PointLimit) None ≡ None → at ≤ 2 ^ 62
 not_past at true is none = absurd cc
 not_past at false is none = ltb-false (2 ^ 62) at is
 

@@ -20,11 +20,10 @@ get-below (x ∷ xs) (suc r) v is =
 
 module _ (means : Means) (began : List Edn) (all : List Done) (point : ℕ) where
   -- What the transaction protects has its in-transaction value after these operations.
-  Agrees : List Done → List Edn → Type 0
+  abbrev pub Agrees : List Done → List Edn → Type 0
   Agrees former values = (r : ℕ) → is_protected all r ≡ true → slice_get values r ≡ value_after means began former r
 
-  agrees_more : (former : List Done) (d : Done) (values after : List Edn) → Agrees former values → after_done means all point d values ≡ Ok after → Agrees (former ++ d ∷ []) after
-  unfolding Agrees
+  pub agrees_more : (former : List Done) (d : Done) (values after : List Edn) → Agrees former values → after_done means all point d values ≡ Ok after → Agrees (former ++ d ∷ []) after
   agrees_more former d values after so_far is r protected = by (d.r == r) refl where
     by : (b : Bool) → (d.r == r) ≡ b → slice_get after r ≡ value_after means began (former ++ d ∷ []) r
     by true here =
@@ -49,7 +48,6 @@ module _ (means : Means) (began : List Edn) (all : List Done) (point : ℕ) wher
   -- so it is at each place
   placed_from : (former ds : List Done) (values after : List Edn) → Agrees former values → after_dones means all point ds (Ok values) ≡ Ok after → (n r : ℕ) → is_protected all r ≡ true
       → value_in (after_dones means all point (take n ds) (Ok values)) r ≡ value_after means began (former ++ take n ds) r
-  unfolding Agrees
   placed_from former [] values after so_far is n r protected = by n where
     by : (n : ℕ) → value_in (after_dones means all point (take n []) (Ok values)) r ≡ value_after means began (former ++ take n []) r
     by zero = so_far r protected ∙ ap (λ l. value_after means began l r) (sym (append-nil former))
@@ -64,7 +62,6 @@ module _ (means : Means) (began : List Edn) (all : List Done) (point : ℕ) wher
 
   pub placed : (values after : List Edn) → ((r : ℕ) → is_protected all r ≡ true → slice_get values r ≡ slice_get began r) → after_dones means all point all (Ok values) ≡ Ok after → (n r : ℕ) → is_protected all r ≡ true
       → placed_value means all point values n r ≡ value_after means began (take n all) r
-  unfolding Agrees
   placed values after same is n r protected = placed_from [] all values after same is n r protected
 
 -- The answer of an operation is the in-transaction value after it.

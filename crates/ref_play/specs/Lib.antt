@@ -1,7 +1,8 @@
--- To be read and believed: Present, Machine, Runs, Given and Laws. Sims ties the machine to what the type shows.
+-- To be read and believed: Present, Machine, Runs, Given, Laws and Plain. Sims ties the machine to what the type shows.
 pub mod Present
 pub mod Machine
 pub mod Runs
 pub mod Given
 pub mod Laws
+pub mod Plain
 pub mod Sims

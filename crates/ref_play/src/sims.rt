@@ -1,7 +1,6 @@
 //! A world with the actors that act on it.
 ghost use Rattle.std.specs.Prelude.{◌≡◌, ◌≢◌, ◌↔◌, ℕ, None, Some, Ok, [], true, false, length, IfOk, IfErr, OnOk, OnErr};
 ghost use Rattle.ref_log.specs.declared.faults.MakeFault.TheVariants as makes;
-ghost use Rattle.ref_play.specs.Laws.{RunsHaveLaws, StepsHaveLaws};
 ghost use Rattle.ref_play.specs.Machine.{Machine};
 ghost use Rattle.ref_play.specs.Runs.{IsServed, is_out_at};
 ghost use Rattle.ref_play.specs.Sims.{IsPlayed, Stands, all_back, jobs_of, machine_of, present, txs_of};
@@ -160,13 +159,3 @@ fn always_so<M: Meaning, C: Ledger, A: Ledger>(world: &World<M, C, A>)
     let _ = world.value_of(Who::Ref(0)).is_some();
     let _ = world.ref_count();
 }
-
-/// A step of a machine has the laws, wherever the machine is lawful and served.
-pub fn steps_have_laws<M: Meaning>()
-    ensures { StepsHaveLaws M.means M.accepts }
-{}
-
-/// Every run of a machine has the laws.
-pub fn runs_have_laws<M: Meaning>()
-    ensures { RunsHaveLaws M.means M.accepts }
-{}

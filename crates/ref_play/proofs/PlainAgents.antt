@@ -1,0 +1,259 @@
+-- What definitions of agents and jobs say, in plain words.
+use Rattle.std.proofs.Common.{◌≡◌, ◌≢◌, ◌↔◌, ℕ, zero, suc, cond, ◌<◌, ◌==◌, ◌&&◌, ◌||◌, not, is_some, Bool, true, false, ◌⊎◌, inl, inr, List, [], ◌∷◌, ◌++◌, length, Option, None, Some, Result, Ok, Err, slice_get, slice_set, refl, sym, ap, subst, ◌∙◌, arith}
+use Rattle.std.specs.List.{AllByRecursion, list_any}
+use Rattle.std.specs.BTreeMap.{is_at}
+use Rattle.std.specs.Ordering.{is_eq, nat_cmp}
+use Rattle.std.specs.FinMap.{nat_cmp-IsAntisymmetric}
+use Rattle.std.proofs.lemmas.Bool.{and_from, and_parts, false_from_ne_true, not-true, or_from, or_parts}
+use Rattle.std.proofs.lemmas.Cmp.{nat_cmp_total, tied_itself}
+use Rattle.std.specs.Cmp.{Equal-is}
+use Rattle.ref_value.specs.Edn.{Edn}
+use Rattle.ref_fun.specs.Rule.{Accepts, is_accepted, passes}
+use Rattle.ref_fun.specs.declared.faults.Cause.{Cause}
+use Rattle.ref_fun.specs.declared.rules.Rule.{Rule}
+use Rattle.ref_log.specs.Guards.{keys_at, rule_at}
+use Rattle.ref_log.specs.declared.guards.Guard.{Guard}
+use Rattle.ref_agents.specs.Account.{AccountSeen, has_point, has_released, is_released_by, kept_queue, with_ended, with_head_ended}
+use Rattle.ref_agents.specs.Agents.{AgentsSeen, change_agent, ended, head_job, is_ready_at, is_ready_if_here, job_out, next_job, out_if_here, put_agent, revived, with_agents, with_restart}
+use Rattle.ref_agents.specs.Ends.{IsAnswer, IsAnswerIfHere, IsAnswerOf, after_end, after_run, judged, with_finish}
+use Rattle.ref_agents.specs.Jobs.{JobSeen, RanSeen}
+use Rattle.ref_agents.specs.declared.accounts.Mark.{Mark}
+use Rattle.ref_agents.specs.declared.accounts.Mark.TheVariants as marks
+use Rattle.ref_agents.specs.declared.accounts.Queued.{Queued}
+use Rattle.ref_agents.specs.declared.accounts.SentBy.{SentBy}
+use Rattle.ref_agents.specs.declared.accounts.SentBy.TheVariants.{Outside, Commit}
+use Rattle.ref_agents.specs.declared.agents.Agent.{Agent}
+use Rattle.ref_agents.specs.declared.agents.ErrorMode.{ErrorMode}
+use Rattle.ref_agents.specs.declared.agents.ErrorMode.TheVariants as modes
+use Rattle.ref_agents.specs.declared.ends.Finished.{Finished}
+use Rattle.ref_agents.specs.declared.ends.Finished.TheVariants.{Changed, Failed, Continued}
+use Rattle.ref_agents.specs.declared.faults.AgentError.{AgentError}
+use Rattle.ref_agents.specs.declared.faults.AgentError.TheVariants.{Refused, Invalid}
+use Rattle.ref_play.specs.Plain.{EndsAs, FailedFor, FinishMeans, HasEnded, HasRule, IsNext, IsOut, IsReady, IsReleased, IsRestarted, JobOutMeans, NextJobMeans, OnlyAgent, ReadyMeans, RestartMeans, RuleAccepts}
+use Rattle.ref_play.proofs.PlainCommits.{has_rule, rule_is}
+
+-- ---- ready
+
+at_itself : (n : ℕ) → is_at (nat_cmp n) n ≡ true
+at_itself n = ap is_eq (tied_itself nat_cmp_total n)
+
+at_same : (n m : ℕ) → is_at (nat_cmp n) m ≡ true → n ≡ m
+at_same n m is = nat_cmp-IsAntisymmetric n m ((Equal-is (nat_cmp n m)).0 is)
+
+points_other : (points : List ℕ) (point : ℕ) → has_point points point ≡ false → AllByRecursion (λ p. p ≢ point) points
+points_other [] point none = tt
+points_other (p ∷ ps) point none =
+    let parts = or_parts (is_at (nat_cmp point) p) (has_point ps point) none in
+    let other : p ≢ point = λ same. let here = ap (is_at (nat_cmp point)) same ∙ at_itself point in absurd cc in
+    (other, points_other ps point parts.1)
+
+other_points : (points : List ℕ) (point : ℕ) → AllByRecursion (λ p. p ≢ point) points → has_point points point ≡ false
+other_points [] point others = refl
+other_points (p ∷ ps) point others =
+    or_from (is_at (nat_cmp point) p) (has_point ps point) (false_from_ne_true (is_at (nat_cmp point) p) (λ is. others.0 (sym (at_same point p is)))) (other_points ps point others.1)
+
+released_by : (points : List ℕ) (by : SentBy) → is_released_by points by ≡ true → IsReleased points by
+released_by points Outside is = tt
+released_by points (Commit point) is = points_other points point (not-true (has_point points point) is)
+
+by_released : (points : List ℕ) (by : SentBy) → IsReleased points by → is_released_by points by ≡ true
+by_released points Outside is = refl
+by_released points (Commit point) is = ap not (other_points points point is)
+
+no_error : (error : Option AgentError) → not (is_some error) ≡ true → error ≡ None
+no_error None is = refl
+no_error (Some error) is = absurd cc
+
+is_ready_by : (store : AgentsSeen) (g : ℕ) → is_ready_at store g ≡ true → IsReady store g
+is_ready_by store g is = by (slice_get store.agents g) refl is where
+  by : (there : Option Agent) → slice_get store.agents g ≡ there → is_ready_if_here store.unreleased there ≡ true → IsReady store g
+  by None here is = absurd cc
+  by (Some agent) here is = queued agent.account.queue refl parts.1 where
+    parts : ((not (is_some agent.error) && not agent.is_out) ≡ true) × (has_released store.unreleased agent.account.queue ≡ true)
+    parts = and_parts (not (is_some agent.error) && not agent.is_out) (has_released store.unreleased agent.account.queue) is
+
+    two : (not (is_some agent.error) ≡ true) × (not agent.is_out ≡ true)
+    two = and_parts (not (is_some agent.error)) (not agent.is_out) parts.0
+
+    queued : (queue : List Queued) → agent.account.queue ≡ queue → has_released store.unreleased queue ≡ true → IsReady store g
+    queued [] waits released = absurd cc
+    queued (q ∷ qs) waits released = record {
+      agent = agent;
+      here = here;
+      sound = no_error agent.error two.0;
+      idle = not-true agent.is_out two.1;
+      first = q;
+      rest = qs;
+      queue = waits;
+      released = released_by store.unreleased q.by released;
+    }
+
+by_ready : (store : AgentsSeen) (g : ℕ) → IsReady store g → is_ready_at store g ≡ true
+by_ready store g is =
+    ap (is_ready_if_here store.unreleased) is.here
+    ∙ and_from (not (is_some is.agent.error) && not is.agent.is_out) (has_released store.unreleased is.agent.account.queue)
+      (and_from (not (is_some is.agent.error)) (not is.agent.is_out) (ap (λ e. not (is_some e)) is.sound) (ap not is.idle))
+      (ap (has_released store.unreleased) is.queue ∙ by_released store.unreleased is.first.by is.released)
+
+pub ready_means : ReadyMeans
+ready_means store g = (is_ready_by store g, by_ready store g)
+
+-- ---- jobs
+
+next_by : (agents : List Agent) (g : ℕ) (job : JobSeen) → next_job g (slice_get agents g) ≡ Some job → IsNext agents g job
+next_by agents g job is = by (slice_get agents g) refl is where
+  by : (there : Option Agent) → slice_get agents g ≡ there → next_job g there ≡ Some job → IsNext agents g job
+  by None here is = absurd cc
+  by (Some agent) here is = queued agent.account.queue refl is where
+    queued : (queue : List Queued) → agent.account.queue ≡ queue → head_job g agent queue ≡ Some job → IsNext agents g job
+    queued [] waits is = absurd cc
+    queued (q ∷ qs) waits is = record { agent = agent; here = here; first = q; rest = qs; queue = waits; is = cc }
+
+by_next : (agents : List Agent) (g : ℕ) (job : JobSeen) → IsNext agents g job → next_job g (slice_get agents g) ≡ Some job
+by_next agents g job is = ap (next_job g) is.here ∙ (ap (head_job g is.agent) is.queue ∙ ap Some (sym is.is))
+
+pub next_job_means : NextJobMeans
+next_job_means agents g job = (next_by agents g job, by_next agents g job)
+
+out_by : (agents : List Agent) (g : ℕ) (job : JobSeen) → job_out agents g ≡ Some job → IsOut agents g job
+out_by agents g job is = by (slice_get agents g) refl is where
+  by : (there : Option Agent) → slice_get agents g ≡ there → out_if_here g there ≡ Some job → IsOut agents g job
+  by None here is = absurd cc
+  by (Some agent) here is = queued agent.is_out refl agent.account.queue refl is where
+    queued : (b : Bool) → agent.is_out ≡ b → (queue : List Queued) → agent.account.queue ≡ queue → cond b (head_job g agent queue) None ≡ Some job → IsOut agents g job
+    queued false out queue waits is = absurd cc
+    queued true out [] waits is = absurd cc
+    queued true out (q ∷ qs) waits is = record { next = record { agent = agent; here = here; first = q; rest = qs; queue = waits; is = cc }; out = out }
+
+by_out : (agents : List Agent) (g : ℕ) (job : JobSeen) → IsOut agents g job → job_out agents g ≡ Some job
+by_out agents g job is =
+    ap (out_if_here g) is.next.here
+    ∙ (ap (λ b. cond b (head_job g is.next.agent is.next.agent.account.queue) None) is.out
+    ∙ (ap (head_job g is.next.agent) is.next.queue ∙ ap Some (sym is.next.is)))
+
+pub job_out_means : JobOutMeans
+job_out_means agents g job = (out_by agents g job, by_out agents g job)
+
+-- ---- one agent changes
+
+set_here : (agents : List Agent) (g : ℕ) (before after : Agent) → slice_get agents g ≡ Some before → slice_get (slice_set agents g after) g ≡ Some after
+set_here [] g before after here = absurd cc
+set_here (x ∷ xs) zero before after here = refl
+set_here (x ∷ xs) (suc g) before after here = set_here xs g before after here
+
+set_other : (agents : List Agent) (g h : ℕ) (after : Agent) → h ≢ g → slice_get (slice_set agents g after) h ≡ slice_get agents h
+set_other [] g h after other = refl
+set_other (x ∷ xs) zero zero after other = absurd (other refl)
+set_other (x ∷ xs) zero (suc h) after other = refl
+set_other (x ∷ xs) (suc g) zero after other = refl
+set_other (x ∷ xs) (suc g) (suc h) after other = set_other xs g h after (λ same. other (ap suc same))
+
+only_changed : (store : AgentsSeen) (g : ℕ) (change : Agent → Agent) (before : Agent) → slice_get store.agents g ≡ Some before → OnlyAgent g (change before) store (with_agents store (change_agent store.agents g change))
+only_changed store g change before here =
+    let changed : change_agent store.agents g change ≡ slice_set store.agents g (change before) = ap (put_agent store.agents g change) here in
+    record {
+      here = ap (λ l. slice_get l g) changed ∙ set_here store.agents g before (change before) here;
+      others = λ h other. ap (λ l. slice_get l h) changed ∙ set_other store.agents g h (change before) other;
+      guards = refl;
+      unreleased = refl;
+    }
+
+queue_kept : (clear : Bool) (queue : List Queued) → clear ≡ false → kept_queue clear queue ≡ queue
+queue_kept true queue is = absurd cc
+queue_kept false queue is = refl
+
+queue_cleared : (clear : Bool) (queue : List Queued) → clear ≡ true → kept_queue clear queue ≡ []
+queue_cleared true queue is = refl
+queue_cleared false queue is = absurd cc
+
+pub restart_means : RestartMeans
+restart_means store g state clear before here = (
+  revived state clear before,
+  only_changed store g (revived state clear) before here,
+  record {
+    value = refl;
+    error = refl;
+    start = refl;
+    handled = refl;
+    kept = queue_kept clear before.account.queue;
+    cleared = queue_cleared clear before.account.queue;
+    mode = refl;
+    out = refl;
+  },
+)
+
+-- ---- how a job ends
+
+has_ended : (before : Agent) (mark : Mark) (value : Edn) (error : Option AgentError) → before.account.queue ≢ [] → HasEnded before (ended mark value error before) mark value error
+has_ended before mark value error waiting = by before.account.queue refl where
+  by : (queue : List Queued) → before.account.queue ≡ queue → HasEnded before (ended mark value error before) mark value error
+  by [] waits = absurd (waiting waits)
+  by (q ∷ qs) waits =
+      let account : with_ended before.account mark ≡ with_head_ended before.account mark (q ∷ qs) = ap (with_head_ended before.account mark) waits in
+      record {
+        value_is = refl;
+        error_is = refl;
+        idle = refl;
+        mode = refl;
+        start = ap (λ (a : AccountSeen). a.start) account;
+        first = q;
+        rest = qs;
+        waited = waits;
+        wait = ap (λ (a : AccountSeen). a.queue) account;
+        handled = ap (λ (a : AccountSeen). a.handled) account;
+      }
+
+module _ (accepts : Accepts) (guards : List Guard) (g : ℕ) where
+  abbrev Gives : Result Edn Cause → Edn → Type 0
+  Gives outcome v = (outcome ≡ Ok v) × RuleAccepts accepts guards g v
+
+  accepted_value : (outcome : Result Edn Cause) (v : Edn) → judged accepts (rule_at guards g) outcome ≡ Ok v → Gives outcome v
+  accepted_value (Ok w) v is = by (passes accepts (rule_at guards g) w) refl is where
+    by : (b : Bool) → passes accepts (rule_at guards g) w ≡ b → cond b (Ok w) (Err Invalid) ≡ Ok v → Gives (Ok w) v
+    by true passed is = (cc, λ rule has.
+        let same : w ≡ v = cc in
+        ap (λ x. is_accepted accepts rule x) (sym same) ∙ (ap (λ o. passes accepts o w) (sym (rule_is guards g rule has)) ∙ passed))
+    by false failed is = absurd cc
+  accepted_value (Err cause) v is = absurd cc
+
+  failed_for : (outcome : Result Edn Cause) (error : AgentError) → judged accepts (rule_at guards g) outcome ≡ Err error → FailedFor accepts guards g outcome error
+  failed_for (Ok w) error is = by (passes accepts (rule_at guards g) w) refl is where
+    ruled : (rule : Option Rule) → rule_at guards g ≡ rule → passes accepts rule w ≡ false → (r : Rule) × HasRule guards g r × (accepts r.code r.args w ≡ false)
+    ruled None has failed = absurd cc
+    ruled (Some rule) has failed = (rule, has_rule guards g rule has, failed)
+
+    by : (b : Bool) → passes accepts (rule_at guards g) w ≡ b → cond b (Ok w) (Err Invalid) ≡ Err error → FailedFor accepts guards g (Ok w) error
+    by true passed is = absurd cc
+    by false failed is = (cc, ruled (rule_at guards g) refl failed)
+  failed_for (Err cause) error is = cc
+
+  ends_as : (outcome : Result Edn Cause) (before : Agent) (answer : Finished) → before.account.queue ≢ [] → (mode : ErrorMode) → before.mode ≡ mode → (judgement : Result Edn AgentError) → judged accepts (rule_at guards g) outcome ≡ judgement
+      → IsAnswer mode g (keys_at guards g) before.value judgement answer → EndsAs accepts guards g outcome before (after_end mode judgement before) answer
+  ends_as outcome before (Changed notices) waiting modes.Fail mode (Ok v) is answers =
+      let value = accepted_value outcome v is in
+      (v, value.0, value.1, has_ended before marks.Done v None waiting)
+  ends_as outcome before (Changed notices) waiting modes.Continue mode (Ok v) is answers =
+      let value = accepted_value outcome v is in
+      (v, value.0, value.1, has_ended before marks.Done v None waiting)
+  ends_as outcome before (Failed told) waiting modes.Fail mode (Err error) is answers =
+      (mode, failed_for outcome told (is ∙ ap Err (sym answers)), subst (λ e. HasEnded before (ended marks.Failed before.value (Some error) before) marks.Failed before.value (Some e)) (sym answers) (has_ended before marks.Failed before.value (Some error) waiting))
+  ends_as outcome before (Continued told) waiting modes.Continue mode (Err error) is answers =
+      (mode, failed_for outcome told (is ∙ ap Err (sym answers)), has_ended before marks.Passed before.value None waiting)
+  ends_as outcome before (Changed notices) waiting modes.Fail mode (Err error) is answers = absurd answers
+  ends_as outcome before (Changed notices) waiting modes.Continue mode (Err error) is answers = absurd answers
+  ends_as outcome before (Failed told) waiting modes.Fail mode (Ok v) is answers = absurd answers
+  ends_as outcome before (Failed told) waiting modes.Continue mode (Ok v) is answers = absurd answers
+  ends_as outcome before (Failed told) waiting modes.Continue mode (Err error) is answers = absurd answers
+  ends_as outcome before (Continued told) waiting modes.Fail mode (Ok v) is answers = absurd answers
+  ends_as outcome before (Continued told) waiting modes.Continue mode (Ok v) is answers = absurd answers
+  ends_as outcome before (Continued told) waiting modes.Fail mode (Err error) is answers = absurd answers
+
+pub finish_means : (accepts : Accepts) → FinishMeans accepts
+finish_means accepts store ran before answer here waiting answers =
+    let g = ran.job.agent in
+    let told : IsAnswer before.mode g (keys_at store.guards g) before.value (judged accepts (rule_at store.guards g) ran.outcome) answer = subst (IsAnswerIfHere accepts store.guards ran answer) here answers in
+    (
+      after_run accepts (rule_at store.guards g) ran.outcome before,
+      only_changed store g (after_run accepts (rule_at store.guards g) ran.outcome) before here,
+      ends_as accepts store.guards g ran.outcome before answer waiting before.mode refl (judged accepts (rule_at store.guards g) ran.outcome) refl told,
+    )

@@ -1,0 +1,361 @@
+-- What definitions say that the machine and the calls of a world share, in plain words: each is met exactly where what stands here is
+-- so. The functions of src/theorems.rt have these laws as contracts.
+use Rattle.std.specs.Prelude.{◌≡◌, ◌≢◌, ◌↔◌, ◌⊎◌, ℕ, pos, ◌<◌, ◌≤◌, ◌^◌, Bool, true, false, List, [], ◌∷◌, ◌++◌, length, slice_get, slice_set, Option, None, Some, Result, Ok, Err}
+use Rattle.std.specs.List.{AllByRecursion}
+use Rattle.ref_value.specs.Edn.{Edn, int}
+use Rattle.ref_fun.specs.Calls.{Known}
+use Rattle.ref_fun.specs.Meaning.{Means}
+use Rattle.ref_fun.specs.Rule.{Accepts}
+use Rattle.ref_fun.specs.declared.rules.Rule.{Rule}
+use Rattle.ref_log.specs.Replay.{after_dones}
+use Rattle.ref_log.specs.declared.guards.Guard.{Guard}
+use Rattle.ref_log.specs.declared.operations.Done.{Done}
+use Rattle.ref_log.specs.declared.operations.Op.{Op}
+use Rattle.ref_log.specs.declared.operations.Op.TheVariants.{Set, Alter, Commute, Ensure}
+use Rattle.ref_fun.specs.declared.faults.Cause.{Cause}
+use Rattle.ref_agents.specs.Agents.{AgentsSeen, is_ready_at, job_out, next_job, with_restart}
+use Rattle.ref_agents.specs.Ends.{IsAnswerOf, with_finish}
+use Rattle.ref_agents.specs.Jobs.{JobSeen, RanSeen}
+use Rattle.ref_agents.specs.declared.accounts.Mark.{Mark}
+use Rattle.ref_agents.specs.declared.accounts.Mark.TheVariants as marks
+use Rattle.ref_agents.specs.declared.accounts.Queued.{Queued}
+use Rattle.ref_agents.specs.declared.accounts.SentBy.{SentBy}
+use Rattle.ref_agents.specs.declared.accounts.SentBy.TheVariants.{Outside, Commit}
+use Rattle.ref_agents.specs.declared.agents.Agent.{Agent}
+use Rattle.ref_agents.specs.declared.agents.ErrorMode.TheVariants as modes
+use Rattle.ref_agents.specs.declared.ends.Finished.{Finished}
+use Rattle.ref_agents.specs.declared.ends.Finished.TheVariants.{Changed, Failed, Continued}
+use Rattle.ref_agents.specs.declared.faults.AgentError.{AgentError}
+use Rattle.ref_agents.specs.declared.faults.AgentError.TheVariants.{Refused, Invalid}
+use Rattle.ref_tx.specs.Inner.{IsTx}
+use Rattle.ref_tx.specs.Seen.{TxSeen}
+use Rattle.ref_refs.specs.Commit.{commit_refusal}
+use Rattle.ref_refs.specs.Seen.{RefsSeen}
+use Rattle.ref_refs.specs.declared.faults.Alien.TheVariants as aliens
+use Rattle.ref_refs.specs.declared.faults.CommitFault.{CommitFault}
+use Rattle.ref_refs.specs.declared.faults.CommitFault.TheVariants as commits
+use Rattle.ref_refs.specs.declared.faults.Conflict as told
+
+-- ---- operations
+
+-- `ref-set`, `alter` and `ensure` protect a ref from the changes of others.
+abbrev pub Protects : Op → Type 0
+Protects (Set w) = Unit {0}
+Protects (Alter code args) = Unit {0}
+Protects (Commute code args) = ⊥
+Protects Ensure = Unit {0}
+
+-- `ref-set`, `alter` and `commute` change a ref.
+abbrev pub Changes : Op → Type 0
+Changes (Set w) = Unit {0}
+Changes (Alter code args) = Unit {0}
+Changes (Commute code args) = Unit {0}
+Changes Ensure = ⊥
+
+-- What an operation makes of a value: `ref-set` the value that is set, `alter` and `commute` what the function gives, `ensure` the
+-- same value.
+abbrev pub Makes : Means → Op → Edn → Edn → Type 0
+Makes means (Set w) old new = new ≡ w
+Makes means (Alter code args) old new = means code args old ≡ Ok new
+Makes means (Commute code args) old new = means code args old ≡ Ok new
+Makes means Ensure old new = new ≡ old
+
+-- The tally is counted up: by `commute` of `+`, which has the code 1, with one integer of 0 or more. It can be ensured.
+abbrev pub Counts : Op → Type 0
+Counts (Set w) = ⊥
+Counts (Alter code args) = ⊥
+Counts (Commute code args) = (code ≡ 1) × ((n : ℕ) × (args ≡ int (pos n) ∷ []))
+Counts Ensure = Unit {0}
+
+-- A table has the function of a `commute`.
+abbrev pub HasCommuted : (ℕ → Bool) → Op → Type 0
+HasCommuted has (Set w) = Unit {0}
+HasCommuted has (Alter code args) = Unit {0}
+HasCommuted has (Commute code args) = has code ≡ true
+HasCommuted has Ensure = Unit {0}
+
+-- ---- refs of a transaction
+
+-- P holds of some element.
+abbrev pub AnyByRecursion : {X : Type 0} → (X → Type 0) → List X → Type 0
+AnyByRecursion P [] = ⊥
+AnyByRecursion P (x ∷ xs) = P x ⊎ AnyByRecursion P xs
+
+-- Some operation protects the ref, or changes it.
+abbrev pub IsProtected : List Done → ℕ → Type 0
+IsProtected dones r = AnyByRecursion (λ d. (d.r ≡ r) × Protects d.op) dones
+
+abbrev pub IsChanged : List Done → ℕ → Type 0
+IsChanged dones r = AnyByRecursion (λ d. (d.r ≡ r) × Changes d.op) dones
+
+-- ---- rules
+
+-- A reference has this rule.
+abbrev pub HasRule : List Guard → ℕ → Rule → Type 0
+HasRule guards n rule = (guard : Guard) × (slice_get guards n ≡ Some guard) × (guard.rule ≡ Some rule)
+
+-- The rule of a reference, if it has one, accepts a value.
+abbrev pub RuleAccepts : Accepts → List Guard → ℕ → Edn → Type 0
+RuleAccepts accepts guards n v = (rule : Rule) → HasRule guards n rule → accepts rule.code rule.args v ≡ true
+
+-- ---- operations over values
+
+-- These operations lead from these values to those, one after the other: the ref of each is there, it gets what the operation makes
+-- of its value, and where the transaction, whose operations are all of `all`, protects the ref, that is the answer.
+abbrev pub Leads : Means → List Done → List Done → List Edn → List Edn → Type 0
+Leads means all [] values after = values ≡ after
+Leads means all (d ∷ ds) values after =
+    (old new : Edn) × (slice_get values d.r ≡ Some old) × Makes means d.op old new × (IsProtected all d.r → new ≡ d.answer)
+    × Leads means all ds (slice_set values d.r new) after
+
+-- The replay of an entry has a value exactly where its operations lead to it.
+abbrev pub ReplayLeads : Means → Type 0
+ReplayLeads means = (point : ℕ) (dones : List Done) (values after : List Edn) → after_dones means dones point dones (Ok values) ≡ Ok after ↔ Leads means dones dones values after
+
+-- ---- commits
+
+-- The refs of its operations are here; so are the agents that it sends to.
+abbrev pub HasRefs : RefsSeen → TxSeen → Type 0
+HasRefs store tx = AllByRecursion (λ d. d.r < length store.values) tx.dones
+
+abbrev pub HasAgents : ℕ → TxSeen → Type 0
+HasAgents agents tx = AllByRecursion (λ s. s.agent < agents) tx.sends
+
+-- The tally here is only counted up.
+abbrev pub OnlyCounts : RefsSeen → TxSeen → Type 0
+OnlyCounts store tx = AllByRecursion (λ d. store.tally ≡ Some d.r → Counts d.op) tx.dones
+
+-- The table has the functions that it commutes by, and the predicate of each rule of a ref that it changes.
+abbrev pub HasFuns : Known → TxSeen → Type 0
+HasFuns knows tx = AllByRecursion (λ d. HasCommuted knows.funs d.op) tx.dones
+
+abbrev pub HasPreds : Known → RefsSeen → TxSeen → Type 0
+HasPreds knows store tx = (r : ℕ) (rule : Rule) → IsChanged tx.dones r → HasRule store.guards r rule → knows.preds rule.code ≡ true
+
+-- No ref that it protects has changed since it read, and each has the value with which it began.
+abbrev pub AreUnchanged : RefsSeen → TxSeen → Type 0
+AreUnchanged store tx = (r last : ℕ) → IsProtected tx.dones r → slice_get store.lasts r ≡ Some last → last ≤ tx.read_point
+
+abbrev pub AreSame : RefsSeen → TxSeen → Type 0
+AreSame store tx = (r : ℕ) → IsProtected tx.dones r → slice_get store.values r ≡ slice_get tx.began r
+
+-- The rules of the refs that it changes accept these values.
+abbrev pub KeepsRules : Accepts → RefsSeen → TxSeen → List Edn → Type 0
+KeepsRules accepts store tx after = (r : ℕ) (v : Edn) → IsChanged tx.dones r → slice_get after r ≡ Some v → RuleAccepts accepts store.guards r v
+
+-- All that a transaction needs to be committed at a point, where there are so many agents: its operations lead from the latest values
+-- to others, which keep the rules. Points end at 2^62.
+pub record CanCommit (means : Means) (accepts : Accepts) (knows : Known) (store : RefsSeen) (at agents : ℕ) (tx : TxSeen) : Type 0 where
+  pub refs : HasRefs store tx
+  pub agents_here : HasAgents agents tx
+  pub tally : OnlyCounts store tx
+  pub read : tx.read_point < at
+  pub funs : HasFuns knows tx
+  pub preds : HasPreds knows store tx
+  pub unchanged : AreUnchanged store tx
+  pub same : AreSame store tx
+  pub after : List Edn
+  pub leads : Leads means tx.dones tx.dones store.values after
+  pub rules : KeepsRules accepts store tx after
+  pub within : at ≤ 2 ^ 62
+
+-- A transaction, whose answers are its in-transaction values, is committed exactly where it can be.
+abbrev pub CommitsWhereItCan : Means → Accepts → Type 0
+CommitsWhereItCan means accepts =
+    (knows : Known) (store : RefsSeen) (at agents : ℕ) (tx : TxSeen) → IsTx means tx.began tx.dones tx.tally
+    → commit_refusal means accepts knows store at agents tx ≡ None ↔ CanCommit means accepts knows store at agents tx
+
+-- ---- why a commit is refused
+
+-- Q holds of the first element of which P doesn't.
+abbrev pub FirstWithout : {X : Type 0} → (X → Type 0) → (X → Type 0) → List X → Type 0
+FirstWithout P Q [] = ⊥
+FirstWithout P Q (x ∷ xs) = ((P x → ⊥) × Q x) ⊎ (P x × FirstWithout P Q xs)
+
+-- A `commute` by the function of this code.
+abbrev pub CommutesBy : ℕ → Op → Type 0
+CommutesBy code (Set w) = ⊥
+CommutesBy code (Alter c args) = ⊥
+CommutesBy code (Commute c args) = c ≡ code
+CommutesBy code Ensure = ⊥
+
+-- A reference has a rule by the predicate of this code.
+abbrev pub RuledBy : List Guard → ℕ → ℕ → Type 0
+RuledBy guards code n = (rule : Rule) × HasRule guards n rule × (rule.code ≡ code)
+
+-- The first `commute` whose function the table lacks is by this code, or, where it has them all, the first operation on a ref with a
+-- rule whose predicate the table lacks.
+abbrev pub LacksFun : Known → TxSeen → ℕ → Type 0
+LacksFun knows tx code = FirstWithout (λ d. HasCommuted knows.funs d.op) (λ d. CommutesBy code d.op) tx.dones
+
+abbrev pub LacksPred : Known → RefsSeen → TxSeen → ℕ → Type 0
+LacksPred knows store tx code =
+    FirstWithout (λ d. Changes d.op → (rule : Rule) → HasRule store.guards d.r rule → knows.preds rule.code ≡ true) (λ d. RuledBy store.guards code d.r) tx.dones
+
+-- A conflict names the smallest protected ref that has changed after the read point, with the point of its last change.
+pub record NamesSmallest (store : RefsSeen) (tx : TxSeen) (c : told.Conflict) : Type 0 where
+  pub protected : IsProtected tx.dones c.r
+  pub read : c.read_point ≡ tx.read_point
+  pub changed : slice_get store.lasts c.r ≡ Some c.changed_at
+  pub later : tx.read_point < c.changed_at
+  pub smallest : (r last : ℕ) → r < c.r → IsProtected tx.dones r → slice_get store.lasts r ≡ Some last → last ≤ tx.read_point
+
+-- The smallest protected ref that has another value than the one with which the transaction began.
+pub record IsSmallestOther (store : RefsSeen) (tx : TxSeen) (r : ℕ) : Type 0 where
+  pub protected : IsProtected tx.dones r
+  pub other : slice_get store.values r ≢ slice_get tx.began r
+  pub smallest : (q : ℕ) → q < r → IsProtected tx.dones q → slice_get store.values q ≡ slice_get tx.began q
+
+-- The function of an operation refuses a value for a cause.
+abbrev pub RefusesValue : Means → Op → Edn → Cause → Type 0
+RefusesValue means (Set w) old cause = ⊥
+RefusesValue means (Alter code args) old cause = means code args old ≡ Err cause
+RefusesValue means (Commute code args) old cause = means code args old ≡ Err cause
+RefusesValue means Ensure old cause = ⊥
+
+-- Of these operations, made one after the other, the first that is refused is on this ref, for this cause.
+abbrev pub RefusedOn : Means → ℕ → Cause → List Done → List Edn → Type 0
+RefusedOn means r cause [] values = ⊥
+RefusedOn means r cause (d ∷ ds) values =
+    (old : Edn) × (slice_get values d.r ≡ Some old)
+    × (((d.r ≡ r) × RefusesValue means d.op old cause) ⊎ ((new : Edn) × Makes means d.op old new × RefusedOn means r cause ds (slice_set values d.r new)))
+
+-- The smallest ref that the transaction changes whose rule doesn't accept its value.
+pub record IsSmallestInvalid (accepts : Accepts) (store : RefsSeen) (tx : TxSeen) (after : List Edn) (r : ℕ) : Type 0 where
+  pub changed : IsChanged tx.dones r
+  pub rule : Rule
+  pub has : HasRule store.guards r rule
+  pub value : Edn
+  pub here : slice_get after r ≡ Some value
+  pub refuses : accepts rule.code rule.args value ≡ false
+  pub smallest : (q : ℕ) (v : Edn) → q < r → IsChanged tx.dones q → slice_get after q ≡ Some v → RuleAccepts accepts store.guards q v
+
+-- Each fault of a commit: what it says, where none comes that is told before it.
+module _ (means : Means) (accepts : Accepts) (knows : Known) (store : RefsSeen) (at agents : ℕ) (tx : TxSeen) where
+  abbrev pub IsHere : Type 0
+  IsHere = HasRefs store tx × HasAgents agents tx × OnlyCounts store tx × (tx.read_point < at)
+
+  abbrev pub IsKnown : Type 0
+  IsKnown = IsHere × HasFuns knows tx × HasPreds knows store tx
+
+  abbrev pub IsCurrent : Type 0
+  IsCurrent = IsKnown × AreUnchanged store tx × AreSame store tx
+
+  abbrev pub Why : CommitFault → Type 0
+  Why (commits.Foreign (aliens.Ref r)) = FirstWithout (λ d. d.r < length store.values) (λ d. d.r ≡ r) tx.dones
+  Why (commits.Foreign (aliens.Agent g)) = HasRefs store tx × FirstWithout (λ s. s.agent < agents) (λ s. s.agent ≡ g) tx.sends
+  Why (commits.Foreign aliens.Tally) = HasRefs store tx × HasAgents agents tx × AnyByRecursion (λ d. (store.tally ≡ Some d.r) × (Counts d.op → ⊥)) tx.dones
+  Why (commits.Foreign (aliens.Point p)) = HasRefs store tx × HasAgents agents tx × OnlyCounts store tx × (p ≡ tx.read_point) × (at ≤ p)
+  Why (commits.NoSuchFun code) = IsHere × (LacksFun knows tx code ⊎ (HasFuns knows tx × LacksPred knows store tx code))
+  Why (commits.Conflict c) = IsKnown × NamesSmallest store tx c
+  Why (commits.Foreign (aliens.Value r)) = IsKnown × AreUnchanged store tx × IsSmallestOther store tx r
+  Why (commits.Refused r cause) = IsCurrent × RefusedOn means r cause tx.dones store.values
+  Why (commits.Invalid r) = IsCurrent × ((after : List Edn) × Leads means tx.dones tx.dones store.values after × IsSmallestInvalid accepts store tx after r)
+  Why commits.PointLimit = IsCurrent × ((after : List Edn) × Leads means tx.dones tx.dones store.values after × KeepsRules accepts store tx after × (2 ^ 62 < at))
+  Why commits.Memory = ⊥
+
+abbrev pub RefusalsSayWhy : Means → Accepts → Type 0
+RefusalsSayWhy means accepts =
+    (knows : Known) (store : RefsSeen) (at agents : ℕ) (tx : TxSeen) (fault : CommitFault) → IsTx means tx.began tx.dones tx.tally
+    → commit_refusal means accepts knows store at agents tx ≡ Some fault ↔ Why means accepts knows store at agents tx fault
+
+-- ---- jobs
+
+-- An action was sent outside of a transaction, or by a commit that isn't one of these.
+abbrev pub IsReleased : List ℕ → SentBy → Type 0
+IsReleased unreleased Outside = Unit {0}
+IsReleased unreleased (Commit point) = AllByRecursion (λ p. p ≢ point) unreleased
+
+-- An agent is here, without an error and with no action on its way, and the first action of its queue is released.
+pub record IsReady (store : AgentsSeen) (g : ℕ) : Type 0 where
+  pub agent : Agent
+  pub here : slice_get store.agents g ≡ Some agent
+  pub sound : agent.error ≡ None
+  pub idle : agent.is_out ≡ false
+  pub first : Queued
+  pub rest : List Queued
+  pub queue : agent.account.queue ≡ first ∷ rest
+  pub released : IsReleased store.unreleased first.by
+
+abbrev pub ReadyMeans : Type 0
+ReadyMeans = (store : AgentsSeen) (g : ℕ) → is_ready_at store g ≡ true ↔ IsReady store g
+
+-- The next job of an agent that is here: the first action of its queue, with the number of actions handled before it, on its value.
+pub record IsNext (agents : List Agent) (g : ℕ) (job : JobSeen) : Type 0 where
+  pub agent : Agent
+  pub here : slice_get agents g ≡ Some agent
+  pub first : Queued
+  pub rest : List Queued
+  pub queue : agent.account.queue ≡ first ∷ rest
+  pub is : job ≡ record { agent = g; number = length agent.account.handled; action = first.action; state = agent.value }
+
+abbrev pub NextJobMeans : Type 0
+NextJobMeans = (agents : List Agent) (g : ℕ) (job : JobSeen) → next_job g (slice_get agents g) ≡ Some job ↔ IsNext agents g job
+
+-- The job on its way, of an agent that has one, is its next one.
+pub record IsOut (agents : List Agent) (g : ℕ) (job : JobSeen) : Type 0 where
+  pub next : IsNext agents g job
+  pub out : next.agent.is_out ≡ true
+
+abbrev pub JobOutMeans : Type 0
+JobOutMeans = (agents : List Agent) (g : ℕ) (job : JobSeen) → job_out agents g ≡ Some job ↔ IsOut agents g job
+
+-- ---- one agent changes
+
+-- An agent is this one now. All others are as they were, and so are all rules, watches and commits to be released.
+pub record OnlyAgent (g : ℕ) (after : Agent) (old new : AgentsSeen) : Type 0 where
+  pub here : slice_get new.agents g ≡ Some after
+  pub others : (h : ℕ) → h ≢ g → slice_get new.agents h ≡ slice_get old.agents h
+  pub guards : new.guards ≡ old.guards
+  pub unreleased : new.unreleased ≡ old.unreleased
+
+-- An agent that was restarted has the state given, from which it starts, no error and nothing handled. Its queue is kept, or is empty
+-- after a clear.
+pub record IsRestarted (before after : Agent) (state : Edn) (clear : Bool) : Type 0 where
+  pub value : after.value ≡ state
+  pub error : after.error ≡ None
+  pub start : after.account.start ≡ state
+  pub handled : after.account.handled ≡ []
+  pub kept : clear ≡ false → after.account.queue ≡ before.account.queue
+  pub cleared : clear ≡ true → after.account.queue ≡ []
+  pub mode : after.mode ≡ before.mode
+  pub out : after.is_out ≡ before.is_out
+
+abbrev pub RestartMeans : Type 0
+RestartMeans = (store : AgentsSeen) (g : ℕ) (state : Edn) (clear : Bool) (before : Agent) → slice_get store.agents g ≡ Some before
+    → (after : Agent) × OnlyAgent g after store (with_restart store g state clear) × IsRestarted before after state clear
+
+-- An agent whose first action ended has this value and this error. The action, with its mark, is the last of the handled ones; the
+-- others wait; and none is on its way.
+pub record HasEnded (before after : Agent) (mark : Mark) (value : Edn) (error : Option AgentError) : Type 0 where
+  pub value_is : after.value ≡ value
+  pub error_is : after.error ≡ error
+  pub idle : after.is_out ≡ false
+  pub mode : after.mode ≡ before.mode
+  pub start : after.account.start ≡ before.account.start
+  pub first : Queued
+  pub rest : List Queued
+  pub waited : before.account.queue ≡ first ∷ rest
+  pub wait : after.account.queue ≡ rest
+  pub handled : after.account.handled ≡ before.account.handled ++ record { action = first.action; mark = mark } ∷ []
+
+-- Why an action failed: its function refused for that cause, or the rule of the agent doesn't accept the value.
+abbrev pub FailedFor : Accepts → List Guard → ℕ → Result Edn Cause → AgentError → Type 0
+FailedFor accepts guards g (Ok v) error = (error ≡ Invalid) × ((rule : Rule) × HasRule guards g rule × (accepts rule.code rule.args v ≡ false))
+FailedFor accepts guards g (Err cause) error = error ≡ Refused cause
+
+-- What the answer of a finish says: the value is the agent's and the action is done; or it failed, in the mode `:fail`, and the agent
+-- with it; or it is passed over, in the mode `:continue`.
+abbrev pub EndsAs : Accepts → List Guard → ℕ → Result Edn Cause → Agent → Agent → Finished → Type 0
+EndsAs accepts guards g outcome before after (Changed notices) =
+    (v : Edn) × (outcome ≡ Ok v) × RuleAccepts accepts guards g v × HasEnded before after marks.Done v None
+EndsAs accepts guards g outcome before after (Failed error) =
+    (before.mode ≡ modes.Fail) × FailedFor accepts guards g outcome error × HasEnded before after marks.Failed before.value (Some error)
+EndsAs accepts guards g outcome before after (Continued error) =
+    (before.mode ≡ modes.Continue) × FailedFor accepts guards g outcome error × HasEnded before after marks.Passed before.value None
+
+abbrev pub FinishMeans : Accepts → Type 0
+FinishMeans accepts =
+    (store : AgentsSeen) (ran : RanSeen) (before : Agent) (answer : Finished) → slice_get store.agents ran.job.agent ≡ Some before → before.account.queue ≢ []
+    → IsAnswerOf accepts store ran answer
+    → (after : Agent) × OnlyAgent ran.job.agent after store (with_finish accepts store ran) × EndsAs accepts store.guards ran.job.agent ran.outcome before after answer

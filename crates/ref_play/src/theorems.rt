@@ -1,0 +1,56 @@
+//! Laws of the machine, and of the words that it shares with the calls of a world. Each function's contract is a law; none does anything.
+ghost use Rattle.ref_play.specs.Laws.{RunsHaveLaws, StepsHaveLaws};
+ghost use Rattle.ref_play.specs.Plain.{CommitsWhereItCan, FinishMeans, JobOutMeans, NextJobMeans, ReadyMeans, RefusalsSayWhy, ReplayLeads, RestartMeans};
+
+use ref_fun::Meaning;
+
+/// A step of a machine has the laws, wherever the machine is lawful and served.
+pub fn steps_have_laws<M: Meaning>()
+    ensures { StepsHaveLaws M.means M.accepts }
+{}
+
+/// Every run of a machine has the laws.
+pub fn runs_have_laws<M: Meaning>()
+    ensures { RunsHaveLaws M.means M.accepts }
+{}
+
+/// A transaction is committed exactly where nothing stands against it, said of all its operations, sends and refs.
+pub fn commits_meet_their_conditions<M: Meaning>()
+    ensures { CommitsWhereItCan M.means M.accepts }
+{}
+
+/// A commit is refused with a fault exactly where that holds which the fault says, and nothing that is asked before it.
+pub fn refusals_say_why<M: Meaning>()
+    ensures { RefusalsSayWhy M.means M.accepts }
+{}
+
+/// The replay of an entry leads from some values to others exactly where its operations do, one after the other.
+pub fn replay_in_plain_words<M: Meaning>()
+    ensures { ReplayLeads M.means }
+{}
+
+/// An agent is ready exactly where it is here, has no error and no action on its way, and its first action that waits was sent outside
+/// of a transaction or by a commit that is released.
+pub fn ready_in_plain_words()
+    ensures { ReadyMeans }
+{}
+
+/// The next job of an agent has its first action that waits, the number of those that it handled, and its value.
+pub fn next_job_in_plain_words()
+    ensures { NextJobMeans }
+{}
+
+/// The job of an agent that is on its way is its next one.
+pub fn job_out_in_plain_words()
+    ensures { JobOutMeans }
+{}
+
+/// What a restart leaves.
+pub fn restart_in_plain_words()
+    ensures { RestartMeans }
+{}
+
+/// What the end of a job leaves, by its answer.
+pub fn finish_in_plain_words<M: Meaning>()
+    ensures { FinishMeans M.accepts }
+{}
