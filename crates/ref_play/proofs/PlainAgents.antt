@@ -1,5 +1,6 @@
 -- What definitions of agents and jobs say, in plain words.
 use Rattle.std.proofs.Common.{◌≡◌, ◌≢◌, ◌↔◌, ℕ, zero, suc, cond, ◌<◌, ◌==◌, ◌&&◌, ◌||◌, not, is_some, Bool, true, false, ◌⊎◌, inl, inr, List, [], ◌∷◌, ◌++◌, length, Option, None, Some, Result, Ok, Err, slice_get, slice_set, refl, sym, ap, subst, ◌∙◌, arith}
+use Rattle.std.specs.Global.{Vec}
 use Rattle.std.specs.List.{AllByRecursion, list_any}
 use Rattle.std.specs.BTreeMap.{is_at}
 use Rattle.std.specs.Ordering.{is_eq, nat_cmp}
@@ -11,8 +12,11 @@ use Rattle.ref_value.specs.Edn.{Edn}
 use Rattle.ref_fun.specs.Rule.{Accepts, is_accepted, passes}
 use Rattle.ref_fun.specs.declared.faults.Cause.{Cause}
 use Rattle.ref_fun.specs.declared.rules.Rule.{Rule}
-use Rattle.ref_log.specs.Guards.{keys_at, rule_at}
+use Rattle.ref_log.specs.Guards.{keys_at, keys_if_here, rule_at}
+use Rattle.ref_log.specs.Watches.{notices_of}
 use Rattle.ref_log.specs.declared.guards.Guard.{Guard}
+use Rattle.ref_log.specs.declared.notices.Notice.{Notice}
+use Rattle.ref_log.specs.declared.notices.Who.TheVariants as who
 use Rattle.ref_agents.specs.Account.{AccountSeen, has_point, has_released, is_released_by, kept_queue, with_ended, with_head_ended}
 use Rattle.ref_agents.specs.Agents.{AgentsSeen, change_agent, ended, head_job, is_ready_at, is_ready_if_here, job_out, next_job, out_if_here, put_agent, revived, with_agents, with_restart}
 use Rattle.ref_agents.specs.Ends.{IsAnswer, IsAnswerIfHere, IsAnswerOf, after_end, after_run, judged, with_finish}
@@ -29,7 +33,7 @@ use Rattle.ref_agents.specs.declared.ends.Finished.{Finished}
 use Rattle.ref_agents.specs.declared.ends.Finished.TheVariants.{Changed, Failed, Continued}
 use Rattle.ref_agents.specs.declared.faults.AgentError.{AgentError}
 use Rattle.ref_agents.specs.declared.faults.AgentError.TheVariants.{Refused, Invalid}
-use Rattle.ref_play.specs.Plain.{EndsAs, FailedFor, FinishMeans, HasEnded, HasRule, IsNext, IsOut, IsReady, IsReleased, IsRestarted, JobOutMeans, NextJobMeans, OnlyAgent, ReadyMeans, RestartMeans, RuleAccepts}
+use Rattle.ref_play.specs.Plain.{EndsAs, FailedFor, FinishMeans, HasEnded, HasRule, IsNext, IsOut, IsReady, IsReleased, IsRestarted, JobOutMeans, NextJobMeans, OnlyAgent, ReadyMeans, RestartMeans, RuleAccepts, notices}
 use Rattle.ref_play.proofs.PlainCommits.{has_rule, rule_is}
 
 -- ---- ready
@@ -227,33 +231,64 @@ module _ (accepts : Accepts) (guards : List Guard) (g : ℕ) where
     by false failed is = (cc, ruled (rule_at guards g) refl failed)
   failed_for (Err cause) error is = cc
 
-  ends_as : (outcome : Result Edn Cause) (before : Agent) (answer : Finished) → before.account.queue ≢ [] → (mode : ErrorMode) → before.mode ≡ mode → (judgement : Result Edn AgentError) → judged accepts (rule_at guards g) outcome ≡ judgement
-      → IsAnswer mode g (keys_at guards g) before.value judgement answer → EndsAs accepts guards g outcome before (after_end mode judgement before) answer
-  ends_as outcome before (Changed notices) waiting modes.Fail mode (Ok v) is answers =
-      let value = accepted_value outcome v is in
-      (v, value.0, value.1, has_ended before marks.Done v None waiting)
-  ends_as outcome before (Changed notices) waiting modes.Continue mode (Ok v) is answers =
-      let value = accepted_value outcome v is in
-      (v, value.0, value.1, has_ended before marks.Done v None waiting)
-  ends_as outcome before (Failed told) waiting modes.Fail mode (Err error) is answers =
-      (mode, failed_for outcome told (is ∙ ap Err (sym answers)), subst (λ e. HasEnded before (ended marks.Failed before.value (Some error) before) marks.Failed before.value (Some e)) (sym answers) (has_ended before marks.Failed before.value (Some error) waiting))
-  ends_as outcome before (Continued told) waiting modes.Continue mode (Err error) is answers =
-      (mode, failed_for outcome told (is ∙ ap Err (sym answers)), has_ended before marks.Passed before.value None waiting)
-  ends_as outcome before (Changed notices) waiting modes.Fail mode (Err error) is answers = absurd answers
-  ends_as outcome before (Changed notices) waiting modes.Continue mode (Err error) is answers = absurd answers
-  ends_as outcome before (Failed told) waiting modes.Fail mode (Ok v) is answers = absurd answers
-  ends_as outcome before (Failed told) waiting modes.Continue mode (Ok v) is answers = absurd answers
-  ends_as outcome before (Failed told) waiting modes.Continue mode (Err error) is answers = absurd answers
-  ends_as outcome before (Continued told) waiting modes.Fail mode (Ok v) is answers = absurd answers
-  ends_as outcome before (Continued told) waiting modes.Continue mode (Ok v) is answers = absurd answers
-  ends_as outcome before (Continued told) waiting modes.Fail mode (Err error) is answers = absurd answers
+  value_judged : (outcome : Result Edn Cause) (v : Edn) → outcome ≡ Ok v → RuleAccepts accepts guards g v → judged accepts (rule_at guards g) outcome ≡ Ok v
+  value_judged outcome v is accepted = ap (judged accepts (rule_at guards g)) is ∙ by (rule_at guards g) refl where
+    by : (rule : Option Rule) → rule_at guards g ≡ rule → cond (passes accepts rule v) (Ok v) (Err Invalid) ≡ Ok v
+    by None has = refl
+    by (Some rule) has = ap (λ b. cond b (Ok v) (Err Invalid)) (accepted rule (has_rule guards g rule has))
+
+  error_judged : (outcome : Result Edn Cause) (error : AgentError) → FailedFor accepts guards g outcome error → judged accepts (rule_at guards g) outcome ≡ Err error
+  error_judged (Ok v) error (is, (rule, has, refuses)) =
+      ap (λ o. cond (passes accepts o v) (Ok v) (Err Invalid)) (rule_is guards g rule has) ∙ (ap (λ b. cond b (Ok v) (Err Invalid)) refuses ∙ ap Err (sym is))
+  error_judged (Err cause) error is = ap Err (sym is)
+
+module _ (accepts : Accepts) (guards : List Guard) (guard : Guard) (ran : RanSeen) (here : slice_get guards ran.job.agent ≡ Some guard) (before : Agent) where
+  abbrev Judged : Result Edn AgentError
+  Judged = judged accepts (rule_at guards ran.job.agent) ran.outcome
+
+  abbrev Answers : ErrorMode → Result Edn AgentError → Finished → Type 0
+  Answers mode judgement answer = IsAnswer mode ran.job.agent (keys_at guards ran.job.agent) before.value judgement answer
+
+  watches_are : (v : Edn) → notices_of (who.Agent ran.job.agent) (keys_at guards ran.job.agent) before.value v ≡ notices ran.job.agent guard.watches before.value v
+  watches_are v = ap (λ keys. notices_of (who.Agent ran.job.agent) keys before.value v) (ap keys_if_here here)
+
+  changed : (told : Vec Notice) (v : Edn) → Judged ≡ Ok v → told.items ≡ notices_of (who.Agent ran.job.agent) (keys_at guards ran.job.agent) before.value v → (after : Agent) → HasEnded before after marks.Done v None → EndsAs accepts guards guard ran before after (Changed told)
+  changed told v is says after ends =
+      let value = accepted_value accepts guards ran.job.agent ran.outcome v is in
+      (v, value.0, value.1, says ∙ watches_are v, ends)
+
+  ends_as : (answer : Finished) → before.account.queue ≢ [] → (mode : ErrorMode) → before.mode ≡ mode → (judgement : Result Edn AgentError) → Judged ≡ judgement → Answers mode judgement answer → EndsAs accepts guards guard ran before (after_end mode judgement before) answer
+  ends_as (Changed told) waiting modes.Fail mode (Ok v) is answers = changed told v is answers (ended marks.Done v None before) (has_ended before marks.Done v None waiting)
+  ends_as (Changed told) waiting modes.Continue mode (Ok v) is answers = changed told v is answers (ended marks.Done v None before) (has_ended before marks.Done v None waiting)
+  ends_as (Failed told) waiting modes.Fail mode (Err error) is answers =
+      (mode, failed_for accepts guards ran.job.agent ran.outcome told (is ∙ ap Err (sym answers)), subst (λ e. HasEnded before (ended marks.Failed before.value (Some error) before) marks.Failed before.value (Some e)) (sym answers) (has_ended before marks.Failed before.value (Some error) waiting))
+  ends_as (Continued told) waiting modes.Continue mode (Err error) is answers =
+      (mode, failed_for accepts guards ran.job.agent ran.outcome told (is ∙ ap Err (sym answers)), has_ended before marks.Passed before.value None waiting)
+  ends_as (Changed told) waiting modes.Fail mode (Err error) is answers = absurd answers
+  ends_as (Changed told) waiting modes.Continue mode (Err error) is answers = absurd answers
+  ends_as (Failed told) waiting modes.Fail mode (Ok v) is answers = absurd answers
+  ends_as (Failed told) waiting modes.Continue mode (Ok v) is answers = absurd answers
+  ends_as (Failed told) waiting modes.Continue mode (Err error) is answers = absurd answers
+  ends_as (Continued told) waiting modes.Fail mode (Ok v) is answers = absurd answers
+  ends_as (Continued told) waiting modes.Continue mode (Ok v) is answers = absurd answers
+  ends_as (Continued told) waiting modes.Fail mode (Err error) is answers = absurd answers
+
+  answered_by : (answer : Finished) (after : Agent) → EndsAs accepts guards guard ran before after answer → Answers before.mode Judged answer
+  answered_by (Changed told) after (v, is, accepted, says, ends) = subst (λ j. Answers before.mode j (Changed told)) (sym (value_judged accepts guards ran.job.agent ran.outcome v is accepted)) (any before.mode) where
+    any : (mode : ErrorMode) → Answers mode (Ok v) (Changed told)
+    any modes.Fail = says ∙ sym (watches_are v)
+    any modes.Continue = says ∙ sym (watches_are v)
+  answered_by (Failed error) after (mode, failed, ends) =
+      subst (λ m. Answers m Judged (Failed error)) (sym mode) (subst (λ j. Answers modes.Fail j (Failed error)) (sym (error_judged accepts guards ran.job.agent ran.outcome error failed)) refl)
+  answered_by (Continued error) after (mode, failed, ends) =
+      subst (λ m. Answers m Judged (Continued error)) (sym mode) (subst (λ j. Answers modes.Continue j (Continued error)) (sym (error_judged accepts guards ran.job.agent ran.outcome error failed)) refl)
 
 pub finish_means : (accepts : Accepts) → FinishMeans accepts
-finish_means accepts store ran before answer here waiting answers =
-    let g = ran.job.agent in
-    let told : IsAnswer before.mode g (keys_at store.guards g) before.value (judged accepts (rule_at store.guards g) ran.outcome) answer = subst (IsAnswerIfHere accepts store.guards ran answer) here answers in
-    (
-      after_run accepts (rule_at store.guards g) ran.outcome before,
-      only_changed store g (after_run accepts (rule_at store.guards g) ran.outcome) before here,
-      ends_as accepts store.guards g ran.outcome before answer waiting before.mode refl (judged accepts (rule_at store.guards g) ran.outcome) refl told,
-    )
+finish_means accepts store ran before guard answer here guarded waiting = (
+  λ answers. (
+    after_run accepts (rule_at store.guards ran.job.agent) ran.outcome before,
+    only_changed store ran.job.agent (after_run accepts (rule_at store.guards ran.job.agent) ran.outcome) before here,
+    ends_as accepts store.guards guard ran guarded before answer waiting before.mode refl (judged accepts (rule_at store.guards ran.job.agent) ran.outcome) refl (subst (IsAnswerIfHere accepts store.guards ran answer) here answers),
+  ),
+  λ left. subst (IsAnswerIfHere accepts store.guards ran answer) (sym here) (answered_by accepts store.guards guard ran guarded before answer left.0 left.2),
+)

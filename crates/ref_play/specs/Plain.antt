@@ -1,6 +1,6 @@
 -- What definitions say that the machine and the calls of a world share, in plain words: each is met exactly where what stands here is
 -- so. The functions of src/theorems.rt have these laws as contracts.
-use Rattle.std.specs.Prelude.{◌≡◌, ◌≢◌, ◌↔◌, ◌⊎◌, ℕ, pos, ◌<◌, ◌≤◌, ◌^◌, Bool, true, false, List, [], ◌∷◌, ◌++◌, length, slice_get, slice_set, Option, None, Some, Result, Ok, Err}
+use Rattle.std.specs.Prelude.{◌≡◌, ◌≢◌, ◌↔◌, ◌⊎◌, ℕ, pos, ◌<◌, ◌≤◌, ◌^◌, Bool, true, false, List, [], ◌∷◌, ◌++◌, length, map, slice_get, slice_set, Option, None, Some, Result, Ok, Err}
 use Rattle.std.specs.List.{AllByRecursion}
 use Rattle.ref_value.specs.Edn.{Edn, int}
 use Rattle.ref_fun.specs.Calls.{Known}
@@ -9,6 +9,8 @@ use Rattle.ref_fun.specs.Rule.{Accepts}
 use Rattle.ref_fun.specs.declared.rules.Rule.{Rule}
 use Rattle.ref_log.specs.Replay.{after_dones}
 use Rattle.ref_log.specs.declared.guards.Guard.{Guard}
+use Rattle.ref_log.specs.declared.notices.Notice.{Notice}
+use Rattle.ref_log.specs.declared.notices.Who.TheVariants as who
 use Rattle.ref_log.specs.declared.operations.Done.{Done}
 use Rattle.ref_log.specs.declared.operations.Op.{Op}
 use Rattle.ref_log.specs.declared.operations.Op.TheVariants.{Set, Alter, Commute, Ensure}
@@ -344,18 +346,24 @@ abbrev pub FailedFor : Accepts → List Guard → ℕ → Result Edn Cause → A
 FailedFor accepts guards g (Ok v) error = (error ≡ Invalid) × ((rule : Rule) × HasRule guards g rule × (accepts rule.code rule.args v ≡ false))
 FailedFor accepts guards g (Err cause) error = error ≡ Refused cause
 
--- What the answer of a finish says: the value is the agent's and the action is done; or it failed, in the mode `:fail`, and the agent
--- with it; or it is passed over, in the mode `:continue`.
-abbrev pub EndsAs : Accepts → List Guard → ℕ → Result Edn Cause → Agent → Agent → Finished → Type 0
-EndsAs accepts guards g outcome before after (Changed notices) =
-    (v : Edn) × (outcome ≡ Ok v) × RuleAccepts accepts guards g v × HasEnded before after marks.Done v None
-EndsAs accepts guards g outcome before after (Failed error) =
-    (before.mode ≡ modes.Fail) × FailedFor accepts guards g outcome error × HasEnded before after marks.Failed before.value (Some error)
-EndsAs accepts guards g outcome before after (Continued error) =
-    (before.mode ≡ modes.Continue) × FailedFor accepts guards g outcome error × HasEnded before after marks.Passed before.value None
+-- A notice for each watch of an agent, in the order of adding.
+abbrev pub notices : ℕ → List Edn → Edn → Edn → List Notice
+notices g keys before after = map (λ key. record { who = who.Agent g; key = key; before = before; after = after }) keys
 
+-- What an answer to the end of a job says: the value is the agent's now, and the action is done; or the action failed, in the mode
+-- `:fail`, and the agent with it; or the action failed, in the mode `:continue`, and is passed over.
+abbrev pub EndsAs : Accepts → List Guard → Guard → RanSeen → Agent → Agent → Finished → Type 0
+EndsAs accepts guards guard ran before after (Changed told) =
+    (v : Edn) × (ran.outcome ≡ Ok v) × RuleAccepts accepts guards ran.job.agent v × (told.items ≡ notices ran.job.agent guard.watches before.value v) × HasEnded before after marks.Done v None
+EndsAs accepts guards guard ran before after (Failed error) =
+    (before.mode ≡ modes.Fail) × FailedFor accepts guards ran.job.agent ran.outcome error × HasEnded before after marks.Failed before.value (Some error)
+EndsAs accepts guards guard ran before after (Continued error) =
+    (before.mode ≡ modes.Continue) × FailedFor accepts guards ran.job.agent ran.outcome error × HasEnded before after marks.Passed before.value None
+
+-- The end of a job of an agent, which has an action in its queue, is answered so exactly where what is left is as the answer says.
 abbrev pub FinishMeans : Accepts → Type 0
 FinishMeans accepts =
-    (store : AgentsSeen) (ran : RanSeen) (before : Agent) (answer : Finished) → slice_get store.agents ran.job.agent ≡ Some before → before.account.queue ≢ []
+    (store : AgentsSeen) (ran : RanSeen) (before : Agent) (guard : Guard) (answer : Finished)
+    → slice_get store.agents ran.job.agent ≡ Some before → slice_get store.guards ran.job.agent ≡ Some guard → before.account.queue ≢ []
     → IsAnswerOf accepts store ran answer
-    → (after : Agent) × OnlyAgent ran.job.agent after store (with_finish accepts store ran) × EndsAs accepts store.guards ran.job.agent ran.outcome before after answer
+    ↔ ((after : Agent) × OnlyAgent ran.job.agent after store (with_finish accepts store ran) × EndsAs accepts store.guards guard ran before after answer)
