@@ -19,3 +19,4 @@ pub mod PlainLists
 pub mod PlainCommits
 pub mod PlainAgents
 pub mod PlainFaults
+pub mod PlainOperations

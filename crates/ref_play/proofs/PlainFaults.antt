@@ -374,13 +374,13 @@ by_other store tx r here other =
 
 -- ---- what refuses
 
-place_refuses : (means : Means) (op : Op) (old : Edn) (cause : Cause) → place means op old ≡ Err cause → RefusesValue means op old cause
+pub place_refuses : (means : Means) (op : Op) (old : Edn) (cause : Cause) → place means op old ≡ Err cause → RefusesValue means op old cause
 place_refuses means (Set w) old cause is = absurd cc
 place_refuses means (Alter code args) old cause is = is
 place_refuses means (Commute code args) old cause is = is
 place_refuses means Ensure old cause is = absurd cc
 
-refuses_place : (means : Means) (op : Op) (old : Edn) (cause : Cause) → RefusesValue means op old cause → place means op old ≡ Err cause
+pub refuses_place : (means : Means) (op : Op) (old : Edn) (cause : Cause) → RefusesValue means op old cause → place means op old ≡ Err cause
 refuses_place means (Set w) old cause is = absurd is
 refuses_place means (Alter code args) old cause is = is
 refuses_place means (Commute code args) old cause is = is

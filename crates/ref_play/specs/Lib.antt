@@ -1,8 +1,9 @@
--- To be read and believed: Present, Machine, Runs, Given, Laws and Plain. Sims ties the machine to what the type shows.
+-- To be read and believed: Present, Machine, Runs, Given, Laws, Plain and PlainTx. Sims ties the machine to what the type shows.
 pub mod Present
 pub mod Machine
 pub mod Runs
 pub mod Given
 pub mod Laws
 pub mod Plain
+pub mod PlainTx
 pub mod Sims

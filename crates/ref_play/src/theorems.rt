@@ -1,6 +1,7 @@
 //! Laws of the machine, and of the words that it shares with the calls of a world. Each function's contract is a law; none does anything.
 ghost use Rattle.ref_play.specs.Laws.{RunsHaveLaws, StepsHaveLaws};
 ghost use Rattle.ref_play.specs.Plain.{CommitsWhereItCan, FinishMeans, JobOutMeans, NextJobMeans, ReadyMeans, RefusalsSayWhy, ReplayLeads, RestartMeans};
+ghost use Rattle.ref_play.specs.PlainTx.{InnerMeans, OperationsMean};
 
 use ref_fun::Meaning;
 
@@ -12,6 +13,17 @@ pub fn steps_have_laws<M: Meaning>()
 /// Every run of a machine has the laws.
 pub fn runs_have_laws<M: Meaning>()
     ensures { RunsHaveLaws M.means M.accepts }
+{}
+
+/// The in-transaction value of a ref comes of the value with which the transaction began, by its operations on the ref.
+pub fn inner_values_in_plain_words<M: Meaning>()
+    ensures { InnerMeans M.means }
+{}
+
+/// An operation in a transaction answers what it makes of the in-transaction value, or the fault of which its condition holds, and none
+/// that is asked before it.
+pub fn operations_in_plain_words<M: Meaning>()
+    ensures { OperationsMean M.means }
 {}
 
 /// A transaction is committed exactly where nothing stands against it, said of all its operations, sends and refs.

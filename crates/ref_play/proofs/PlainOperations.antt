@@ -1,0 +1,262 @@
+-- What an operation in a transaction answers, in plain words.
+use Rattle.std.proofs.Common.{◌≡◌, ◌≢◌, ◌↔◌, ℕ, zero, suc, cond, ◌+◌, ◌<◌, ◌≤◌, ◌==◌, ◌&&◌, ◌||◌, not, nat_lt, Bool, true, false, ◌⊎◌, inl, inr, List, [], ◌∷◌, ◌++◌, length, Option, None, Some, Result, Ok, Err, slice_get, refl, sym, ap, subst, ◌∙◌, arith}
+use Rattle.std.specs.List.{find, list_any}
+use Rattle.std.proofs.lemmas.Bool.{and_from, and_parts, cases_eq, eq-eqb, eqb-false, eqb-true, false_from_ne_true, le-ltb, lt-ltb, ltb-false, ltb-true, ne_eqb, not-true}
+use Rattle.std.proofs.lemmas.List.{append-nil, append_assoc}
+use Rattle.ref_value.specs.Edn.{Edn}
+use Rattle.ref_fun.specs.Meaning.{Means}
+use Rattle.ref_fun.specs.declared.faults.Cause.{Cause}
+use Rattle.ref_log.specs.Replay.{codes_of, is_commute, is_set, missing, place}
+use Rattle.ref_log.specs.Tally.{fits_tally, is_tally}
+use Rattle.ref_log.specs.declared.operations.Done.{Done}
+use Rattle.ref_log.specs.declared.operations.Op.{Op}
+use Rattle.ref_log.specs.declared.operations.Op.TheVariants.{Set, Alter, Commute, Ensure}
+use Rattle.ref_tx.specs.Inner.{AreAnswers, IsTx, after_ops, and_place, answer_of, called, given, has_ref, inner_value, is_commuted, ops_on, or_refusal, placed, refusal, refusal_by, told, value_after}
+use Rattle.ref_tx.specs.Laws.{value_after-elsewhere}
+use Rattle.ref_tx.specs.Seen.{TxSeen}
+use Rattle.ref_tx.specs.declared.faults.TxFault.{TxFault}
+use Rattle.ref_tx.specs.declared.faults.TxFault.TheVariants as txs
+use Rattle.ref_play.specs.Plain.{AnyByRecursion, Counts, Makes, RefusesValue}
+use Rattle.ref_play.specs.PlainTx.{AnswersSo, Calls, Commutes, HasCalled, InnerMeans, IsAllowed, IsCommuted, IsValueIn, LeadsAt, MayCount, MaySet, OperationsMean, Sets}
+use Rattle.ref_play.proofs.Placed.{get-below}
+use Rattle.ref_play.proofs.PlainCommits.{by_counts, counts_by, makes_place, place_makes, there}
+use Rattle.ref_play.proofs.PlainFaults.{place_refuses, refuses_place}
+use Rattle.ref_play.proofs.PlainLists.{any_pass, some_passes}
+
+-- ---- in-transaction values
+
+nothing_left : (means : Means) (ops : List Op) (v : Edn) → after_ops means ops None ≡ Some v → ⊥
+nothing_left means [] v is = cc
+nothing_left means (op ∷ ops) v is = nothing_left means ops v is
+
+leads_by : (means : Means) (r : ℕ) (ds : List Done) (old v : Edn) → after_ops means (ops_on r ds) (Some old) ≡ Some v → LeadsAt means r ds old v
+leads_by means r [] old v is = cc
+leads_by means r (d ∷ ds) old v is = by (d.r == r) refl is (leads_by means r ds) where
+  one : (gives : Result Edn Cause) → place means d.op old ≡ gives → after_ops means (ops_on r ds) (given gives) ≡ Some v → ((next w : Edn) → after_ops means (ops_on r ds) (Some next) ≡ Some w → LeadsAt means r ds next w) → (next : Edn) × Makes means d.op old next × LeadsAt means r ds next v
+  one (Ok next) gives is later = (next, place_makes means d.op old next gives, later next v is)
+  one (Err cause) gives is later = absurd (nothing_left means (ops_on r ds) v is)
+
+  by : (b : Bool) → (d.r == r) ≡ b → after_ops means (cond b (d.op ∷ ops_on r ds) (ops_on r ds)) (Some old) ≡ Some v → ((next w : Edn) → after_ops means (ops_on r ds) (Some next) ≡ Some w → LeadsAt means r ds next w) → LeadsAt means r (d ∷ ds) old v
+  by true here is later = inl (eqb-true d.r r here, one (place means d.op old) refl is later)
+  by false elsewhere is later = inr (eqb-false d.r r elsewhere, later old v is)
+
+by_leads : (means : Means) (r : ℕ) (ds : List Done) (old v : Edn) → LeadsAt means r ds old v → after_ops means (ops_on r ds) (Some old) ≡ Some v
+by_leads means r [] old v is = ap Some is
+by_leads means r (d ∷ ds) old v (inl (same, (next, makes, later))) =
+    ap (λ b. after_ops means (cond b (d.op ∷ ops_on r ds) (ops_on r ds)) (Some old)) (eq-eqb d.r r same)
+    ∙ (ap (λ gives. after_ops means (ops_on r ds) (given gives)) (makes_place means d.op old next makes) ∙ by_leads means r ds next v later)
+by_leads means r (d ∷ ds) old v (inr (other, later)) =
+    ap (λ b. after_ops means (cond b (d.op ∷ ops_on r ds) (ops_on r ds)) (Some old)) (ne_eqb d.r r other) ∙ by_leads means r ds old v later
+
+value_by : (means : Means) (tx : TxSeen) (r : ℕ) (v : Edn) → inner_value means tx r ≡ Some v → IsValueIn means tx r v
+value_by means tx r v is = by (slice_get tx.began r) refl is where
+  by : (found : Option Edn) → slice_get tx.began r ≡ found → after_ops means (ops_on r tx.dones) found ≡ Some v → IsValueIn means tx r v
+  by None here is = absurd (nothing_left means (ops_on r tx.dones) v is)
+  by (Some old) here is = (old, here, leads_by means r tx.dones old v is)
+
+by_value : (means : Means) (tx : TxSeen) (r : ℕ) (v : Edn) → IsValueIn means tx r v → inner_value means tx r ≡ Some v
+by_value means tx r v (old, here, leads) = ap (after_ops means (ops_on r tx.dones)) here ∙ by_leads means r tx.dones old v leads
+
+pub inner_means : (means : Means) → InnerMeans means
+inner_means means tx r v = (value_by means tx r v, by_value means tx r v)
+
+-- A ref that was there at the beginning has an in-transaction value.
+abbrev HasValue : Means → List Edn → List Done → ℕ → Type 0
+HasValue means began ds r = (v : Edn) × (value_after means began ds r ≡ Some v)
+
+value_there : (means : Means) (began : List Edn) (former ds : List Done) (r : ℕ) → AreAnswers means began former ds → HasValue means began former r → HasValue means began (former ++ ds) r
+value_there means began former [] r are so_far = subst (λ l. HasValue means began l r) (sym (append-nil former)) so_far
+value_there means began former (d ∷ ds) r are so_far = subst (λ l. HasValue means began l r) (append_assoc former (d ∷ []) ds) (value_there means began (former ++ d ∷ []) ds r are.1 (by (d.r == r) refl)) where
+  by : (b : Bool) → (d.r == r) ≡ b → HasValue means began (former ++ d ∷ []) r
+  by true here = subst (λ n. HasValue means began (former ++ d ∷ []) n) (eqb-true d.r r here) (d.answer, are.0)
+  by false elsewhere = (so_far.0, value_after-elsewhere means began former d r elsewhere ∙ so_far.1)
+
+inner_there : (means : Means) (tx : TxSeen) (r : ℕ) → IsTx means tx.began tx.dones tx.tally → r < length tx.began → (v : Edn) × (inner_value means tx r ≡ Some v)
+inner_there means tx r is below = value_there means tx.began [] tx.dones r is.answered (there tx.began r below)
+
+-- ---- what is asked
+
+sets_by : (op : Op) → is_set op ≡ true → Sets op
+sets_by (Set w) is = tt
+sets_by (Alter code args) is = tt
+sets_by (Commute code args) is = absurd cc
+sets_by Ensure is = absurd cc
+
+by_sets : (op : Op) → Sets op → is_set op ≡ true
+by_sets (Set w) is = refl
+by_sets (Alter code args) is = refl
+by_sets (Commute code args) is = absurd is
+by_sets Ensure is = absurd is
+
+commutes_by : (op : Op) → is_commute op ≡ true → Commutes op
+commutes_by (Set w) is = absurd cc
+commutes_by (Alter code args) is = absurd cc
+commutes_by (Commute code args) is = tt
+commutes_by Ensure is = absurd cc
+
+by_commutes : (op : Op) → Commutes op → is_commute op ≡ true
+by_commutes (Set w) is = absurd is
+by_commutes (Alter code args) is = absurd is
+by_commutes (Commute code args) is = refl
+by_commutes Ensure is = absurd is
+
+commuted_by : (tx : TxSeen) (r : ℕ) → is_commuted tx.dones r ≡ true → IsCommuted tx r
+commuted_by tx r = some_passes (λ (d : Done). d.r == r && is_commute d.op) (λ (d : Done). (d.r ≡ r) × Commutes d.op) one tx.dones where
+  one : (d : Done) → (d.r == r && is_commute d.op) ≡ true → (d.r ≡ r) × Commutes d.op
+  one d is =
+      let parts = and_parts (d.r == r) (is_commute d.op) is in
+      (eqb-true d.r r parts.0, commutes_by d.op parts.1)
+
+by_commuted : (tx : TxSeen) (r : ℕ) → IsCommuted tx r → is_commuted tx.dones r ≡ true
+by_commuted tx r = any_pass (λ (d : Done). d.r == r && is_commute d.op) (λ (d : Done). (d.r ≡ r) × Commutes d.op) one tx.dones where
+  one : (d : Done) → (d.r ≡ r) × Commutes d.op → (d.r == r && is_commute d.op) ≡ true
+  one d is = and_from (d.r == r) (is_commute d.op) (eq-eqb d.r r is.0) (by_commutes d.op is.1)
+
+late_set : (tx : TxSeen) (r : ℕ) (op : Op) → (is_set op && is_commuted tx.dones r) ≡ true → Sets op × IsCommuted tx r
+late_set tx r op is =
+    let parts = and_parts (is_set op) (is_commuted tx.dones r) is in
+    (sets_by op parts.0, commuted_by tx r parts.1)
+
+set_late : (tx : TxSeen) (r : ℕ) (op : Op) → Sets op → IsCommuted tx r → (is_set op && is_commuted tx.dones r) ≡ true
+set_late tx r op sets commuted = and_from (is_set op) (is_commuted tx.dones r) (by_sets op sets) (by_commuted tx r commuted)
+
+may_set : (tx : TxSeen) (r : ℕ) (op : Op) → (is_set op && is_commuted tx.dones r) ≡ false → MaySet tx r op
+may_set tx r op never sets commuted = let yes = set_late tx r op sets commuted in cc
+
+set_may : (tx : TxSeen) (r : ℕ) (op : Op) → MaySet tx r op → (is_set op && is_commuted tx.dones r) ≡ false
+set_may tx r op may = false_from_ne_true (is_set op && is_commuted tx.dones r) (λ is. let parts = late_set tx r op is in may parts.0 parts.1)
+
+tally_is : (tally : Option ℕ) (r : ℕ) → is_tally tally r ≡ true → tally ≡ Some r
+tally_is None r is = absurd cc
+tally_is (Some t) r is = ap Some (eqb-true t r is)
+
+is_tally_by : (tally : Option ℕ) (r : ℕ) → tally ≡ Some r → is_tally tally r ≡ true
+is_tally_by tally r is = ap (λ t. is_tally t r) is ∙ eq-eqb r r refl
+
+not_counted : (tally : Option ℕ) (r : ℕ) (op : Op) → (is_tally tally r && not (fits_tally op)) ≡ true → (tally ≡ Some r) × (Counts op → ⊥)
+not_counted tally r op is =
+    let parts = and_parts (is_tally tally r) (not (fits_tally op)) is in
+    let never = not-true (fits_tally op) parts.1 in
+    (tally_is tally r parts.0, λ counts. let yes = by_counts op counts in cc)
+
+counted_not : (tally : Option ℕ) (r : ℕ) (op : Op) → tally ≡ Some r → (Counts op → ⊥) → (is_tally tally r && not (fits_tally op)) ≡ true
+counted_not tally r op is never = and_from (is_tally tally r) (not (fits_tally op)) (is_tally_by tally r is) (ap not (false_from_ne_true (fits_tally op) (λ fits. never (counts_by op fits))))
+
+may_count : (tally : Option ℕ) (r : ℕ) (op : Op) → (is_tally tally r && not (fits_tally op)) ≡ false → tally ≡ Some r → Counts op
+may_count tally r op never is = counts_by op (fitting (is_tally tally r) (fits_tally op) (is_tally_by tally r is) never) where
+  fitting : (b c : Bool) → b ≡ true → (b && not c) ≡ false → c ≡ true
+  fitting true true e never = refl
+  fitting true false e never = absurd cc
+  fitting false c e never = absurd cc
+
+count_may : (tally : Option ℕ) (r : ℕ) (op : Op) → (tally ≡ Some r → Counts op) → (is_tally tally r && not (fits_tally op)) ≡ false
+count_may tally r op may = false_from_ne_true (is_tally tally r && not (fits_tally op)) (λ is. let parts = not_counted tally r op is in parts.1 (may parts.0))
+
+-- ---- the table
+
+lacks_one : (b : Bool) (c code : ℕ) → cond (not b) (Some c) None ≡ Some code → (b ≡ false) × (c ≡ code)
+lacks_one true c code is = absurd cc
+lacks_one false c code is = (refl, cc)
+
+lacks : (knows : ℕ → Bool) (op : Op) (code : ℕ) → missing knows (codes_of op) ≡ Some code → Calls code op × (knows code ≡ false)
+lacks knows (Set w) code is = absurd cc
+lacks knows (Alter c args) code is =
+    let one = lacks_one (knows c) c code is in
+    (one.1, ap knows (sym one.1) ∙ one.0)
+lacks knows (Commute c args) code is =
+    let one = lacks_one (knows c) c code is in
+    (one.1, ap knows (sym one.1) ∙ one.0)
+lacks knows Ensure code is = absurd cc
+
+lacking : (knows : ℕ → Bool) (op : Op) (code : ℕ) → Calls code op → knows code ≡ false → missing knows (codes_of op) ≡ Some code
+lacking knows (Set w) code calls never = absurd calls
+lacking knows (Alter c args) code calls never = ap (λ b. cond (not b) (Some c) None) (ap knows calls ∙ never) ∙ ap Some calls
+lacking knows (Commute c args) code calls never = ap (λ b. cond (not b) (Some c) None) (ap knows calls ∙ never) ∙ ap Some calls
+lacking knows Ensure code calls never = absurd calls
+
+none_one : (b : Bool) (c : ℕ) → cond (not b) (Some c) None ≡ None → b ≡ true
+none_one true c is = refl
+none_one false c is = absurd cc
+
+has_called : (knows : ℕ → Bool) (op : Op) → missing knows (codes_of op) ≡ None → HasCalled knows op
+has_called knows (Set w) none code calls = absurd calls
+has_called knows (Alter c args) none code calls = ap knows (sym calls) ∙ none_one (knows c) c none
+has_called knows (Commute c args) none code calls = ap knows (sym calls) ∙ none_one (knows c) c none
+has_called knows Ensure none code calls = absurd calls
+
+called_has : (knows : ℕ → Bool) (op : Op) → HasCalled knows op → missing knows (codes_of op) ≡ None
+called_has knows (Set w) has = refl
+called_has knows (Alter c args) has = ap (λ b. cond (not b) (Some c) None) (has c refl)
+called_has knows (Commute c args) has = ap (λ b. cond (not b) (Some c) None) (has c refl)
+called_has knows Ensure has = refl
+
+-- ---- what is answered
+
+module _ (means : Means) (knows : ℕ → Bool) (tx : TxSeen) (r : ℕ) (op : Op) where
+  -- the answer where these are the three tests
+  abbrev tested : Bool → Bool → Bool → Result Edn TxFault
+  tested here late miscounts =
+      or_refusal (cond (not here) (Some txs.NoSuchRef) (cond late (Some txs.SetAfterCommute) (cond miscounts (Some txs.TallyOnly) None)))
+      (called means op (inner_value means tx r) (missing knows (codes_of op)))
+
+  abbrev So : Result Edn TxFault → Type 0
+  So answer = AnswersSo means knows tx r op answer
+
+  called_so : IsTx means tx.began tx.dones tx.tally → IsAllowed means knows tx r op → So (called means op (inner_value means tx r) (missing knows (codes_of op)))
+  called_so is allowed = by (missing knows (codes_of op)) refl where
+    value : Edn
+    value = (inner_there means tx r is allowed.0).0
+
+    valued : inner_value means tx r ≡ Some value
+    valued = (inner_there means tx r is allowed.0).1
+
+    made : missing knows (codes_of op) ≡ None → (gives : Result Edn Cause) → place means op value ≡ gives → So (told gives)
+    made none (Ok v) gives = (allowed, has_called knows op none, (value, value_by means tx r value valued, place_makes means op value v gives))
+    made none (Err cause) gives = (allowed, has_called knows op none, (value, value_by means tx r value valued, place_refuses means op value cause gives))
+
+    by : (lacked : Option ℕ) → missing knows (codes_of op) ≡ lacked → So (called means op (inner_value means tx r) lacked)
+    by (Some code) is =
+        let one = lacks knows op code is in
+        (allowed, one.0, one.1)
+    by None is = subst (λ v. So (placed means op v)) (sym valued) (made is (place means op value) refl)
+
+  so : IsTx means tx.began tx.dones tx.tally → So (answer_of means knows tx r op)
+  so is = by (has_ref tx r) refl (is_set op && is_commuted tx.dones r) refl (is_tally tx.tally r && not (fits_tally op)) refl where
+    by : (here : Bool) → has_ref tx r ≡ here → (late : Bool) → (is_set op && is_commuted tx.dones r) ≡ late → (miscounts : Bool) → (is_tally tx.tally r && not (fits_tally op)) ≡ miscounts → So (tested here late miscounts)
+    by false a late b miscounts c = ltb-false r (length tx.began) a
+    by true a true b miscounts c =
+        let parts = late_set tx r op b in
+        (ltb-true r (length tx.began) a, parts.0, parts.1)
+    by true a false b true c =
+        let parts = not_counted tx.tally r op c in
+        (ltb-true r (length tx.began) a, may_set tx r op b, parts.0, parts.1)
+    by true a false b false c = called_so is (ltb-true r (length tx.began) a, may_set tx r op b, may_count tx.tally r op c)
+
+  by_tests : (here late miscounts : Bool) → has_ref tx r ≡ here → (is_set op && is_commuted tx.dones r) ≡ late → (is_tally tx.tally r && not (fits_tally op)) ≡ miscounts → answer_of means knows tx r op ≡ tested here late miscounts
+  by_tests here late miscounts a b c =
+      ap (λ x. tested x (is_set op && is_commuted tx.dones r) (is_tally tx.tally r && not (fits_tally op))) a
+      ∙ (ap (λ x. tested here x (is_tally tx.tally r && not (fits_tally op))) b
+      ∙ ap (λ x. tested here late x) c)
+
+  by_allowed : IsAllowed means knows tx r op → answer_of means knows tx r op ≡ called means op (inner_value means tx r) (missing knows (codes_of op))
+  by_allowed allowed = by_tests true false false (lt-ltb r (length tx.began) allowed.0) (set_may tx r op allowed.1) (count_may tx.tally r op allowed.2)
+
+  by_made : IsAllowed means knows tx r op → HasCalled knows op → (old : Edn) → IsValueIn means tx r old → (gives : Result Edn Cause) → place means op old ≡ gives → answer_of means knows tx r op ≡ told gives
+  by_made allowed has old value gives is =
+      by_allowed allowed
+      ∙ (ap (called means op (inner_value means tx r)) (called_has knows op has)
+      ∙ (ap (placed means op) (by_value means tx r old value) ∙ ap told is))
+
+  back : (answer : Result Edn TxFault) → So answer → answer_of means knows tx r op ≡ answer
+  back (Ok v) (allowed, has, (old, value, makes)) = by_made allowed has old value (Ok v) (makes_place means op old v makes)
+  back (Err txs.NoSuchRef) after = by_tests false (is_set op && is_commuted tx.dones r) (is_tally tx.tally r && not (fits_tally op)) (le-ltb r (length tx.began) after) refl refl
+  back (Err txs.SetAfterCommute) (below, sets, commuted) = by_tests true true (is_tally tx.tally r && not (fits_tally op)) (lt-ltb r (length tx.began) below) (set_late tx r op sets commuted) refl
+  back (Err txs.TallyOnly) (below, may, is, never) = by_tests true false true (lt-ltb r (length tx.began) below) (set_may tx r op may) (counted_not tx.tally r op is never)
+  back (Err (txs.NoSuchFun code)) (allowed, calls, never) = by_allowed allowed ∙ ap (called means op (inner_value means tx r)) (lacking knows op code calls never)
+  back (Err (txs.Refused cause)) (allowed, has, (old, value, refuses)) = by_made allowed has old value (Err cause) (refuses_place means op old cause refuses)
+  back (Err txs.NoSuchAgent) never = absurd never
+  back (Err txs.NotMet) never = absurd never
+  back (Err txs.Memory) never = absurd never
+
+pub operations_mean : (means : Means) → OperationsMean means
+operations_mean means knows tx r op answer is = (λ answers. subst (AnswersSo means knows tx r op) answers (so means knows tx r op is), back means knows tx r op answer)

@@ -1,0 +1,86 @@
+-- What an operation in a transaction answers, in plain words.
+use Rattle.std.specs.Prelude.{◌≡◌, ◌≢◌, ◌↔◌, ◌⊎◌, ℕ, ◌<◌, ◌≤◌, Bool, true, false, List, [], ◌∷◌, length, slice_get, Option, Some, Result, Ok, Err}
+use Rattle.ref_value.specs.Edn.{Edn}
+use Rattle.ref_fun.specs.Meaning.{Means}
+use Rattle.ref_log.specs.declared.operations.Done.{Done}
+use Rattle.ref_log.specs.declared.operations.Op.{Op}
+use Rattle.ref_log.specs.declared.operations.Op.TheVariants.{Set, Alter, Commute, Ensure}
+use Rattle.ref_tx.specs.Inner.{IsTx, answer_of, inner_value}
+use Rattle.ref_tx.specs.Seen.{TxSeen}
+use Rattle.ref_tx.specs.declared.faults.TxFault.{TxFault}
+use Rattle.ref_tx.specs.declared.faults.TxFault.TheVariants as txs
+use Rattle.ref_play.specs.Plain.{AnyByRecursion, Counts, Makes, RefusesValue}
+
+-- ---- in-transaction values
+
+-- Those of these operations that are on a ref lead, one after the other, from one value to another.
+abbrev pub LeadsAt : Means → ℕ → List Done → Edn → Edn → Type 0
+LeadsAt means r [] old new = old ≡ new
+LeadsAt means r (d ∷ ds) old new =
+    ((d.r ≡ r) × ((next : Edn) × Makes means d.op old next × LeadsAt means r ds next new)) ⊎ ((d.r ≢ r) × LeadsAt means r ds old new)
+
+-- The value of a ref in a transaction: the transaction's operations on the ref lead to it from the value with which it began.
+abbrev pub IsValueIn : Means → TxSeen → ℕ → Edn → Type 0
+IsValueIn means tx r v = (old : Edn) × (slice_get tx.began r ≡ Some old) × LeadsAt means r tx.dones old v
+
+abbrev pub InnerMeans : Means → Type 0
+InnerMeans means = (tx : TxSeen) (r : ℕ) (v : Edn) → inner_value means tx r ≡ Some v ↔ IsValueIn means tx r v
+
+-- ---- what an operation asks
+
+-- `ref-set` and `alter` set a ref, which was not commuted before in the transaction.
+abbrev pub Sets : Op → Type 0
+Sets (Set w) = Unit {0}
+Sets (Alter code args) = Unit {0}
+Sets (Commute code args) = ⊥
+Sets Ensure = ⊥
+
+abbrev pub Commutes : Op → Type 0
+Commutes (Set w) = ⊥
+Commutes (Alter code args) = ⊥
+Commutes (Commute code args) = Unit {0}
+Commutes Ensure = ⊥
+
+abbrev pub IsCommuted : TxSeen → ℕ → Type 0
+IsCommuted tx r = AnyByRecursion (λ d. (d.r ≡ r) × Commutes d.op) tx.dones
+
+abbrev pub MaySet : TxSeen → ℕ → Op → Type 0
+MaySet tx r op = Sets op → IsCommuted tx r → ⊥
+
+-- The tally is only counted up.
+abbrev pub MayCount : TxSeen → ℕ → Op → Type 0
+MayCount tx r op = tx.tally ≡ Some r → Counts op
+
+-- `alter` and `commute` call the function of their code, which the table has.
+abbrev pub Calls : ℕ → Op → Type 0
+Calls code (Set w) = ⊥
+Calls code (Alter c args) = c ≡ code
+Calls code (Commute c args) = c ≡ code
+Calls code Ensure = ⊥
+
+abbrev pub HasCalled : (ℕ → Bool) → Op → Type 0
+HasCalled knows op = (code : ℕ) → Calls code op → knows code ≡ true
+
+-- ---- what it answers
+
+module _ (means : Means) (knows : ℕ → Bool) (tx : TxSeen) (r : ℕ) (op : Op) where
+  abbrev pub IsAllowed : Type 0
+  IsAllowed = (r < length tx.began) × MaySet tx r op × MayCount tx r op
+
+  -- The value that it makes of the in-transaction value, or what stands against it, where nothing does that is asked before.
+  abbrev pub AnswersSo : Result Edn TxFault → Type 0
+  AnswersSo (Ok v) = IsAllowed × HasCalled knows op × ((old : Edn) × IsValueIn means tx r old × Makes means op old v)
+  AnswersSo (Err txs.NoSuchRef) = length tx.began ≤ r
+  AnswersSo (Err txs.SetAfterCommute) = (r < length tx.began) × Sets op × IsCommuted tx r
+  AnswersSo (Err txs.TallyOnly) = (r < length tx.began) × MaySet tx r op × (tx.tally ≡ Some r) × (Counts op → ⊥)
+  AnswersSo (Err (txs.NoSuchFun code)) = IsAllowed × Calls code op × (knows code ≡ false)
+  AnswersSo (Err (txs.Refused cause)) = IsAllowed × HasCalled knows op × ((old : Edn) × IsValueIn means tx r old × RefusesValue means op old cause)
+  AnswersSo (Err txs.NoSuchAgent) = ⊥
+  AnswersSo (Err txs.NotMet) = ⊥
+  AnswersSo (Err txs.Memory) = ⊥
+
+-- An operation in a transaction, whose answers are its in-transaction values, answers exactly so.
+abbrev pub OperationsMean : Means → Type 0
+OperationsMean means =
+    (knows : ℕ → Bool) (tx : TxSeen) (r : ℕ) (op : Op) (answer : Result Edn TxFault) → IsTx means tx.began tx.dones tx.tally
+    → answer_of means knows tx r op ≡ answer ↔ AnswersSo means knows tx r op answer
