@@ -33,7 +33,8 @@ use Rattle.ref_agents.specs.declared.ends.Finished.{Finished}
 use Rattle.ref_agents.specs.declared.ends.Finished.TheVariants.{Changed, Failed, Continued}
 use Rattle.ref_agents.specs.declared.faults.AgentError.{AgentError}
 use Rattle.ref_agents.specs.declared.faults.AgentError.TheVariants.{Refused, Invalid}
-use Rattle.ref_play.specs.Plain.{EndsAs, FailedFor, FinishMeans, HasEnded, HasRule, IsNext, IsOut, IsReady, IsReleased, IsRestarted, JobOutMeans, NextJobMeans, OnlyAgent, ReadyMeans, RestartMeans, RuleAccepts, notices}
+use Rattle.ref_play.specs.Plain.{AnyByRecursion, HasRule, RuleAccepts, RuledBy}
+use Rattle.ref_play.specs.PlainAgents.{EndsAs, FailedFor, FinishMeans, HasEnded, HasReleased, HasSent, IsHeld, IsNext, IsOut, IsReady, IsReleased, IsRestarted, JobOutMeans, KnowsRuleOf, NextJobMeans, OnlyAgent, ReadyMeans, ReleaseMeans, RestartMeans, RestartRefusals, RestartsSo, SendsMean, AreRising, notices, queued, sent_by}
 use Rattle.ref_play.proofs.PlainCommits.{has_rule, rule_is}
 
 -- ---- ready

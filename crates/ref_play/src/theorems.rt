@@ -1,6 +1,7 @@
 //! Laws of the machine, and of the words that it shares with the calls of a world. Each function's contract is a law; none does anything.
 ghost use Rattle.ref_play.specs.Laws.{RunsHaveLaws, StepsHaveLaws};
-ghost use Rattle.ref_play.specs.Plain.{CommitsWhereItCan, FinishMeans, JobOutMeans, NextJobMeans, ReadyMeans, RefusalsSayWhy, ReplayLeads, RestartMeans};
+ghost use Rattle.ref_play.specs.Plain.{CommitsWhereItCan, RefusalsSayWhy, ReplayLeads};
+ghost use Rattle.ref_play.specs.PlainAgents.{FinishMeans, JobOutMeans, NextJobMeans, ReadyMeans, RestartMeans};
 ghost use Rattle.ref_play.specs.PlainTx.{InnerMeans, OperationsMean};
 
 use ref_fun::Meaning;
