@@ -20,3 +20,4 @@ pub mod PlainCommits
 pub mod PlainAgents
 pub mod PlainFaults
 pub mod PlainOperations
+pub mod PlainSends

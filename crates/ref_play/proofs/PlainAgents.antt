@@ -9,7 +9,7 @@ use Rattle.std.proofs.lemmas.Bool.{and_from, and_parts, false_from_ne_true, not-
 use Rattle.std.proofs.lemmas.Cmp.{nat_cmp_total, tied_itself}
 use Rattle.std.specs.Cmp.{Equal-is}
 use Rattle.ref_value.specs.Edn.{Edn}
-use Rattle.ref_fun.specs.Rule.{Accepts, is_accepted, passes}
+use Rattle.ref_fun.specs.Rule.{Accepts, is_accepted, passes, unknown}
 use Rattle.ref_fun.specs.declared.faults.Cause.{Cause}
 use Rattle.ref_fun.specs.declared.rules.Rule.{Rule}
 use Rattle.ref_log.specs.Guards.{keys_at, keys_if_here, rule_at}
@@ -19,7 +19,7 @@ use Rattle.ref_log.specs.declared.notices.Notice.{Notice}
 use Rattle.ref_log.specs.declared.notices.Who.TheVariants as who
 use Rattle.ref_agents.specs.Account.{AccountSeen, has_point, has_released, is_released_by, kept_queue, with_ended, with_head_ended}
 use Rattle.ref_agents.specs.Agents.{AgentsSeen, change_agent, ended, head_job, is_ready_at, is_ready_if_here, job_out, next_job, out_if_here, put_agent, revived, with_agents, with_restart}
-use Rattle.ref_agents.specs.Ends.{IsAnswer, IsAnswerIfHere, IsAnswerOf, after_end, after_run, judged, with_finish}
+use Rattle.ref_agents.specs.Ends.{IsAnswer, IsAnswerIfHere, after_end, after_run, judged, restart_refusal, restart_refusal_if_here}
 use Rattle.ref_agents.specs.Jobs.{JobSeen, RanSeen}
 use Rattle.ref_agents.specs.declared.accounts.Mark.{Mark}
 use Rattle.ref_agents.specs.declared.accounts.Mark.TheVariants as marks
@@ -33,16 +33,19 @@ use Rattle.ref_agents.specs.declared.ends.Finished.{Finished}
 use Rattle.ref_agents.specs.declared.ends.Finished.TheVariants.{Changed, Failed, Continued}
 use Rattle.ref_agents.specs.declared.faults.AgentError.{AgentError}
 use Rattle.ref_agents.specs.declared.faults.AgentError.TheVariants.{Refused, Invalid}
-use Rattle.ref_play.specs.Plain.{AnyByRecursion, HasRule, RuleAccepts, RuledBy}
-use Rattle.ref_play.specs.PlainAgents.{EndsAs, FailedFor, FinishMeans, HasEnded, HasReleased, HasSent, IsHeld, IsNext, IsOut, IsReady, IsReleased, IsRestarted, JobOutMeans, KnowsRuleOf, NextJobMeans, OnlyAgent, ReadyMeans, ReleaseMeans, RestartMeans, RestartRefusals, RestartsSo, SendsMean, AreRising, notices, queued, sent_by}
+use Rattle.ref_agents.specs.declared.faults.RestartFault.{RestartFault}
+use Rattle.ref_agents.specs.declared.faults.RestartFault.TheVariants as restarts
+use Rattle.std.specs.Option.{option_map, option_or}
+use Rattle.ref_play.specs.Plain.{HasRule, RuleAccepts, RuledBy}
+use Rattle.ref_play.specs.PlainAgents.{EndsAs, FailedFor, FinishMeans, HasEnded, IsNext, IsOut, IsReady, IsReleased, IsRestarted, JobOutMeans, KnowsRuleOf, NextJobMeans, OnlyAgent, ReadyMeans, RestartMeans, RestartRefusals, RestartsSo, notices}
 use Rattle.ref_play.proofs.PlainCommits.{has_rule, rule_is}
 
 -- ---- ready
 
-at_itself : (n : ℕ) → is_at (nat_cmp n) n ≡ true
+pub at_itself : (n : ℕ) → is_at (nat_cmp n) n ≡ true
 at_itself n = ap is_eq (tied_itself nat_cmp_total n)
 
-at_same : (n m : ℕ) → is_at (nat_cmp n) m ≡ true → n ≡ m
+pub at_same : (n m : ℕ) → is_at (nat_cmp n) m ≡ true → n ≡ m
 at_same n m is = nat_cmp-IsAntisymmetric n m ((Equal-is (nat_cmp n m)).0 is)
 
 points_other : (points : List ℕ) (point : ℕ) → has_point points point ≡ false → AllByRecursion (λ p. p ≢ point) points
@@ -141,12 +144,12 @@ job_out_means agents g job = (out_by agents g job, by_out agents g job)
 
 -- ---- one agent changes
 
-set_here : (agents : List Agent) (g : ℕ) (before after : Agent) → slice_get agents g ≡ Some before → slice_get (slice_set agents g after) g ≡ Some after
+pub set_here : (agents : List Agent) (g : ℕ) (before after : Agent) → slice_get agents g ≡ Some before → slice_get (slice_set agents g after) g ≡ Some after
 set_here [] g before after here = absurd cc
 set_here (x ∷ xs) zero before after here = refl
 set_here (x ∷ xs) (suc g) before after here = set_here xs g before after here
 
-set_other : (agents : List Agent) (g h : ℕ) (after : Agent) → h ≢ g → slice_get (slice_set agents g after) h ≡ slice_get agents h
+pub set_other : (agents : List Agent) (g h : ℕ) (after : Agent) → h ≢ g → slice_get (slice_set agents g after) h ≡ slice_get agents h
 set_other [] g h after other = refl
 set_other (x ∷ xs) zero zero after other = absurd (other refl)
 set_other (x ∷ xs) zero (suc h) after other = refl
@@ -293,3 +296,103 @@ finish_means accepts store ran before guard answer here guarded waiting = (
   ),
   λ left. subst (IsAnswerIfHere accepts store.guards ran answer) (sym here) (answered_by accepts store.guards guard ran guarded before answer left.0 left.2),
 )
+
+-- ---- when a failed agent can be restarted
+
+module _ (accepts : Accepts) (knows : ℕ → Bool) (store : AgentsSeen) (g : ℕ) (state : Edn) where
+  -- the refusal of an agent that is here, by the code that the table lacks, its error, and whether its rule accepts
+  abbrev asked : Option ℕ → Bool → Bool → Option RestartFault
+  asked lacked failed accepted = option_or (option_map restarts.NoSuchFun lacked) (cond (not failed) (Some restarts.NotFailed) (cond (not accepted) (Some restarts.Invalid) None))
+
+  abbrev So : Option RestartFault → Type 0
+  So refusal = RestartsSo accepts knows store g state refusal
+
+  lacked_code : (code : ℕ) → unknown knows (rule_at store.guards g) ≡ Some code → RuledBy store.guards code g × (knows code ≡ false)
+  lacked_code code is = by (rule_at store.guards g) refl is where
+    one : (rule : Rule) → HasRule store.guards g rule → (b : Bool) → knows rule.code ≡ b → cond b None (Some rule.code) ≡ Some code → RuledBy store.guards code g × (knows code ≡ false)
+    one rule has true e is = absurd cc
+    one rule has false e is =
+        let same : rule.code ≡ code = cc in
+        ((rule, has, same), ap knows (sym same) ∙ e)
+
+    by : (rule : Option Rule) → rule_at store.guards g ≡ rule → unknown knows rule ≡ Some code → RuledBy store.guards code g × (knows code ≡ false)
+    by None has is = absurd cc
+    by (Some rule) has is = one rule (has_rule store.guards g rule has) (knows rule.code) refl is
+
+  code_lacked : (code : ℕ) → RuledBy store.guards code g → knows code ≡ false → unknown knows (rule_at store.guards g) ≡ Some code
+  code_lacked code (rule, has, same) never =
+      ap (unknown knows) (rule_is store.guards g rule has) ∙ (ap (λ b. cond b None (Some rule.code)) (ap knows same ∙ never) ∙ ap Some same)
+
+  none_lacked : unknown knows (rule_at store.guards g) ≡ None → KnowsRuleOf knows store.guards g
+  none_lacked none rule has = one (knows rule.code) (ap (unknown knows) (sym (rule_is store.guards g rule has)) ∙ none) where
+    one : (b : Bool) → cond b None (Some rule.code) ≡ None → b ≡ true
+    one true is = refl
+    one false is = absurd cc
+
+  lacked_none : KnowsRuleOf knows store.guards g → unknown knows (rule_at store.guards g) ≡ None
+  lacked_none known = by (rule_at store.guards g) refl where
+    by : (rule : Option Rule) → rule_at store.guards g ≡ rule → unknown knows rule ≡ None
+    by None has = refl
+    by (Some rule) has = ap (λ b. cond b None (Some rule.code)) (known rule (has_rule store.guards g rule has))
+
+  rule_passes : passes accepts (rule_at store.guards g) state ≡ true → RuleAccepts accepts store.guards g state
+  rule_passes is rule has = ap (λ o. passes accepts o state) (sym (rule_is store.guards g rule has)) ∙ is
+
+  passes_rule : RuleAccepts accepts store.guards g state → passes accepts (rule_at store.guards g) state ≡ true
+  passes_rule accepted = by (rule_at store.guards g) refl where
+    by : (rule : Option Rule) → rule_at store.guards g ≡ rule → passes accepts rule state ≡ true
+    by None has = refl
+    by (Some rule) has = accepted rule (has_rule store.guards g rule has)
+
+  rule_refuses : passes accepts (rule_at store.guards g) state ≡ false → (rule : Rule) × HasRule store.guards g rule × (accepts rule.code rule.args state ≡ false)
+  rule_refuses is = by (rule_at store.guards g) refl is where
+    by : (rule : Option Rule) → rule_at store.guards g ≡ rule → passes accepts rule state ≡ false → (r : Rule) × HasRule store.guards g r × (accepts r.code r.args state ≡ false)
+    by None has is = absurd cc
+    by (Some rule) has is = (rule, has_rule store.guards g rule has, is)
+
+  restarts_so : So (restart_refusal accepts knows store g state)
+  restarts_so = by (slice_get store.agents g) refl where
+    failed : (agent : Agent) → slice_get store.agents g ≡ Some agent → KnowsRuleOf knows store.guards g → (error : AgentError) → agent.error ≡ Some error → (b : Bool) → passes accepts (rule_at store.guards g) state ≡ b → So (asked None true b)
+    failed agent here known error is true accepted = (agent, here, known, (λ none. absurd cc), rule_passes accepted)
+    failed agent here known error is false refused = (agent, here, known, (λ none. absurd cc), rule_refuses refused)
+
+    known : (agent : Agent) → slice_get store.agents g ≡ Some agent → (error : Option AgentError) → agent.error ≡ error → KnowsRuleOf knows store.guards g → So (asked None (is_some error) (passes accepts (rule_at store.guards g) state))
+    known agent here None is knowing = (agent, here, knowing, is)
+    known agent here (Some error) is knowing = failed agent here knowing error is (passes accepts (rule_at store.guards g) state) refl
+
+    coded : (agent : Agent) → slice_get store.agents g ≡ Some agent → (lacked : Option ℕ) → unknown knows (rule_at store.guards g) ≡ lacked → So (asked lacked (is_some agent.error) (passes accepts (rule_at store.guards g) state))
+    coded agent here None is = known agent here agent.error refl (none_lacked is)
+    coded agent here (Some code) is =
+        let one = lacked_code code is in
+        ((λ none. absurd cc), one.0, one.1)
+
+    by : (found : Option Agent) → slice_get store.agents g ≡ found → So (restart_refusal_if_here accepts knows (rule_at store.guards g) state found)
+    by None here = here
+    by (Some agent) here = coded agent here (unknown knows (rule_at store.guards g)) refl
+
+  by_asked : (agent : Agent) → slice_get store.agents g ≡ Some agent → (lacked : Option ℕ) → unknown knows (rule_at store.guards g) ≡ lacked → (failed : Bool) → is_some agent.error ≡ failed → (accepted : Bool) → passes accepts (rule_at store.guards g) state ≡ accepted
+      → restart_refusal accepts knows store g state ≡ asked lacked failed accepted
+  by_asked agent here lacked a failed b accepted c =
+      ap (restart_refusal_if_here accepts knows (rule_at store.guards g) state) here
+      ∙ (ap (λ x. asked x (is_some agent.error) (passes accepts (rule_at store.guards g) state)) a
+      ∙ (ap (λ x. asked lacked x (passes accepts (rule_at store.guards g) state)) b
+      ∙ ap (λ x. asked lacked failed x) c))
+
+  has_error : (error : Option AgentError) → error ≢ None → is_some error ≡ true
+  has_error None failed = absurd (failed refl)
+  has_error (Some error) failed = refl
+
+  back : (refusal : Option RestartFault) → So refusal → restart_refusal accepts knows store g state ≡ refusal
+  back None (agent, here, known, failed, accepted) = by_asked agent here None (lacked_none known) true (has_error agent.error failed) true (passes_rule accepted)
+  back (Some restarts.NoSuchAgent) none = ap (restart_refusal_if_here accepts knows (rule_at store.guards g) state) none
+  back (Some (restarts.NoSuchFun code)) (here, ruled, never) = by (slice_get store.agents g) refl where
+    by : (found : Option Agent) → slice_get store.agents g ≡ found → restart_refusal accepts knows store g state ≡ Some (restarts.NoSuchFun code)
+    by None none = absurd (here none)
+    by (Some agent) is = by_asked agent is (Some code) (code_lacked code ruled never) (is_some agent.error) refl (passes accepts (rule_at store.guards g) state) refl
+  back (Some restarts.NotFailed) (agent, here, known, sound) = by_asked agent here None (lacked_none known) false (ap is_some sound) (passes accepts (rule_at store.guards g) state) refl
+  back (Some restarts.Invalid) (agent, here, known, failed, (rule, has, refuses)) =
+      by_asked agent here None (lacked_none known) true (has_error agent.error failed) false (ap (λ o. passes accepts o state) (rule_is store.guards g rule has) ∙ refuses)
+  back (Some restarts.Memory) never = absurd never
+
+pub restart_refusals : (accepts : Accepts) → RestartRefusals accepts
+restart_refusals accepts knows store g state refusal = (λ is. subst (RestartsSo accepts knows store g state) is (restarts_so accepts knows store g state), back accepts knows store g state refusal)

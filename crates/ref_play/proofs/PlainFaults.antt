@@ -32,6 +32,7 @@ use Rattle.ref_refs.specs.declared.faults.CommitFault.{CommitFault}
 use Rattle.ref_refs.specs.declared.faults.CommitFault.TheVariants.{Conflict, Foreign, Invalid, Memory, NoSuchFun, PointLimit, Refused}
 use Rattle.ref_refs.specs.declared.faults.Conflict as told
 use Rattle.ref_play.specs.Plain.{AnyByRecursion, Changes, CommutesBy, Counts, FirstWithout, HasAgents, HasCommuted, HasRefs, HasRule, IsChanged, IsCurrent, IsHere, IsKnown, IsProtected, IsSmallestInvalid, IsSmallestOther, KeepsRules, LacksFun, LacksPred, Leads, Makes, NamesSmallest, OnlyCounts, RefusalsSayWhy, RefusedOn, RefusesValue, RuleAccepts, RuledBy, Why}
+use Rattle.ref_play.specs.PlainAgents.{AreRising}
 use Rattle.ref_play.proofs.Native.{differs_itself, none_of}
 use Rattle.ref_play.proofs.PlainLists.{all_map, any_each, any_pass, each_any, some_passes}
 use Rattle.ref_play.proofs.PlainCommits.{IsAcceptedAt, KnowsRule, accepted_by, accepts_by, by_accepted, by_accepts, by_changes, by_counts, by_funs, by_last, by_preds, by_read, by_refs, by_sends, by_tally, by_unchanged, by_values, changes_by, code_known, counts_by, each_touched, funs_by, has_rule, here_by, insert_from, is_protected_by, last_by, lead_on, leads_after, leads_refused, makes_place, none_or, place_makes, pred_by, preds_by, protected_is, read_by, refs_by, rule_is, same_by, sends_by, tally_by, there, touched_each, unchanged_by, values_by}
@@ -416,34 +417,29 @@ by_refused means (d ∷ ds) values r cause (old, here, inr (new, makes, later)) 
 
 -- ---- the smallest ref whose rule refuses
 
-rank : (k x : ℕ) → MatchOrdering (nat_cmp k x) (k < x) (k ≡ x) (x < k)
+pub rank : (k x : ℕ) → MatchOrdering (nat_cmp k x) (k < x) (k ≡ x) (x < k)
 rank k x = by (cases_order k x) where
   by : (k ≡ x) ⊎ ((k < x) ⊎ (x < k)) → MatchOrdering (nat_cmp k x) (k < x) (k ≡ x) (x < k)
   by (inl same) = subst (λ o. MatchOrdering o (k < x) (k ≡ x) (x < k)) (nat_cmp_is k x Equal same) same
   by (inr (inl less)) = subst (λ o. MatchOrdering o (k < x) (k ≡ x) (x < k)) (nat_cmp_is k x Less less) less
   by (inr (inr more)) = subst (λ o. MatchOrdering o (k < x) (k ≡ x) (x < k)) (nat_cmp_is k x Greater more) more
 
--- numbers that rise
-abbrev Ascends : List ℕ → Type 0
-Ascends [] = Unit {0}
-Ascends (n ∷ ns) = AllByRecursion (λ m. n < m) ns × Ascends ns
-
-insert_ascends : (ns : List ℕ) (k : ℕ) → Ascends ns → Ascends (insert_key nat_cmp ns k)
-insert_ascends [] k up = (tt, tt)
-insert_ascends (x ∷ xs) k up = by (nat_cmp k x) (rank k x) (insert_ascends xs k up.1) where
-  by : (o : Ordering) → MatchOrdering o (k < x) (k ≡ x) (x < k) → Ascends (insert_key nat_cmp xs k) → Ascends (match_ordering o (k ∷ x ∷ xs) (x ∷ xs) (x ∷ insert_key nat_cmp xs k))
+insert_rises : (ns : List ℕ) (k : ℕ) → AreRising ns → AreRising (insert_key nat_cmp ns k)
+insert_rises [] k up = (tt, tt)
+insert_rises (x ∷ xs) k up = by (nat_cmp k x) (rank k x) (insert_rises xs k up.1) where
+  by : (o : Ordering) → MatchOrdering o (k < x) (k ≡ x) (x < k) → AreRising (insert_key nat_cmp xs k) → AreRising (match_ordering o (k ∷ x ∷ xs) (x ∷ xs) (x ∷ insert_key nat_cmp xs k))
   by Less less later = ((less, all_map (λ m. x < m) (λ m. k < m) (λ m more. omega (arith, less, more)) xs up.0), up)
   by Equal same later = up
   by Greater more later = (insert_from (λ m. x < m) xs k up.0 more, later)
 
-touched_ascends : (rs : List ℕ) (ds : List Done) → Ascends rs → Ascends (touched_from rs ds)
-touched_ascends rs [] up = up
-touched_ascends rs (d ∷ ds) up = by (is_ensure d.op) (λ more so. touched_ascends more ds so) where
-  by : (b : Bool) → ((more : List ℕ) → Ascends more → Ascends (touched_from more ds)) → Ascends (touched_from (cond b rs (insert_key nat_cmp rs d.r)) ds)
+touched_rises : (rs : List ℕ) (ds : List Done) → AreRising rs → AreRising (touched_from rs ds)
+touched_rises rs [] up = up
+touched_rises rs (d ∷ ds) up = by (is_ensure d.op) (λ more so. touched_rises more ds so) where
+  by : (b : Bool) → ((more : List ℕ) → AreRising more → AreRising (touched_from more ds)) → AreRising (touched_from (cond b rs (insert_key nat_cmp rs d.r)) ds)
   by true later = later rs up
-  by false later = later (insert_key nat_cmp rs d.r) (insert_ascends rs d.r up)
+  by false later = later (insert_key nat_cmp rs d.r) (insert_rises rs d.r up)
 
-first_smallest : (p : ℕ → Bool) (ns : List ℕ) (r : ℕ) → Ascends ns → find (λ n. not (p n)) ns ≡ Some r → (p r ≡ false) × AnyByRecursion (λ n. n ≡ r) ns × AllByRecursion (λ n. n < r → p n ≡ true) ns
+first_smallest : (p : ℕ → Bool) (ns : List ℕ) (r : ℕ) → AreRising ns → find (λ n. not (p n)) ns ≡ Some r → (p r ≡ false) × AnyByRecursion (λ n. n ≡ r) ns × AllByRecursion (λ n. n < r → p n ≡ true) ns
 first_smallest p [] r up is = absurd cc
 first_smallest p (n ∷ ns) r up is = by (p n) refl is (first_smallest p ns r up.1) where
   by : (b : Bool) → p n ≡ b → cond (not b) (Some n) (find (λ m. not (p m)) ns) ≡ Some r
@@ -497,7 +493,7 @@ module _ (accepts : Accepts) (store : RefsSeen) (tx : TxSeen) (after : List Edn)
   smallest_invalid : (r : ℕ) → first_invalid accepts store.guards after (touched_refs tx.dones) ≡ Some r → IsSmallestInvalid accepts store tx after r
   unfolding Refuses
   smallest_invalid r is =
-      let found = first_smallest (is_accepted_at accepts store.guards after) (touched_refs tx.dones) r (touched_ascends [] tx.dones tt) is in
+      let found = first_smallest (is_accepted_at accepts store.guards after) (touched_refs tx.dones) r (touched_rises [] tx.dones tt) is in
       let no = refusing r found.0 in
       record {
         changed = changed_of tx.dones r found.1;

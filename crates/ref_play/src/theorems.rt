@@ -1,7 +1,7 @@
 //! Laws of the machine, and of the words that it shares with the calls of a world. Each function's contract is a law; none does anything.
 ghost use Rattle.ref_play.specs.Laws.{RunsHaveLaws, StepsHaveLaws};
 ghost use Rattle.ref_play.specs.Plain.{CommitsWhereItCan, RefusalsSayWhy, ReplayLeads};
-ghost use Rattle.ref_play.specs.PlainAgents.{FinishMeans, JobOutMeans, NextJobMeans, ReadyMeans, RestartMeans};
+ghost use Rattle.ref_play.specs.PlainAgents.{FinishMeans, JobOutMeans, NextJobMeans, ReadyMeans, ReleaseMeans, RestartMeans, RestartRefusals, SendsMean};
 ghost use Rattle.ref_play.specs.PlainTx.{InnerMeans, OperationsMean};
 
 use ref_fun::Meaning;
@@ -61,6 +61,21 @@ pub fn job_out_in_plain_words()
 /// What a restart leaves.
 pub fn restart_in_plain_words()
     ensures { RestartMeans }
+{}
+
+/// A restart is refused with a fault exactly where that holds which the fault says, and nothing that is asked before it.
+pub fn restart_refusals_say_why<M: Meaning>()
+    ensures { RestartRefusals M.accepts }
+{}
+
+/// What a commit sends stands at the ends of the queues, in order, and is held.
+pub fn sends_in_plain_words()
+    ensures { SendsMean }
+{}
+
+/// A release frees the sends of one commit alone.
+pub fn release_in_plain_words()
+    ensures { ReleaseMeans }
 {}
 
 /// What the end of a job leaves, by its answer.
