@@ -1,7 +1,7 @@
 -- What definitions of agents and jobs say, in plain words.
-use Rattle.std.proofs.Common.{◌≡◌, ◌≢◌, ◌↔◌, ℕ, zero, suc, cond, ◌<◌, ◌==◌, ◌&&◌, ◌||◌, not, is_some, Bool, true, false, ◌⊎◌, inl, inr, List, [], ◌∷◌, ◌++◌, length, Option, None, Some, Result, Ok, Err, slice_get, slice_set, refl, sym, ap, subst, ◌∙◌, arith}
+use Rattle.std.proofs.Common.{◌≡◌, ◌≢◌, ℕ, zero, suc, cond, ◌&&◌, not, is_some, Bool, true, false, List, [], ◌∷◌, Option, None, Some, Result, Ok, Err, slice_get, slice_set, refl, sym, ap, subst, ◌∙◌}
 use Rattle.std.specs.Global.{Vec}
-use Rattle.std.specs.List.{AllByRecursion, list_any}
+use Rattle.std.specs.List.{AllByRecursion}
 use Rattle.std.specs.BTreeMap.{is_at}
 use Rattle.std.specs.Ordering.{is_eq, nat_cmp}
 use Rattle.std.specs.FinMap.{nat_cmp-IsAntisymmetric}
@@ -18,7 +18,7 @@ use Rattle.ref_log.specs.declared.guards.Guard.{Guard}
 use Rattle.ref_log.specs.declared.notices.Notice.{Notice}
 use Rattle.ref_log.specs.declared.notices.Who.TheVariants as who
 use Rattle.ref_agents.specs.Account.{AccountSeen, has_point, has_released, is_released_by, kept_queue, with_ended, with_head_ended}
-use Rattle.ref_agents.specs.Agents.{AgentsSeen, change_agent, ended, head_job, is_ready_at, is_ready_if_here, job_out, next_job, out_if_here, put_agent, revived, with_agents, with_restart}
+use Rattle.ref_agents.specs.Agents.{AgentsSeen, change_agent, ended, head_job, is_ready_at, is_ready_if_here, job_out, next_job, out_if_here, put_agent, revived, with_agents}
 use Rattle.ref_agents.specs.Ends.{IsAnswer, IsAnswerIfHere, after_end, after_run, judged, restart_refusal, restart_refusal_if_here}
 use Rattle.ref_agents.specs.Jobs.{JobSeen, RanSeen}
 use Rattle.ref_agents.specs.declared.accounts.Mark.{Mark}
@@ -32,12 +32,12 @@ use Rattle.ref_agents.specs.declared.agents.ErrorMode.TheVariants as modes
 use Rattle.ref_agents.specs.declared.ends.Finished.{Finished}
 use Rattle.ref_agents.specs.declared.ends.Finished.TheVariants.{Changed, Failed, Continued}
 use Rattle.ref_agents.specs.declared.faults.AgentError.{AgentError}
-use Rattle.ref_agents.specs.declared.faults.AgentError.TheVariants.{Refused, Invalid}
+use Rattle.ref_agents.specs.declared.faults.AgentError.TheVariants.{Invalid}
 use Rattle.ref_agents.specs.declared.faults.RestartFault.{RestartFault}
 use Rattle.ref_agents.specs.declared.faults.RestartFault.TheVariants as restarts
 use Rattle.std.specs.Option.{option_map, option_or}
 use Rattle.ref_play.specs.Plain.{HasRule, RuleAccepts, RuledBy}
-use Rattle.ref_play.specs.PlainAgents.{EndsAs, FailedFor, FinishMeans, HasEnded, IsNext, IsOut, IsReady, IsReleased, IsRestarted, JobOutMeans, KnowsRuleOf, NextJobMeans, OnlyAgent, ReadyMeans, RestartMeans, RestartRefusals, RestartsSo, notices}
+use Rattle.ref_play.specs.PlainAgents.{EndsAs, FailedFor, FinishMeans, HasEnded, IsNext, IsOut, IsReady, IsReleased, JobOutMeans, KnowsRuleOf, NextJobMeans, OnlyAgent, ReadyMeans, RestartMeans, RestartRefusals, RestartsSo, notices}
 use Rattle.ref_play.proofs.PlainCommits.{has_rule, rule_is}
 
 -- ---- ready
@@ -100,8 +100,8 @@ by_ready : (store : AgentsSeen) (g : ℕ) → IsReady store g → is_ready_at st
 by_ready store g is =
     ap (is_ready_if_here store.unreleased) is.here
     ∙ and_from (not (is_some is.agent.error) && not is.agent.is_out) (has_released store.unreleased is.agent.account.queue)
-      (and_from (not (is_some is.agent.error)) (not is.agent.is_out) (ap (λ e. not (is_some e)) is.sound) (ap not is.idle))
-      (ap (has_released store.unreleased) is.queue ∙ by_released store.unreleased is.first.by is.released)
+    (and_from (not (is_some is.agent.error)) (not is.agent.is_out) (ap (λ e. not (is_some e)) is.sound) (ap not is.idle))
+    (ap (has_released store.unreleased) is.queue ∙ by_released store.unreleased is.first.by is.released)
 
 pub ready_means : ReadyMeans
 ready_means store g = (is_ready_by store g, by_ready store g)
@@ -218,9 +218,12 @@ module _ (accepts : Accepts) (guards : List Guard) (g : ℕ) where
   accepted_value : (outcome : Result Edn Cause) (v : Edn) → judged accepts (rule_at guards g) outcome ≡ Ok v → Gives outcome v
   accepted_value (Ok w) v is = by (passes accepts (rule_at guards g) w) refl is where
     by : (b : Bool) → passes accepts (rule_at guards g) w ≡ b → cond b (Ok w) (Err Invalid) ≡ Ok v → Gives (Ok w) v
-    by true passed is = (cc, λ rule has.
-        let same : w ≡ v = cc in
-        ap (λ x. is_accepted accepts rule x) (sym same) ∙ (ap (λ o. passes accepts o w) (sym (rule_is guards g rule has)) ∙ passed))
+    by true passed is = (
+      cc,
+      λ rule has.
+          let same : w ≡ v = cc in
+          ap (λ x. is_accepted accepts rule x) (sym same) ∙ (ap (λ o. passes accepts o w) (sym (rule_is guards g rule has)) ∙ passed),
+    )
     by false failed is = absurd cc
   accepted_value (Err cause) v is = absurd cc
 

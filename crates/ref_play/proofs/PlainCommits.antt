@@ -1,13 +1,13 @@
 -- What a commit asks for, in plain words.
-use Rattle.std.proofs.Common.{Equal, Greater, Less, Ordering, ◌≡◌, ◌≢◌, ◌↔◌, ℕ, zero, suc, pos, cond, ◌+◌, ◌<◌, ◌≤◌, ◌^◌, ◌==◌, ◌&&◌, ◌||◌, not, nat_lt, Bool, true, false, ◌⊎◌, inl, inr, List, [], ◌∷◌, ◌++◌, length, Option, None, Some, Result, Ok, Err, slice_get, slice_set, get_or, refl, sym, ap, subst, ◌∙◌, arith}
-use Rattle.std.specs.List.{AllByRecursion, find, list_all, list_any, range_with_len}
+use Rattle.std.proofs.Common.{Equal, Greater, Less, Ordering, ◌≡◌, ℕ, zero, suc, pos, cond, ◌<◌, ◌≤◌, ◌^◌, ◌==◌, ◌&&◌, ◌||◌, not, nat_lt, Bool, true, false, List, [], ◌∷◌, ◌++◌, length, Option, None, Some, Result, Ok, Err, slice_get, slice_set, refl, sym, ap, subst, ◌∙◌, arith}
+use Rattle.std.specs.List.{AllByRecursion, find}
 use Rattle.std.specs.BTreeSet.{insert_key}
 use Rattle.std.specs.Option.{option_map}
 use Rattle.std.specs.Ordering.{match_ordering, nat_cmp}
 use Rattle.std.specs.FinMap.{nat_cmp-IsAntisymmetric}
 use Rattle.std.proofs.lemmas.List.{length-set}
-use Rattle.std.proofs.lemmas.Bool.{and_from, and_parts, eq-eqb, eqb-true, le-ltb, lt-ltb, ltb-false, ltb-true, not-false, not-true}
-use Rattle.std.proofs.lemmas.Option.{get_or_from_slice_get, unwrap_or-slice_get, slice_get_within}
+use Rattle.std.proofs.lemmas.Bool.{and_from, and_parts, eq-eqb, eqb-true, le-ltb, lt-ltb, ltb-false, ltb-true, not-false}
+use Rattle.std.proofs.lemmas.Option.{get_or_from_slice_get, unwrap_or-slice_get}
 use Rattle.ref_value.specs.Edn.{Edn, int}
 use Rattle.ref_fun.specs.Calls.{Known}
 use Rattle.ref_fun.specs.Meaning.{Means}
@@ -16,7 +16,7 @@ use Rattle.ref_fun.specs.declared.faults.Cause.{Cause}
 use Rattle.ref_fun.specs.declared.rules.Rule.{Rule}
 use Rattle.ref_log.specs.Guards.{is_accepted_at, passes_if_here, rule_at, rule_if_here}
 use Rattle.ref_log.specs.Laws.{after_dones-Ok, is_kept-itself, same_value}
-use Rattle.ref_log.specs.Replay.{after_done, after_dones, after_found, after_place, is_commute, is_kept, is_ensure, is_protected, is_touched, missing, place}
+use Rattle.ref_log.specs.Replay.{after_done, after_dones, after_found, after_place, is_commute, is_kept, is_ensure, is_protected, missing, place}
 use Rattle.ref_log.specs.Tally.{fit_tally, fits_tally, is_count, is_tally}
 use Rattle.ref_log.specs.declared.faults.AuditFault.{AuditFault}
 use Rattle.ref_log.specs.declared.guards.Guard.{Guard}
@@ -32,10 +32,9 @@ use Rattle.ref_refs.specs.Seen.{RefsSeen, changed_at}
 use Rattle.ref_refs.specs.Watches.{touched_from, touched_refs}
 use Rattle.ref_refs.specs.declared.faults.Alien.TheVariants as aliens
 use Rattle.ref_refs.specs.declared.faults.CommitFault.{CommitFault}
-use Rattle.ref_refs.specs.declared.faults.CommitFault.TheVariants.{Conflict, Foreign, Invalid, NoSuchFun, PointLimit, Refused}
-use Rattle.ref_refs.specs.declared.faults.Conflict as told
-use Rattle.ref_play.specs.Plain.{AnyByRecursion, CanCommit, Changes, CommitsWhereItCan, Counts, HasCommuted, HasRule, IsChanged, IsProtected, Leads, Makes, Protects, ReplayLeads, RuleAccepts}
-use Rattle.ref_play.proofs.Native.{changed_by_protected, differs_itself, mapped_none, none_of, none_parts, not_past, range_none}
+use Rattle.ref_refs.specs.declared.faults.CommitFault.TheVariants.{Foreign, Invalid, NoSuchFun, PointLimit}
+use Rattle.ref_play.specs.Plain.{CanCommit, Changes, CommitsWhereItCan, Counts, HasCommuted, HasRule, IsChanged, IsProtected, Leads, Makes, Protects, ReplayLeads, RuleAccepts}
+use Rattle.ref_play.proofs.Native.{changed_by_protected, differs_itself, mapped_none, none_of, not_past, range_none}
 use Rattle.ref_play.proofs.Placed.{Agrees, agrees_more}
 use Rattle.ref_play.proofs.PlainLists.{all_map, all_pass, any_each, any_pass, each_any, each_passes, found_none, none_found, none_range, some_passes}
 
@@ -387,9 +386,9 @@ module _ (means : Means) (began : List Edn) (all : List Done) (point : ℕ) wher
   answered : (former : List Done) (d : Done) (values : List Edn) (old new : Edn) → Agrees means began all point former values → value_after means began (former ++ d ∷ []) d.r ≡ Some d.answer → slice_get values d.r ≡ Some old → place means d.op old ≡ Ok new → IsProtected all d.r → new ≡ d.answer
   answered former d values old new so_far answers there gives protected =
       let same : Some new ≡ Some d.answer =
-          ap given (sym gives)
-          ∙ (ap (and_place means d.op) (sym there ∙ so_far d.r (is_protected_by all d.r protected))
-          ∙ (sym (value_after-here means began former d d.r (eq-eqb d.r d.r refl)) ∙ answers)) in
+      ap given (sym gives)
+      ∙ (ap (and_place means d.op) (sym there ∙ so_far d.r (is_protected_by all d.r protected))
+      ∙ (sym (value_after-here means began former d d.r (eq-eqb d.r d.r refl)) ∙ answers)) in
       cc
 
   one_placed : (d : Done) (ds : List Done) (values : List Edn) (old : Edn) → slice_get values d.r ≡ Some old → refused means (d ∷ ds) values ≡ None → (new : Edn) × (place means d.op old ≡ Ok new) × (refused means ds (slice_set values d.r new) ≡ None)
@@ -520,12 +519,12 @@ module _ (means : Means) (accepts : Accepts) (knows : Known) (store : RefsSeen) 
   commits can =
       let made = leads_after means tx.dones at tx.dones store.values can.after can.leads in
       let foreign = none_or (alien_ref store.values tx.dones) _ (by_refs store.values tx.dones can.refs)
-          (none_or (alien_agent agents tx.sends) _ (by_sends agents tx.sends can.agents_here)
-          (none_or (alien_tally store.tally tx.dones) (alien_point at tx.read_point) (by_tally store.tally tx.dones can.tally) (by_read at tx.read_point can.read))) in
+      (none_or (alien_agent agents tx.sends) _ (by_sends agents tx.sends can.agents_here)
+      (none_or (alien_tally store.tally tx.dones) (alien_point at tx.read_point) (by_tally store.tally tx.dones can.tally) (by_read at tx.read_point can.read))) in
       let early = none_or (alien store at agents tx) _ foreign
-          (none_or (lacking knows.funs tx.dones) _ (by_funs knows.funs tx.dones can.funs)
-          (none_or (lacking_rule knows.preds store.guards tx.dones) _ (by_preds knows.preds store.guards tx.dones can.preds)
-          (none_or (conflict store tx) (alien_value store.values tx) (by_unchanged store tx can.unchanged) (by_values store.values tx can.same)))) in
+      (none_or (lacking knows.funs tx.dones) _ (by_funs knows.funs tx.dones can.funs)
+      (none_or (lacking_rule knows.preds store.guards tx.dones) _ (by_preds knows.preds store.guards tx.dones can.preds)
+      (none_or (conflict store tx) (alien_value store.values tx) (by_unchanged store tx can.unchanged) (by_values store.values tx can.same)))) in
       none_or (early_refusal knows store at agents tx) _ early
       (none_or (refused means tx.dones store.values) _ (leads_refused means tx.dones tx.dones store.values can.after can.leads)
       (none_or (invalid accepts store.guards tx.dones (after_dones means tx.dones at tx.dones (Ok store.values))) (past_points at)

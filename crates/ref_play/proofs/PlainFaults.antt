@@ -1,13 +1,13 @@
 -- What a commit that is refused says, in plain words.
-use Rattle.std.proofs.Common.{Equal, Greater, Less, Ordering, ◌≡◌, ◌≢◌, ◌↔◌, ℕ, zero, suc, pos, cond, ◌+◌, ◌<◌, ◌≤◌, ◌^◌, ◌==◌, ◌&&◌, ◌||◌, not, nat_lt, Bool, true, false, ◌⊎◌, inl, inr, List, [], ◌∷◌, ◌++◌, length, Option, None, Some, Result, Ok, Err, slice_get, slice_set, refl, sym, ap, subst, ◌∙◌, arith}
-use Rattle.std.specs.List.{AllByRecursion, find, list_all, list_any, range_with_len}
+use Rattle.std.proofs.Common.{Equal, Greater, Less, Ordering, ◌≡◌, ◌≢◌, ℕ, zero, suc, cond, ◌+◌, ◌<◌, ◌≤◌, ◌^◌, ◌==◌, ◌&&◌, ◌||◌, not, nat_lt, Bool, true, false, ◌⊎◌, inl, inr, List, [], ◌∷◌, ◌++◌, length, Option, None, Some, Result, Ok, Err, slice_get, slice_set, refl, sym, ap, subst, ◌∙◌, arith}
+use Rattle.std.specs.List.{AllByRecursion, find, list_all, range_with_len}
 use Rattle.std.specs.BTreeSet.{insert_key}
 use Rattle.std.specs.Cmp.{nat_cmp_is}
 use Rattle.std.specs.Option.{option_map}
 use Rattle.std.specs.Ordering.{MatchOrdering, match_ordering, nat_cmp}
 use Rattle.std.proofs.lemmas.Bool.{and_from, and_parts, cases_order, eq-eqb, eqb-true, false_from_ne_true, le-ltb, lt-ltb, ltb-false, ltb-true, not-false, not-true, or_from, or_parts, true_from_ne_false}
 use Rattle.std.proofs.lemmas.Option.{get_or_from_slice_get, unwrap_or-slice_get}
-use Rattle.ref_value.specs.Edn.{Edn, int}
+use Rattle.ref_value.specs.Edn.{Edn}
 use Rattle.ref_fun.specs.Calls.{Known}
 use Rattle.ref_fun.specs.Meaning.{Means}
 use Rattle.ref_fun.specs.Rule.{Accepts, unknown}
@@ -16,7 +16,6 @@ use Rattle.ref_fun.specs.declared.rules.Rule.{Rule}
 use Rattle.ref_log.specs.Guards.{is_accepted_at, passes_if_here, rule_at}
 use Rattle.ref_log.specs.Replay.{after_dones, is_ensure, is_protected, is_touched, missing, place}
 use Rattle.ref_log.specs.Tally.{fit_tally, fits_tally, is_tally}
-use Rattle.ref_log.specs.declared.faults.AuditFault.{AuditFault}
 use Rattle.ref_log.specs.declared.guards.Guard.{Guard}
 use Rattle.ref_log.specs.declared.operations.Done.{Done}
 use Rattle.ref_log.specs.declared.operations.Op.{Op}
@@ -24,18 +23,18 @@ use Rattle.ref_log.specs.declared.operations.Op.TheVariants.{Set, Alter, Commute
 use Rattle.ref_log.specs.declared.sends.Sent.{Sent}
 use Rattle.ref_tx.specs.Inner.{IsTx}
 use Rattle.ref_tx.specs.Seen.{TxSeen}
-use Rattle.ref_refs.specs.Commit.{alien, alien_agent, alien_point, alien_ref, alien_tally, alien_value, changed_after, commit_refusal, commuted_code, commuted_codes, conflict, conflict_on, differs, differs_at, early_refusal, first_invalid, first_protected, has_ref, invalid, lacking, lacking_rule, needed_rule, or_fault, past_points, refused, refused_at, unknown_at}
+use Rattle.ref_refs.specs.Commit.{alien, alien_agent, alien_point, alien_ref, alien_tally, alien_value, changed_after, commit_refusal, commuted_code, commuted_codes, conflict, conflict_on, differs, differs_at, early_refusal, first_invalid, first_protected, has_ref, invalid, lacking, lacking_rule, or_fault, past_points, refused, refused_at, unknown_at}
 use Rattle.ref_refs.specs.Seen.{RefsSeen, changed_at}
 use Rattle.ref_refs.specs.Watches.{touched_from, touched_refs}
 use Rattle.ref_refs.specs.declared.faults.Alien.TheVariants as aliens
 use Rattle.ref_refs.specs.declared.faults.CommitFault.{CommitFault}
 use Rattle.ref_refs.specs.declared.faults.CommitFault.TheVariants.{Conflict, Foreign, Invalid, Memory, NoSuchFun, PointLimit, Refused}
 use Rattle.ref_refs.specs.declared.faults.Conflict as told
-use Rattle.ref_play.specs.Plain.{AnyByRecursion, Changes, CommutesBy, Counts, FirstWithout, HasAgents, HasCommuted, HasRefs, HasRule, IsChanged, IsCurrent, IsHere, IsKnown, IsProtected, IsSmallestInvalid, IsSmallestOther, KeepsRules, LacksFun, LacksPred, Leads, Makes, NamesSmallest, OnlyCounts, RefusalsSayWhy, RefusedOn, RefusesValue, RuleAccepts, RuledBy, Why}
+use Rattle.ref_play.specs.Plain.{AnyByRecursion, Changes, CommutesBy, Counts, FirstWithout, HasAgents, HasCommuted, HasRefs, HasRule, IsChanged, IsCurrent, IsHere, IsKnown, IsProtected, IsSmallestInvalid, IsSmallestOther, LacksFun, Leads, NamesSmallest, OnlyCounts, RefusalsSayWhy, RefusedOn, RefusesValue, RuledBy, Why}
 use Rattle.ref_play.specs.PlainAgents.{AreRising}
 use Rattle.ref_play.proofs.Native.{differs_itself, none_of}
 use Rattle.ref_play.proofs.PlainLists.{all_map, any_each, any_pass, each_any, some_passes}
-use Rattle.ref_play.proofs.PlainCommits.{IsAcceptedAt, KnowsRule, accepted_by, accepts_by, by_accepted, by_accepts, by_changes, by_counts, by_funs, by_last, by_preds, by_read, by_refs, by_sends, by_tally, by_unchanged, by_values, changes_by, code_known, counts_by, each_touched, funs_by, has_rule, here_by, insert_from, is_protected_by, last_by, lead_on, leads_after, leads_refused, makes_place, none_or, place_makes, pred_by, preds_by, protected_is, read_by, refs_by, rule_is, same_by, sends_by, tally_by, there, touched_each, unchanged_by, values_by}
+use Rattle.ref_play.proofs.PlainCommits.{IsAcceptedAt, KnowsRule, accepted_by, accepts_by, by_accepted, by_changes, by_counts, by_funs, by_last, by_preds, by_read, by_refs, by_sends, by_tally, by_unchanged, by_values, changes_by, counts_by, each_touched, funs_by, has_rule, here_by, insert_from, is_protected_by, last_by, lead_on, leads_after, leads_refused, makes_place, none_or, place_makes, pred_by, preds_by, protected_is, read_by, refs_by, rule_is, same_by, sends_by, tally_by, there, touched_each, unchanged_by, values_by}
 
 -- ---- the first of faults
 
@@ -336,14 +335,17 @@ pub conflict_by : (store : RefsSeen) (tx : TxSeen) (fault : CommitFault) → con
 unfolding FirstHolds
 conflict_by store tx fault is =
     let one = map_some (conflict_on store.lasts tx.read_point) (first_protected store.values tx.dones (changed_after store.lasts tx.read_point)) fault is in
-    let first = protected_first store.values tx.dones (changed_after store.lasts tx.read_point) one.0 one.1 in
-    (record { r = one.0; read_point = tx.read_point; changed_at = changed_at store.lasts one.0 }, one.2, record {
-      protected = first.0;
-      read = refl;
-      changed = last_is store.lasts tx.read_point one.0 first.2;
-      later = ltb-true tx.read_point (changed_at store.lasts one.0) first.2;
-      smallest = λ r last before protected is. last_by store.lasts tx.read_point r (first.3 r before protected) last is;
-    })
+    let first = protected_first store.values tx.dones (changed_after store.lasts tx.read_point) one.0 one.1 in (
+      record { r = one.0; read_point = tx.read_point; changed_at = changed_at store.lasts one.0 },
+      one.2,
+      record {
+        protected = first.0;
+        read = refl;
+        changed = last_is store.lasts tx.read_point one.0 first.2;
+        later = ltb-true tx.read_point (changed_at store.lasts one.0) first.2;
+        smallest = λ r last before protected is. last_by store.lasts tx.read_point r (first.3 r before protected) last is;
+      },
+    )
 
 pub by_conflict : (store : RefsSeen) (tx : TxSeen) (c : told.Conflict) → HasRefs store tx → NamesSmallest store tx c → conflict store tx ≡ Some (Conflict c)
 unfolding FirstHolds
@@ -351,19 +353,22 @@ by_conflict store tx c here named =
     let at : changed_at store.lasts c.r ≡ c.changed_at = get_or_from_slice_get store.lasts c.r c.changed_at 0 named.changed in
     let later = named.later in
     let first = first_is_protected store.values tx.dones (changed_after store.lasts tx.read_point) c.r
-        (named.protected, here_by store.values tx.dones here c.r named.protected, lt-ltb tx.read_point (changed_at store.lasts c.r) (omega (arith, at, later)), λ q before protected. by_last store.lasts tx.read_point q (λ last is. named.smallest q last before protected is)) in
+    (named.protected, here_by store.values tx.dones here c.r named.protected, lt-ltb tx.read_point (changed_at store.lasts c.r) (omega (arith, at, later)), λ q before protected. by_last store.lasts tx.read_point q (λ last is. named.smallest q last before protected is)) in
     ap (option_map (conflict_on store.lasts tx.read_point)) first ∙ (λ i. Some (Conflict (record { r = c.r; read_point = sym named.read i; changed_at = at i })))
 
 pub other_by : (store : RefsSeen) (tx : TxSeen) (fault : CommitFault) → HasRefs store tx → alien_value store.values tx ≡ Some fault → (r : ℕ) × (Foreign (aliens.Value r) ≡ fault) × IsSmallestOther store tx r
 unfolding FirstHolds
 other_by store tx fault here is =
     let one = map_some (λ r. Foreign (aliens.Value r)) (first_protected store.values tx.dones (differs_at store.values tx.began)) fault is in
-    let first = protected_first store.values tx.dones (differs_at store.values tx.began) one.0 one.1 in
-    (one.0, one.2, record {
-      protected = first.0;
-      other = λ same. let no : differs_at store.values tx.began one.0 ≡ false = ap (λ v. differs v (slice_get store.values one.0)) (sym same) ∙ differs_itself (slice_get store.values one.0) in let yes = first.2 in absurd cc;
-      smallest = λ q before protected. let v = there store.values q (here_by store.values tx.dones here q protected) in same_by (slice_get tx.began q) (slice_get store.values q) v.0 v.1 (first.3 q before protected);
-    })
+    let first = protected_first store.values tx.dones (differs_at store.values tx.began) one.0 one.1 in (
+      one.0,
+      one.2,
+      record {
+        protected = first.0;
+        other = λ same. let no : differs_at store.values tx.began one.0 ≡ false = ap (λ v. differs v (slice_get store.values one.0)) (sym same) ∙ differs_itself (slice_get store.values one.0) in let yes = first.2 in absurd cc;
+        smallest = λ q before protected. let v = there store.values q (here_by store.values tx.dones here q protected) in same_by (slice_get tx.began q) (slice_get store.values q) v.0 v.1 (first.3 q before protected);
+      },
+    )
 
 pub by_other : (store : RefsSeen) (tx : TxSeen) (r : ℕ) → HasRefs store tx → IsSmallestOther store tx r → alien_value store.values tx ≡ Some (Foreign (aliens.Value r))
 unfolding FirstHolds
@@ -371,7 +376,7 @@ by_other store tx r here other =
     let below = here_by store.values tx.dones here r other.protected in
     let v = there store.values r below in
     ap (option_map (λ n. Foreign (aliens.Value n))) (first_is_protected store.values tx.dones (differs_at store.values tx.began) r
-        (other.protected, below, true_from_ne_false (differs_at store.values tx.began r) (λ same. other.other (same_by (slice_get tx.began r) (slice_get store.values r) v.0 v.1 same)), λ q before protected. ap (λ w. differs w (slice_get store.values q)) (sym (other.smallest q before protected)) ∙ differs_itself (slice_get store.values q)))
+    (other.protected, below, true_from_ne_false (differs_at store.values tx.began r) (λ same. other.other (same_by (slice_get tx.began r) (slice_get store.values r) v.0 v.1 same)), λ q before protected. ap (λ w. differs w (slice_get store.values q)) (sym (other.smallest q before protected)) ∙ differs_itself (slice_get store.values q)))
 
 -- ---- what refuses
 

@@ -1,7 +1,6 @@
 -- What an operation in a transaction answers, in plain words.
-use Rattle.std.proofs.Common.{◌≡◌, ◌≢◌, ◌↔◌, ℕ, zero, suc, cond, ◌+◌, ◌<◌, ◌≤◌, ◌==◌, ◌&&◌, ◌||◌, not, nat_lt, Bool, true, false, ◌⊎◌, inl, inr, List, [], ◌∷◌, ◌++◌, length, Option, None, Some, Result, Ok, Err, slice_get, refl, sym, ap, subst, ◌∙◌, arith}
-use Rattle.std.specs.List.{find, list_any}
-use Rattle.std.proofs.lemmas.Bool.{and_from, and_parts, cases_eq, eq-eqb, eqb-false, eqb-true, false_from_ne_true, le-ltb, lt-ltb, ltb-false, ltb-true, ne_eqb, not-true}
+use Rattle.std.proofs.Common.{◌≡◌, ℕ, cond, ◌<◌, ◌==◌, ◌&&◌, not, Bool, true, false, inl, inr, List, [], ◌∷◌, ◌++◌, length, Option, None, Some, Result, Ok, Err, slice_get, refl, sym, ap, subst, ◌∙◌}
+use Rattle.std.proofs.lemmas.Bool.{and_from, and_parts, eq-eqb, eqb-false, eqb-true, false_from_ne_true, le-ltb, lt-ltb, ltb-false, ltb-true, ne_eqb, not-true}
 use Rattle.std.proofs.lemmas.List.{append-nil, append_assoc}
 use Rattle.ref_value.specs.Edn.{Edn}
 use Rattle.ref_fun.specs.Meaning.{Means}
@@ -11,14 +10,13 @@ use Rattle.ref_log.specs.Tally.{fits_tally, is_tally}
 use Rattle.ref_log.specs.declared.operations.Done.{Done}
 use Rattle.ref_log.specs.declared.operations.Op.{Op}
 use Rattle.ref_log.specs.declared.operations.Op.TheVariants.{Set, Alter, Commute, Ensure}
-use Rattle.ref_tx.specs.Inner.{AreAnswers, IsTx, after_ops, and_place, answer_of, called, given, has_ref, inner_value, is_commuted, ops_on, or_refusal, placed, refusal, refusal_by, told, value_after}
+use Rattle.ref_tx.specs.Inner.{AreAnswers, IsTx, after_ops, answer_of, called, given, has_ref, inner_value, is_commuted, ops_on, or_refusal, placed, told, value_after}
 use Rattle.ref_tx.specs.Laws.{value_after-elsewhere}
 use Rattle.ref_tx.specs.Seen.{TxSeen}
 use Rattle.ref_tx.specs.declared.faults.TxFault.{TxFault}
 use Rattle.ref_tx.specs.declared.faults.TxFault.TheVariants as txs
-use Rattle.ref_play.specs.Plain.{AnyByRecursion, Counts, Makes, RefusesValue}
-use Rattle.ref_play.specs.PlainTx.{AnswersSo, Calls, Commutes, HasCalled, InnerMeans, IsAllowed, IsCommuted, IsValueIn, LeadsAt, MayCount, MaySet, OperationsMean, Sets}
-use Rattle.ref_play.proofs.Placed.{get-below}
+use Rattle.ref_play.specs.Plain.{Counts, Makes}
+use Rattle.ref_play.specs.PlainTx.{AnswersSo, Calls, Commutes, HasCalled, InnerMeans, IsAllowed, IsCommuted, IsValueIn, LeadsAt, MaySet, OperationsMean, Sets}
 use Rattle.ref_play.proofs.PlainCommits.{by_counts, counts_by, makes_place, place_makes, there}
 use Rattle.ref_play.proofs.PlainFaults.{place_refuses, refuses_place}
 use Rattle.ref_play.proofs.PlainLists.{any_pass, some_passes}

@@ -1,5 +1,5 @@
 -- What a commit sends and when it may be taken, in plain words.
-use Rattle.std.proofs.Common.{Equal, Greater, Less, Ordering, ◌≡◌, ◌≢◌, ◌↔◌, ℕ, zero, suc, cond, ◌<◌, ◌==◌, Bool, true, false, ◌⊎◌, inl, inr, List, [], ◌∷◌, ◌++◌, map, Option, None, Some, slice_get, slice_set, refl, sym, ap, subst, ◌∙◌, arith}
+use Rattle.std.proofs.Common.{Equal, Greater, Less, Ordering, ◌≡◌, ◌≢◌, ℕ, cond, ◌<◌, ◌==◌, Bool, true, false, ◌⊎◌, inl, inr, List, [], ◌∷◌, map, Option, None, Some, slice_get, slice_set, refl, sym, ap, subst, ◌∙◌, arith}
 use Rattle.std.specs.BTreeMap.{is_at}
 use Rattle.std.specs.BTreeSet.{insert_key}
 use Rattle.std.specs.List.{AllByRecursion, filter}
@@ -8,12 +8,11 @@ use Rattle.std.specs.Set.{remove_key}
 use Rattle.std.proofs.lemmas.Bool.{eqb-false, eqb-true}
 use Rattle.std.proofs.lemmas.List.{append-nil, append_assoc}
 use Rattle.ref_log.specs.declared.sends.Sent.{Sent}
-use Rattle.ref_agents.specs.Agents.{AgentsSeen, put_agent, queued_of, queuing, with_commit, with_release, with_send, with_sends, with_unreleased}
+use Rattle.ref_agents.specs.Agents.{put_agent, queued_of, queuing, with_send, with_sends, with_unreleased}
 use Rattle.ref_agents.specs.declared.accounts.Queued.{Queued}
-use Rattle.ref_agents.specs.declared.accounts.SentBy.TheVariants.{Commit}
 use Rattle.ref_agents.specs.declared.agents.Agent.{Agent}
 use Rattle.ref_play.specs.Plain.{AnyByRecursion}
-use Rattle.ref_play.specs.PlainAgents.{AreRising, HasReleased, HasSent, ReleaseMeans, SendsMean, queued, sent_by}
+use Rattle.ref_play.specs.PlainAgents.{AreRising, ReleaseMeans, SendsMean, queued, sent_by}
 use Rattle.ref_play.proofs.PlainAgents.{at_itself, at_same, set_here, set_other}
 use Rattle.ref_play.proofs.PlainFaults.{rank}
 

@@ -40,6 +40,7 @@ mod working;
 pub use events::{Act, Event, Reply};
 pub use sims::Sim;
 pub use theorems::{
-    commits_meet_their_conditions, finish_in_plain_words, job_out_in_plain_words, next_job_in_plain_words, ready_in_plain_words,
-    refusals_say_why, replay_in_plain_words, restart_in_plain_words, runs_have_laws, steps_have_laws,
+    commits_meet_their_conditions, finish_in_plain_words, job_out_in_plain_words,
+    next_job_in_plain_words, ready_in_plain_words, refusals_say_why, replay_in_plain_words,
+    restart_in_plain_words, runs_have_laws, steps_have_laws,
 };
