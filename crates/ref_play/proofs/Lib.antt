@@ -21,3 +21,4 @@ pub mod PlainAgents
 pub mod PlainFaults
 pub mod PlainOperations
 pub mod PlainSends
+pub mod PlainReplay

@@ -33,7 +33,7 @@ use Rattle.ref_refs.specs.Watches.{touched_from, touched_refs}
 use Rattle.ref_refs.specs.declared.faults.Alien.TheVariants as aliens
 use Rattle.ref_refs.specs.declared.faults.CommitFault.{CommitFault}
 use Rattle.ref_refs.specs.declared.faults.CommitFault.TheVariants.{Foreign, Invalid, NoSuchFun, PointLimit}
-use Rattle.ref_play.specs.Plain.{CanCommit, Changes, CommitsWhereItCan, Counts, HasCommuted, HasRule, IsChanged, IsProtected, Leads, Makes, Protects, ReplayLeads, RuleAccepts}
+use Rattle.ref_play.specs.Plain.{CanCommit, Changes, CommitsWhereItCan, Counts, HasCommuted, HasRule, IsChanged, IsProtected, Leads, Makes, Protects, RuleAccepts}
 use Rattle.ref_play.proofs.Native.{changed_by_protected, differs_itself, mapped_none, none_of, not_past, range_none}
 use Rattle.ref_play.proofs.Placed.{Agrees, agrees_more}
 use Rattle.ref_play.proofs.PlainLists.{all_map, all_pass, any_each, any_pass, each_any, each_passes, found_none, none_found, none_range, some_passes}
@@ -328,7 +328,7 @@ kept_by all d new kept = by (is_protected all d.r) refl where
 by_kept : (all : List Done) (d : Done) (new : Edn) → (not (is_protected all d.r) || is_kept d new) ≡ true → IsProtected all d.r → new ≡ d.answer
 by_kept all d new kept protected = same_value new d.answer (unless (is_protected all d.r) (is_kept d new) (is_protected_by all d.r protected) kept)
 
-place_kept : (free : Bool) (point : ℕ) (d : Done) (values : List Edn) (new : Edn) → (free || is_kept d new) ≡ true → after_place free point d values (Ok new) ≡ Ok (slice_set values d.r new)
+pub place_kept : (free : Bool) (point : ℕ) (d : Done) (values : List Edn) (new : Edn) → (free || is_kept d new) ≡ true → after_place free point d values (Ok new) ≡ Ok (slice_set values d.r new)
 place_kept free point d values new kept = rw kept refl
 
 pub made_one : (means : Means) (all : List Done) (point : ℕ) (d : Done) (values : List Edn) (old new : Edn) → slice_get values d.r ≡ Some old → place means d.op old ≡ Ok new → (IsProtected all d.r → new ≡ d.answer) → after_done means all point d values ≡ Ok (slice_set values d.r new)
@@ -351,15 +351,14 @@ leads_refused means all (d ∷ ds) values after leads =
     ∙ leads_refused means all ds (slice_set values d.r leads.1) after leads.5)
 
 -- one operation that is applied
-Applied : Means → Bool → Done → List Edn → List Edn → Option Edn → Type 0
+abbrev pub Applied : Means → Bool → Done → List Edn → List Edn → Option Edn → Type 0
 Applied means free d values next there = (old new : Edn) × (there ≡ Some old) × (place means d.op old ≡ Ok new) × ((free || is_kept d new) ≡ true) × (next ≡ slice_set values d.r new)
 
 if_kept : (b : Bool) (values next : List Edn) (fault : AuditFault) → cond b (Ok values) (Err fault) ≡ Ok next → (b ≡ true) × (next ≡ values)
 if_kept true values next fault is = (refl, cc)
 if_kept false values next fault is = absurd cc
 
-applied : (means : Means) (free : Bool) (point : ℕ) (d : Done) (values next : List Edn) (there : Option Edn) → after_found means free point d values there ≡ Ok next → Applied means free d values next there
-unfolding Applied
+pub applied : (means : Means) (free : Bool) (point : ℕ) (d : Done) (values next : List Edn) (there : Option Edn) → after_found means free point d values there ≡ Ok next → Applied means free d values next there
 applied means free point d values next None is = absurd cc
 applied means free point d values next (Some old) is = by (place means d.op old) refl is where
   by : (gives : Result Edn Cause) → place means d.op old ≡ gives → after_place free point d values gives ≡ Ok next → Applied means free d values next (Some old)
@@ -368,17 +367,13 @@ applied means free point d values next (Some old) is = by (place means d.op old)
       let kept = if_kept (free || is_kept d new) (slice_set values d.r new) next _ is in
       (old, new, refl, e, kept.0, kept.1)
 
-after_leads : (means : Means) (all : List Done) (point : ℕ) (ds : List Done) (values after : List Edn) → after_dones means all point ds (Ok values) ≡ Ok after → Leads means all ds values after
-unfolding Applied
+pub after_leads : (means : Means) (all : List Done) (point : ℕ) (ds : List Done) (values after : List Edn) → after_dones means all point ds (Ok values) ≡ Ok after → Leads means all ds values after
 after_leads means all point [] values after is = cc
 after_leads means all point (d ∷ ds) values after is =
     let first = after_dones-Ok means all point ds (after_done means all point d values) after is in
     let one = applied means (not (is_protected all d.r)) point d values first.0 (slice_get values d.r) first.1 in
     let rest : after_dones means all point ds (Ok (slice_set values d.r one.1)) ≡ Ok after = ap (λ l. after_dones means all point ds (Ok l)) (sym one.5) ∙ (ap (after_dones means all point ds) (sym first.1) ∙ is) in
     (one.0, one.1, one.2, place_makes means d.op one.0 one.1 one.3, by_kept all d one.1 one.4, after_leads means all point ds (slice_set values d.r one.1) after rest)
-
-pub replay_leads : (means : Means) → ReplayLeads means
-replay_leads means point dones values after = (after_leads means dones point dones values after, leads_after means dones point dones values after)
 
 -- ---- what doesn't refuse leads on
 

@@ -1,17 +1,21 @@
 -- What definitions say that the machine and the calls of a world share, in plain words: each is met exactly where what stands here is
 -- so. The functions of src/theorems.rt have these laws as contracts.
-use Rattle.std.specs.Prelude.{◌≡◌, ◌≢◌, ◌↔◌, ◌⊎◌, ℕ, pos, ◌<◌, ◌≤◌, ◌^◌, Bool, true, false, List, [], ◌∷◌, length, slice_get, slice_set, None, Some, Ok, Err}
+use Rattle.std.specs.Prelude.{◌≡◌, ◌≢◌, ◌↔◌, ◌⊎◌, ℕ, pos, ◌<◌, ◌≤◌, ◌^◌, Bool, true, false, List, [], ◌∷◌, ◌++◌, length, slice_get, slice_set, None, Some, Ok, Err}
 use Rattle.std.specs.List.{AllByRecursion}
 use Rattle.ref_value.specs.Edn.{Edn, int}
 use Rattle.ref_fun.specs.Calls.{Known}
 use Rattle.ref_fun.specs.Meaning.{Means}
 use Rattle.ref_fun.specs.Rule.{Accepts}
 use Rattle.ref_fun.specs.declared.rules.Rule.{Rule}
-use Rattle.ref_log.specs.Replay.{after_dones}
+use Rattle.ref_log.specs.Replay.{replay}
+use Rattle.ref_log.specs.declared.entries.Entry.{Entry}
+use Rattle.ref_log.specs.declared.entries.Entry.TheVariants as entries
 use Rattle.ref_log.specs.declared.guards.Guard.{Guard}
 use Rattle.ref_log.specs.declared.operations.Done.{Done}
 use Rattle.ref_log.specs.declared.operations.Op.{Op}
 use Rattle.ref_log.specs.declared.operations.Op.TheVariants.{Set, Alter, Commute, Ensure}
+use Rattle.ref_log.specs.declared.states.Base.{Base}
+use Rattle.ref_log.specs.declared.states.PlainState.{PlainState}
 use Rattle.ref_fun.specs.declared.faults.Cause.{Cause}
 use Rattle.ref_tx.specs.Inner.{IsTx}
 use Rattle.ref_tx.specs.Seen.{TxSeen}
@@ -94,9 +98,23 @@ Leads means all (d ∷ ds) values after =
     (old new : Edn) × (slice_get values d.r ≡ Some old) × Makes means d.op old new × (IsProtected all d.r → new ≡ d.answer)
     × Leads means all ds (slice_set values d.r new) after
 
--- The replay of an entry has a value exactly where its operations lead to it.
-abbrev pub ReplayLeads : Means → Type 0
-ReplayLeads means = (point : ℕ) (dones : List Done) (values after : List Edn) → after_dones means dones point dones (Ok values) ≡ Ok after ↔ Leads means dones dones values after
+-- What an entry makes of all refs and atoms: a transaction's operations lead on; the operation on an atom makes the answer that is kept
+-- of the atom's value; and a reference that is made is the last of its kind.
+abbrev pub StepsTo : Means → Entry → PlainState → PlainState → Type 0
+StepsTo means (entries.Trans t) old new = Leads means t.dones t.dones old.refs new.refs × (new.atoms ≡ old.atoms)
+StepsTo means (entries.Atom a op answer) old new =
+    (new.refs ≡ old.refs) × ((v : Edn) × (slice_get old.atoms a ≡ Some v) × Makes means op v answer × (new.atoms ≡ slice_set old.atoms a answer))
+StepsTo means (entries.MadeRef v) old new = (new.refs ≡ old.refs ++ v ∷ []) × (new.atoms ≡ old.atoms)
+StepsTo means (entries.MadeAtom v) old new = (new.refs ≡ old.refs) × (new.atoms ≡ old.atoms ++ v ∷ [])
+
+-- These entries do so, one after the other.
+abbrev pub RunsTo : Means → List Entry → PlainState → PlainState → Type 0
+RunsTo means [] old new = old ≡ new
+RunsTo means (e ∷ es) old new = (next : PlainState) × StepsTo means e old next × RunsTo means es next new
+
+-- The replay of entries on a base has a value exactly where they lead to it from the base's values.
+abbrev pub ReplayMeans : Means → Type 0
+ReplayMeans means = (base : Base) (es : List Entry) (after : PlainState) → replay means base es ≡ Ok after ↔ RunsTo means es (record { refs = base.refs; atoms = base.atoms }) after
 
 -- ---- commits
 

@@ -1,6 +1,6 @@
 //! Laws of the machine, and of the words that it shares with the calls of a world. Each function's contract is a law; none does anything.
 ghost use Rattle.ref_play.specs.Laws.{RunsHaveLaws, StepsHaveLaws};
-ghost use Rattle.ref_play.specs.Plain.{CommitsWhereItCan, RefusalsSayWhy, ReplayLeads};
+ghost use Rattle.ref_play.specs.Plain.{CommitsWhereItCan, RefusalsSayWhy, ReplayMeans};
 ghost use Rattle.ref_play.specs.PlainAgents.{FinishMeans, JobOutMeans, NextJobMeans, ReadyMeans, ReleaseMeans, RestartMeans, RestartRefusals, SendsMean};
 ghost use Rattle.ref_play.specs.PlainTx.{InnerMeans, OperationsMean};
 
@@ -37,9 +37,9 @@ pub fn refusals_say_why<M: Meaning>()
     ensures { RefusalsSayWhy M.means M.accepts }
 {}
 
-/// The replay of an entry leads from some values to others exactly where its operations do, one after the other.
+/// The replay of entries on a base has a value exactly where they lead to it from the base's values, one after the other.
 pub fn replay_in_plain_words<M: Meaning>()
-    ensures { ReplayLeads M.means }
+    ensures { ReplayMeans M.means }
 {}
 
 /// An agent is ready exactly where it is here, has no error and no action on its way, and its first action that waits was sent outside
