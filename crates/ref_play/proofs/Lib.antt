@@ -17,6 +17,7 @@ pub mod Starting
 pub mod Tables
 pub mod PlainLists
 pub mod PlainCommits
+pub mod PlainRules
 pub mod PlainAgents
 pub mod PlainFaults
 pub mod PlainOperations

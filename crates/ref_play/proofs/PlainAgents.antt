@@ -39,6 +39,7 @@ use Rattle.std.specs.Option.{option_map, option_or}
 use Rattle.ref_play.specs.Plain.{HasRule, RuleAccepts, RuledBy}
 use Rattle.ref_play.specs.PlainAgents.{EndsAs, FailedFor, FinishMeans, HasEnded, IsNext, IsOut, IsReady, IsReleased, JobOutMeans, KnowsRuleOf, NextJobMeans, OnlyAgent, ReadyMeans, RestartMeans, RestartRefusals, RestartsSo, notices}
 use Rattle.ref_play.proofs.PlainCommits.{has_rule, rule_is}
+use Rattle.ref_play.proofs.PlainRules.{code_lacked, lacked_code, lacked_none, none_lacked, passes_rule, rule_passes, rule_refuses}
 
 -- ---- ready
 
@@ -310,63 +311,20 @@ module _ (accepts : Accepts) (knows : ℕ → Bool) (store : AgentsSeen) (g : �
   abbrev So : Option RestartFault → Type 0
   So refusal = RestartsSo accepts knows store g state refusal
 
-  lacked_code : (code : ℕ) → unknown knows (rule_at store.guards g) ≡ Some code → RuledBy store.guards code g × (knows code ≡ false)
-  lacked_code code is = by (rule_at store.guards g) refl is where
-    one : (rule : Rule) → HasRule store.guards g rule → (b : Bool) → knows rule.code ≡ b → cond b None (Some rule.code) ≡ Some code → RuledBy store.guards code g × (knows code ≡ false)
-    one rule has true e is = absurd cc
-    one rule has false e is =
-        let same : rule.code ≡ code = cc in
-        ((rule, has, same), ap knows (sym same) ∙ e)
-
-    by : (rule : Option Rule) → rule_at store.guards g ≡ rule → unknown knows rule ≡ Some code → RuledBy store.guards code g × (knows code ≡ false)
-    by None has is = absurd cc
-    by (Some rule) has is = one rule (has_rule store.guards g rule has) (knows rule.code) refl is
-
-  code_lacked : (code : ℕ) → RuledBy store.guards code g → knows code ≡ false → unknown knows (rule_at store.guards g) ≡ Some code
-  code_lacked code (rule, has, same) never =
-      ap (unknown knows) (rule_is store.guards g rule has) ∙ (ap (λ b. cond b None (Some rule.code)) (ap knows same ∙ never) ∙ ap Some same)
-
-  none_lacked : unknown knows (rule_at store.guards g) ≡ None → KnowsRuleOf knows store.guards g
-  none_lacked none rule has = one (knows rule.code) (ap (unknown knows) (sym (rule_is store.guards g rule has)) ∙ none) where
-    one : (b : Bool) → cond b None (Some rule.code) ≡ None → b ≡ true
-    one true is = refl
-    one false is = absurd cc
-
-  lacked_none : KnowsRuleOf knows store.guards g → unknown knows (rule_at store.guards g) ≡ None
-  lacked_none known = by (rule_at store.guards g) refl where
-    by : (rule : Option Rule) → rule_at store.guards g ≡ rule → unknown knows rule ≡ None
-    by None has = refl
-    by (Some rule) has = ap (λ b. cond b None (Some rule.code)) (known rule (has_rule store.guards g rule has))
-
-  rule_passes : passes accepts (rule_at store.guards g) state ≡ true → RuleAccepts accepts store.guards g state
-  rule_passes is rule has = ap (λ o. passes accepts o state) (sym (rule_is store.guards g rule has)) ∙ is
-
-  passes_rule : RuleAccepts accepts store.guards g state → passes accepts (rule_at store.guards g) state ≡ true
-  passes_rule accepted = by (rule_at store.guards g) refl where
-    by : (rule : Option Rule) → rule_at store.guards g ≡ rule → passes accepts rule state ≡ true
-    by None has = refl
-    by (Some rule) has = accepted rule (has_rule store.guards g rule has)
-
-  rule_refuses : passes accepts (rule_at store.guards g) state ≡ false → (rule : Rule) × HasRule store.guards g rule × (accepts rule.code rule.args state ≡ false)
-  rule_refuses is = by (rule_at store.guards g) refl is where
-    by : (rule : Option Rule) → rule_at store.guards g ≡ rule → passes accepts rule state ≡ false → (r : Rule) × HasRule store.guards g r × (accepts r.code r.args state ≡ false)
-    by None has is = absurd cc
-    by (Some rule) has is = (rule, has_rule store.guards g rule has, is)
-
   restarts_so : So (restart_refusal accepts knows store g state)
   restarts_so = by (slice_get store.agents g) refl where
     failed : (agent : Agent) → slice_get store.agents g ≡ Some agent → KnowsRuleOf knows store.guards g → (error : AgentError) → agent.error ≡ Some error → (b : Bool) → passes accepts (rule_at store.guards g) state ≡ b → So (asked None true b)
-    failed agent here known error is true accepted = (agent, here, known, (λ none. absurd cc), rule_passes accepted)
-    failed agent here known error is false refused = (agent, here, known, (λ none. absurd cc), rule_refuses refused)
+    failed agent here known error is true accepted = (agent, here, known, (λ none. absurd cc), rule_passes accepts store.guards g state accepted)
+    failed agent here known error is false refused = (agent, here, known, (λ none. absurd cc), rule_refuses accepts store.guards g state refused)
 
     known : (agent : Agent) → slice_get store.agents g ≡ Some agent → (error : Option AgentError) → agent.error ≡ error → KnowsRuleOf knows store.guards g → So (asked None (is_some error) (passes accepts (rule_at store.guards g) state))
     known agent here None is knowing = (agent, here, knowing, is)
     known agent here (Some error) is knowing = failed agent here knowing error is (passes accepts (rule_at store.guards g) state) refl
 
     coded : (agent : Agent) → slice_get store.agents g ≡ Some agent → (lacked : Option ℕ) → unknown knows (rule_at store.guards g) ≡ lacked → So (asked lacked (is_some agent.error) (passes accepts (rule_at store.guards g) state))
-    coded agent here None is = known agent here agent.error refl (none_lacked is)
+    coded agent here None is = known agent here agent.error refl (none_lacked knows store.guards g is)
     coded agent here (Some code) is =
-        let one = lacked_code code is in
+        let one = lacked_code knows store.guards g code is in
         ((λ none. absurd cc), one.0, one.1)
 
     by : (found : Option Agent) → slice_get store.agents g ≡ found → So (restart_refusal_if_here accepts knows (rule_at store.guards g) state found)
@@ -386,15 +344,15 @@ module _ (accepts : Accepts) (knows : ℕ → Bool) (store : AgentsSeen) (g : �
   has_error (Some error) failed = refl
 
   back : (refusal : Option RestartFault) → So refusal → restart_refusal accepts knows store g state ≡ refusal
-  back None (agent, here, known, failed, accepted) = by_asked agent here None (lacked_none known) true (has_error agent.error failed) true (passes_rule accepted)
+  back None (agent, here, known, failed, accepted) = by_asked agent here None (lacked_none knows store.guards g known) true (has_error agent.error failed) true (passes_rule accepts store.guards g state accepted)
   back (Some restarts.NoSuchAgent) none = ap (restart_refusal_if_here accepts knows (rule_at store.guards g) state) none
   back (Some (restarts.NoSuchFun code)) (here, ruled, never) = by (slice_get store.agents g) refl where
     by : (found : Option Agent) → slice_get store.agents g ≡ found → restart_refusal accepts knows store g state ≡ Some (restarts.NoSuchFun code)
     by None none = absurd (here none)
-    by (Some agent) is = by_asked agent is (Some code) (code_lacked code ruled never) (is_some agent.error) refl (passes accepts (rule_at store.guards g) state) refl
-  back (Some restarts.NotFailed) (agent, here, known, sound) = by_asked agent here None (lacked_none known) false (ap is_some sound) (passes accepts (rule_at store.guards g) state) refl
+    by (Some agent) is = by_asked agent is (Some code) (code_lacked knows store.guards g code ruled never) (is_some agent.error) refl (passes accepts (rule_at store.guards g) state) refl
+  back (Some restarts.NotFailed) (agent, here, known, sound) = by_asked agent here None (lacked_none knows store.guards g known) false (ap is_some sound) (passes accepts (rule_at store.guards g) state) refl
   back (Some restarts.Invalid) (agent, here, known, failed, (rule, has, refuses)) =
-      by_asked agent here None (lacked_none known) true (has_error agent.error failed) false (ap (λ o. passes accepts o state) (rule_is store.guards g rule has) ∙ refuses)
+      by_asked agent here None (lacked_none knows store.guards g known) true (has_error agent.error failed) false (ap (λ o. passes accepts o state) (rule_is store.guards g rule has) ∙ refuses)
   back (Some restarts.Memory) never = absurd never
 
 pub restart_refusals : (accepts : Accepts) → RestartRefusals accepts
