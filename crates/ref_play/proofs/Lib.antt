@@ -23,3 +23,4 @@ pub mod PlainFaults
 pub mod PlainOperations
 pub mod PlainSends
 pub mod PlainReplay
+pub mod PlainAtoms

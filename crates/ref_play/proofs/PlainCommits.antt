@@ -33,7 +33,7 @@ use Rattle.ref_refs.specs.Watches.{touched_from, touched_refs}
 use Rattle.ref_refs.specs.declared.faults.Alien.TheVariants as aliens
 use Rattle.ref_refs.specs.declared.faults.CommitFault.{CommitFault}
 use Rattle.ref_refs.specs.declared.faults.CommitFault.TheVariants.{Foreign, Invalid, NoSuchFun, PointLimit}
-use Rattle.ref_play.specs.Plain.{CanCommit, Changes, CommitsWhereItCan, Counts, HasCommuted, HasRule, IsChanged, IsProtected, Leads, Makes, Protects, RuleAccepts}
+use Rattle.ref_play.specs.Plain.{CanCommit, Changes, CommitsWhereItCan, Counts, HasCommuted, HasRule, IsChanged, IsProtected, KnowsRuleOf, Leads, Makes, Protects, RuleAccepts}
 use Rattle.ref_play.proofs.Native.{changed_by_protected, differs_itself, mapped_none, none_of, not_past, range_none}
 use Rattle.ref_play.proofs.Placed.{Agrees, agrees_more}
 use Rattle.ref_play.proofs.PlainLists.{all_map, all_pass, any_each, any_pass, each_any, each_passes, found_none, none_found, none_range, some_passes}
@@ -209,41 +209,37 @@ has_rule guards n rule is = by (slice_get guards n) refl is where
   by None here is = absurd cc
   by (Some guard) here is = (guard, here, is)
 
--- the predicate of the rule of a ref is known
-abbrev pub KnowsRule : (ℕ → Bool) → List Guard → ℕ → Type 0
-KnowsRule knows guards r = (rule : Rule) → HasRule guards r rule → knows rule.code ≡ true
-
 pub code_known : (b : Bool) (code : ℕ) → cond b None (Some code) ≡ None → b ≡ true
 code_known true code none = refl
 code_known false code none = absurd cc
 
-pub pred_by : (knows : ℕ → Bool) (guards : List Guard) (d : Done) → unknown_at knows guards d ≡ None → Changes d.op → KnowsRule knows guards d.r
+pub pred_by : (knows : ℕ → Bool) (guards : List Guard) (d : Done) → unknown_at knows guards d ≡ None → Changes d.op → KnowsRuleOf knows guards d.r
 pred_by knows guards d none changes rule has =
     let needed : needed_rule guards d ≡ Some rule = ap (λ b. cond b None (rule_at guards d.r)) (by_changes d.op changes) ∙ rule_is guards d.r rule has in
     code_known (knows rule.code) rule.code (ap (unknown knows) (sym needed) ∙ mapped_none NoSuchFun (unknown knows (needed_rule guards d)) none)
 
-by_pred : (knows : ℕ → Bool) (guards : List Guard) (d : Done) → (Changes d.op → KnowsRule knows guards d.r) → unknown_at knows guards d ≡ None
+by_pred : (knows : ℕ → Bool) (guards : List Guard) (d : Done) → (Changes d.op → KnowsRuleOf knows guards d.r) → unknown_at knows guards d ≡ None
 by_pred knows guards d has = ap (option_map NoSuchFun) (by (is_ensure d.op) refl (rule_at guards d.r) refl) where
   by : (b : Bool) → is_ensure d.op ≡ b → (rule : Option Rule) → rule_at guards d.r ≡ rule → unknown knows (cond b None rule) ≡ None
   by true ensures rule is = refl
   by false changes None is = refl
   by false changes (Some rule) is = ap (λ b. cond b None (Some rule.code)) (has (changes_by d.op changes) rule (has_rule guards d.r rule is))
 
-each_pred : (knows : ℕ → Bool) (guards : List Guard) (ds : List Done) → lacking_rule knows guards ds ≡ None → AllByRecursion (λ (d : Done). Changes d.op → KnowsRule knows guards d.r) ds
+each_pred : (knows : ℕ → Bool) (guards : List Guard) (ds : List Done) → lacking_rule knows guards ds ≡ None → AllByRecursion (λ (d : Done). Changes d.op → KnowsRuleOf knows guards d.r) ds
 each_pred knows guards [] none = tt
 each_pred knows guards (d ∷ ds) none =
     let parts = none_of (unknown_at knows guards d) (lacking_rule knows guards ds) none in
     (pred_by knows guards d parts.0, each_pred knows guards ds parts.1)
 
-pred_each : (knows : ℕ → Bool) (guards : List Guard) (ds : List Done) → AllByRecursion (λ (d : Done). Changes d.op → KnowsRule knows guards d.r) ds → lacking_rule knows guards ds ≡ None
+pred_each : (knows : ℕ → Bool) (guards : List Guard) (ds : List Done) → AllByRecursion (λ (d : Done). Changes d.op → KnowsRuleOf knows guards d.r) ds → lacking_rule knows guards ds ≡ None
 pred_each knows guards [] all = refl
 pred_each knows guards (d ∷ ds) all = none_or (unknown_at knows guards d) (lacking_rule knows guards ds) (by_pred knows guards d all.0) (pred_each knows guards ds all.1)
 
-pub preds_by : (knows : ℕ → Bool) (guards : List Guard) (ds : List Done) → lacking_rule knows guards ds ≡ None → (r : ℕ) (rule : Rule) → IsChanged ds r → HasRule guards r rule → knows rule.code ≡ true
-preds_by knows guards ds none r rule changed has = each_any (λ (d : Done). d.r) (λ (d : Done). Changes d.op) (KnowsRule knows guards) ds (each_pred knows guards ds none) r changed rule has
+pub preds_by : (knows : ℕ → Bool) (guards : List Guard) (ds : List Done) → lacking_rule knows guards ds ≡ None → (r : ℕ) → IsChanged ds r → KnowsRuleOf knows guards r
+preds_by knows guards ds none = each_any (λ (d : Done). d.r) (λ (d : Done). Changes d.op) (KnowsRuleOf knows guards) ds (each_pred knows guards ds none)
 
-pub by_preds : (knows : ℕ → Bool) (guards : List Guard) (ds : List Done) → ((r : ℕ) (rule : Rule) → IsChanged ds r → HasRule guards r rule → knows rule.code ≡ true) → lacking_rule knows guards ds ≡ None
-by_preds knows guards ds all = pred_each knows guards ds (any_each (λ (d : Done). d.r) (λ (d : Done). Changes d.op) (KnowsRule knows guards) ds (λ r changed rule has. all r rule changed has))
+pub by_preds : (knows : ℕ → Bool) (guards : List Guard) (ds : List Done) → ((r : ℕ) → IsChanged ds r → KnowsRuleOf knows guards r) → lacking_rule knows guards ds ≡ None
+by_preds knows guards ds all = pred_each knows guards ds (any_each (λ (d : Done). d.r) (λ (d : Done). Changes d.op) (KnowsRuleOf knows guards) ds all)
 
 -- ---- protected refs
 

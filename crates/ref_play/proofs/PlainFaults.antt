@@ -30,11 +30,11 @@ use Rattle.ref_refs.specs.declared.faults.Alien.TheVariants as aliens
 use Rattle.ref_refs.specs.declared.faults.CommitFault.{CommitFault}
 use Rattle.ref_refs.specs.declared.faults.CommitFault.TheVariants.{Conflict, Foreign, Invalid, Memory, NoSuchFun, PointLimit, Refused}
 use Rattle.ref_refs.specs.declared.faults.Conflict as told
-use Rattle.ref_play.specs.Plain.{AnyByRecursion, Changes, CommutesBy, Counts, FirstWithout, HasAgents, HasCommuted, HasRefs, HasRule, IsChanged, IsCurrent, IsHere, IsKnown, IsProtected, IsSmallestInvalid, IsSmallestOther, LacksFun, Leads, NamesSmallest, OnlyCounts, RefusalsSayWhy, RefusedOn, RefusesValue, RuledBy, Why}
+use Rattle.ref_play.specs.Plain.{AnyByRecursion, Changes, CommutesBy, Counts, FirstWithout, HasAgents, HasCommuted, HasRefs, HasRule, IsChanged, IsCurrent, IsHere, IsKnown, IsProtected, IsSmallestInvalid, IsSmallestOther, KnowsRuleOf, LacksFun, Leads, NamesSmallest, OnlyCounts, RefusalsSayWhy, RefusedOn, RefusesValue, RuledBy, Why}
 use Rattle.ref_play.specs.PlainAgents.{AreRising}
 use Rattle.ref_play.proofs.Native.{differs_itself, none_of}
 use Rattle.ref_play.proofs.PlainLists.{all_map, any_each, any_pass, each_any, some_passes}
-use Rattle.ref_play.proofs.PlainCommits.{IsAcceptedAt, KnowsRule, accepted_by, accepts_by, by_accepted, by_changes, by_counts, by_funs, by_last, by_preds, by_read, by_refs, by_sends, by_tally, by_unchanged, by_values, changes_by, counts_by, each_touched, funs_by, has_rule, here_by, insert_from, is_protected_by, last_by, lead_on, leads_after, leads_refused, makes_place, none_or, place_makes, pred_by, preds_by, protected_is, read_by, refs_by, rule_is, same_by, sends_by, tally_by, there, touched_each, unchanged_by, values_by}
+use Rattle.ref_play.proofs.PlainCommits.{IsAcceptedAt, accepted_by, accepts_by, by_accepted, by_changes, by_counts, by_funs, by_last, by_preds, by_read, by_refs, by_sends, by_tally, by_unchanged, by_values, changes_by, counts_by, each_touched, funs_by, has_rule, here_by, insert_from, is_protected_by, last_by, lead_on, leads_after, leads_refused, makes_place, none_or, place_makes, pred_by, preds_by, protected_is, read_by, refs_by, rule_is, same_by, sends_by, tally_by, there, touched_each, unchanged_by, values_by}
 
 -- ---- the first of faults
 
@@ -206,7 +206,7 @@ by_fun knows tx code lacks = ap (option_map NoSuchFun) (first_fun knows.funs tx.
 module _ (knows : ℕ → Bool) (guards : List Guard) where
   -- the rule of an operation's ref has a predicate of this code that isn't known
   Unruled : Done → ℕ → Type 0
-  Unruled d code = ((Changes d.op → KnowsRule knows guards d.r) → ⊥) × RuledBy guards code d.r
+  Unruled d code = ((Changes d.op → KnowsRuleOf knows guards d.r) → ⊥) × RuledBy guards code d.r
 
   unruled : (d : Done) (fault : CommitFault) → unknown_at knows guards d ≡ Some fault → (code : ℕ) × (NoSuchFun code ≡ fault) × Unruled d code
   unfolding Unruled
@@ -239,7 +239,7 @@ module _ (knows : ℕ → Bool) (guards : List Guard) where
 
   -- the first operation on such a ref
   abbrev FirstUnruled : ℕ → List Done → Type 0
-  FirstUnruled code ds = FirstWithout (λ (d : Done). Changes d.op → KnowsRule knows guards d.r) (λ (d : Done). RuledBy guards code d.r) ds
+  FirstUnruled code ds = FirstWithout (λ (d : Done). Changes d.op → KnowsRuleOf knows guards d.r) (λ (d : Done). RuledBy guards code d.r) ds
 
   pub rule_first : (ds : List Done) (fault : CommitFault) → lacking_rule knows guards ds ≡ Some fault → (code : ℕ) × (NoSuchFun code ≡ fault) × FirstUnruled code ds
   unfolding Unruled
@@ -259,7 +259,7 @@ module _ (knows : ℕ → Bool) (guards : List Guard) where
   first_rule [] code first = absurd first
   first_rule (d ∷ ds) code (inl here) = or_some (unknown_at knows guards d) (lacking_rule knows guards ds) (NoSuchFun code) (unruled_at d code here)
   first_rule (d ∷ ds) code (inr later) = or_later (unknown_at knows guards d) (lacking_rule knows guards ds) (NoSuchFun code) (none d later.0) (first_rule ds code later.1) where
-    none : (x : Done) → (Changes x.op → KnowsRule knows guards x.r) → unknown_at knows guards x ≡ None
+    none : (x : Done) → (Changes x.op → KnowsRuleOf knows guards x.r) → unknown_at knows guards x ≡ None
     none x all = by (unknown_at knows guards x) refl where
       by : (found : Option CommitFault) → unknown_at knows guards x ≡ found → unknown_at knows guards x ≡ None
       by None is = is

@@ -156,7 +156,7 @@ lacks_one : (b : Bool) (c code : ℕ) → cond (not b) (Some c) None ≡ Some co
 lacks_one true c code is = absurd cc
 lacks_one false c code is = (refl, cc)
 
-lacks : (knows : ℕ → Bool) (op : Op) (code : ℕ) → missing knows (codes_of op) ≡ Some code → Calls code op × (knows code ≡ false)
+pub lacks : (knows : ℕ → Bool) (op : Op) (code : ℕ) → missing knows (codes_of op) ≡ Some code → Calls code op × (knows code ≡ false)
 lacks knows (Set w) code is = absurd cc
 lacks knows (Alter c args) code is =
     let one = lacks_one (knows c) c code is in
@@ -166,7 +166,7 @@ lacks knows (Commute c args) code is =
     (one.1, ap knows (sym one.1) ∙ one.0)
 lacks knows Ensure code is = absurd cc
 
-lacking : (knows : ℕ → Bool) (op : Op) (code : ℕ) → Calls code op → knows code ≡ false → missing knows (codes_of op) ≡ Some code
+pub lacking : (knows : ℕ → Bool) (op : Op) (code : ℕ) → Calls code op → knows code ≡ false → missing knows (codes_of op) ≡ Some code
 lacking knows (Set w) code calls never = absurd calls
 lacking knows (Alter c args) code calls never = ap (λ b. cond (not b) (Some c) None) (ap knows calls ∙ never) ∙ ap Some calls
 lacking knows (Commute c args) code calls never = ap (λ b. cond (not b) (Some c) None) (ap knows calls ∙ never) ∙ ap Some calls
@@ -176,13 +176,13 @@ none_one : (b : Bool) (c : ℕ) → cond (not b) (Some c) None ≡ None → b �
 none_one true c is = refl
 none_one false c is = absurd cc
 
-has_called : (knows : ℕ → Bool) (op : Op) → missing knows (codes_of op) ≡ None → HasCalled knows op
+pub has_called : (knows : ℕ → Bool) (op : Op) → missing knows (codes_of op) ≡ None → HasCalled knows op
 has_called knows (Set w) none code calls = absurd calls
 has_called knows (Alter c args) none code calls = ap knows (sym calls) ∙ none_one (knows c) c none
 has_called knows (Commute c args) none code calls = ap knows (sym calls) ∙ none_one (knows c) c none
 has_called knows Ensure none code calls = absurd calls
 
-called_has : (knows : ℕ → Bool) (op : Op) → HasCalled knows op → missing knows (codes_of op) ≡ None
+pub called_has : (knows : ℕ → Bool) (op : Op) → HasCalled knows op → missing knows (codes_of op) ≡ None
 called_has knows (Set w) has = refl
 called_has knows (Alter c args) has = ap (λ b. cond (not b) (Some c) None) (has c refl)
 called_has knows (Commute c args) has = ap (λ b. cond (not b) (Some c) None) (has c refl)

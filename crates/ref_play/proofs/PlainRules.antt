@@ -5,8 +5,7 @@ use Rattle.ref_fun.specs.Rule.{Accepts, passes, unknown}
 use Rattle.ref_fun.specs.declared.rules.Rule.{Rule}
 use Rattle.ref_log.specs.Guards.{rule_at}
 use Rattle.ref_log.specs.declared.guards.Guard.{Guard}
-use Rattle.ref_play.specs.Plain.{HasRule, RuleAccepts, RuledBy}
-use Rattle.ref_play.specs.PlainAgents.{KnowsRuleOf}
+use Rattle.ref_play.specs.Plain.{HasRule, KnowsRuleOf, RuleAccepts, RuledBy}
 use Rattle.ref_play.proofs.PlainCommits.{has_rule, rule_is}
 
 -- the predicate that the table lacks, if it does

@@ -1,4 +1,4 @@
--- To be read and believed: Present, Machine, Runs, Given, Laws, Plain, PlainTx and PlainAgents. Sims ties the machine to what the type shows.
+-- To be read and believed: Present, Machine, Runs, Given, Laws, Plain, PlainTx, PlainAgents and PlainAtoms. Sims ties the machine to what the type shows.
 pub mod Present
 pub mod Machine
 pub mod Runs
@@ -7,4 +7,5 @@ pub mod Laws
 pub mod Plain
 pub mod PlainTx
 pub mod PlainAgents
+pub mod PlainAtoms
 pub mod Sims

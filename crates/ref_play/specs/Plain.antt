@@ -88,6 +88,14 @@ HasRule guards n rule = (guard : Guard) × (slice_get guards n ≡ Some guard) �
 abbrev pub RuleAccepts : Accepts → List Guard → ℕ → Edn → Type 0
 RuleAccepts accepts guards n v = (rule : Rule) → HasRule guards n rule → accepts rule.code rule.args v ≡ true
 
+-- The table has the predicate of the rule of a reference, if it has one.
+abbrev pub KnowsRuleOf : (ℕ → Bool) → List Guard → ℕ → Type 0
+KnowsRuleOf knows guards n = (rule : Rule) → HasRule guards n rule → knows rule.code ≡ true
+
+-- A reference has a rule by the predicate of this code.
+abbrev pub RuledBy : List Guard → ℕ → ℕ → Type 0
+RuledBy guards code n = (rule : Rule) × HasRule guards n rule × (rule.code ≡ code)
+
 -- ---- operations over values
 
 -- These operations lead from these values to those, one after the other: the ref of each is there, it gets what the operation makes
@@ -134,7 +142,7 @@ abbrev pub HasFuns : Known → TxSeen → Type 0
 HasFuns knows tx = AllByRecursion (λ d. HasCommuted knows.funs d.op) tx.dones
 
 abbrev pub HasPreds : Known → RefsSeen → TxSeen → Type 0
-HasPreds knows store tx = (r : ℕ) (rule : Rule) → IsChanged tx.dones r → HasRule store.guards r rule → knows.preds rule.code ≡ true
+HasPreds knows store tx = (r : ℕ) → IsChanged tx.dones r → KnowsRuleOf knows.preds store.guards r
 
 -- No ref that it protects has changed since it read, and each has the value with which it began.
 abbrev pub AreUnchanged : RefsSeen → TxSeen → Type 0
@@ -183,10 +191,6 @@ CommutesBy code (Alter c args) = ⊥
 CommutesBy code (Commute c args) = c ≡ code
 CommutesBy code Ensure = ⊥
 
--- A reference has a rule by the predicate of this code.
-abbrev pub RuledBy : List Guard → ℕ → ℕ → Type 0
-RuledBy guards code n = (rule : Rule) × HasRule guards n rule × (rule.code ≡ code)
-
 -- The first `commute` whose function the table lacks is by this code, or, where it has them all, the first operation on a ref with a
 -- rule whose predicate the table lacks.
 abbrev pub LacksFun : Known → TxSeen → ℕ → Type 0
@@ -194,7 +198,7 @@ LacksFun knows tx code = FirstWithout (λ d. HasCommuted knows.funs d.op) (λ d.
 
 abbrev pub LacksPred : Known → RefsSeen → TxSeen → ℕ → Type 0
 LacksPred knows store tx code =
-    FirstWithout (λ d. Changes d.op → (rule : Rule) → HasRule store.guards d.r rule → knows.preds rule.code ≡ true) (λ d. RuledBy store.guards code d.r) tx.dones
+    FirstWithout (λ d. Changes d.op → KnowsRuleOf knows.preds store.guards d.r) (λ d. RuledBy store.guards code d.r) tx.dones
 
 -- A conflict names the smallest protected ref that has changed after the read point, with the point of its last change.
 pub record NamesSmallest (store : RefsSeen) (tx : TxSeen) (c : told.Conflict) : Type 0 where

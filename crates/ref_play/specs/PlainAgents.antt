@@ -25,7 +25,7 @@ use Rattle.ref_log.specs.declared.notices.Notice.{Notice}
 use Rattle.ref_log.specs.declared.notices.Who.TheVariants as who
 use Rattle.ref_agents.specs.declared.faults.RestartFault.{RestartFault}
 use Rattle.ref_agents.specs.declared.faults.RestartFault.TheVariants as restarts
-use Rattle.ref_play.specs.Plain.{AnyByRecursion, HasRule, RuleAccepts, RuledBy}
+use Rattle.ref_play.specs.Plain.{AnyByRecursion, HasRule, KnowsRuleOf, RuleAccepts, RuledBy}
 
 -- ---- jobs
 
@@ -135,10 +135,6 @@ FinishMeans accepts =
     ↔ ((after : Agent) × OnlyAgent ran.job.agent after store (with_finish accepts store ran) × EndsAs accepts store.guards guard ran before after answer)
 
 -- ---- when a failed agent can be restarted
-
--- The table has the predicate of the agent's rule, if it has one.
-abbrev pub KnowsRuleOf : (ℕ → Bool) → List Guard → ℕ → Type 0
-KnowsRuleOf knows guards g = (rule : Rule) → HasRule guards g rule → knows rule.code ≡ true
 
 -- The agent is here and failed, and its rule accepts the state; or what stands against it, where nothing does that is asked before.
 abbrev pub RestartsSo : Accepts → (ℕ → Bool) → AgentsSeen → ℕ → Edn → Option RestartFault → Type 0

@@ -2,6 +2,7 @@
 ghost use Rattle.ref_play.specs.Laws.{RunsHaveLaws, StepsHaveLaws};
 ghost use Rattle.ref_play.specs.Plain.{CommitsWhereItCan, RefusalsSayWhy, ReplayMeans};
 ghost use Rattle.ref_play.specs.PlainAgents.{FinishMeans, JobOutMeans, NextJobMeans, ReadyMeans, ReleaseMeans, RestartMeans, RestartRefusals, SendsMean};
+ghost use Rattle.ref_play.specs.PlainAtoms.{ChangesMean, ComparesMean};
 ghost use Rattle.ref_play.specs.PlainTx.{InnerMeans, OperationsMean};
 
 use ref_fun::Meaning;
@@ -40,6 +41,16 @@ pub fn refusals_say_why<M: Meaning>()
 /// The replay of entries on a base has a value exactly where they lead to it from the base's values, one after the other.
 pub fn replay_in_plain_words<M: Meaning>()
     ensures { ReplayMeans M.means }
+{}
+
+/// A change of an atom is refused with a fault exactly where that holds which the fault says, and nothing that is asked before it.
+pub fn changes_in_plain_words<M: Meaning>()
+    ensures { ChangesMean M.means M.accepts }
+{}
+
+/// So is a comparison with a value that an atom is to have, which is done where it has it.
+pub fn comparisons_in_plain_words<M: Meaning>()
+    ensures { ComparesMean M.accepts }
 {}
 
 /// An agent is ready exactly where it is here, has no error and no action on its way, and its first action that waits was sent outside
