@@ -18,7 +18,7 @@ use Rattle.ref_log.specs.declared.guards.Guard.{Guard}
 use Rattle.ref_log.specs.declared.notices.Notice.{Notice}
 use Rattle.ref_log.specs.declared.notices.Who.TheVariants as who
 use Rattle.ref_agents.specs.Account.{AccountSeen, has_point, has_released, is_released_by, kept_queue, with_ended, with_head_ended}
-use Rattle.ref_agents.specs.Agents.{AgentsSeen, change_agent, ended, head_job, is_ready_at, is_ready_if_here, job_out, next_job, out_if_here, put_agent, revived, with_agents}
+use Rattle.ref_agents.specs.Agents.{AgentsSeen, change_agent, ended, head_job, is_ready_at, is_ready_if_here, job_out, next_job, out_if_here, put_agent, revived, send_refusal, send_refusal_if_here, with_agents}
 use Rattle.ref_agents.specs.Ends.{IsAnswer, IsAnswerIfHere, after_end, after_run, judged, restart_refusal, restart_refusal_if_here}
 use Rattle.ref_agents.specs.Jobs.{JobSeen, RanSeen}
 use Rattle.ref_agents.specs.declared.accounts.Mark.{Mark}
@@ -35,9 +35,11 @@ use Rattle.ref_agents.specs.declared.faults.AgentError.{AgentError}
 use Rattle.ref_agents.specs.declared.faults.AgentError.TheVariants.{Invalid}
 use Rattle.ref_agents.specs.declared.faults.RestartFault.{RestartFault}
 use Rattle.ref_agents.specs.declared.faults.RestartFault.TheVariants as restarts
+use Rattle.ref_agents.specs.declared.faults.SendFault.{SendFault}
+use Rattle.ref_agents.specs.declared.faults.SendFault.TheVariants as send_faults
 use Rattle.std.specs.Option.{option_map, option_or}
 use Rattle.ref_play.specs.Plain.{HasRule, KnowsRuleOf, RuleAccepts, RuledBy}
-use Rattle.ref_play.specs.PlainAgents.{EndsAs, FailedFor, FinishMeans, HasEnded, IsNext, IsOut, IsReady, IsReleased, JobOutMeans, NextJobMeans, OnlyAgent, ReadyMeans, RestartMeans, RestartRefusals, RestartsSo, notices}
+use Rattle.ref_play.specs.PlainAgents.{EndsAs, FailedFor, FinishMeans, HasEnded, IsNext, IsOut, IsReady, IsReleased, JobOutMeans, NextJobMeans, OnlyAgent, ReadyMeans, RestartMeans, RestartRefusals, RestartsSo, SendRefusals, SendsSo, notices}
 use Rattle.ref_play.proofs.PlainCommits.{has_rule, rule_is}
 use Rattle.ref_play.proofs.PlainRules.{code_lacked, lacked_code, lacked_none, none_lacked, passes_rule, rule_passes, rule_refuses}
 
@@ -303,6 +305,10 @@ finish_means accepts store ran before guard answer here guarded waiting = (
 
 -- ---- when a failed agent can be restarted
 
+has_error : (error : Option AgentError) → error ≢ None → is_some error ≡ true
+has_error None failed = absurd (failed refl)
+has_error (Some error) failed = refl
+
 module _ (accepts : Accepts) (knows : ℕ → Bool) (store : AgentsSeen) (g : ℕ) (state : Edn) where
   -- the refusal of an agent that is here, by the code that the table lacks, its error, and whether its rule accepts
   abbrev asked : Option ℕ → Bool → Bool → Option RestartFault
@@ -339,10 +345,6 @@ module _ (accepts : Accepts) (knows : ℕ → Bool) (store : AgentsSeen) (g : �
       ∙ (ap (λ x. asked lacked x (passes accepts (rule_at store.guards g) state)) b
       ∙ ap (λ x. asked lacked failed x) c))
 
-  has_error : (error : Option AgentError) → error ≢ None → is_some error ≡ true
-  has_error None failed = absurd (failed refl)
-  has_error (Some error) failed = refl
-
   back : (refusal : Option RestartFault) → So refusal → restart_refusal accepts knows store g state ≡ refusal
   back None (agent, here, known, failed, accepted) = by_asked agent here None (lacked_none knows store.guards g known) true (has_error agent.error failed) true (passes_rule accepts store.guards g state accepted)
   back (Some restarts.NoSuchAgent) none = ap (restart_refusal_if_here accepts knows (rule_at store.guards g) state) none
@@ -357,3 +359,28 @@ module _ (accepts : Accepts) (knows : ℕ → Bool) (store : AgentsSeen) (g : �
 
 pub restart_refusals : (accepts : Accepts) → RestartRefusals accepts
 restart_refusals accepts knows store g state refusal = (λ is. subst (RestartsSo accepts knows store g state) is (restarts_so accepts knows store g state), back accepts knows store g state refusal)
+
+-- ---- when an action can be sent
+
+module _ (agents : List Agent) (g : ℕ) where
+  abbrev asked_to_send : Bool → Option SendFault
+  asked_to_send failed = cond failed (Some send_faults.Failed) None
+
+  sends_so : SendsSo agents g (send_refusal agents g)
+  sends_so = by (slice_get agents g) refl where
+    judged : (agent : Agent) → slice_get agents g ≡ Some agent → (error : Option AgentError) → agent.error ≡ error → SendsSo agents g (asked_to_send (is_some error))
+    judged agent here None sound = (agent, here, sound)
+    judged agent here (Some error) failed = (agent, here, λ sound. let both = sym failed ∙ sound in absurd cc)
+
+    by : (found : Option Agent) → slice_get agents g ≡ found → SendsSo agents g (send_refusal_if_here found)
+    by None here = here
+    by (Some agent) here = judged agent here agent.error refl
+
+  sends_back : (refusal : Option SendFault) → SendsSo agents g refusal → send_refusal agents g ≡ refusal
+  sends_back None (agent, here, sound) = ap send_refusal_if_here here ∙ ap (λ e. asked_to_send (is_some e)) sound
+  sends_back (Some send_faults.NoSuchAgent) none = ap send_refusal_if_here none
+  sends_back (Some send_faults.Failed) (agent, here, failed) = ap send_refusal_if_here here ∙ ap asked_to_send (has_error agent.error failed)
+  sends_back (Some send_faults.Memory) never = absurd never
+
+pub send_refusals : SendRefusals
+send_refusals agents g refusal = (λ so. subst (SendsSo agents g) so (sends_so agents g), sends_back agents g refusal)

@@ -1,22 +1,26 @@
 -- What an operation in a transaction answers, in plain words.
-use Rattle.std.proofs.Common.{◌≡◌, ℕ, cond, ◌<◌, ◌==◌, ◌&&◌, not, Bool, true, false, inl, inr, List, [], ◌∷◌, ◌++◌, length, Option, None, Some, Result, Ok, Err, slice_get, refl, sym, ap, subst, ◌∙◌}
-use Rattle.std.proofs.lemmas.Bool.{and_from, and_parts, eq-eqb, eqb-false, eqb-true, false_from_ne_true, le-ltb, lt-ltb, ltb-false, ltb-true, ne_eqb, not-true}
+use Rattle.std.proofs.Common.{◌≡◌, ℕ, cond, ◌<◌, ◌==◌, ◌&&◌, not, Bool, true, false, inl, inr, List, [], ◌∷◌, ◌++◌, length, Option, None, Some, Result, Ok, Err, slice_get, refl, sym, ap, subst, ◌∙◌, ◌≤◌, ◌⊎◌, nat_lt}
+use Rattle.std.proofs.lemmas.Bool.{and_from, and_parts, cases_lt, eq-eqb, eqb-false, eqb-true, false_from_ne_true, le-ltb, lt-ltb, ltb-false, ltb-true, ne_eqb, not-true}
+use Rattle.std.proofs.lemmas.Option.{slice_get_past}
 use Rattle.std.proofs.lemmas.List.{append-nil, append_assoc}
 use Rattle.ref_value.specs.Edn.{Edn}
 use Rattle.ref_fun.specs.Meaning.{Means}
+use Rattle.ref_fun.specs.Rule.{Accepts}
+use Rattle.ref_fun.specs.declared.rules.Rule.{Rule}
 use Rattle.ref_fun.specs.declared.faults.Cause.{Cause}
 use Rattle.ref_log.specs.Replay.{codes_of, is_commute, is_set, missing, place}
 use Rattle.ref_log.specs.Tally.{fits_tally, is_tally}
 use Rattle.ref_log.specs.declared.operations.Done.{Done}
 use Rattle.ref_log.specs.declared.operations.Op.{Op}
 use Rattle.ref_log.specs.declared.operations.Op.TheVariants.{Set, Alter, Commute, Ensure}
-use Rattle.ref_tx.specs.Inner.{AreAnswers, IsTx, after_ops, answer_of, called, given, has_ref, inner_value, is_commuted, ops_on, or_refusal, placed, told, value_after}
+use Rattle.ref_tx.specs.Inner.{AreAnswers, IsTx, after_ops, answer_of, called, given, has_ref, inner_value, is_commuted, ops_on, or_refusal, placed, send_refusal, told, unmet, value_after}
 use Rattle.ref_tx.specs.Laws.{value_after-elsewhere}
 use Rattle.ref_tx.specs.Seen.{TxSeen}
 use Rattle.ref_tx.specs.declared.faults.TxFault.{TxFault}
 use Rattle.ref_tx.specs.declared.faults.TxFault.TheVariants as txs
 use Rattle.ref_play.specs.Plain.{Counts, Makes}
-use Rattle.ref_play.specs.PlainTx.{AnswersSo, Calls, Commutes, HasCalled, InnerMeans, IsAllowed, IsCommuted, IsValueIn, LeadsAt, MaySet, OperationsMean, Sets}
+use Rattle.ref_play.specs.PlainTx.{AnswersSo, Calls, Commutes, HasCalled, InnerMeans, IsAllowed, IsCommuted, IsValueIn, LeadsAt, MaySet, OperationsMean, RequirementsMean, RequiresSo, SendsInTxMean, SendsSo, Sets}
+use Rattle.ref_play.proofs.Placed.{get-below}
 use Rattle.ref_play.proofs.PlainCommits.{by_counts, counts_by, makes_place, place_makes, there}
 use Rattle.ref_play.proofs.PlainFaults.{place_refuses, refuses_place}
 use Rattle.ref_play.proofs.PlainLists.{any_pass, some_passes}
@@ -258,3 +262,80 @@ module _ (means : Means) (knows : ℕ → Bool) (tx : TxSeen) (r : ℕ) (op : Op
 
 pub operations_mean : (means : Means) → OperationsMean means
 operations_mean means knows tx r op answer is = (λ answers. subst (AnswersSo means knows tx r op) answers (so means knows tx r op is), back means knows tx r op answer)
+
+-- ---- what is required
+
+nothing : (means : Means) (ops : List Op) → after_ops means ops None ≡ None
+nothing means [] = refl
+nothing means (op ∷ ops) = nothing means ops
+
+inner_none : (means : Means) (tx : TxSeen) (r : ℕ) → length tx.began ≤ r → inner_value means tx r ≡ None
+inner_none means tx r after = ap (after_ops means (ops_on r tx.dones)) (slice_get_past tx.began r after) ∙ nothing means (ops_on r tx.dones)
+
+module _ (means : Means) (accepts : Accepts) (knows : ℕ → Bool) (tx : TxSeen) (r : ℕ) (rule : Rule) where
+  -- the refusal of a value that is there
+  abbrev required : Bool → Bool → Option TxFault
+  required has accepted = cond (not has) (Some (txs.NoSuchFun rule.code)) (cond accepted None (Some txs.NotMet))
+
+  requires_so : IsTx means tx.began tx.dones tx.tally → RequiresSo means accepts knows tx r rule (unmet accepts knows rule (inner_value means tx r))
+  requires_so is = here (cases_lt r (length tx.began)) where
+    judged : (v : Edn) → IsValueIn means tx r v → (has : Bool) → knows rule.code ≡ has → (accepted : Bool) → accepts rule.code rule.args v ≡ accepted → RequiresSo means accepts knows tx r rule (required has accepted)
+    judged v value false unknown accepted a = (get-below tx.began r value.0 value.1, refl, unknown)
+    judged v value true has true a = (v, value, has, a)
+    judged v value true has false a = (v, value, has, a)
+
+    here : (r < length tx.began) ⊎ (length tx.began ≤ r) → RequiresSo means accepts knows tx r rule (unmet accepts knows rule (inner_value means tx r))
+    here (inl below) =
+        let v = inner_there means tx r is below in
+        subst (λ o. RequiresSo means accepts knows tx r rule (unmet accepts knows rule o)) (sym v.1) (judged v.0 (value_by means tx r v.0 v.1) (knows rule.code) refl (accepts rule.code rule.args v.0) refl)
+    here (inr after) = subst (λ o. RequiresSo means accepts knows tx r rule (unmet accepts knows rule o)) (sym (inner_none means tx r after)) after
+
+  by_required : (v : Edn) → IsValueIn means tx r v → (has : Bool) → knows rule.code ≡ has → (accepted : Bool) → accepts rule.code rule.args v ≡ accepted → unmet accepts knows rule (inner_value means tx r) ≡ required has accepted
+  by_required v value has h accepted a =
+      ap (unmet accepts knows rule) (by_value means tx r v value) ∙ (ap (λ b. required b (accepts rule.code rule.args v)) h ∙ ap (required has) a)
+
+  requires_back : IsTx means tx.began tx.dones tx.tally → (refusal : Option TxFault) → RequiresSo means accepts knows tx r rule refusal → unmet accepts knows rule (inner_value means tx r) ≡ refusal
+  requires_back is None (v, value, has, a) = by_required v value true has true a
+  requires_back is (Some txs.NoSuchRef) after = ap (unmet accepts knows rule) (inner_none means tx r after)
+  requires_back is (Some (txs.NoSuchFun code)) (below, same, unknown) =
+      let v = inner_there means tx r is below in
+      by_required v.0 (value_by means tx r v.0 v.1) false (ap knows same ∙ unknown) (accepts rule.code rule.args v.0) refl ∙ ap (λ n. Some (txs.NoSuchFun n)) same
+  requires_back is (Some txs.NotMet) (v, value, has, a) = by_required v value true has false a
+  requires_back is (Some txs.SetAfterCommute) never = absurd never
+  requires_back is (Some txs.TallyOnly) never = absurd never
+  requires_back is (Some (txs.Refused cause)) never = absurd never
+  requires_back is (Some txs.NoSuchAgent) never = absurd never
+  requires_back is (Some txs.Memory) never = absurd never
+
+pub requirements_mean : (means : Means) (accepts : Accepts) → RequirementsMean means accepts
+requirements_mean means accepts knows tx r rule refusal is = (λ so. subst (RequiresSo means accepts knows tx r rule) so (requires_so means accepts knows tx r rule is), requires_back means accepts knows tx r rule is refusal)
+
+-- ---- what is sent
+
+module _ (knows : ℕ → Bool) (tx : TxSeen) (g code : ℕ) where
+  abbrev sent : Bool → Bool → Option TxFault
+  sent has here = cond (not has) (Some (txs.NoSuchFun code)) (cond (not here) (Some txs.NoSuchAgent) None)
+
+  sends_so : SendsSo knows tx g code (send_refusal knows tx g code)
+  sends_so = by (knows code) refl (nat_lt g tx.agents) refl where
+    by : (has : Bool) → knows code ≡ has → (here : Bool) → nat_lt g tx.agents ≡ here → SendsSo knows tx g code (sent has here)
+    by false unknown here b = (refl, unknown)
+    by true has true here = (has, ltb-true g tx.agents here)
+    by true has false past = (has, ltb-false g tx.agents past)
+
+  by_sent : (has : Bool) → knows code ≡ has → (here : Bool) → nat_lt g tx.agents ≡ here → send_refusal knows tx g code ≡ sent has here
+  by_sent has h here b = ap (λ x. sent x (nat_lt g tx.agents)) h ∙ ap (sent has) b
+
+  sends_back : (refusal : Option TxFault) → SendsSo knows tx g code refusal → send_refusal knows tx g code ≡ refusal
+  sends_back None (has, below) = by_sent true has true (lt-ltb g tx.agents below)
+  sends_back (Some (txs.NoSuchFun lacked)) (same, unknown) = by_sent false unknown (nat_lt g tx.agents) refl ∙ ap (λ n. Some (txs.NoSuchFun n)) (sym same)
+  sends_back (Some txs.NoSuchAgent) (has, after) = by_sent true has false (le-ltb g tx.agents after)
+  sends_back (Some txs.NoSuchRef) never = absurd never
+  sends_back (Some txs.SetAfterCommute) never = absurd never
+  sends_back (Some txs.TallyOnly) never = absurd never
+  sends_back (Some (txs.Refused cause)) never = absurd never
+  sends_back (Some txs.NotMet) never = absurd never
+  sends_back (Some txs.Memory) never = absurd never
+
+pub sends_in_tx_mean : SendsInTxMean
+sends_in_tx_mean knows tx g code refusal = (λ so. subst (SendsSo knows tx g code) so (sends_so knows tx g code), sends_back knows tx g code refusal)

@@ -7,7 +7,7 @@ use Rattle.ref_fun.specs.declared.faults.Cause.{Cause}
 use Rattle.ref_fun.specs.declared.rules.Rule.{Rule}
 use Rattle.ref_log.specs.declared.guards.Guard.{Guard}
 use Rattle.ref_log.specs.declared.sends.Sent.{Sent}
-use Rattle.ref_agents.specs.Agents.{AgentsSeen, is_ready_at, job_out, next_job, with_commit, with_release, with_restart}
+use Rattle.ref_agents.specs.Agents.{AgentsSeen, is_ready_at, job_out, next_job, send_refusal, with_commit, with_release, with_restart}
 use Rattle.ref_agents.specs.Ends.{IsAnswerOf, restart_refusal, with_finish}
 use Rattle.ref_agents.specs.Jobs.{JobSeen, RanSeen}
 use Rattle.ref_agents.specs.declared.accounts.Mark.TheVariants as marks
@@ -25,6 +25,8 @@ use Rattle.ref_log.specs.declared.notices.Notice.{Notice}
 use Rattle.ref_log.specs.declared.notices.Who.TheVariants as who
 use Rattle.ref_agents.specs.declared.faults.RestartFault.{RestartFault}
 use Rattle.ref_agents.specs.declared.faults.RestartFault.TheVariants as restarts
+use Rattle.ref_agents.specs.declared.faults.SendFault.{SendFault}
+use Rattle.ref_agents.specs.declared.faults.SendFault.TheVariants as send_faults
 use Rattle.ref_play.specs.Plain.{AnyByRecursion, HasRule, KnowsRuleOf, RuleAccepts, RuledBy}
 
 -- ---- jobs
@@ -153,6 +155,18 @@ abbrev pub RestartRefusals : Accepts → Type 0
 RestartRefusals accepts =
     (knows : ℕ → Bool) (store : AgentsSeen) (g : ℕ) (state : Edn) (refusal : Option RestartFault)
     → restart_refusal accepts knows store g state ≡ refusal ↔ RestartsSo accepts knows store g state refusal
+
+-- ---- when an action can be sent
+
+-- The agent is here and isn't failed.
+abbrev pub SendsSo : List Agent → ℕ → Option SendFault → Type 0
+SendsSo agents g None = (agent : Agent) × (slice_get agents g ≡ Some agent) × (agent.error ≡ None)
+SendsSo agents g (Some send_faults.NoSuchAgent) = slice_get agents g ≡ None
+SendsSo agents g (Some send_faults.Failed) = (agent : Agent) × (slice_get agents g ≡ Some agent) × (agent.error ≢ None)
+SendsSo agents g (Some send_faults.Memory) = ⊥
+
+abbrev pub SendRefusals : Type 0
+SendRefusals = (agents : List Agent) (g : ℕ) (refusal : Option SendFault) → send_refusal agents g ≡ refusal ↔ SendsSo agents g refusal
 
 -- ---- what a commit sends
 

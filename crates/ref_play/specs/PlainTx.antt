@@ -1,11 +1,13 @@
 -- What an operation in a transaction answers, in plain words.
-use Rattle.std.specs.Prelude.{◌≡◌, ◌≢◌, ◌↔◌, ◌⊎◌, ℕ, ◌<◌, ◌≤◌, Bool, true, false, List, [], ◌∷◌, length, slice_get, Some, Result, Ok, Err}
+use Rattle.std.specs.Prelude.{◌≡◌, ◌≢◌, ◌↔◌, ◌⊎◌, ℕ, ◌<◌, ◌≤◌, Bool, true, false, List, [], ◌∷◌, length, slice_get, Option, None, Some, Result, Ok, Err}
 use Rattle.ref_value.specs.Edn.{Edn}
 use Rattle.ref_fun.specs.Meaning.{Means}
+use Rattle.ref_fun.specs.Rule.{Accepts}
+use Rattle.ref_fun.specs.declared.rules.Rule.{Rule}
 use Rattle.ref_log.specs.declared.operations.Done.{Done}
 use Rattle.ref_log.specs.declared.operations.Op.{Op}
 use Rattle.ref_log.specs.declared.operations.Op.TheVariants.{Set, Alter, Commute, Ensure}
-use Rattle.ref_tx.specs.Inner.{IsTx, answer_of, inner_value}
+use Rattle.ref_tx.specs.Inner.{IsTx, answer_of, inner_value, send_refusal, unmet}
 use Rattle.ref_tx.specs.Seen.{TxSeen}
 use Rattle.ref_tx.specs.declared.faults.TxFault.{TxFault}
 use Rattle.ref_tx.specs.declared.faults.TxFault.TheVariants as txs
@@ -84,3 +86,39 @@ abbrev pub OperationsMean : Means → Type 0
 OperationsMean means =
     (knows : ℕ → Bool) (tx : TxSeen) (r : ℕ) (op : Op) (answer : Result Edn TxFault) → IsTx means tx.began tx.dones tx.tally
     → answer_of means knows tx r op ≡ answer ↔ AnswersSo means knows tx r op answer
+
+-- ---- what is required, and what is sent
+
+module _ (means : Means) (accepts : Accepts) (knows : ℕ → Bool) (tx : TxSeen) (r : ℕ) (rule : Rule) where
+  -- The rule accepts the in-transaction value; or what stands against it, where nothing does that is asked before.
+  abbrev pub RequiresSo : Option TxFault → Type 0
+  RequiresSo None = (v : Edn) × IsValueIn means tx r v × (knows rule.code ≡ true) × (accepts rule.code rule.args v ≡ true)
+  RequiresSo (Some txs.NoSuchRef) = length tx.began ≤ r
+  RequiresSo (Some (txs.NoSuchFun code)) = (r < length tx.began) × (rule.code ≡ code) × (knows code ≡ false)
+  RequiresSo (Some txs.NotMet) = (v : Edn) × IsValueIn means tx r v × (knows rule.code ≡ true) × (accepts rule.code rule.args v ≡ false)
+  RequiresSo (Some txs.SetAfterCommute) = ⊥
+  RequiresSo (Some txs.TallyOnly) = ⊥
+  RequiresSo (Some (txs.Refused cause)) = ⊥
+  RequiresSo (Some txs.NoSuchAgent) = ⊥
+  RequiresSo (Some txs.Memory) = ⊥
+
+abbrev pub RequirementsMean : Means → Accepts → Type 0
+RequirementsMean means accepts =
+    (knows : ℕ → Bool) (tx : TxSeen) (r : ℕ) (rule : Rule) (refusal : Option TxFault) → IsTx means tx.began tx.dones tx.tally
+    → unmet accepts knows rule (inner_value means tx r) ≡ refusal ↔ RequiresSo means accepts knows tx r rule refusal
+
+module _ (knows : ℕ → Bool) (tx : TxSeen) (g code : ℕ) where
+  -- The table has the function, which isn't called, and the agent was there at the beginning.
+  abbrev pub SendsSo : Option TxFault → Type 0
+  SendsSo None = (knows code ≡ true) × (g < tx.agents)
+  SendsSo (Some (txs.NoSuchFun lacked)) = (lacked ≡ code) × (knows code ≡ false)
+  SendsSo (Some txs.NoSuchAgent) = (knows code ≡ true) × (tx.agents ≤ g)
+  SendsSo (Some txs.NoSuchRef) = ⊥
+  SendsSo (Some txs.SetAfterCommute) = ⊥
+  SendsSo (Some txs.TallyOnly) = ⊥
+  SendsSo (Some (txs.Refused cause)) = ⊥
+  SendsSo (Some txs.NotMet) = ⊥
+  SendsSo (Some txs.Memory) = ⊥
+
+abbrev pub SendsInTxMean : Type 0
+SendsInTxMean = (knows : ℕ → Bool) (tx : TxSeen) (g code : ℕ) (refusal : Option TxFault) → send_refusal knows tx g code ≡ refusal ↔ SendsSo knows tx g code refusal

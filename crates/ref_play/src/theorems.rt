@@ -1,9 +1,9 @@
 //! Laws of the machine, and of the words that it shares with the calls of a world. Each function's contract is a law; none does anything.
 ghost use Rattle.ref_play.specs.Laws.{RunsHaveLaws, StepsHaveLaws};
 ghost use Rattle.ref_play.specs.Plain.{CommitsWhereItCan, RefusalsSayWhy, ReplayMeans};
-ghost use Rattle.ref_play.specs.PlainAgents.{FinishMeans, JobOutMeans, NextJobMeans, ReadyMeans, ReleaseMeans, RestartMeans, RestartRefusals, SendsMean};
+ghost use Rattle.ref_play.specs.PlainAgents.{FinishMeans, JobOutMeans, NextJobMeans, ReadyMeans, ReleaseMeans, RestartMeans, RestartRefusals, SendRefusals, SendsMean};
 ghost use Rattle.ref_play.specs.PlainAtoms.{ChangesMean, ComparesMean};
-ghost use Rattle.ref_play.specs.PlainTx.{InnerMeans, OperationsMean};
+ghost use Rattle.ref_play.specs.PlainTx.{InnerMeans, OperationsMean, RequirementsMean, SendsInTxMean};
 
 use ref_fun::Meaning;
 
@@ -26,6 +26,16 @@ pub fn inner_values_in_plain_words<M: Meaning>()
 /// that is asked before it.
 pub fn operations_in_plain_words<M: Meaning>()
     ensures { OperationsMean M.means }
+{}
+
+/// A requirement is met, or not, by the in-transaction value.
+pub fn requirements_in_plain_words<M: Meaning>()
+    ensures { RequirementsMean M.means M.accepts }
+{}
+
+/// What a transaction can send.
+pub fn sends_in_tx_in_plain_words()
+    ensures { SendsInTxMean }
 {}
 
 /// A transaction is committed exactly where nothing stands against it, said of all its operations, sends and refs.
@@ -77,6 +87,11 @@ pub fn restart_in_plain_words()
 /// A restart is refused with a fault exactly where that holds which the fault says, and nothing that is asked before it.
 pub fn restart_refusals_say_why<M: Meaning>()
     ensures { RestartRefusals M.accepts }
+{}
+
+/// An action can be sent to an agent that is here and isn't failed.
+pub fn send_refusals_say_why()
+    ensures { SendRefusals }
 {}
 
 /// What a commit sends stands at the ends of the queues, in order, and is held.
