@@ -24,3 +24,4 @@ pub mod PlainOperations
 pub mod PlainSends
 pub mod PlainReplay
 pub mod PlainAtoms
+pub mod PlainMakes

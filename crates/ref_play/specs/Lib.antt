@@ -1,4 +1,5 @@
--- To be read and believed: Present, Machine, Runs, Given, Laws, Plain, PlainTx, PlainAgents and PlainAtoms. Sims ties the machine to what the type shows.
+-- To be read and believed: Present, Machine, Runs, Given and Laws; and Plain, PlainTx, PlainAgents, PlainAtoms and PlainMakes, which say
+-- in plain words what definitions of other crates mean that these cite. Sims ties the machine to what the type shows.
 pub mod Present
 pub mod Machine
 pub mod Runs
@@ -8,4 +9,5 @@ pub mod Plain
 pub mod PlainTx
 pub mod PlainAgents
 pub mod PlainAtoms
+pub mod PlainMakes
 pub mod Sims

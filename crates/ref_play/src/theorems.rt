@@ -3,6 +3,7 @@ ghost use Rattle.ref_play.specs.Laws.{RunsHaveLaws, StepsHaveLaws};
 ghost use Rattle.ref_play.specs.Plain.{CommitsWhereItCan, RefusalsSayWhy, ReplayMeans};
 ghost use Rattle.ref_play.specs.PlainAgents.{FinishMeans, JobOutMeans, NextJobMeans, ReadyMeans, ReleaseMeans, RestartMeans, RestartRefusals, SendRefusals, SendsMean};
 ghost use Rattle.ref_play.specs.PlainAtoms.{ChangesMean, ComparesMean};
+ghost use Rattle.ref_play.specs.PlainMakes.{MakingsMean, RulesMean};
 ghost use Rattle.ref_play.specs.PlainTx.{InnerMeans, OperationsMean, RequirementsMean, SendsInTxMean};
 
 use ref_fun::Meaning;
@@ -107,4 +108,14 @@ pub fn release_in_plain_words()
 /// What the end of a job leaves, by its answer.
 pub fn finish_in_plain_words<M: Meaning>()
     ensures { FinishMeans M.accepts }
+{}
+
+/// A reference is made, or not made for the fault whose condition holds, where none does that is asked before it.
+pub fn makings_in_plain_words<M: Meaning>()
+    ensures { MakingsMean M.accepts }
+{}
+
+/// So it is where a reference is given another rule.
+pub fn rules_in_plain_words<M: Meaning>()
+    ensures { RulesMean M.accepts }
 {}
