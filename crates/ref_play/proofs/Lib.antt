@@ -25,3 +25,4 @@ pub mod PlainSends
 pub mod PlainReplay
 pub mod PlainAtoms
 pub mod PlainMakes
+pub mod PlainLasts

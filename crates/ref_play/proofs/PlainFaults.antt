@@ -463,14 +463,14 @@ none_such (n ∷ ns) r all (inl here) = all.0 here
 none_such (n ∷ ns) r all (inr there) = none_such ns r all.1 there
 
 -- a touched ref is changed
-touched_is : (ds : List Done) (r : ℕ) → is_touched ds r ≡ true → IsChanged ds r
+pub touched_is : (ds : List Done) (r : ℕ) → is_touched ds r ≡ true → IsChanged ds r
 touched_is ds r = some_passes (λ (d : Done). d.r == r && not (is_ensure d.op)) (λ (d : Done). (d.r ≡ r) × Changes d.op) one ds where
   one : (d : Done) → (d.r == r && not (is_ensure d.op)) ≡ true → (d.r ≡ r) × Changes d.op
   one d is =
       let parts = and_parts (d.r == r) (not (is_ensure d.op)) is in
       (eqb-true d.r r parts.0, changes_by d.op (not-true (is_ensure d.op) parts.1))
 
-is_touched_by : (ds : List Done) (r : ℕ) → IsChanged ds r → is_touched ds r ≡ true
+pub is_touched_by : (ds : List Done) (r : ℕ) → IsChanged ds r → is_touched ds r ≡ true
 is_touched_by ds r = any_pass (λ (d : Done). d.r == r && not (is_ensure d.op)) (λ (d : Done). (d.r ≡ r) × Changes d.op) one ds where
   one : (d : Done) → (d.r ≡ r) × Changes d.op → (d.r == r && not (is_ensure d.op)) ≡ true
   one d is = and_from (d.r == r) (not (is_ensure d.op)) (eq-eqb d.r r is.0) (ap not (by_changes d.op is.1))

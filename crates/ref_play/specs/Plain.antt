@@ -1,13 +1,13 @@
 -- What definitions say that the machine and the calls of a world share, in plain words: each is met exactly where what stands here is
 -- so. The functions of src/theorems.rt have these laws as contracts.
-use Rattle.std.specs.Prelude.{◌≡◌, ◌≢◌, ◌↔◌, ◌⊎◌, ℕ, pos, ◌<◌, ◌≤◌, ◌^◌, Bool, true, false, List, [], ◌∷◌, ◌++◌, length, slice_get, slice_set, None, Some, Ok, Err}
+use Rattle.std.specs.Prelude.{◌≡◌, ◌≢◌, ◌↔◌, ◌⊎◌, ℕ, pos, ◌<◌, ◌≤◌, ◌^◌, Bool, true, false, List, [], ◌∷◌, ◌++◌, length, slice_get, slice_set, None, Some, Ok, Err, ◌+◌, slice_index_or}
 use Rattle.std.specs.List.{AllByRecursion}
 use Rattle.ref_value.specs.Edn.{Edn, int}
 use Rattle.ref_fun.specs.Calls.{Known}
 use Rattle.ref_fun.specs.Meaning.{Means}
 use Rattle.ref_fun.specs.Rule.{Accepts}
 use Rattle.ref_fun.specs.declared.rules.Rule.{Rule}
-use Rattle.ref_log.specs.Replay.{replay}
+use Rattle.ref_log.specs.Replay.{last_change, replay}
 use Rattle.ref_log.specs.declared.entries.Entry.{Entry}
 use Rattle.ref_log.specs.declared.entries.Entry.TheVariants as entries
 use Rattle.ref_log.specs.declared.guards.Guard.{Guard}
@@ -19,7 +19,7 @@ use Rattle.ref_log.specs.declared.states.PlainState.{PlainState}
 use Rattle.ref_fun.specs.declared.faults.Cause.{Cause}
 use Rattle.ref_tx.specs.Inner.{IsTx}
 use Rattle.ref_tx.specs.Seen.{TxSeen}
-use Rattle.ref_refs.specs.Commit.{commit_refusal}
+use Rattle.ref_refs.specs.Commit.{changed_by, commit_refusal}
 use Rattle.ref_refs.specs.Seen.{RefsSeen}
 use Rattle.ref_refs.specs.declared.faults.Alien.TheVariants as aliens
 use Rattle.ref_refs.specs.declared.faults.CommitFault.{CommitFault}
@@ -123,6 +123,39 @@ RunsTo means (e ∷ es) old new = (next : PlainState) × StepsTo means e old nex
 -- The replay of entries on a base has a value exactly where they lead to it from the base's values.
 abbrev pub ReplayMeans : Means → Type 0
 ReplayMeans means = (base : Base) (es : List Entry) (after : PlainState) → replay means base es ≡ Ok after ↔ RunsTo means es (record { refs = base.refs; atoms = base.atoms }) after
+
+-- ---- last changes
+
+-- An entry changes a ref, where there are so many refs before it: its transaction does, or it makes the ref.
+abbrev pub ChangesRef : ℕ → Entry → ℕ → Type 0
+ChangesRef refs (entries.Trans t) r = IsChanged t.dones r
+ChangesRef refs (entries.Atom a op answer) r = ⊥
+ChangesRef refs (entries.MadeRef v) r = refs ≡ r
+ChangesRef refs (entries.MadeAtom v) r = ⊥
+
+-- how many refs there are after it
+abbrev pub refs_with : ℕ → Entry → ℕ
+refs_with refs (entries.Trans t) = refs
+refs_with refs (entries.Atom a op answer) = refs
+refs_with refs (entries.MadeRef v) = refs + 1
+refs_with refs (entries.MadeAtom v) = refs
+
+-- None of these entries changes a ref.
+abbrev pub NoneChanges : ℕ → List Entry → ℕ → Type 0
+NoneChanges refs [] r = Unit {0}
+NoneChanges refs (e ∷ es) r = (ChangesRef refs e r → ⊥) × NoneChanges (refs_with refs e) es r
+
+-- The last of these entries that changes a ref has this point, where the first of them comes right after another.
+abbrev pub LastAt : ℕ → ℕ → List Entry → ℕ → ℕ → Type 0
+LastAt point refs [] r p = ⊥
+LastAt point refs (e ∷ es) r p = (ChangesRef refs e r × NoneChanges (refs_with refs e) es r × (p ≡ point + 1)) ⊎ LastAt (point + 1) (refs_with refs e) es r p
+
+-- The point of the last change of a ref in a history on a base, which tells it where no entry changes the ref; and after a commit.
+pub record LastsMean : Type 0 where
+  pub history : (base : Base) (es : List Entry) (r p : ℕ)
+      → last_change base es r ≡ p ↔ (LastAt base.point (length base.refs) es r p ⊎ (NoneChanges (length base.refs) es r × (slice_index_or base.last r 0 ≡ p)))
+  pub changed : (lasts : List ℕ) (at : ℕ) (dones : List Done) (r : ℕ) → IsChanged dones r → changed_by lasts at dones r ≡ at
+  pub kept : (lasts : List ℕ) (at : ℕ) (dones : List Done) (r : ℕ) → (IsChanged dones r → ⊥) → changed_by lasts at dones r ≡ slice_index_or lasts r 0
 
 -- ---- commits
 

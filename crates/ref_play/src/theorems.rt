@@ -1,6 +1,6 @@
 //! Laws of the machine, and of the words that it shares with the calls of a world. Each function's contract is a law; none does anything.
 ghost use Rattle.ref_play.specs.Laws.{RunsHaveLaws, StepsHaveLaws};
-ghost use Rattle.ref_play.specs.Plain.{CommitsWhereItCan, RefusalsSayWhy, ReplayMeans};
+ghost use Rattle.ref_play.specs.Plain.{CommitsWhereItCan, LastsMean, RefusalsSayWhy, ReplayMeans};
 ghost use Rattle.ref_play.specs.PlainAgents.{FinishMeans, JobOutMeans, NextJobMeans, ReadyMeans, ReleaseMeans, RestartMeans, RestartRefusals, SendRefusals, SendsMean};
 ghost use Rattle.ref_play.specs.PlainAtoms.{ChangesMean, ComparesMean};
 ghost use Rattle.ref_play.specs.PlainMakes.{MakingsMean, RulesMean};
@@ -52,6 +52,11 @@ pub fn refusals_say_why<M: Meaning>()
 /// The replay of entries on a base has a value exactly where they lead to it from the base's values, one after the other.
 pub fn replay_in_plain_words<M: Meaning>()
     ensures { ReplayMeans M.means }
+{}
+
+/// The last change of a ref has the point of the last entry that changed or made it.
+pub fn last_changes_in_plain_words()
+    ensures { LastsMean }
 {}
 
 /// A change of an atom is refused with a fault exactly where that holds which the fault says, and nothing that is asked before it.
