@@ -38,7 +38,7 @@ use Rattle.ref_agents.specs.declared.faults.RestartFault.TheVariants as restarts
 use Rattle.ref_agents.specs.declared.faults.SendFault.{SendFault}
 use Rattle.ref_agents.specs.declared.faults.SendFault.TheVariants as send_faults
 use Rattle.std.specs.Option.{option_map, option_or}
-use Rattle.ref_play.specs.Plain.{HasRule, KnowsRuleOf, RuleAccepts, RuledBy}
+use Rattle.ref_play.specs.Plain.{HasRule, KnowsRuleOf, RuleAccepts}
 use Rattle.ref_play.specs.PlainAgents.{EndsAs, FailedFor, FinishMeans, HasEnded, IsNext, IsOut, IsReady, IsReleased, JobOutMeans, NextJobMeans, OnlyAgent, ReadyMeans, RestartMeans, RestartRefusals, RestartsSo, SendRefusals, SendsSo, notices}
 use Rattle.ref_play.proofs.PlainCommits.{has_rule, rule_is}
 use Rattle.ref_play.proofs.PlainRules.{code_lacked, lacked_code, lacked_none, none_lacked, passes_rule, rule_passes, rule_refuses}

@@ -1,26 +1,24 @@
 -- When an atom is changed, in plain words.
-use Rattle.std.proofs.Common.{◌≡◌, ◌≢◌, ◌↔◌, ◌<◌, ◌≤◌, ◌^◌, ℕ, cond, nat_lt, Bool, true, false, ◌⊎◌, inl, inr, Option, None, Some, Result, Ok, Err, slice_get, refl, sym, ap, subst, ◌∙◌}
+use Rattle.std.proofs.Common.{◌≡◌, ◌≢◌, ◌^◌, ℕ, cond, nat_lt, Bool, true, false, ◌⊎◌, inl, inr, Option, None, Some, Result, Ok, Err, slice_get, refl, sym, ap, subst, ◌∙◌}
 use Rattle.std.specs.Option.{option_map, option_or}
-use Rattle.std.specs.Ordering.{eq_by_cmp, is_eq}
+use Rattle.std.specs.Ordering.{is_eq}
 use Rattle.std.proofs.lemmas.Bool.{le-ltb, lt-ltb, ltb-false, ltb-true}
 use Rattle.std.proofs.lemmas.Cmp.{tied_itself}
 use Rattle.ref_value.specs.Edn.{Edn}
-use Rattle.ref_value.specs.Order.{edn_cmp}
 use Rattle.ref_value.specs.OrderLaws.{edn_cmp_total}
 use Rattle.ref_fun.specs.Calls.{Known}
 use Rattle.ref_fun.specs.Meaning.{Means}
 use Rattle.ref_fun.specs.Rule.{Accepts, passes, unknown}
 use Rattle.ref_fun.specs.declared.faults.Cause.{Cause}
-use Rattle.ref_fun.specs.declared.rules.Rule.{Rule}
 use Rattle.ref_log.specs.Guards.{rule_at}
 use Rattle.ref_log.specs.Laws.{same_value}
 use Rattle.ref_log.specs.Replay.{codes_of, missing, place}
 use Rattle.ref_log.specs.declared.operations.Op.{Op}
 use Rattle.ref_atoms.specs.Atoms.{AtomsSeen}
-use Rattle.ref_atoms.specs.Change.{change_refusal, compare_refusal, compare_refusal_if_here, is_same, is_same_at, is_same_if_here, late_refusal, refusal_if_here}
+use Rattle.ref_atoms.specs.Change.{change_refusal, compare_refusal, compare_refusal_if_here, is_same, is_same_if_here, late_refusal, refusal_if_here}
 use Rattle.ref_atoms.specs.declared.faults.AtomFault.{AtomFault}
 use Rattle.ref_atoms.specs.declared.faults.AtomFault.TheVariants as atom_faults
-use Rattle.ref_play.specs.Plain.{HasRule, KnowsRuleOf, Makes, RefusesValue, RuleAccepts, RuledBy}
+use Rattle.ref_play.specs.Plain.{KnowsRuleOf, Makes, RuledBy}
 use Rattle.ref_play.specs.PlainAtoms.{ChangesMean, ChangesSo, ComparesMean, ComparesSo, IsCallable, IsUnacceptable}
 use Rattle.ref_play.specs.PlainTx.{Calls, HasCalled}
 use Rattle.ref_play.proofs.PlainCommits.{makes_place, place_makes, rule_is}

@@ -1,14 +1,11 @@
 -- The points of last changes, in plain words.
-use Rattle.std.proofs.Common.{◌≡◌, ◌↔◌, ℕ, ◌+◌, ◌==◌, cond, Bool, true, false, ◌⊎◌, inl, inr, List, [], ◌∷◌, length, slice_index_or, refl, sym, ap, subst, ◌∙◌}
+use Rattle.std.proofs.Common.{◌≡◌, ℕ, ◌+◌, cond, Bool, true, false, ◌⊎◌, inl, inr, List, [], ◌∷◌, length, slice_index_or, refl, sym, ap, subst, ◌∙◌}
 use Rattle.std.proofs.lemmas.Bool.{eq-eqb, eqb-true, false_from_ne_true}
-use Rattle.ref_log.specs.Replay.{is_changed_by, is_touched, last_change, last_change_from, refs_after_one}
+use Rattle.ref_log.specs.Replay.{is_changed_by, is_touched, last_change_from, refs_after_one}
 use Rattle.ref_log.specs.declared.entries.Entry.{Entry}
 use Rattle.ref_log.specs.declared.entries.Entry.TheVariants.{Trans, Atom, MadeRef, MadeAtom}
-use Rattle.ref_log.specs.declared.operations.Done.{Done}
-use Rattle.ref_log.specs.declared.states.Base.{Base}
-use Rattle.ref_refs.specs.Commit.{changed_by}
 use Rattle.ref_refs.specs.Seen.{changed_at}
-use Rattle.ref_play.specs.Plain.{ChangesRef, IsChanged, LastAt, LastsMean, NoneChanges, refs_with}
+use Rattle.ref_play.specs.Plain.{ChangesRef, LastAt, LastsMean, NoneChanges, refs_with}
 use Rattle.ref_play.proofs.PlainFaults.{is_touched_by, touched_is}
 
 changes_ref : (refs : ℕ) (e : Entry) (r : ℕ) → is_changed_by refs e r ≡ true → ChangesRef refs e r
@@ -79,8 +76,8 @@ lasts_back point refs es r before p (inr (none, same)) = none_changed point refs
 pub lasts_mean : LastsMean
 lasts_mean = record {
   history = λ base es r p. (
-      (λ is. subst (Lasts base.point (length base.refs) es r (slice_index_or base.last r 0)) is (lasts_so base.point (length base.refs) es r (slice_index_or base.last r 0))),
-      lasts_back base.point (length base.refs) es r (slice_index_or base.last r 0) p,
+    (λ is. subst (Lasts base.point (length base.refs) es r (slice_index_or base.last r 0)) is (lasts_so base.point (length base.refs) es r (slice_index_or base.last r 0))),
+    lasts_back base.point (length base.refs) es r (slice_index_or base.last r 0) p,
   );
   changed = λ lasts at dones r changed. ap (λ b. cond b at (changed_at lasts r)) (is_touched_by dones r changed);
   kept = λ lasts at dones r kept. ap (λ b. cond b at (changed_at lasts r)) (false_from_ne_true (is_touched dones r) (λ is. kept (touched_is dones r is)));

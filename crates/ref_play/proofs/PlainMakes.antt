@@ -1,5 +1,5 @@
 -- When a reference is made, and when it can get another rule, in plain words.
-use Rattle.std.proofs.Common.{◌≡◌, ◌≢◌, ◌↔◌, ◌<◌, ◌≤◌, ◌^◌, ◌&&◌, ◌||◌, ℕ, pos, cond, not, nat_lt, is_some, length, Bool, true, false, ◌⊎◌, inl, inr, [], ◌∷◌, Option, None, Some, refl, sym, ap, subst, ◌∙◌}
+use Rattle.std.proofs.Common.{◌≡◌, ◌≢◌, ◌↔◌, ◌^◌, ◌||◌, ℕ, pos, cond, not, nat_lt, is_some, length, Bool, true, false, ◌⊎◌, inl, inr, [], ◌∷◌, Option, None, Some, refl, sym, ap, subst, ◌∙◌}
 use Rattle.std.specs.Option.{option_map, option_or}
 use Rattle.std.proofs.lemmas.Bool.{and_from, and_parts, false_from_ne_true, le-ltb, lt-ltb, ltb-false, ltb-true, not-true, or_cases, or_left, or_right}
 use Rattle.ref_value.specs.Edn.{Edn, int}

@@ -1,16 +1,14 @@
 -- What a replay gives, in plain words.
-use Rattle.std.proofs.Common.{◌≡◌, ◌↔◌, ℕ, ◌+◌, false, List, [], ◌∷◌, ◌++◌, Some, Result, Ok, Err, slice_get, slice_set, refl, sym, ap, ◌∙◌}
+use Rattle.std.proofs.Common.{◌≡◌, ℕ, ◌+◌, false, List, [], ◌∷◌, ◌++◌, Result, Ok, Err, slice_get, slice_set, refl, sym, ap, ◌∙◌}
 use Rattle.ref_value.specs.Edn.{Edn}
 use Rattle.ref_fun.specs.Meaning.{Means}
 use Rattle.ref_log.specs.Laws.{is_kept-itself, refs_of, replay_from-Ok, same_value}
-use Rattle.ref_log.specs.Replay.{after_dones, after_found, after_one, after_place, done_of, replay, replay_from, state_of, step, with_atoms, with_refs}
+use Rattle.ref_log.specs.Replay.{after_dones, after_found, after_one, after_place, done_of, replay_from, state_of, step, with_atoms, with_refs}
 use Rattle.ref_log.specs.declared.entries.Entry.{Entry}
 use Rattle.ref_log.specs.declared.entries.Entry.TheVariants.{Trans, Atom, MadeRef, MadeAtom}
 use Rattle.ref_log.specs.declared.faults.AuditFault.{AuditFault}
-use Rattle.ref_log.specs.declared.operations.Op.{Op}
-use Rattle.ref_log.specs.declared.states.Base.{Base}
 use Rattle.ref_log.specs.declared.states.PlainState.{PlainState}
-use Rattle.ref_play.specs.Plain.{Makes, ReplayMeans, RunsTo, StepsTo}
+use Rattle.ref_play.specs.Plain.{ReplayMeans, RunsTo, StepsTo}
 use Rattle.ref_play.proofs.PlainCommits.{after_leads, applied, leads_after, makes_place, place_kept, place_makes}
 
 same_atoms : (state after : PlainState) (refs : Result (List Edn) AuditFault) → with_refs state refs ≡ Ok after → after.atoms ≡ state.atoms
@@ -50,8 +48,8 @@ by_step means point (Trans t) state after (leads, same) =
 by_step means point (Atom a op answer) state after (same, (v, here, makes, set)) =
     let d = done_of a op answer in
     let made : after_one means false point d state.atoms ≡ Ok (slice_set state.atoms a answer) =
-        ap (after_found means false point d state.atoms) here
-        ∙ (ap (after_place false point d state.atoms) (makes_place means op v answer makes) ∙ place_kept false point d state.atoms answer (is_kept-itself d)) in
+    ap (after_found means false point d state.atoms) here
+    ∙ (ap (after_place false point d state.atoms) (makes_place means op v answer makes) ∙ place_kept false point d state.atoms answer (is_kept-itself d)) in
     ap (with_atoms state) made ∙ ap Ok (same_state state.refs (slice_set state.atoms a answer) after same set)
 by_step means point (MadeRef v) state after (refs, atoms) = ap Ok (same_state (state.refs ++ v ∷ []) state.atoms after refs atoms)
 by_step means point (MadeAtom v) state after (refs, atoms) = ap Ok (same_state state.refs (state.atoms ++ v ∷ []) after refs atoms)

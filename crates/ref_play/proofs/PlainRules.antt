@@ -1,5 +1,5 @@
 -- What is said of a reference's rule, in plain words.
-use Rattle.std.proofs.Common.{◌≡◌, ◌≢◌, ℕ, cond, Bool, true, false, List, Option, None, Some, refl, sym, ap, ◌∙◌}
+use Rattle.std.proofs.Common.{◌≡◌, ℕ, cond, Bool, true, false, List, Option, None, Some, refl, sym, ap, ◌∙◌}
 use Rattle.ref_value.specs.Edn.{Edn}
 use Rattle.ref_fun.specs.Rule.{Accepts, passes, unknown}
 use Rattle.ref_fun.specs.declared.rules.Rule.{Rule}

@@ -8,6 +8,10 @@
 //! What holds of every such list is proved: [`runs_have_laws`] states it of each run of a machine whose history no checkpoint folds,
 //! and [`Sim::play`] is such a run. The machine and its laws stand in `specs/`, in Present, Machine, Runs, Given and Laws.
 //!
+//! The machine is defined with the definitions that the contracts of calls cite too, such as when a commit is refused. So that an error
+//! in one of them can't hide in both, each is proved to mean what is written a second time, in plain words and over plain lists: in
+//! `specs/`, in Plain, PlainTx, PlainAgents, PlainAtoms and PlainMakes. The functions of [`theorems`] state these laws.
+//!
 //! | Type | Is |
 //! |---|---|
 //! | [`Sim`] | a world, its share and its actors |
@@ -39,8 +43,4 @@ mod working;
 
 pub use events::{Act, Event, Reply};
 pub use sims::Sim;
-pub use theorems::{
-    commits_meet_their_conditions, finish_in_plain_words, job_out_in_plain_words,
-    next_job_in_plain_words, ready_in_plain_words, refusals_say_why, replay_in_plain_words,
-    restart_in_plain_words, runs_have_laws, steps_have_laws,
-};
+pub use theorems::{runs_have_laws, steps_have_laws};
