@@ -150,13 +150,13 @@ pub unless : (b c : Bool) → b ≡ true → (not b || c) ≡ true → c ≡ tru
 unless true c is fits = fits
 unless false c is fits = absurd cc
 
-fits_one : (tally : Option ℕ) (r : ℕ) (op : Op) → (not (is_tally tally r) || fits_tally op) ≡ true → tally ≡ Some r → Counts op
+pub fits_one : (tally : Option ℕ) (r : ℕ) (op : Op) → (not (is_tally tally r) || fits_tally op) ≡ true → tally ≡ Some r → Counts op
 fits_one None r op fits is = absurd cc
 fits_one (Some t) r op fits is =
     let same : t ≡ r = cc in
     counts_by op (unless (t == r) (fits_tally op) (eq-eqb t r same) fits)
 
-one_fits : (tally : Option ℕ) (r : ℕ) (op : Op) → (tally ≡ Some r → Counts op) → (not (is_tally tally r) || fits_tally op) ≡ true
+pub one_fits : (tally : Option ℕ) (r : ℕ) (op : Op) → (tally ≡ Some r → Counts op) → (not (is_tally tally r) || fits_tally op) ≡ true
 one_fits None r op counts = refl
 one_fits (Some t) r op counts = by (t == r) refl where
   by : (b : Bool) → (t == r) ≡ b → (not b || fits_tally op) ≡ true

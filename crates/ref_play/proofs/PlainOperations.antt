@@ -1,5 +1,5 @@
 -- What an operation in a transaction answers, in plain words.
-use Rattle.std.proofs.Common.{◌≡◌, ℕ, cond, ◌<◌, ◌==◌, ◌&&◌, not, Bool, true, false, inl, inr, List, [], ◌∷◌, ◌++◌, length, Option, None, Some, Result, Ok, Err, slice_get, refl, sym, ap, subst, ◌∙◌, ◌≤◌, ◌⊎◌, nat_lt}
+use Rattle.std.proofs.Common.{◌≡◌, ℕ, cond, ◌<◌, ◌==◌, ◌&&◌, not, Bool, true, false, inl, inr, List, [], ◌∷◌, ◌++◌, length, Option, None, Some, Result, Ok, Err, slice_get, refl, sym, ap, subst, ◌∙◌, ◌≤◌, ◌⊎◌, nat_lt, ◌||◌}
 use Rattle.std.proofs.lemmas.Bool.{and_from, and_parts, cases_lt, eq-eqb, eqb-false, eqb-true, false_from_ne_true, le-ltb, lt-ltb, ltb-false, ltb-true, ne_eqb, not-true}
 use Rattle.std.proofs.lemmas.Option.{slice_get_past}
 use Rattle.std.proofs.lemmas.List.{append-nil, append_assoc}
@@ -19,11 +19,11 @@ use Rattle.ref_tx.specs.Seen.{TxSeen}
 use Rattle.ref_tx.specs.declared.faults.TxFault.{TxFault}
 use Rattle.ref_tx.specs.declared.faults.TxFault.TheVariants as txs
 use Rattle.ref_play.specs.Plain.{Counts, Makes}
-use Rattle.ref_play.specs.PlainTx.{AnswersSo, Calls, Commutes, HasCalled, InnerMeans, IsAllowed, IsCommuted, IsValueIn, LeadsAt, MaySet, OperationsMean, RequirementsMean, RequiresSo, SendsInTxMean, SendsSo, Sets}
+use Rattle.ref_play.specs.PlainTx.{AnswersSo, Calls, Commutes, HasCalled, InnerMeans, IsAllowed, IsCommuted, IsValueIn, LeadsAt, MaySet, OperationsMean, RequirementsMean, RequiresSo, SendsInTxMean, SendsSo, Sets, TxMeans}
 use Rattle.ref_play.proofs.Placed.{get-below}
-use Rattle.ref_play.proofs.PlainCommits.{by_counts, counts_by, makes_place, place_makes, there}
+use Rattle.ref_play.proofs.PlainCommits.{by_counts, counts_by, fits_one, makes_place, one_fits, place_makes, there}
 use Rattle.ref_play.proofs.PlainFaults.{place_refuses, refuses_place}
-use Rattle.ref_play.proofs.PlainLists.{any_pass, some_passes}
+use Rattle.ref_play.proofs.PlainLists.{all_map, all_pass, any_pass, each_passes, some_passes}
 
 -- ---- in-transaction values
 
@@ -50,17 +50,49 @@ by_leads means r (d ∷ ds) old v (inl (same, (next, makes, later))) =
 by_leads means r (d ∷ ds) old v (inr (other, later)) =
     ap (λ b. after_ops means (cond b (d.op ∷ ops_on r ds) (ops_on r ds)) (Some old)) (ne_eqb d.r r other) ∙ by_leads means r ds old v later
 
+after_by : (means : Means) (began : List Edn) (ds : List Done) (r : ℕ) (v : Edn) → value_after means began ds r ≡ Some v → (old : Edn) × (slice_get began r ≡ Some old) × LeadsAt means r ds old v
+after_by means began ds r v is = by (slice_get began r) refl is where
+  by : (found : Option Edn) → slice_get began r ≡ found → after_ops means (ops_on r ds) found ≡ Some v → (old : Edn) × (slice_get began r ≡ Some old) × LeadsAt means r ds old v
+  by None here is = absurd (nothing_left means (ops_on r ds) v is)
+  by (Some old) here is = (old, here, leads_by means r ds old v is)
+
+by_after : (means : Means) (began : List Edn) (ds : List Done) (r : ℕ) (v : Edn) → (old : Edn) × (slice_get began r ≡ Some old) × LeadsAt means r ds old v → value_after means began ds r ≡ Some v
+by_after means began ds r v (old, here, leads) = ap (after_ops means (ops_on r ds)) here ∙ by_leads means r ds old v leads
+
 value_by : (means : Means) (tx : TxSeen) (r : ℕ) (v : Edn) → inner_value means tx r ≡ Some v → IsValueIn means tx r v
-value_by means tx r v is = by (slice_get tx.began r) refl is where
-  by : (found : Option Edn) → slice_get tx.began r ≡ found → after_ops means (ops_on r tx.dones) found ≡ Some v → IsValueIn means tx r v
-  by None here is = absurd (nothing_left means (ops_on r tx.dones) v is)
-  by (Some old) here is = (old, here, leads_by means r tx.dones old v is)
+value_by means tx r v is = after_by means tx.began tx.dones r v is
 
 by_value : (means : Means) (tx : TxSeen) (r : ℕ) (v : Edn) → IsValueIn means tx r v → inner_value means tx r ≡ Some v
-by_value means tx r v (old, here, leads) = ap (after_ops means (ops_on r tx.dones)) here ∙ by_leads means r tx.dones old v leads
+by_value means tx r v is = by_after means tx.began tx.dones r v is
 
 pub inner_means : (means : Means) → InnerMeans means
 inner_means means tx r v = (value_by means tx r v, by_value means tx r v)
+
+-- ---- what a transaction is
+
+answer_at : (means : Means) (began : List Edn) (former before after : List Done) (d : Done) → AreAnswers means began former (before ++ d ∷ after) → value_after means began (former ++ (before ++ d ∷ [])) d.r ≡ Some d.answer
+answer_at means began former [] after d are = are.0
+answer_at means began former (b ∷ before) after d are =
+    ap (λ l. value_after means began l d.r) (sym (append_assoc former (b ∷ []) (before ++ d ∷ []))) ∙ answer_at means began (former ++ b ∷ []) before after d are.1
+
+at_answers : (means : Means) (began : List Edn) (former ds : List Done) → ((before after : List Done) (d : Done) → ds ≡ before ++ d ∷ after → value_after means began (former ++ (before ++ d ∷ [])) d.r ≡ Some d.answer) → AreAnswers means began former ds
+at_answers means began former [] all = tt
+at_answers means began former (x ∷ xs) all = (all [] xs x refl, at_answers means began (former ++ x ∷ []) xs (λ before after d is.
+    ap (λ l. value_after means began l d.r) (append_assoc former (x ∷ []) (before ++ d ∷ [])) ∙ all (x ∷ before) after d (ap (λ l. x ∷ l) is)))
+
+pub tx_means : (means : Means) → TxMeans means
+tx_means means began dones tally = (
+  λ (is : IsTx means began dones tally). (
+    λ before after d split. after_by means began (before ++ d ∷ []) d.r d.answer (answer_at means began [] before after d (subst (AreAnswers means began []) split is.answered)),
+    all_map (λ (d : Done). (not (is_tally tally d.r) || fits_tally d.op) ≡ true) (λ (d : Done). tally ≡ Some d.r → Counts d.op) (λ d fits. fits_one tally d.r d.op fits) dones
+        (each_passes (λ (d : Done). not (is_tally tally d.r) || fits_tally d.op) dones is.tallied),
+  ),
+  λ both. record {
+    answered = at_answers means began [] dones (λ before after d split. by_after means began (before ++ d ∷ []) d.r d.answer (both.0 before after d split));
+    tallied = all_pass (λ (d : Done). not (is_tally tally d.r) || fits_tally d.op) dones
+        (all_map (λ (d : Done). tally ≡ Some d.r → Counts d.op) (λ (d : Done). (not (is_tally tally d.r) || fits_tally d.op) ≡ true) (λ d counts. one_fits tally d.r d.op counts) dones both.1);
+  },
+)
 
 -- A ref that was there at the beginning has an in-transaction value.
 abbrev HasValue : Means → List Edn → List Done → ℕ → Type 0

@@ -1,5 +1,6 @@
 -- What an operation in a transaction answers, in plain words.
-use Rattle.std.specs.Prelude.{◌≡◌, ◌≢◌, ◌↔◌, ◌⊎◌, ℕ, ◌<◌, ◌≤◌, Bool, true, false, List, [], ◌∷◌, length, slice_get, Option, None, Some, Result, Ok, Err}
+use Rattle.std.specs.Prelude.{◌≡◌, ◌≢◌, ◌↔◌, ◌⊎◌, ℕ, ◌<◌, ◌≤◌, Bool, true, false, List, [], ◌∷◌, length, slice_get, Option, None, Some, Result, Ok, Err, ◌++◌}
+use Rattle.std.specs.List.{AllByRecursion}
 use Rattle.ref_value.specs.Edn.{Edn}
 use Rattle.ref_fun.specs.Meaning.{Means}
 use Rattle.ref_fun.specs.Rule.{Accepts}
@@ -27,6 +28,19 @@ IsValueIn means tx r v = (old : Edn) × (slice_get tx.began r ≡ Some old) × L
 
 abbrev pub InnerMeans : Means → Type 0
 InnerMeans means = (tx : TxSeen) (r : ℕ) (v : Edn) → inner_value means tx r ≡ Some v ↔ IsValueIn means tx r v
+
+-- ---- what a transaction is
+
+-- Each operation answered the value of its ref after it, which the operations on the ref up to it lead to.
+abbrev pub AreAnswered : Means → List Edn → List Done → Type 0
+AreAnswered means began dones =
+    (before after : List Done) (d : Done) → dones ≡ before ++ d ∷ after → (old : Edn) × (slice_get began d.r ≡ Some old) × LeadsAt means d.r (before ++ d ∷ []) old d.answer
+
+-- Of a transaction it is always so that its operations answered that, and only count the tally that it knows.
+abbrev pub TxMeans : Means → Type 0
+TxMeans means =
+    (began : List Edn) (dones : List Done) (tally : Option ℕ)
+    → IsTx means began dones tally ↔ (AreAnswered means began dones × AllByRecursion (λ d. tally ≡ Some d.r → Counts d.op) dones)
 
 -- ---- what an operation asks
 

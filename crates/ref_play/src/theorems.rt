@@ -4,7 +4,7 @@ ghost use Rattle.ref_play.specs.Plain.{CommitsWhereItCan, LastsMean, RefusalsSay
 ghost use Rattle.ref_play.specs.PlainAgents.{FinishMeans, JobOutMeans, NextJobMeans, ReadyMeans, ReleaseMeans, RestartMeans, RestartRefusals, SendRefusals, SendsMean};
 ghost use Rattle.ref_play.specs.PlainAtoms.{ChangesMean, ComparesMean};
 ghost use Rattle.ref_play.specs.PlainMakes.{MakingsMean, RulesMean};
-ghost use Rattle.ref_play.specs.PlainTx.{InnerMeans, OperationsMean, RequirementsMean, SendsInTxMean};
+ghost use Rattle.ref_play.specs.PlainTx.{InnerMeans, OperationsMean, RequirementsMean, SendsInTxMean, TxMeans};
 
 use ref_fun::Meaning;
 
@@ -16,6 +16,11 @@ pub fn steps_have_laws<M: Meaning>()
 /// Every run of a machine has the laws.
 pub fn runs_have_laws<M: Meaning>()
     ensures { RunsHaveLaws M.means M.accepts }
+{}
+
+/// What is always so of a transaction: its operations answered in-transaction values, and only count the tally.
+pub fn transactions_in_plain_words<M: Meaning>()
+    ensures { TxMeans M.means }
 {}
 
 /// The in-transaction value of a ref comes of the value with which the transaction began, by its operations on the ref.
