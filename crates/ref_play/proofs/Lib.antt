@@ -26,3 +26,4 @@ pub mod PlainReplay
 pub mod PlainAtoms
 pub mod PlainMakes
 pub mod PlainLasts
+pub mod PlainNotices

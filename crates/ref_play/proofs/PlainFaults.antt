@@ -30,8 +30,7 @@ use Rattle.ref_refs.specs.declared.faults.Alien.TheVariants as aliens
 use Rattle.ref_refs.specs.declared.faults.CommitFault.{CommitFault}
 use Rattle.ref_refs.specs.declared.faults.CommitFault.TheVariants.{Conflict, Foreign, Invalid, Memory, NoSuchFun, PointLimit, Refused}
 use Rattle.ref_refs.specs.declared.faults.Conflict as told
-use Rattle.ref_play.specs.Plain.{AnyByRecursion, Changes, CommutesBy, Counts, FirstWithout, HasAgents, HasCommuted, HasRefs, HasRule, IsChanged, IsCurrent, IsHere, IsKnown, IsProtected, IsSmallestInvalid, IsSmallestOther, KnowsRuleOf, LacksFun, Leads, NamesSmallest, OnlyCounts, RefusalsSayWhy, RefusedOn, RefusesValue, RuledBy, Why}
-use Rattle.ref_play.specs.PlainAgents.{AreRising}
+use Rattle.ref_play.specs.Plain.{AnyByRecursion, AreRising, Changes, CommutesBy, Counts, FirstWithout, HasAgents, HasCommuted, HasRefs, HasRule, IsChanged, IsCurrent, IsHere, IsKnown, IsProtected, IsSmallestInvalid, IsSmallestOther, KnowsRuleOf, LacksFun, Leads, NamesSmallest, OnlyCounts, RefusalsSayWhy, RefusedOn, RefusesValue, RuledBy, Why}
 use Rattle.ref_play.proofs.Native.{differs_itself, none_of}
 use Rattle.ref_play.proofs.PlainLists.{all_map, any_each, any_pass, each_any, some_passes}
 use Rattle.ref_play.proofs.PlainCommits.{IsAcceptedAt, accepted_by, accepts_by, by_accepted, by_changes, by_counts, by_funs, by_last, by_preds, by_read, by_refs, by_sends, by_tally, by_unchanged, by_values, changes_by, counts_by, each_touched, funs_by, has_rule, here_by, insert_from, is_protected_by, last_by, lead_on, leads_after, leads_refused, makes_place, none_or, place_makes, pred_by, preds_by, protected_is, read_by, refs_by, rule_is, same_by, sends_by, tally_by, there, touched_each, unchanged_by, values_by}
@@ -437,7 +436,7 @@ insert_rises (x ∷ xs) k up = by (nat_cmp k x) (rank k x) (insert_rises xs k up
   by Equal same later = up
   by Greater more later = (insert_from (λ m. x < m) xs k up.0 more, later)
 
-touched_rises : (rs : List ℕ) (ds : List Done) → AreRising rs → AreRising (touched_from rs ds)
+pub touched_rises : (rs : List ℕ) (ds : List Done) → AreRising rs → AreRising (touched_from rs ds)
 touched_rises rs [] up = up
 touched_rises rs (d ∷ ds) up = by (is_ensure d.op) (λ more so. touched_rises more ds so) where
   by : (b : Bool) → ((more : List ℕ) → AreRising more → AreRising (touched_from more ds)) → AreRising (touched_from (cond b rs (insert_key nat_cmp rs d.r)) ds)
@@ -475,7 +474,7 @@ is_touched_by ds r = any_pass (λ (d : Done). d.r == r && not (is_ensure d.op)) 
   one : (d : Done) → (d.r ≡ r) × Changes d.op → (d.r == r && not (is_ensure d.op)) ≡ true
   one d is = and_from (d.r == r) (not (is_ensure d.op)) (eq-eqb d.r r is.0) (ap not (by_changes d.op is.1))
 
-changed_of : (ds : List Done) (r : ℕ) → AnyByRecursion (λ n. n ≡ r) (touched_refs ds) → IsChanged ds r
+pub changed_of : (ds : List Done) (r : ℕ) → AnyByRecursion (λ n. n ≡ r) (touched_refs ds) → IsChanged ds r
 changed_of ds r any = by (is_touched ds r) refl where
   by : (b : Bool) → is_touched ds r ≡ b → IsChanged ds r
   by true touched = touched_is ds r touched

@@ -11,8 +11,8 @@ use Rattle.ref_log.specs.declared.sends.Sent.{Sent}
 use Rattle.ref_agents.specs.Agents.{put_agent, queued_of, queuing, with_send, with_sends, with_unreleased}
 use Rattle.ref_agents.specs.declared.accounts.Queued.{Queued}
 use Rattle.ref_agents.specs.declared.agents.Agent.{Agent}
-use Rattle.ref_play.specs.Plain.{AnyByRecursion}
-use Rattle.ref_play.specs.PlainAgents.{AreRising, ReleaseMeans, SendsMean, queued, sent_by}
+use Rattle.ref_play.specs.Plain.{AnyByRecursion, AreRising}
+use Rattle.ref_play.specs.PlainAgents.{ReleaseMeans, SendsMean, queued, sent_by}
 use Rattle.ref_play.proofs.PlainAgents.{at_itself, at_same, set_here, set_other}
 use Rattle.ref_play.proofs.PlainFaults.{rank}
 

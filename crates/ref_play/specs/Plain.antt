@@ -1,6 +1,6 @@
 -- What definitions say that the machine and the calls of a world share, in plain words: each is met exactly where what stands here is
 -- so. The functions of src/theorems.rt have these laws as contracts.
-use Rattle.std.specs.Prelude.{◌≡◌, ◌≢◌, ◌↔◌, ◌⊎◌, ℕ, pos, ◌<◌, ◌≤◌, ◌^◌, Bool, true, false, List, [], ◌∷◌, ◌++◌, length, slice_get, slice_set, None, Some, Ok, Err, ◌+◌, slice_index_or}
+use Rattle.std.specs.Prelude.{◌≡◌, ◌≢◌, ◌↔◌, ◌⊎◌, ℕ, pos, ◌<◌, ◌≤◌, ◌^◌, Bool, true, false, List, [], ◌∷◌, ◌++◌, length, slice_get, slice_set, None, Some, Ok, Err, ◌+◌, slice_index_or, map}
 use Rattle.std.specs.List.{AllByRecursion}
 use Rattle.ref_value.specs.Edn.{Edn, int}
 use Rattle.ref_fun.specs.Calls.{Known}
@@ -11,6 +11,8 @@ use Rattle.ref_log.specs.Replay.{last_change, replay}
 use Rattle.ref_log.specs.declared.entries.Entry.{Entry}
 use Rattle.ref_log.specs.declared.entries.Entry.TheVariants as entries
 use Rattle.ref_log.specs.declared.guards.Guard.{Guard}
+use Rattle.ref_log.specs.declared.notices.Notice.{Notice}
+use Rattle.ref_log.specs.declared.notices.Who.TheVariants as who
 use Rattle.ref_log.specs.declared.operations.Done.{Done}
 use Rattle.ref_log.specs.declared.operations.Op.{Op}
 use Rattle.ref_log.specs.declared.operations.Op.TheVariants.{Set, Alter, Commute, Ensure}
@@ -21,6 +23,7 @@ use Rattle.ref_tx.specs.Inner.{IsTx}
 use Rattle.ref_tx.specs.Seen.{TxSeen}
 use Rattle.ref_refs.specs.Commit.{changed_by, commit_refusal}
 use Rattle.ref_refs.specs.Seen.{RefsSeen}
+use Rattle.ref_refs.specs.Watches.{notices, touched_refs}
 use Rattle.ref_refs.specs.declared.faults.Alien.TheVariants as aliens
 use Rattle.ref_refs.specs.declared.faults.CommitFault.{CommitFault}
 use Rattle.ref_refs.specs.declared.faults.CommitFault.TheVariants as commits
@@ -299,3 +302,24 @@ abbrev pub RefusalsSayWhy : Means → Accepts → Type 0
 RefusalsSayWhy means accepts =
     (knows : Known) (store : RefsSeen) (at agents : ℕ) (tx : TxSeen) (fault : CommitFault) → IsTx means tx.began tx.dones tx.tally
     → commit_refusal means accepts knows store at agents tx ≡ Some fault ↔ Why means accepts knows store at agents tx fault
+
+-- ---- what the watches are told of a commit
+
+-- Each is smaller than all later ones.
+abbrev pub AreRising : List ℕ → Type 0
+AreRising [] = Unit {0}
+AreRising (n ∷ ns) = AllByRecursion (λ m. n < m) ns × AreRising ns
+
+-- Of each of these refs in turn there is a notice for each of its watches in the order of adding, with the values before and after.
+abbrev pub Tell : List Guard → List Edn → List Edn → List ℕ → List Notice → Type 0
+Tell guards before after [] told = told ≡ []
+Tell guards before after (r ∷ rs) told =
+    (guard : Guard) × (old new : Edn) × (rest : List Notice) × (slice_get guards r ≡ Some guard) × (slice_get before r ≡ Some old) × (slice_get after r ≡ Some new)
+    × (told ≡ map (λ key. record { who = who.Ref r; key = key; before = old; after = new }) guard.watches ++ rest) × Tell guards before after rs rest
+
+-- The refs that a commit tells of are those that it changes, each once, in ascending order; of those that are here it tells so.
+pub record NoticesMean : Type 0 where
+  pub rising : (dones : List Done) → AreRising (touched_refs dones)
+  pub changed : (dones : List Done) (r : ℕ) → AnyByRecursion (λ q. q ≡ r) (touched_refs dones) ↔ IsChanged dones r
+  pub told : (guards : List Guard) (before after : List Edn) (rs : List ℕ)
+      → AllByRecursion (λ r. (r < length guards) × (r < length before) × (r < length after)) rs → Tell guards before after rs (notices guards before after rs)

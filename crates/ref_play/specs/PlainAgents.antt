@@ -27,7 +27,7 @@ use Rattle.ref_agents.specs.declared.faults.RestartFault.{RestartFault}
 use Rattle.ref_agents.specs.declared.faults.RestartFault.TheVariants as restarts
 use Rattle.ref_agents.specs.declared.faults.SendFault.{SendFault}
 use Rattle.ref_agents.specs.declared.faults.SendFault.TheVariants as send_faults
-use Rattle.ref_play.specs.Plain.{AnyByRecursion, HasRule, KnowsRuleOf, RuleAccepts, RuledBy}
+use Rattle.ref_play.specs.Plain.{AnyByRecursion, AreRising, HasRule, KnowsRuleOf, RuleAccepts, RuledBy}
 
 -- ---- jobs
 
@@ -197,11 +197,6 @@ pub record HasReleased (old new : AgentsSeen) (point : ℕ) : Type 0 where
   pub held : (p : ℕ) → IsHeld new p ↔ (IsHeld old p × (p ≢ point))
   pub agents : new.agents ≡ old.agents
   pub guards : new.guards ≡ old.guards
-
--- Each is smaller than all later ones.
-abbrev pub AreRising : List ℕ → Type 0
-AreRising [] = Unit {0}
-AreRising (n ∷ ns) = AllByRecursion (λ m. n < m) ns × AreRising ns
 
 abbrev pub ReleaseMeans : Type 0
 ReleaseMeans = (store : AgentsSeen) (point : ℕ) → AreRising store.unreleased → HasReleased store (with_release store point) point

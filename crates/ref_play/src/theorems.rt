@@ -1,6 +1,6 @@
 //! Laws of the machine, and of the words that it shares with the calls of a world. Each function's contract is a law; none does anything.
 ghost use Rattle.ref_play.specs.Laws.{RunsHaveLaws, StepsHaveLaws};
-ghost use Rattle.ref_play.specs.Plain.{CommitsWhereItCan, LastsMean, RefusalsSayWhy, ReplayMeans};
+ghost use Rattle.ref_play.specs.Plain.{CommitsWhereItCan, LastsMean, NoticesMean, RefusalsSayWhy, ReplayMeans};
 ghost use Rattle.ref_play.specs.PlainAgents.{FinishMeans, JobOutMeans, NextJobMeans, ReadyMeans, ReleaseMeans, RestartMeans, RestartRefusals, SendRefusals, SendsMean};
 ghost use Rattle.ref_play.specs.PlainAtoms.{ChangesMean, ComparesMean};
 ghost use Rattle.ref_play.specs.PlainMakes.{MakingsMean, RulesMean};
@@ -62,6 +62,11 @@ pub fn replay_in_plain_words<M: Meaning>()
 /// The last change of a ref has the point of the last entry that changed or made it.
 pub fn last_changes_in_plain_words()
     ensures { LastsMean }
+{}
+
+/// Which refs a commit tells the watches of, and what.
+pub fn notices_in_plain_words()
+    ensures { NoticesMean }
 {}
 
 /// A change of an atom is refused with a fault exactly where that holds which the fault says, and nothing that is asked before it.
