@@ -1,10 +1,9 @@
 -- What the watches are told of a commit, in plain words.
-use Rattle.std.proofs.Common.{◌≡◌, ◌↔◌, ℕ, zero, suc, ◌<◌, ◌⊎◌, inl, inr, List, [], ◌∷◌, ◌++◌, length, map, Some, slice_get, refl, sym, ap, ◌∙◌, arith}
+use Rattle.std.proofs.Common.{◌≡◌, ℕ, zero, suc, ◌<◌, inl, inr, List, [], ◌∷◌, ◌++◌, length, Some, slice_get, refl, ap, ◌∙◌, arith}
 use Rattle.std.specs.List.{AllByRecursion}
 use Rattle.ref_value.specs.Edn.{Edn}
 use Rattle.ref_log.specs.Guards.{keys_if_here}
 use Rattle.ref_log.specs.declared.guards.Guard.{Guard}
-use Rattle.ref_log.specs.declared.notices.Notice.{Notice}
 use Rattle.ref_log.specs.declared.operations.Done.{Done}
 use Rattle.ref_refs.specs.Watches.{notices, notices_if_here, touched_refs}
 use Rattle.ref_play.specs.Plain.{AnyByRecursion, Changes, IsChanged, NoticesMean, Tell}
@@ -32,13 +31,20 @@ tells guards before after [] here = refl
 tells guards before after (r ∷ rs) here =
     let guard = at guards r here.0.0 in
     let old = at before r here.0.1 in
-    let new = at after r here.0.2 in
-    (guard.0, old.0, new.0, notices guards before after rs, guard.1, old.1, new.1,
+    let new = at after r here.0.2 in (
+      guard.0,
+      old.0,
+      new.0,
+      notices guards before after rs,
+      guard.1,
+      old.1,
+      new.1,
       ap (λ l. l ++ notices guards before after rs)
-      (ap (λ o. notices_if_here r (keys_if_here (slice_get guards r)) o (slice_get after r)) old.1
-      ∙ (ap (λ o. notices_if_here r (keys_if_here (slice_get guards r)) (Some old.0) o) new.1
-      ∙ ap (λ o. notices_if_here r (keys_if_here o) (Some old.0) (Some new.0)) guard.1)),
-      tells guards before after rs here.1)
+          (ap (λ o. notices_if_here r (keys_if_here (slice_get guards r)) o (slice_get after r)) old.1
+          ∙ (ap (λ o. notices_if_here r (keys_if_here (slice_get guards r)) (Some old.0) o) new.1
+          ∙ ap (λ o. notices_if_here r (keys_if_here o) (Some old.0) (Some new.0)) guard.1)),
+      tells guards before after rs here.1,
+    )
 
 pub notices_mean : NoticesMean
 notices_mean = record {

@@ -77,8 +77,11 @@ answer_at means began former (b ∷ before) after d are =
 
 at_answers : (means : Means) (began : List Edn) (former ds : List Done) → ((before after : List Done) (d : Done) → ds ≡ before ++ d ∷ after → value_after means began (former ++ (before ++ d ∷ [])) d.r ≡ Some d.answer) → AreAnswers means began former ds
 at_answers means began former [] all = tt
-at_answers means began former (x ∷ xs) all = (all [] xs x refl, at_answers means began (former ++ x ∷ []) xs (λ before after d is.
-    ap (λ l. value_after means began l d.r) (append_assoc former (x ∷ []) (before ++ d ∷ [])) ∙ all (x ∷ before) after d (ap (λ l. x ∷ l) is)))
+at_answers means began former (x ∷ xs) all = (
+  all [] xs x refl,
+  at_answers means began (former ++ x ∷ []) xs (λ before after d is.
+      ap (λ l. value_after means began l d.r) (append_assoc former (x ∷ []) (before ++ d ∷ [])) ∙ all (x ∷ before) after d (ap (λ l. x ∷ l) is)),
+)
 
 pub tx_means : (means : Means) → TxMeans means
 tx_means means began dones tally = (
