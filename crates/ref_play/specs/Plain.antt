@@ -274,8 +274,9 @@ pub record IsSmallestInvalid (accepts : Accepts) (store : RefsSeen) (tx : TxSeen
   pub refuses : accepts rule.code rule.args value ≡ false
   pub smallest : (q : ℕ) (v : Edn) → q < r → IsChanged tx.dones q → slice_get after q ≡ Some v → RuleAccepts accepts store.guards q v
 
--- Each fault of a commit: what it says, where none comes that is told before it.
+-- Each fault of a commit: what it says, and that nothing is so which is told before it.
 module _ (means : Means) (accepts : Accepts) (knows : Known) (store : RefsSeen) (at agents : ℕ) (tx : TxSeen) where
+  -- Nothing is foreign but a value, perhaps; and besides the table has what is called; and besides nothing that is protected has changed.
   abbrev pub IsHere : Type 0
   IsHere = HasRefs store tx × HasAgents agents tx × OnlyCounts store tx × (tx.read_point < at)
 
