@@ -1,3 +1,4 @@
 mod Named
 mod Read
 mod Whole
+mod Written

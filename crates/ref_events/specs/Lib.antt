@@ -3,4 +3,5 @@
 pub mod Words
 pub mod Acts
 pub mod Documents
+pub mod Lines
 pub mod Reading

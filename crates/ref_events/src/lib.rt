@@ -12,13 +12,17 @@
 
 mod acts;
 mod events;
+mod fault_words;
 pub mod faults;
+pub mod lines;
 mod makings;
 mod parts;
 mod references;
+mod replies;
 pub mod scripts;
 pub mod words;
 mod wrongs;
 
 pub use faults::ScriptFault;
+pub use lines::lines_of;
 pub use scripts::{Script, script_of};
