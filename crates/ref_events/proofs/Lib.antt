@@ -1,4 +1,3 @@
 mod Named
 mod Read
 mod Whole
-mod Written

@@ -1,6 +1,7 @@
-//! Lists of events: what the text of one says, and what is written of its play.
+//! Lists of events: what the text of one says must be played.
 //!
 //! [`scripts::script_of`] tests that a value is a list of events (docs/EVENTS.md), numbers its names, and returns a [`Script`].
+//! `ref_player` plays scripts; this crate needs no world for them.
 //!
 //! | Type | Is |
 //! |---|---|
@@ -12,17 +13,13 @@
 
 mod acts;
 mod events;
-mod fault_words;
 pub mod faults;
-pub mod lines;
 mod makings;
 mod parts;
 mod references;
-mod replies;
 pub mod scripts;
 pub mod words;
 mod wrongs;
 
 pub use faults::ScriptFault;
-pub use lines::lines_of;
-pub use scripts::{Script, script_of};
+pub use scripts::{Script, ScriptParts, script_of};

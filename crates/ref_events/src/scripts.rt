@@ -50,7 +50,39 @@ impl Model for Script {
     } };
 }
 
+/// A script in its parts.
+#[derive(Drop)]
+pub struct ScriptParts {
+    pub names: Names,
+    pub start: Start,
+    pub events: Vec<Event>,
+    pub forms: Items,
+}
+
 impl Script {
+    /// The script in its parts.
+    pub fn into_parts(self) -> ScriptParts
+        ensures names { result.names ≡ self.names }
+        ensures refs { result.start.refs.items ≡ self.refs }
+        ensures atoms { result.start.atoms.items ≡ self.atoms }
+        ensures agents { result.start.agents.items ≡ self.agents }
+        ensures events { result.events.items ≡ self.events }
+        ensures forms { result.forms ≡ self.forms }
+    {
+        let Script {
+            names,
+            start,
+            events,
+            forms,
+        } = self;
+        ScriptParts {
+            names,
+            start,
+            events,
+            forms,
+        }
+    }
+
     /// The names of the references, by number.
     pub fn names(&self) -> &Names
         ensures { result.now ≡ self.now.names }

@@ -1,6 +1,6 @@
 //! The lines of a play.
 ghost use Rattle.std.specs.Prelude.{◌≡◌, ◌++◌, IfOk, OnOk};
-ghost use Rattle.ref_events.specs.Lines.{event_line, event_lines, form_text, spaced};
+ghost use Rattle.ref_player.specs.Lines.{event_line, event_lines, form_text, spaced};
 
 use crate::replies::append_reply;
 use ref_audit::append_number;

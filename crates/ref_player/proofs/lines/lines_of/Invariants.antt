@@ -1,6 +1,6 @@
 use Rattle.std.proofs.Common.{◌≡◌, ◌++◌, drop}
-use Rattle.ref_events.specs.Lines.{event_lines}
-use Rattle.ref_events.proofs.lines.lines_of.Given as goal
+use Rattle.ref_player.specs.Lines.{event_lines}
+use Rattle.ref_player.proofs.lines.lines_of.Given as goal
 
 -- What is written, and what is left to write, are all of the lines.
 abbrev pub invariant-loop-i : goal.invariant-loop-i

@@ -1,7 +1,7 @@
 //! The words for why an act was refused.
 ghost use Rattle.std.specs.Prelude.{◌≡◌};
 ghost use Rattle.ref_audit.specs.Report.{cause_text};
-ghost use Rattle.ref_events.specs.Lines.{agent_error_text, atom_fault_text, checkpoint_fault_text, finish_fault_text, job_fault_text, make_fault_text, mode_fault_text, restart_fault_text, rule_fault_text, send_fault_text, tx_fault_text, watch_fault_text};
+ghost use Rattle.ref_player.specs.Lines.{agent_error_text, atom_fault_text, checkpoint_fault_text, finish_fault_text, job_fault_text, make_fault_text, mode_fault_text, restart_fault_text, rule_fault_text, send_fault_text, tx_fault_text, watch_fault_text};
 
 use ref_agents::{AgentError, FinishFault, JobFault, ModeFault, RestartFault, SendFault};
 use ref_atoms::AtomFault;

@@ -3,7 +3,7 @@ use Rattle.std.proofs.Common.{◌≡◌, ◌≤◌, ℕ, zero, suc, List, [], �
 use Rattle.std.proofs.lemmas.List.{append-nil}
 use Rattle.ref_value.specs.Edn.{Edn, vector, items_of, list_of-items_of}
 use Rattle.ref_play.specs.declared.events.Reply.{Reply}
-use Rattle.ref_events.specs.Lines.{event_lines, form_text, spaced}
+use Rattle.ref_player.specs.Lines.{event_lines, form_text, spaced}
 
 pub form_text_vector : (xs : List Edn) → form_text (vector (items_of xs)) ≡ spaced xs
 form_text_vector xs = ap spaced (list_of-items_of xs)
