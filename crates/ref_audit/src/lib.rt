@@ -30,6 +30,6 @@ pub use own_audit::{audit_own_dump, audit_world, own_dump_is_ok};
 pub use ref_verdict::{
     Changed, DumpFault, Kept, KeptAgent, Key, Verdict, audit, auditor, read_dump, reading,
 };
-pub use reporting::{line_of, report, word_of};
+pub use reporting::{append_number, line_of, report, word_of};
 pub use reports::{Names, Reason, Refusal};
 pub use words::Word;

@@ -245,7 +245,8 @@ fn append_no(what: &str, n: u64, why: &str, out: &mut Vec<u8>) -> Result<(), All
     out.extend_from_slice(why.as_bytes())
 }
 
-fn append_number(n: u64, out: &mut Vec<u8>) -> Result<(), AllocError>
+/// Appends a number in decimal.
+pub fn append_number(n: u64, out: &mut Vec<u8>) -> Result<(), AllocError>
     ensures { OnOk result (out.new.items ≡ out.old.items ++ decimal n) }
 {
     out.extend_from_slice(Buffer::new().format(n).as_bytes())

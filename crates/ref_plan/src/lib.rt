@@ -16,7 +16,7 @@
 
 pub mod plan;
 pub mod plan_faults;
-mod planning;
+pub mod planning;
 pub mod plans;
 
 pub use plan_faults::PlanFault;

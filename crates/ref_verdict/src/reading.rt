@@ -8,15 +8,15 @@ ghost use Rattle.ref_verdict.specs.OfCore.{IsOfCore};
 ghost use Rattle.ref_verdict.specs.Reading.{Told};
 ghost use Rattle.ref_verdict.specs.declared.reading.faults.DumpFault.TheVariants.{Memory};
 
-pub(crate) mod actions;
+pub mod actions;
 pub mod dumps;
 pub(crate) mod entries;
 pub mod faults;
 pub(crate) mod lists;
 pub(crate) mod parts;
-pub(crate) mod plain;
+pub mod plain;
 pub(crate) mod references;
-pub(crate) mod wrongs;
+pub mod wrongs;
 
 use crate::reading::dumps::{Changed, Dump};
 use crate::reading::faults::{DumpFault, Key};

@@ -190,8 +190,8 @@ fn audited<F: Functions<Core>, C: Ledger, A: Ledger>(
     }
 }
 
-// Audits a world without its dump: no form is made of what nobody reads.
-fn check_audit<F: Functions<Core>, C: Ledger, A: Ledger>(
+/// Audits a world without its dump: no form is made of what nobody reads.
+pub fn check_audit<F: Functions<Core>, C: Ledger, A: Ledger>(
     alloc: Global,
     funs: &F,
     world: &World<Core, C, A>,

@@ -1,2 +1,3 @@
 pub mod PrintedLines
 pub mod AuditFaults
+pub mod PlayFaults

@@ -1,11 +1,13 @@
 -- What a fault is told by: a number, and a status of the program.
 use Rattle.std.specs.Prelude.{ℕ}
+use Rattle.ref_events.specs.declared.faults.ScriptFault.{ScriptFault}
+use Rattle.ref_events.specs.declared.faults.ScriptFault.TheVariants as scripts
 use Rattle.ref_workload.specs.declared.faults.RunFault.{RunFault}
 use Rattle.ref_workload.specs.declared.faults.RunFault.TheVariants as runs
 use Rattle.refrun.specs.declared.faults.AuditRunFault.{AuditRunFault}
 use Rattle.refrun.specs.declared.faults.AuditRunFault.TheVariants as audits
 use Rattle.refrun.specs.declared.faults.Fault.{Fault}
-use Rattle.refrun.specs.declared.faults.Fault.TheVariants.{Run, Audit}
+use Rattle.refrun.specs.declared.faults.Fault.TheVariants.{Run, Audit, Script}
 
 abbrev pub audit_run_number_of : AuditRunFault → ℕ
 audit_run_number_of audits.Read = 1
@@ -34,6 +36,11 @@ audit_status_of audits.Read = 4
 audit_status_of audits.Write = 4
 audit_status_of audits.Memory = 6
 
+abbrev pub script_status_of : ScriptFault → ℕ
+script_status_of scripts.Memory = 6
+script_status_of fault = 3
+
 abbrev pub status_of : Fault → ℕ
 status_of (Run fault) = run_status_of fault
 status_of (Audit fault) = audit_status_of fault
+status_of (Script fault) = script_status_of fault

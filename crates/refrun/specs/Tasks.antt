@@ -5,23 +5,34 @@ use Rattle.ref_verdict.specs.declared.reports.Verdict.TheVariants as verdicts
 use Rattle.ref_workload.specs.Run as runs
 use Rattle.ref_workload.specs.Streams as streams
 use Rattle.ref_workload.specs.declared.faults.RunFault.TheVariants as run_faults
+use Rattle.ref_player.specs.Plays as plays
+use Rattle.ref_player.specs.declared.faults.PlayFault.{PlayFault}
+use Rattle.ref_player.specs.declared.faults.PlayFault.TheVariants as play_faults
 use Rattle.refrun.specs.Auditing as audits
 use Rattle.refrun.specs.declared.faults.AuditRunFault.TheVariants as audit_faults
 use Rattle.refrun.specs.declared.faults.Fault.{Fault}
 use Rattle.refrun.specs.declared.faults.Fault.TheVariants as faults
 use Rattle.refrun.specs.declared.tasks.Task.{Task}
-use Rattle.refrun.specs.declared.tasks.Task.TheVariants.{Run, Audit}
+use Rattle.refrun.specs.declared.tasks.Task.TheVariants.{Run, Audit, Play}
 
--- The whole output was written: of a run its report or its dump, of an audit the line of its verdict. What was left to read and what was
--- written are told before and after.
+-- the fault of the program for one of a play
+abbrev pub play_fault_of : PlayFault → Fault
+play_fault_of (play_faults.Run fault) = faults.Run fault
+play_fault_of (play_faults.Script fault) = faults.Script fault
+
+-- The whole output was written: of a run its report or its dump, of an audit the line of its verdict, of a play its lines and its report.
+-- What was left to read and what was written are told before and after.
 abbrev pub IsDone : Task → Verdict → Option (List ℕ) → Option (List ℕ) → Option (List ℕ) → Option (List ℕ) → Type 0
 IsDone (Run options tells) verdict before after old new = (verdict ≡ verdicts.Ok) × streams.HasWritten (runs.IsRun options.dump) before after old new
 IsDone Audit verdict before after old new = streams.HasWritten (audits.IsAuditOf verdict) before after old new
+IsDone Play verdict before after old new = (verdict ≡ verdicts.Ok) × streams.HasWritten plays.IsPlay before after old new
 
 -- The fault is one of this task, and the text that was there to read is at fault where it says so.
 abbrev pub IsFaultOf : Task → Option (List ℕ) → Fault → Type 0
 IsFaultOf (Run options tells) before (faults.Run fault) = IfSome before (λ text. runs.IsAtFault text fault)
 IsFaultOf Audit before (faults.Audit fault) = IfSome before (λ text. audits.IsAtFault text fault)
+IsFaultOf Play before (faults.Run fault) = IfSome before (λ text. plays.IsAtFault text (play_faults.Run fault))
+IsFaultOf Play before (faults.Script fault) = IfSome before (λ text. plays.IsAtFault text (play_faults.Script fault))
 IsFaultOf task before fault = ⊥
 
 -- Where the writer failed, a part of the output was written, from its start on, and before any other fault nothing.
@@ -30,6 +41,9 @@ IsLeft (Run options tells) (faults.Run fault) before after old new =
     (fault ≡ run_faults.Write → streams.HasBrokenOff (runs.IsRun options.dump) before after old new) × (fault ≢ run_faults.Write → new ≡ old)
 IsLeft Audit (faults.Audit fault) before after old new =
     (fault ≡ audit_faults.Write → streams.HasBrokenOff audits.IsAudit before after old new) × (fault ≢ audit_faults.Write → new ≡ old)
+IsLeft Play (faults.Run fault) before after old new =
+    (fault ≡ run_faults.Write → streams.HasBrokenOff plays.IsPlay before after old new) × (fault ≢ run_faults.Write → new ≡ old)
+IsLeft Play (faults.Script fault) before after old new = new ≡ old
 IsLeft task fault before after old new = ⊥
 
 -- A read that fails is told by the fault for it and by nothing else, and so is a write.
@@ -37,8 +51,10 @@ abbrev pub CountsReads : ℕ → ℕ → Result Verdict Fault → Type 0
 CountsReads old new (Ok verdict) = new ≡ old
 CountsReads old new (Err (faults.Run fault)) = streams.CountsReads {T = Verdict} old new (Err fault)
 CountsReads old new (Err (faults.Audit fault)) = audits.CountsReads {T = Verdict} old new (Err fault)
+CountsReads old new (Err (faults.Script fault)) = new ≡ old
 
 abbrev pub CountsWrites : ℕ → ℕ → Result Verdict Fault → Type 0
 CountsWrites old new (Ok verdict) = new ≡ old
 CountsWrites old new (Err (faults.Run fault)) = streams.CountsWrites {T = Verdict} old new (Err fault)
 CountsWrites old new (Err (faults.Audit fault)) = audits.CountsWrites {T = Verdict} old new (Err fault)
+CountsWrites old new (Err (faults.Script fault)) = new ≡ old

@@ -19,7 +19,7 @@ pub(crate) enum Act {
 const TRIES: u32 = 1_000;
 
 const ABOUT: &str =
-    "Runs EDN workloads on refs, atoms and agents with a thread for each worker, and reports, dumps and audits what came of them";
+    "Runs EDN workloads on refs, atoms and agents with a thread for each worker, reports, dumps and audits what came of them, and plays lists of events";
 
 const RUN: &str = "Reads a workload from standard input, runs it, audits it, and prints a report";
 
@@ -51,6 +51,22 @@ Example:
 prints
   audit ok";
 
+const PLAY: &str =
+    "Reads a list of events from standard input, plays them one after the other, and prints each reply and a report";
+
+const PLAY_MORE: &str = "Example:
+  echo '{:version 1 :refs [[a 0]] :events [[0 :begin] [1 :begin] [0 :alter a + 5]
+    [0 :commit] [1 :deref a]]}' | refrun play
+prints
+  0 0 :begin -> point 0
+  1 1 :begin -> point 0
+  2 0 :alter a + 5 -> value 5
+  3 0 :commit -> point 1
+  4 1 :deref a -> value 0
+  ref a 5
+  commits 1
+  audit ok";
+
 const PRINT: &str = "Reads EDN from standard input, and prints each element on a line";
 
 const PRINT_MORE: &str = "Example:
@@ -74,6 +90,9 @@ fn command<'a>(alloc: Global) -> Result<Command<'a>, AllocError> {
     let audit = Command::new(alloc, "audit")
         .about(AUDIT)
         .after_help(AUDIT_MORE);
+    let play = Command::new(alloc, "play")
+        .about(PLAY)
+        .after_help(PLAY_MORE);
     let print = Command::new(alloc, "print")
         .about(PRINT)
         .after_help(PRINT_MORE);
@@ -83,6 +102,7 @@ fn command<'a>(alloc: Global) -> Result<Command<'a>, AllocError> {
         .subcommand(run(alloc)?)?
         .subcommand(check)?
         .subcommand(audit)?
+        .subcommand(play)?
         .subcommand(print)
 }
 
@@ -118,6 +138,7 @@ pub(crate) fn act_of(matches: &ArgMatches) -> Option<Act> {
         "run" => Some(Act::ByCore(run_of(inner))),
         "check" => Some(Act::Check),
         "audit" => Some(Act::ByCore(Task::Audit)),
+        "play" => Some(Act::ByCore(Task::Play)),
         "print" => Some(Act::Print),
         _ => None,
     }

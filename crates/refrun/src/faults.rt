@@ -5,6 +5,7 @@ ghost use Rattle.refrun.specs.Auditing.{dump_fault_of, edn_fault_of};
 
 use ref_audit::DumpFault;
 use ref_edn::ReadFault;
+use ref_events::ScriptFault;
 use ref_workload::RunFault;
 
 /// Why a dump wasn't audited.
@@ -59,9 +60,11 @@ impl From<DumpFault> for AuditRunFault {
     }
 }
 
-/// Why a command ended early: one that reads a workload or EDN, or one that audits.
+/// Why a command ended early: one that reads a workload, events or EDN, or one that audits.
 #[derive(Clone, Copy, Debug, Drop, PartialEq, Eq)]
 pub enum Fault {
     Run(RunFault),
     Audit(AuditRunFault),
+    /// The value is no list of events.
+    Script(ScriptFault),
 }

@@ -1,10 +1,11 @@
 //! What the program says of a fault, and the status that it ends with.
 ghost use Rattle.std.specs.Prelude.{◌≡◌};
-ghost use Rattle.refrun.specs.Lines.{audit_status_of, run_status_of, status_of};
+ghost use Rattle.refrun.specs.Lines.{audit_status_of, run_status_of, script_status_of, status_of};
 
 use crate::faults::{AuditRunFault, Fault};
 use ref_audit::DumpFault;
 use ref_edn::ReadFault;
+use ref_events::ScriptFault;
 use ref_log::Who;
 use ref_workload::{PlanFault, RunFault};
 use std::fmt;
@@ -18,6 +19,7 @@ impl fmt::Display for Line {
         match self.0 {
             Fault::Run(fault) => write_run_fault(fault, f),
             Fault::Audit(fault) => write_audit_fault(fault, f),
+            Fault::Script(fault) => write_script_fault(fault, f),
         }
     }
 }
@@ -71,6 +73,19 @@ fn write_plan_fault<W: fmt::Write>(fault: PlanFault, f: &mut fmt::Formatter<W>) 
     }
 }
 
+fn write_script_fault<W: fmt::Write>(fault: ScriptFault, f: &mut fmt::Formatter<W>) -> fmt::Result {
+    match fault {
+        ScriptFault::NotEvents => f.write_str("NotEvents"),
+        ScriptFault::BadVersion => f.write_str("BadVersion"),
+        ScriptFault::TooMany => f.write_str("TooMany"),
+        ScriptFault::Reference(fault) => write_plan_fault(fault, f),
+        ScriptFault::BadEvent(n) => write!(f, "BadEvent {n}"),
+        ScriptFault::UnknownName(n) => write!(f, "UnknownName {n}"),
+        ScriptFault::UnknownFun(n) => write!(f, "UnknownFun {n}"),
+        ScriptFault::Memory => f.write_str("out of memory"),
+    }
+}
+
 // The fault of a reference that is declared.
 fn write_of<W: fmt::Write>(name: &str, who: Who, f: &mut fmt::Formatter<W>) -> fmt::Result {
     match who {
@@ -97,6 +112,7 @@ pub fn status(fault: Fault) -> u8
     match fault {
         Fault::Run(fault) => run_status(fault),
         Fault::Audit(fault) => audit_status(fault),
+        Fault::Script(fault) => script_status(fault),
     }
 }
 
@@ -108,6 +124,15 @@ fn run_status(fault: RunFault) -> u8
         RunFault::Read | RunFault::Write => 4,
         RunFault::Internal => 5,
         RunFault::Memory => 6,
+    }
+}
+
+fn script_status(fault: ScriptFault) -> u8
+    ensures { result ≡ script_status_of fault }
+{
+    match fault {
+        ScriptFault::Memory => 6,
+        _ => 3,
     }
 }
 

@@ -1,8 +1,8 @@
 //! `refrun` runs the workload that an EDN text describes, on refs, atoms and agents and with a thread for each worker, and reports
-//! what came of it; it dumps a run and audits a dump, and prints EDN.
+//! what came of it; it dumps a run and audits a dump, plays lists of events on one thread, and prints EDN.
 //!
 //! Each command is one function from a reader to a writer: `ref_workload::run_workload`, [`checking::check_text`],
-//! [`auditing::audit_text`] and [`printing::print_text`]. `commands` reads the command line, and `lines` has what is said on standard
+//! [`auditing::audit_text`], `ref_player::play_events` and [`printing::print_text`]. `commands` reads the command line, and `lines` has what is said on standard
 //! error and the statuses. `tasks` has what is done by Core's functions.
 #![tactic(auto)]
 

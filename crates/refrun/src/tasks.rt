@@ -1,8 +1,8 @@
 //! What is done by a table of all functions and predicates of Core.
-ghost use Rattle.std.specs.Prelude.{IfOk, IfErr};
+ghost use Rattle.std.specs.Prelude.{◌≡◌, IfOk, IfErr};
 ghost use Rattle.ref_edn.specs.Streams.{ConsumesUpTo};
 ghost use Rattle.ref_fun.specs.Calls.{HasCore};
-ghost use Rattle.refrun.specs.Tasks.{CountsReads, CountsWrites, IsDone, IsFaultOf, IsLeft};
+ghost use Rattle.refrun.specs.Tasks.{CountsReads, CountsWrites, IsDone, IsFaultOf, IsLeft, play_fault_of};
 
 use crate::auditing::audit_text;
 use crate::faults::Fault;
@@ -10,6 +10,7 @@ use crate::telling::run_and_tell;
 use ref_audit::Verdict;
 use ref_edn::{Sink, Source};
 use ref_fun::{Core, Functions};
+use ref_player::{PlayFault, play_events};
 use ref_workload::{Options, run_workload};
 use std::alloc::Global;
 use std::sync::Wait;
@@ -25,9 +26,20 @@ pub(crate) enum Task {
         tells: bool,
     },
     Audit,
+    Play,
 }
 
-/// Runs a workload or audits a dump by the table, as [`run_workload`] and [`audit_text`] say.
+// The fault of the program for one of a play.
+fn fault_of(fault: PlayFault) -> Fault
+    ensures { result ≡ play_fault_of fault }
+{
+    match fault {
+        PlayFault::Run(fault) => Fault::Run(fault),
+        PlayFault::Script(fault) => Fault::Script(fault),
+    }
+}
+
+/// Runs a workload, audits a dump or plays events by the table, as [`run_workload`], [`audit_text`] and [`play_events`] say.
 pub(crate) fn carry_out<F, R, I, O>(
     rt: &R,
     alloc: Global,
@@ -70,6 +82,10 @@ where
         Task::Audit => match audit_text(alloc, funs, reader, writer) {
             Ok(verdict) => Ok(verdict),
             Err(fault) => Err(Fault::Audit(fault)),
+        },
+        Task::Play => match play_events(alloc, funs, reader, writer) {
+            Ok(()) => Ok(Verdict::Ok),
+            Err(fault) => Err(fault_of(fault)),
         },
     }
 }

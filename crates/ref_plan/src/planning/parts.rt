@@ -33,9 +33,9 @@ pub struct Parts<'a> {
     pub pool: u32,
 }
 
-// What stands under a keyword.
+/// What stands under a keyword.
 #[tactic(auto, using(crate::proofs::Parts::part_at))]
-fn part<'a>(entries: &'a Entries, word: &[u8]) -> Option<&'a Value>
+pub fn part<'a>(entries: &'a Entries, word: &[u8]) -> Option<&'a Value>
     ensures { option_copied result ≡ part_of word.now entries.now }
 {
     for i in 0..entries.len() {
@@ -71,8 +71,8 @@ fn are_known(entries: &Entries) -> bool
     true
 }
 
-// The elements of a part that is a vector, or is left out.
-fn vector_part<'a>(entries: &'a Entries, word: &[u8]) -> Option<Option<&'a Items>>
+/// The elements of a part that is a vector, or is left out.
+pub fn vector_part<'a>(entries: &'a Entries, word: &[u8]) -> Option<Option<&'a Items>>
     ensures some { IfSome result (λ xs. IsVectorPart (part_of word.now entries.now) (elements (option_copied xs))) }
     ensures none { IfNone result ((xs : List Edn) → IsVectorPart (part_of word.now entries.now) xs → ⊥) }
 {
@@ -82,7 +82,8 @@ fn vector_part<'a>(entries: &'a Entries, word: &[u8]) -> Option<Option<&'a Items
     }
 }
 
-fn version_of(entries: &Entries) -> Option<i64>
+/// The version, where it is an integer.
+pub fn version_of(entries: &Entries) -> Option<i64>
     ensures some { IfSome result (λ n. part_of version_word entries.now ≡ Some (int n)) }
     ensures none { IfNone result ((n : ℤ) → part_of version_word entries.now ≡ Some (int n) → ⊥) }
 {
@@ -110,7 +111,8 @@ fn pool_in_range(n: i64) -> Option<u32>
     Some(n as u32)
 }
 
-fn count(part: Option<&Items>) -> usize
+/// How many elements a part has.
+pub fn count(part: Option<&Items>) -> usize
     ensures { result ≡ length (elements (option_copied part.entry)) }
 {
     match part {

@@ -23,7 +23,7 @@ fn named_code(form: &Value) -> Option<u32>
 }
 
 /// The code of the function of Core that a symbol names.
-fn function_in(form: &Value) -> Option<u32>
+pub fn function_in(form: &Value) -> Option<u32>
     ensures { result ≡ code_of is_function form.now }
 {
     let code = named_code(form)?;
@@ -31,7 +31,7 @@ fn function_in(form: &Value) -> Option<u32>
 }
 
 /// The code of the predicate of Core that a symbol names.
-fn predicate_in(form: &Value) -> Option<u32>
+pub fn predicate_in(form: &Value) -> Option<u32>
     ensures { result ≡ code_of is_predicate form.now }
 {
     let code = named_code(form)?;
@@ -40,7 +40,7 @@ fn predicate_in(form: &Value) -> Option<u32>
 
 /// At most 8 arguments.
 #[tactic(auto, using(crate::specs::FormLaws::args_said_many, crate::specs::FormLaws::args_said_few))]
-fn args_in(alloc: Global, forms: Iter<'_>) -> Result<Args, Wrong>
+pub fn args_in(alloc: Global, forms: Iter<'_>) -> Result<Args, Wrong>
     ensures { Reads (args_said forms.entry) result }
 {
     let mut values = Vec::new(alloc);
@@ -54,7 +54,7 @@ fn args_in(alloc: Global, forms: Iter<'_>) -> Result<Args, Wrong>
 }
 
 /// A function and a vector of its arguments.
-pub(crate) fn action_in(alloc: Global, function: &Value, args: &Value) -> Result<Action, Wrong>
+pub fn action_in(alloc: Global, function: &Value, args: &Value) -> Result<Action, Wrong>
     ensures { Reads (action_of function.now args.now) result }
 {
     let (Some(code), Some(forms)) = (function_in(function), elements_in(args)) else {
@@ -66,8 +66,8 @@ pub(crate) fn action_in(alloc: Global, function: &Value, args: &Value) -> Result
     }
 }
 
-// A predicate and its arguments.
-fn rule_parts(alloc: Global, mut parts: Iter<'_>) -> Result<Rule, Wrong>
+/// A predicate and its arguments.
+pub fn rule_parts(alloc: Global, mut parts: Iter<'_>) -> Result<Rule, Wrong>
     ensures { Reads (rule_said parts.entry) result }
 {
     let Some(predicate) = parts.next() else {
@@ -84,7 +84,7 @@ fn rule_parts(alloc: Global, mut parts: Iter<'_>) -> Result<Rule, Wrong>
 
 /// A rule, or nil where there is none.
 #[tactic(auto, using(crate::specs::FormLaws::rule_of_vector))]
-pub(crate) fn rule_in(alloc: Global, form: &Value) -> Result<Option<Rule>, Wrong>
+pub fn rule_in(alloc: Global, form: &Value) -> Result<Option<Rule>, Wrong>
     ensures { Reads (rule_of form.now) result }
 {
     match form.node() {

@@ -6,7 +6,7 @@ ghost use Rattle.ref_verdict.specs.DumpForm.{elements_of, is_word, keyword_of, n
 use ref_value::{Items, Node, Text, Value};
 
 /// An integer of 0 or more.
-pub(crate) fn number_in(form: &Value) -> Option<u64>
+pub fn number_in(form: &Value) -> Option<u64>
     ensures value { result ≡ number_of form.now }
     ensures limit { IfSome result (λ n. n < 2 ^ 63) }
 {
@@ -17,7 +17,7 @@ pub(crate) fn number_in(form: &Value) -> Option<u64>
 }
 
 /// The number of a worker or a step.
-pub(crate) fn stamp_number_in(form: &Value) -> Option<u32>
+pub fn stamp_number_in(form: &Value) -> Option<u32>
     ensures { result ≡ stamp_number form.now }
 {
     let n = number_in(form)?;
@@ -29,7 +29,7 @@ pub(crate) fn stamp_number_in(form: &Value) -> Option<u32>
 }
 
 /// The number of a reference. Those past the greatest `u32` are taken as that: no reference has one of them.
-pub(crate) fn reference_in(form: &Value) -> Option<u32>
+pub fn reference_in(form: &Value) -> Option<u32>
     ensures { result ≡ reference_of form.now }
 {
     let n = number_in(form)?;
@@ -40,7 +40,7 @@ pub(crate) fn reference_in(form: &Value) -> Option<u32>
     }
 }
 
-pub(crate) fn keyword_in(form: &Value) -> Option<&Text>
+pub fn keyword_in(form: &Value) -> Option<&Text>
     ensures some { IfSome result (λ name. keyword_of form.now ≡ Some name.now) }
     ensures none { IfNone result (keyword_of form.now ≡ None) }
 {
@@ -51,7 +51,7 @@ pub(crate) fn keyword_in(form: &Value) -> Option<&Text>
 }
 
 #[tactic(auto, using(crate::specs::FormLaws::elements_of_vector))]
-pub(crate) fn elements_in(form: &Value) -> Option<&Items>
+pub fn elements_in(form: &Value) -> Option<&Items>
     ensures some { IfSome result (λ xs. elements_of form.now ≡ Some xs.now) }
     ensures none { IfNone result (elements_of form.now ≡ None) }
 {
@@ -61,14 +61,14 @@ pub(crate) fn elements_in(form: &Value) -> Option<&Items>
     }
 }
 
-pub(crate) fn is_same(a: &[u8], b: &[u8]) -> bool
+pub fn is_same(a: &[u8], b: &[u8]) -> bool
     ensures { result ≡ bytes_eq a.now b.now }
 {
     a == b
 }
 
 /// Whether a value is the keyword of this name.
-pub(crate) fn is_word(form: &Value, word: &[u8]) -> bool
+pub fn is_word(form: &Value, word: &[u8]) -> bool
     ensures { result ≡ is_word word.now form.now }
 {
     match form.node() {

@@ -8,14 +8,14 @@ use std::alloc::{AllocError, AllocFailed};
 
 /// It has a wrong form, or memory was refused.
 #[derive(Clone, Copy, Drop, PartialEq, Eq)]
-pub(crate) enum Wrong {
+pub enum Wrong {
     Form,
     Memory,
 }
 
 impl Wrong {
     /// The fault where the part under a key isn't read.
-    pub(crate) fn at(self, key: Key) -> DumpFault
+    pub fn at(self, key: Key) -> DumpFault
         ensures { result ≡ fault_at key self }
     {
         match self {

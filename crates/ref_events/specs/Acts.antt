@@ -1,0 +1,244 @@
+-- What an event says, `[ACTOR ACT ARG ..]`: ACTOR is the number of the actor and ACT the keyword of the act. NAME is the name of a
+-- reference that is declared, or `[:ref N]`, `[:atom N]` or `[:agent N]`; R, X and G name a ref, an atom and an agent.
+--
+--   :begin, :read-point, :commit, :abort      the actor's transaction
+--   :deref R, :ref-set R V, :alter R F ARG .., :commute R F ARG .., :ensure R, :require R P ARG .., :send-in-tx G F ARG ..
+--                                             in it
+--   :take, :run, :put-back, :finish           the actor's job
+--   :swap X F ARG .., :reset X V, :cas X OLD NEW
+--   :send G F ARG .., :restart G V, :restart G V :clear, :set-error-mode G :fail or :continue, :error-of G
+--   :set-validator NAME RULE or nil, :add-watch NAME KEY, :remove-watch NAME KEY, :value-of NAME
+--   :release P, :checkpoint P                 at the point P
+--   :make-ref V, :make-atom V, :make-agent V  then RULE or nil, then, for a ref, :tally, or, for an agent, :fail or :continue
+--
+-- RULE is `[P ARG ..]`. What a form doesn't say is None here.
+use Rattle.std.specs.Prelude.{ℕ, ◌+◌, Bool, true, false, if◌then◌else◌, nat_le, List, [], ◌∷◌, Option, None, Some, option_map, option_and_then, suc}
+use Rattle.ref_value.specs.Edn.{Edn, symbol, vector, list_of, nesting}
+use Rattle.ref_value.specs.Names.{bytes_eq}
+use Rattle.ref_fun.specs.Names.{is_function}
+use Rattle.ref_fun.specs.declared.actions.Action.{Action}
+use Rattle.ref_fun.specs.declared.rules.Rule.{Rule}
+use Rattle.ref_log.specs.declared.entries.Stamp.{Stamp}
+use Rattle.ref_log.specs.declared.notices.Who.{Who}
+use Rattle.ref_log.specs.declared.notices.Who.TheVariants.{Ref, Atom, Agent}
+use Rattle.ref_agents.specs.declared.agents.ErrorMode.{ErrorMode}
+use Rattle.ref_agents.specs.declared.agents.ErrorMode.TheVariants as modes
+use Rattle.ref_start.specs.Names.{NamesSeen}
+use Rattle.ref_plan.specs.declared.planning.kinds.Kind.{Kind}
+use Rattle.ref_plan.specs.declared.planning.kinds.Kind.TheVariants as kinds
+use Rattle.ref_verdict.specs.DumpForm.{and_said, args_said, both, code_of, elements_of, is_word, keyword_of, number_of, only_if, rule_of, rule_said, stamp_number}
+use Rattle.ref_play.specs.declared.events.Act.{Act}
+use Rattle.ref_play.specs.declared.events.Act.TheVariants as acts
+use Rattle.ref_play.specs.declared.events.Event.{Event}
+use Rattle.ref_events.specs.Words.{act_words, agent_word, atom_word, clear_word, continue_word, fail_word, ref_word, tally_word, word_named}
+use Rattle.ref_events.specs.declared.words.ActWord.{ActWord}
+use Rattle.ref_events.specs.declared.words.ActWord.TheVariants as words
+use Rattle.ref_events.specs.declared.words.AgentWord.{AgentWord}
+use Rattle.ref_events.specs.declared.words.AgentWord.TheVariants as agents
+use Rattle.ref_events.specs.declared.words.AtomWord.{AtomWord}
+use Rattle.ref_events.specs.declared.words.AtomWord.TheVariants as atoms
+use Rattle.ref_events.specs.declared.words.JobWord.{JobWord}
+use Rattle.ref_events.specs.declared.words.JobWord.TheVariants as jobs
+use Rattle.ref_events.specs.declared.words.MakingWord.{MakingWord}
+use Rattle.ref_events.specs.declared.words.MakingWord.TheVariants as makings
+use Rattle.ref_events.specs.declared.words.ReferenceWord.{ReferenceWord}
+use Rattle.ref_events.specs.declared.words.ReferenceWord.TheVariants as references
+use Rattle.ref_events.specs.declared.words.TxWord.{TxWord}
+use Rattle.ref_events.specs.declared.words.TxWord.TheVariants as txs
+use Rattle.ref_events.specs.declared.words.WorldWord.{WorldWord}
+use Rattle.ref_events.specs.declared.words.WorldWord.TheVariants as worlds
+
+-- ---- references
+
+-- the place of a name in a list
+abbrev pub place_of : List ℕ → List (List ℕ) → Option ℕ
+place_of name [] = None
+place_of name (other ∷ names) = if bytes_eq other name then Some 0 else option_map suc (place_of name names)
+
+-- the first that is there
+abbrev pub or_else : {A : Type 0} → Option A → Option A → Option A
+or_else (Some x) other = Some x
+or_else None other = other
+
+-- the reference of a name
+abbrev pub who_named : NamesSeen → List ℕ → Option Who
+who_named names name = or_else (option_map Ref (place_of name names.refs)) (or_else (option_map Atom (place_of name names.atoms)) (option_map Agent (place_of name names.agents)))
+
+-- the reference of a kind that has this number
+abbrev pub who_of : List ℕ → ℕ → Option Who
+who_of kind n =
+    if bytes_eq kind ref_word then Some (Ref n) else
+    if bytes_eq kind atom_word then Some (Atom n) else
+    if bytes_eq kind agent_word then Some (Agent n) else
+    None
+
+-- `KIND N`
+abbrev pub numbered_said : List Edn → Option Who
+numbered_said (kind ∷ n ∷ []) = option_and_then (λ word. option_and_then (who_of word) (stamp_number n)) (keyword_of kind)
+numbered_said parts = None
+
+-- a name, or a kind and a number
+abbrev pub who_said : NamesSeen → Edn → Option Who
+who_said names (symbol name) = who_named names name
+who_said names (vector xs) = numbered_said (list_of xs)
+who_said names x = None
+
+-- the number of a reference, if it is of this kind
+abbrev pub number_at : Kind → Who → Option ℕ
+number_at kinds.Ref (Ref n) = Some n
+number_at kinds.Atom (Atom n) = Some n
+number_at kinds.Agent (Agent n) = Some n
+number_at kind who = None
+
+abbrev pub number_said : NamesSeen → Kind → Edn → Option ℕ
+number_said names kind x = option_and_then (number_at kind) (who_said names x)
+
+-- ---- what stands behind the word
+
+-- nothing
+abbrev pub alone_said : Act → List Edn → Option Act
+alone_said act [] = Some act
+alone_said act parts = None
+
+-- one form, and two of them
+abbrev pub one_said : {A : Type 0} → (Edn → Option A) → List Edn → Option A
+one_said said (x ∷ []) = said x
+one_said said parts = None
+
+abbrev pub two_said : {A B : Type 0} → (Edn → Option A) → (Edn → Option B) → List Edn → Option (A × B)
+two_said said other (x ∷ y ∷ []) = both (λ a b. (a, b)) (said x) (other y)
+two_said said other parts = None
+
+-- a reference of a kind, a function and its arguments
+abbrev pub call_said : NamesSeen → Kind → List Edn → Option (ℕ × Action)
+call_said names kind (x ∷ f ∷ args) = both (λ n action. (n, action)) (number_said names kind x) (both (λ code xs. record { code = code; args = xs }) (code_of is_function f) (args_said args))
+call_said names kind parts = None
+
+-- a ref, a predicate and its arguments
+abbrev pub required_said : NamesSeen → List Edn → Option (ℕ × Rule)
+required_said names [] = None
+required_said names (x ∷ rule) = both (λ r said. (r, said)) (number_said names kinds.Ref x) (rule_said rule)
+
+-- an atom and two values
+abbrev pub swaps_said : NamesSeen → List Edn → Option (ℕ × Edn × Edn)
+swaps_said names (x ∷ old ∷ new ∷ []) = option_map (λ n. (n, old, new)) (number_said names kinds.Atom x)
+swaps_said names parts = None
+
+-- whether a mark stands there that may be left out
+abbrev pub mark_said : List ℕ → List Edn → Option Bool
+mark_said word [] = Some false
+mark_said word (x ∷ []) = only_if (is_word word x) true
+mark_said word parts = None
+
+-- an agent and a state, and whether what waits is dropped
+abbrev pub restart_said : NamesSeen → List Edn → Option (ℕ × Edn × Bool)
+restart_said names (g ∷ v ∷ mark) = both (λ n clear. (n, v, clear)) (number_said names kinds.Agent g) (mark_said clear_word mark)
+restart_said names parts = None
+
+abbrev pub mode_named : List ℕ → Option ErrorMode
+mode_named word =
+    if bytes_eq word fail_word then Some modes.Fail else
+    if bytes_eq word continue_word then Some modes.Continue else
+    None
+
+abbrev pub mode_said : Edn → Option ErrorMode
+mode_said x = option_and_then mode_named (keyword_of x)
+
+-- ---- makings
+
+-- a value, a rule or nil that may be left out, and what stands behind them
+abbrev pub made_said : List Edn → Option (Edn × Option Rule × List Edn)
+made_said [] = None
+made_said (v ∷ []) = Some (v, None, [])
+made_said (v ∷ rule ∷ rest) = option_map (λ r. (v, r, rest)) (rule_of rule)
+
+-- the mode that a mark says, `:fail` where it is left out
+abbrev pub mode_mark_said : List Edn → Option ErrorMode
+mode_mark_said [] = Some modes.Fail
+mode_mark_said parts = one_said mode_said parts
+
+-- ---- acts
+
+abbrev pub tx_said : NamesSeen → Stamp → TxWord → List Edn → Option Act
+tx_said names stamp txs.Begin parts = alone_said acts.Begin parts
+tx_said names stamp txs.Deref parts = option_map acts.Deref (one_said (number_said names kinds.Ref) parts)
+tx_said names stamp txs.RefSet parts = option_map (λ p. acts.RefSet p.0 p.1) (two_said (number_said names kinds.Ref) Some parts)
+tx_said names stamp txs.Alter parts = option_map (λ c. acts.Alter c.0 c.1.code c.1.args) (call_said names kinds.Ref parts)
+tx_said names stamp txs.Commute parts = option_map (λ c. acts.Commute c.0 c.1.code c.1.args) (call_said names kinds.Ref parts)
+tx_said names stamp txs.Ensure parts = option_map acts.Ensure (one_said (number_said names kinds.Ref) parts)
+tx_said names stamp txs.SendInTx parts = option_map (λ c. acts.SendInTx c.0 c.1.code c.1.args) (call_said names kinds.Agent parts)
+tx_said names stamp txs.Require parts = option_map (λ p. acts.Require p.0 p.1) (required_said names parts)
+tx_said names stamp txs.ReadPoint parts = alone_said acts.ReadPoint parts
+tx_said names stamp txs.Commit parts = alone_said (acts.Commit stamp) parts
+tx_said names stamp txs.Abort parts = alone_said acts.Abort parts
+
+abbrev pub job_said : JobWord → List Edn → Option Act
+job_said jobs.Take parts = alone_said acts.Take parts
+job_said jobs.Run parts = alone_said acts.Run parts
+job_said jobs.PutBack parts = alone_said acts.PutBack parts
+job_said jobs.Finish parts = alone_said acts.Finish parts
+
+abbrev pub atom_said : NamesSeen → AtomWord → List Edn → Option Act
+atom_said names atoms.Swap parts = option_map (λ c. acts.Swap c.0 c.1.code c.1.args) (call_said names kinds.Atom parts)
+atom_said names atoms.Reset parts = option_map (λ p. acts.Reset p.0 p.1) (two_said (number_said names kinds.Atom) Some parts)
+atom_said names atoms.CompareAndSet parts = option_map (λ p. acts.CompareAndSet p.0 p.1 p.2) (swaps_said names parts)
+
+abbrev pub agent_said : NamesSeen → AgentWord → List Edn → Option Act
+agent_said names agents.Send parts = option_map (λ c. acts.Send c.0 c.1) (call_said names kinds.Agent parts)
+agent_said names agents.Restart parts = option_map (λ p. acts.Restart p.0 p.1 p.2) (restart_said names parts)
+agent_said names agents.SetErrorMode parts = option_map (λ p. acts.SetErrorMode p.0 p.1) (two_said (number_said names kinds.Agent) mode_said parts)
+agent_said names agents.ErrorOf parts = option_map acts.ErrorOf (one_said (number_said names kinds.Agent) parts)
+
+abbrev pub reference_said : NamesSeen → ReferenceWord → List Edn → Option Act
+reference_said names references.SetValidator parts = option_map (λ p. acts.SetValidator p.0 p.1) (two_said (who_said names) rule_of parts)
+reference_said names references.AddWatch parts = option_map (λ p. acts.AddWatch p.0 p.1) (two_said (who_said names) Some parts)
+reference_said names references.RemoveWatch parts = option_map (λ p. acts.RemoveWatch p.0 p.1) (two_said (who_said names) Some parts)
+reference_said names references.ValueOf parts = option_map acts.ValueOf (one_said (who_said names) parts)
+
+abbrev pub world_said : WorldWord → List Edn → Option Act
+world_said worlds.Release parts = option_map acts.Release (one_said number_of parts)
+world_said worlds.Checkpoint parts = option_map acts.Checkpoint (one_said number_of parts)
+
+abbrev pub marked_said : MakingWord → Edn → Option Rule → List Edn → Option Act
+marked_said makings.MakeRef v rule rest = option_map (acts.MakeRef v rule) (mark_said tally_word rest)
+marked_said makings.MakeAtom v rule rest = alone_said (acts.MakeAtom v rule) rest
+marked_said makings.MakeAgent v rule rest = option_map (acts.MakeAgent v rule) (mode_mark_said rest)
+
+abbrev pub making_said : MakingWord → List Edn → Option Act
+making_said word parts = option_and_then (λ m. marked_said word m.0 m.1 m.2) (made_said parts)
+
+abbrev pub act_said : NamesSeen → Stamp → ActWord → List Edn → Option Act
+act_said names stamp (words.Tx word) parts = tx_said names stamp word parts
+act_said names stamp (words.Job word) parts = job_said word parts
+act_said names stamp (words.Atom word) parts = atom_said names word parts
+act_said names stamp (words.Agent word) parts = agent_said names word parts
+act_said names stamp (words.Reference word) parts = reference_said names word parts
+act_said names stamp (words.World word) parts = world_said word parts
+act_said names stamp (words.Making word) parts = making_said word parts
+
+-- ---- events
+
+-- how deep an event may be nested, so that a value in it is nested no deeper than a workload's
+abbrev pub most_nested : ℕ
+most_nested = 49
+
+abbrev pub word_said : Edn → Option ActWord
+word_said x = option_and_then (word_named act_words) (keyword_of x)
+
+-- The stamp of a commit is the number of its actor and that of the event.
+abbrev pub with_word : NamesSeen → ℕ → Option ℕ → Option ActWord → List Edn → Option Event
+with_word names n (Some actor) (Some word) parts = option_map (λ act. record { actor = actor; act = act }) (act_said names (record { worker = actor; step = n }) word parts)
+with_word names n actor word parts = None
+
+abbrev pub parts_said : NamesSeen → ℕ → List Edn → Option Event
+parts_said names n (actor ∷ word ∷ parts) = with_word names n (stamp_number actor) (word_said word) parts
+parts_said names n parts = None
+
+-- what a form says as the event of this number
+abbrev pub event_said : NamesSeen → ℕ → Edn → Option Event
+event_said names n x = option_and_then (λ y. option_and_then (parts_said names n) (elements_of y)) (only_if (nat_le (nesting x) most_nested) x)
+
+-- what these forms say, the first as the event of this number, where all of them say something
+abbrev pub events_said : NamesSeen → ℕ → List Edn → Option (List Event)
+events_said names n [] = Some []
+events_said names n (x ∷ xs) = and_said (event_said names n x) (events_said names (n + 1) xs)

@@ -1,0 +1,71 @@
+//! What a new reference is made of.
+ghost use Rattle.std.specs.Prelude.{◌≡◌, ◌≢◌, Some, None, IfErr, IfOk};
+ghost use Rattle.ref_events.specs.Acts.{made_said, marked_said, mode_mark_said};
+ghost use Rattle.ref_events.specs.Reading.{Reads};
+
+use crate::parts::{alone, is_marked, mode_in};
+use crate::words::MakingWord;
+use crate::wrongs::Wrong;
+use ref_agents::ErrorMode;
+use ref_fun::Rule;
+use ref_play::Act;
+use ref_value::Value;
+use ref_value::vectors::Iter;
+use ref_verdict::reading::actions::rule_in;
+use std::alloc::Global;
+
+/// A value, a rule, and what stands behind them.
+#[derive(Drop)]
+pub(crate) struct Made<'a> {
+    value: Value,
+    rule: Option<Rule>,
+    rest: Iter<'a>,
+}
+
+/// A value, and a rule or nil, which may be left out.
+pub(crate) fn made_in(alloc: Global, mut parts: Iter<'_>) -> Result<Made<'_>, Wrong>
+    ensures some { IfOk result (λ m. made_said parts.entry ≡ Some (m.value, m.rule, m.rest)) }
+    ensures none { IfErr result (λ w. w ≢ Wrong.Memory → made_said parts.entry ≡ None) }
+{
+    let Some(value) = parts.next() else {
+        return Err(Wrong::Form);
+    };
+    let rule = match parts.next() {
+        None => None,
+        Some(rule) => rule_in(alloc, rule)?,
+    };
+    Ok(Made {
+        value: value.share()?,
+        rule,
+        rest: parts,
+    })
+}
+
+// The error mode that a mark says, the mode of failing where it is left out.
+fn mode_marked(mut parts: Iter<'_>) -> Option<ErrorMode>
+    ensures { result ≡ mode_mark_said parts.entry }
+{
+    match (parts.next(), parts.next()) {
+        (None, _) => Some(ErrorMode::Fail),
+        (Some(mode), None) => mode_in(mode),
+        _ => None,
+    }
+}
+
+/// The act that makes a reference of these.
+pub(crate) fn making_of(word: MakingWord, made: Made<'_>) -> Result<Act, Wrong>
+    ensures { Reads (marked_said word made.entry.value made.entry.rule made.entry.rest) result }
+{
+    let Made { value, rule, rest } = made;
+    match word {
+        MakingWord::MakeRef => match is_marked(b"tally", rest) {
+            Some(tally) => Ok(Act::MakeRef(value, rule, tally)),
+            None => Err(Wrong::Form),
+        },
+        MakingWord::MakeAtom => alone(Act::MakeAtom(value, rule), rest),
+        MakingWord::MakeAgent => match mode_marked(rest) {
+            Some(mode) => Ok(Act::MakeAgent(value, rule, mode)),
+            None => Err(Wrong::Form),
+        },
+    }
+}

@@ -1,0 +1,226 @@
+//! Lists of events.
+ghost use Rattle.std.specs.Bool.{OnFalse, OnTrue};
+ghost use Rattle.std.specs.List.{list_all};
+ghost use Rattle.std.specs.Option.{option_copied};
+ghost use Rattle.std.specs.Prelude.{◌≡◌, ◌≢◌, List, IfErr, IfOk, IfNone, IfSome};
+ghost use Rattle.ref_value.specs.Edn.{Edn};
+ghost use Rattle.ref_plan.specs.Workload.{elements};
+ghost use Rattle.ref_events.specs.Documents.{AreFew, HasParts, HasVectors, IsScript, ScriptSeen, is_known};
+
+use crate::events::events_in;
+use crate::faults::ScriptFault;
+use ref_plan::planning::declarations::{MOST_REFERENCES, declarations};
+use ref_plan::planning::forms::{is_word, map_in};
+use ref_plan::planning::parts::{count, forms_of, vector_part, version_of};
+use ref_play::Event;
+use ref_start::{Names, Start};
+use ref_value::{Entries, Items, Value};
+use std::alloc::Global;
+use std::marker::Model;
+
+/// How many events a list may have, as many as a workload may have steps.
+pub const MOST_EVENTS: usize = 640_000;
+
+/// What a list of events says: the references that it declares, with their names, the events, and how each of them is written.
+/// Contracts see lists.
+#[derive(Drop)]
+pub struct Script {
+    names: Names,
+    start: Start,
+    events: Vec<Event>,
+    forms: Items,
+}
+
+impl Model for Script {
+    ghost use Rattle.std.specs.Coded.{codes};
+    ghost use Rattle.ref_value.specs.Code.{edn_code};
+    ghost use Rattle.ref_events.specs.Documents.{ScriptSeen};
+
+    ghost Value = { ScriptSeen };
+
+    ghost coded = { Prim.hlevel (codes, edn_code) };
+
+    ghost view = { λ a. record {
+      names = a.names;
+      refs = a.start.refs.items;
+      atoms = a.start.atoms.items;
+      agents = a.start.agents.items;
+      events = a.events.items;
+      forms = a.forms;
+    } };
+}
+
+/// A script in its parts.
+#[derive(Drop)]
+pub struct ScriptParts {
+    pub names: Names,
+    pub start: Start,
+    pub events: Vec<Event>,
+    pub forms: Items,
+}
+
+impl Script {
+    /// The script in its parts.
+    pub fn into_parts(self) -> ScriptParts
+        ensures names { result.names ≡ self.names }
+        ensures refs { result.start.refs.items ≡ self.refs }
+        ensures atoms { result.start.atoms.items ≡ self.atoms }
+        ensures agents { result.start.agents.items ≡ self.agents }
+        ensures events { result.events.items ≡ self.events }
+        ensures forms { result.forms ≡ self.forms }
+    {
+        let Script {
+            names,
+            start,
+            events,
+            forms,
+        } = self;
+        ScriptParts {
+            names,
+            start,
+            events,
+            forms,
+        }
+    }
+
+    /// The names of the references, by number.
+    pub fn names(&self) -> &Names
+        ensures { result.now ≡ self.now.names }
+    {
+        &self.names
+    }
+
+    /// The references as they are declared.
+    pub fn start(&self) -> &Start
+        ensures refs { result.now.refs.items ≡ self.now.refs }
+        ensures atoms { result.now.atoms.items ≡ self.now.atoms }
+        ensures agents { result.now.agents.items ≡ self.now.agents }
+    {
+        &self.start
+    }
+
+    /// The events.
+    pub fn events(&self) -> &[Event]
+        ensures { result.now ≡ self.now.events }
+    {
+        self.events.as_slice()
+    }
+
+    /// How each event is written.
+    pub fn forms(&self) -> &Items
+        ensures { result.now ≡ self.now.forms }
+    {
+        &self.forms
+    }
+}
+
+fn is_known(key: &Value) -> bool
+    ensures { result ≡ is_known key.now }
+{
+    is_word(key, b"version")
+        || is_word(key, b"refs")
+        || is_word(key, b"atoms")
+        || is_word(key, b"agents")
+        || is_word(key, b"events")
+}
+
+fn are_known(entries: &Entries) -> bool
+    ensures { result ≡ list_all (λ e. is_known e.0) entries.now }
+{
+    for (key, _) in entries {
+        if !is_known(key) {
+            return false;
+        }
+    }
+    true
+}
+
+// The parts that are vectors, where they aren't left out.
+#[derive(Drop)]
+struct Parts<'a> {
+    refs: Option<&'a Items>,
+    atoms: Option<&'a Items>,
+    agents: Option<&'a Items>,
+    events: Option<&'a Items>,
+}
+
+fn vectors_in<'a>(entries: &'a Entries) -> Option<Parts<'a>>
+    ensures vectors { IfSome result (λ p. HasVectors entries.now (elements (option_copied p.refs))
+        (elements (option_copied p.atoms)) (elements (option_copied p.agents)) (elements (option_copied p.events))) }
+    ensures none { IfNone result ((refs atoms agents events : List Edn)
+        → HasVectors entries.now refs atoms agents events → ⊥) }
+{
+    Some(Parts {
+        refs: vector_part(entries, b"refs")?,
+        atoms: vector_part(entries, b"atoms")?,
+        agents: vector_part(entries, b"agents")?,
+        events: vector_part(entries, b"events")?,
+    })
+}
+
+fn are_few(parts: &Parts<'_>) -> bool
+    ensures yes { OnTrue result (AreFew (elements (option_copied parts.now.refs)) (elements (option_copied parts.now.atoms))
+        (elements (option_copied parts.now.agents)) (elements (option_copied parts.now.events))) }
+    ensures no { OnFalse result (AreFew (elements (option_copied parts.now.refs)) (elements (option_copied parts.now.atoms))
+        (elements (option_copied parts.now.agents)) (elements (option_copied parts.now.events)) → ⊥) }
+{
+    count(parts.refs) <= MOST_REFERENCES
+        && count(parts.atoms) <= MOST_REFERENCES
+        && count(parts.agents) <= MOST_REFERENCES
+        && count(parts.events) <= MOST_EVENTS
+}
+
+// The parts, where the entries are those of a list of events. It takes no memory.
+fn parts_of<'a>(entries: &'a Entries) -> Result<Parts<'a>, ScriptFault>
+    ensures ok { IfOk result (λ p. HasParts entries.now (elements (option_copied p.refs)) (elements (option_copied p.atoms))
+        (elements (option_copied p.agents)) (elements (option_copied p.events))) }
+    ensures told { IfErr result (λ f. f ≢ ScriptFault.Memory) }
+    ensures none { IfErr result (λ _. (refs atoms agents events : List Edn)
+        → HasParts entries.now refs atoms agents events → ⊥) }
+{
+    let Some(parts) = vectors_in(entries) else {
+        return Err(ScriptFault::NotEvents);
+    };
+    let Some(version) = version_of(entries) else {
+        return Err(ScriptFault::NotEvents);
+    };
+    if !are_known(entries) {
+        return Err(ScriptFault::NotEvents);
+    }
+    if version != 1 {
+        return Err(ScriptFault::BadVersion);
+    }
+    if !are_few(&parts) {
+        return Err(ScriptFault::TooMany);
+    }
+    Ok(parts)
+}
+
+/// What a value says, where it is a list of events: docs/EVENTS.md has the form. It takes time in proportion to the value. It shares
+/// values with the value that it is made of, and copies none.
+///
+/// Of what is wrong the first is told, in the order that [`ScriptFault`] names; which one it is, no contract says. Keys, version and
+/// limits are asked before any memory is taken.
+pub fn script_of(alloc: Global, value: &Value) -> Result<Script, ScriptFault>
+    ensures ok { IfOk result (λ s. IsScript value.now s) }
+    // What is refused, for another reason than memory, is no list of events.
+    ensures none { IfErr result (λ f. f ≢ ScriptFault.Memory → (s : ScriptSeen) → IsScript value.now s → ⊥) }
+{
+    let Some(entries) = map_in(value) else {
+        return Err(ScriptFault::NotEvents);
+    };
+    let parts = parts_of(entries)?;
+    let empty = Items::of(alloc, Vec::new(alloc))?;
+    let refs = forms_of(parts.refs, &empty);
+    let atoms = forms_of(parts.atoms, &empty);
+    let agents = forms_of(parts.agents, &empty);
+    let forms = forms_of(parts.events, &empty);
+    let (declared, start) = declarations(alloc, refs, atoms, agents)?;
+    let events = events_in(alloc, &declared, forms)?;
+    Ok(Script {
+        names: declared.into_names(),
+        start,
+        events,
+        forms: forms.share()?,
+    })
+}

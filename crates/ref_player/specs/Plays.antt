@@ -1,0 +1,81 @@
+-- What a play of a list of events reads and writes.
+use Rattle.std.specs.Prelude.{◌≡◌, ◌≢◌, ℕ, List, [], ◌++◌, None, Ok}
+use Rattle.ref_value.specs.Edn.{Edn}
+use Rattle.ref_edn.specs.Grammar.{IsText}
+use Rattle.ref_fun.specs.Calls.{HasCore, Known}
+use Rattle.ref_fun.specs.Core.{core_accepts, core_means}
+use Rattle.ref_start.specs.declared.starts.AgentStart.{AgentStart}
+use Rattle.ref_start.specs.declared.starts.AtomStart.{AtomStart}
+use Rattle.ref_start.specs.declared.starts.RefStart.{RefStart}
+use Rattle.ref_verdict.specs.DumpForm.{dump_of}
+use Rattle.ref_verdict.specs.Verdict.{verdict_on}
+use Rattle.ref_verdict.specs.declared.reports.Verdict.TheVariants as verdicts
+use Rattle.ref_audit.specs.Dumped.{dumped}
+use Rattle.ref_audit.specs.Report.{reported}
+use Rattle.ref_world.specs.Seen.{WorldSeen}
+use Rattle.ref_world.specs.Shares.{whole}
+use Rattle.ref_world.specs.Starts.{base_of, books_of, declared_agents, declared_atoms, declared_refs}
+use Rattle.ref_world.specs.World.{with_agents}
+use Rattle.ref_workload.specs.Streams.{IsInputAtFault}
+use Rattle.ref_workload.specs.declared.faults.RunFault.TheVariants as runs
+use Rattle.ref_play.specs.Sims.{IsPlayed, SimSeen, Stands, all_back, jobs_of, machine_of, txs_of}
+use Rattle.ref_play.specs.declared.events.Event.{Event}
+use Rattle.ref_play.specs.declared.events.Reply.{Reply}
+use Rattle.ref_events.specs.Documents.{IsScript, ScriptSeen}
+use Rattle.ref_events.specs.declared.faults.ScriptFault.TheVariants as scripts
+use Rattle.ref_player.specs.Lines.{event_lines}
+use Rattle.ref_player.specs.declared.faults.PlayFault.{PlayFault}
+use Rattle.ref_player.specs.declared.faults.PlayFault.TheVariants as plays
+
+-- The references are those that are declared, nothing has happened yet, and no actor has anything.
+pub record Begins (knows : Known) (refs : List RefStart) (atoms : List AtomStart) (agents : List AgentStart) (first : SimSeen) : Type 0 where
+  pub refs_are : declared_refs core_accepts knows.preds refs ≡ Ok first.world.refs
+  pub atoms_are : declared_atoms core_accepts knows.preds atoms ≡ Ok first.world.atoms
+  pub agents_are : declared_agents core_accepts knows.preds agents ≡ Ok first.world.agents
+  pub base : first.world.base ≡ base_of first.world.refs first.world.atoms
+  pub log : first.world.log ≡ []
+  pub books : first.world.books ≡ books_of first.world.refs
+  pub share : first.share ≡ whole
+  pub actors : (a : ℕ) → (txs_of first.slots a ≡ None) × (jobs_of first.jobs a ≡ None)
+
+-- the world where each job was put back
+abbrev pub ended : SimSeen → WorldSeen
+ended s = with_agents s.world (all_back s.jobs s.world.agents)
+
+-- The events were played, by the machine that begins so: these are the replies, and this is what there is then.
+pub record PlaysTo (knows : Known) (first : SimSeen) (events : List Event) (replies : List Reply) (last : SimSeen) : Type 0 where
+  pub stands : Stands core_means (machine_of first) first
+  pub played : IsPlayed core_means core_accepts knows (machine_of first) events replies last
+
+-- This is the world that a play came to.
+pub record Plays (knows : Known) (first : SimSeen) (events : List Event) (replies : List Reply) (world : WorldSeen) : Type 0 where
+  pub last : SimSeen
+  pub plays : PlaysTo knows first events replies last
+  pub world_is : world ≡ ended last
+
+-- The output is the lines of a play of these events, and then the report of the world that it came to. The audit of that world's dump
+-- says ok.
+pub record IsPlayOf (script : ScriptSeen) (output : List ℕ) : Type 0 where
+  pub knows : Known
+  pub core : HasCore knows
+  pub first : SimSeen
+  pub begins : Begins knows script.refs script.atoms script.agents first
+  pub replies : List Reply
+  pub world : WorldSeen
+  pub plays : Plays knows first script.events replies world
+  pub audited : verdict_on (dump_of (dumped world)) ≡ Ok verdicts.Ok
+  pub output_is : output ≡ event_lines 0 script.forms replies ++ reported script.names world [] verdicts.Ok
+
+-- The text is a list of events, and the output is that of a play of them.
+pub record IsPlay (text output : List ℕ) : Type 0 where
+  pub value : Edn
+  pub script : ScriptSeen
+  pub belongs : IsText text value
+  pub lawful : IsScript value script
+  pub play : IsPlayOf script output
+
+-- what a fault says of the text that was there to read
+abbrev pub IsAtFault : List ℕ → PlayFault → Type 0
+IsAtFault text (plays.Run (runs.Plan fault)) = ⊥
+IsAtFault text (plays.Run fault) = IsInputAtFault IsText text fault
+IsAtFault text (plays.Script fault) = (fault ≢ scripts.Memory) × ((value : Edn) × IsText text value × ((script : ScriptSeen) → IsScript value script → ⊥))

@@ -1,0 +1,65 @@
+//! The lines of a play.
+ghost use Rattle.std.specs.Prelude.{◌≡◌, ◌++◌, IfOk, OnOk};
+ghost use Rattle.ref_player.specs.Lines.{event_line, event_lines, form_text, spaced};
+
+use crate::replies::append_reply;
+use ref_audit::append_number;
+use ref_edn::print;
+use ref_play::Reply;
+use ref_value::{Items, Node, Value};
+use std::alloc::{AllocError, Global};
+
+// Each element, with a space in front.
+fn append_spaced(alloc: Global, elements: &Items, out: &mut Vec<u8>) -> Result<(), AllocError>
+    ensures { OnOk result (out.new.items ≡ out.old.items ++ spaced elements.now) }
+{
+    for element in elements {
+        out.extend_from_slice(b" ")?;
+        print(alloc, element, out)?;
+    }
+    Ok(())
+}
+
+// How an event is written, without the brackets.
+#[tactic(auto, using(crate::proofs::Written::form_text_vector))]
+fn append_form(alloc: Global, form: &Value, out: &mut Vec<u8>) -> Result<(), AllocError>
+    ensures { OnOk result (out.new.items ≡ out.old.items ++ form_text form.now) }
+{
+    match form.node() {
+        Node::Vector(elements) => append_spaced(alloc, elements, out),
+        _ => {
+            out.extend_from_slice(b" ")?;
+            print(alloc, form, out)
+        }
+    }
+}
+
+fn append_line(
+    alloc: Global,
+    number: u64,
+    form: &Value,
+    reply: &Reply,
+    out: &mut Vec<u8>,
+) -> Result<(), AllocError>
+    ensures { OnOk result (out.new.items ≡ out.old.items ++ event_line number form.now reply.now) }
+{
+    append_number(number, out)?;
+    append_form(alloc, form, out)?;
+    out.extend_from_slice(b" -> ")?;
+    append_reply(alloc, reply, out)?;
+    out.extend_from_slice(b"\n")
+}
+
+/// A line for each event that was answered: its number, how it is written, and what its actor is told. Linear in the text.
+pub fn lines_of(alloc: Global, forms: &Items, replies: &[Reply]) -> Result<Vec<u8>, AllocError>
+    ensures { IfOk result (λ text. text.items ≡ event_lines 0 forms.now replies.now) }
+{
+    let mut text = Vec::new(alloc);
+    for (i, reply) in replies.iter().enumerate() {
+        match forms.get(i) {
+            Some(form) => append_line(alloc, i as u64, form, reply, &mut text)?,
+            None => return Ok(text),
+        }
+    }
+    Ok(text)
+}

@@ -1,0 +1,153 @@
+//! The play of a list of events, by one thread.
+ghost use Rattle.std.specs.Prelude.{◌≡◌, ◌++◌, [], Ok, IfErr, IfOk, OnOk};
+ghost use Rattle.ref_fun.specs.Calls.{HasCore};
+ghost use Rattle.ref_verdict.specs.DumpForm.{dump_of};
+ghost use Rattle.ref_verdict.specs.Verdict.{verdict_on};
+ghost use Rattle.ref_verdict.specs.declared.reports.Verdict.TheVariants as verdicts;
+ghost use Rattle.ref_audit.specs.Dumped.{dumped};
+ghost use Rattle.ref_audit.specs.Report.{reported};
+ghost use Rattle.ref_events.specs.Documents.{ScriptSeen};
+ghost use Rattle.ref_play.specs.Sims.{Stands, machine_of};
+ghost use Rattle.ref_player.specs.Lines.{event_lines};
+ghost use Rattle.ref_player.specs.Plays.{Begins, IsPlayOf, Plays, PlaysTo};
+ghost use Rattle.ref_workload.specs.Run.{IsOfPlan};
+ghost use Rattle.ref_world.specs.Shares.{all_parts};
+
+use crate::lines::lines_of;
+use ref_audit::{Verdict, report};
+use ref_events::{Script, ScriptParts};
+use ref_fun::{Core, Functions};
+use ref_log::MakeFault;
+use ref_play::{Event, Reply, Sim};
+use ref_start::{Names, Start};
+use ref_value::Items;
+use ref_workload::RunFault;
+use ref_workload::texts::check_audit;
+use ref_world::World;
+use std::alloc::Global;
+use std::sync::ledger::{Blank, Ledger};
+
+// The world that is declared, on which no actor has acted.
+fn begin<F: Functions<Core>, C: Ledger, A: Ledger>(
+    alloc: Global,
+    funs: &F,
+    start: Start,
+    commits: Blank,
+    added: Blank,
+) -> Result<Sim<Core, C, A>, RunFault>
+    requires commits { (commits.name ≡ C.name) × (commits.parts ≡ C.parts) × (commits.parts ≡ all_parts) }
+    requires added { (added.name ≡ A.name) × (added.parts ≡ A.parts) × (added.parts ≡ all_parts) }
+    ensures begins { IfOk result (Begins (F.knows funs.now) start.refs.items start.atoms.items start.agents.items) }
+    ensures inner { IfErr result IsOfPlan }
+{
+    match Sim::new(alloc, funs, start, commits, added) {
+        Ok(sim) => Ok(sim),
+        Err((_, MakeFault::Memory)) => Err(RunFault::Memory),
+        // The rules of a list of events accept its values.
+        Err((_, _)) => Err(RunFault::Internal),
+    }
+}
+
+// What was told, and the world that it came to.
+struct Played<C: Ledger, A: Ledger> {
+    replies: Vec<Reply>,
+    world: World<Core, C, A>,
+}
+
+// Written by hand: a derived one would be written out wherever it is dropped.
+impl<C: Ledger, A: Ledger> Drop for Played<C, A> {
+    fn drop(self) {
+        let Played {
+            replies: _replies,
+            world: _world,
+        } = self;
+    }
+}
+
+// Plays the events on a world, where its table serves it.
+fn replies_of<F: Functions<Core>, C: Ledger, A: Ledger>(
+    alloc: Global,
+    funs: &F,
+    sim: &mut Sim<Core, C, A>,
+    events: &[Event],
+) -> Result<Vec<Reply>, RunFault>
+    ensures plays { IfOk result (λ replies. PlaysTo (F.knows funs.now) sim.old events.now replies.items sim.new) }
+    ensures inner { IfErr result IsOfPlan }
+{
+    let _ = sim.world();
+    if !sim.served_by(funs) {
+        return Err(RunFault::Internal);
+    }
+    match sim.play(alloc, funs, events) {
+        Ok(replies) => Ok(replies),
+        Err(_) => Err(RunFault::Memory),
+    }
+}
+
+// Plays the events, and takes the world out.
+fn play<F: Functions<Core>, C: Ledger, A: Ledger>(
+    alloc: Global,
+    funs: &F,
+    mut sim: Sim<Core, C, A>,
+    events: &[Event],
+) -> Result<Played<C, A>, RunFault>
+    ensures plays { IfOk result (λ p. Plays (F.knows funs.now) sim events.now p.replies.items p.world) }
+    ensures inner { IfErr result IsOfPlan }
+{
+    let told = replies_of(alloc, funs, &mut sim, events);
+    let (world, _share) = sim.end();
+    match told {
+        Ok(replies) => Ok(Played { replies, world }),
+        Err(fault) => Err(fault),
+    }
+}
+
+// The lines of a play, and then the report of the world that it came to, which is audited.
+fn text_of<F: Functions<Core>, C: Ledger, A: Ledger>(
+    alloc: Global,
+    funs: &F,
+    names: &Names,
+    forms: &Items,
+    played: &Played<C, A>,
+) -> Result<Vec<u8>, RunFault>
+    requires { HasCore (F.knows funs.now) }
+    ensures audited { OnOk result (verdict_on (dump_of (dumped played.now.world)) ≡ Ok verdicts.Ok) }
+    ensures text { IfOk result (λ text. text.items ≡ event_lines 0 forms.now played.now.replies.items
+        ++ reported names.now played.now.world [] verdicts.Ok) }
+    ensures inner { IfErr result IsOfPlan }
+{
+    check_audit(alloc, funs, &played.world)?;
+    let Ok(mut text) = lines_of(alloc, forms, played.replies.as_slice()) else {
+        return Err(RunFault::Memory);
+    };
+    match report(alloc, names, &played.world, &[], &Verdict::Ok, &mut text) {
+        Ok(()) => Ok(text),
+        Err(_) => Err(RunFault::Memory),
+    }
+}
+
+/// What is written of a list of events that is played by a table of Core's functions: a line for each event, and the report of the
+/// world that it came to, where all jobs were put back and all open transactions dropped. The blanks become the books.
+pub fn output_of<F: Functions<Core>, C: Ledger, A: Ledger>(
+    alloc: Global,
+    funs: &F,
+    script: Script,
+    commits: Blank,
+    added: Blank,
+) -> Result<Vec<u8>, RunFault>
+    requires core { HasCore (F.knows funs.now) }
+    requires commits { (commits.name ≡ C.name) × (commits.parts ≡ C.parts) × (commits.parts ≡ all_parts) }
+    requires added { (added.name ≡ A.name) × (added.parts ≡ A.parts) × (added.parts ≡ all_parts) }
+    ensures ok { IfOk result (λ output. IsPlayOf script output.items) }
+    ensures inner { IfErr result IsOfPlan }
+{
+    let ScriptParts {
+        names,
+        start,
+        events,
+        forms,
+    } = script.into_parts();
+    let sim = begin::<F, C, A>(alloc, funs, start, commits, added)?;
+    let played = play(alloc, funs, sim, events.as_slice())?;
+    text_of(alloc, funs, &names, &forms, &played)
+}

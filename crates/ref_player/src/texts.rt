@@ -1,0 +1,70 @@
+//! The play of a list of events, from its bytes to its lines.
+ghost use Rattle.std.specs.Prelude.{◌≡◌, ◌≢◌, IfErr, IfOk, IfSome, OnOk};
+ghost use Rattle.ref_edn.specs.Streams.{ConsumesUpTo};
+ghost use Rattle.ref_fun.specs.Calls.{HasCore};
+ghost use Rattle.ref_player.specs.Faults.{CountsReads, CountsWrites, IsOfText};
+ghost use Rattle.ref_player.specs.Plays.{IsAtFault, IsPlay};
+ghost use Rattle.ref_player.specs.declared.faults.PlayFault.TheVariants as plays;
+ghost use Rattle.ref_workload.specs.Streams.{HasBrokenOff, HasWritten};
+ghost use Rattle.ref_workload.specs.declared.faults.RunFault.TheVariants as runs;
+
+use crate::faults::PlayFault;
+use crate::plays::output_of;
+use ref_edn::{Sink, Source, read_one};
+use ref_events::script_of;
+use ref_fun::{Core, Functions};
+use ref_workload::streams::{read_input, write_output};
+use ref_world::ALL_PARTS;
+use std::alloc::Global;
+use std::marker::Brand;
+use std::sync::ledger::Blank;
+
+/// Reads a list of events to its end, plays it by a table of Core's functions, audits the world that it came to, and writes a line for
+/// each event and then the report.
+///
+/// Nothing is written before the play has ended. The reader is read to its end or to one byte more than an input may have.
+pub fn play_events<F: Functions<Core>, I: Source, O: Sink>(
+    alloc: Global,
+    funs: &F,
+    reader: &mut I,
+    writer: &mut O,
+) -> Result<(), PlayFault>
+    requires { HasCore (F.knows funs.now) }
+    // It reads no further than one byte past what an input may have.
+    ensures taken { ConsumesUpTo (I.left reader.old) (I.left reader.new) 16777217 }
+    ensures ok { OnOk result (HasWritten IsPlay (I.left reader.old) (I.left reader.new) (O.written writer.old)
+        (O.written writer.new)) }
+    // The text, its value or its length is at fault, where the fault says so.
+    ensures fault { IfErr result (λ f. IfSome (I.left reader.old) (λ text. IsAtFault text f)) }
+    ensures write { IfErr result (λ f. f ≡ plays.Run runs.Write
+        → HasBrokenOff IsPlay (I.left reader.old) (I.left reader.new) (O.written writer.old) (O.written writer.new)) }
+    // Before any other fault nothing was written.
+    ensures silent { IfErr result (λ f. f ≢ plays.Run runs.Write → O.written writer.new ≡ O.written writer.old) }
+    ensures reads { CountsReads (I.failures reader.old) (I.failures reader.new) result }
+    ensures writes { CountsWrites (O.failures writer.old) (O.failures writer.new) result }
+{
+    let input = read_input(alloc, reader)?;
+    let output = play_text(alloc, funs, &input)?;
+    write_output(writer, &output)?;
+    Ok(())
+}
+
+/// Plays the list of events that a text writes, as [`play_events`] does, and answers what is to be written of it.
+pub fn play_text<F: Functions<Core>>(
+    alloc: Global,
+    funs: &F,
+    text: &[u8],
+) -> Result<Vec<u8>, PlayFault>
+    requires { HasCore (F.knows funs.now) }
+    ensures ok { IfOk result (λ output. IsPlay text.now output.items) }
+    ensures fault { IfErr result (λ f. IsAtFault text.now f) }
+    ensures inner { IfErr result IsOfText }
+{
+    let value = read_one(alloc, text)?;
+    let script = script_of(alloc, &value)?;
+    let (commits, added) = (Blank::new(ALL_PARTS), Blank::new(ALL_PARTS));
+    match output_of::<F, Brand, Brand>(alloc, funs, script, commits, added) {
+        Ok(output) => Ok(output),
+        Err(fault) => Err(PlayFault::Run(fault)),
+    }
+}

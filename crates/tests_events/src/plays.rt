@@ -1,0 +1,58 @@
+//! What is written of lists of events.
+use ref_fun::CoreFunctions;
+use ref_player::play_text;
+use std::test::Fail;
+
+// The text, and what is written.
+const PLAYS: &[(&str, &str)] = &[
+    ("{:version 1}", "commits 0\naudit ok\n"),
+    // Each act of a transaction.
+    (
+        "{:version 1 :refs [[a 1]] :agents [[g 0]] :events [[3 :begin] [3 :deref a] [3 :ref-set a 2] \
+         [3 :alter a + 3] [3 :ensure a] [3 :require a = 5] [3 :require a = 6] [3 :send-in-tx g inc] \
+         [3 :read-point] [3 :commit] [3 :abort] [3 :begin] [3 :commute a + 1] [3 :commit]]}",
+        "0 3 :begin -> point 0\n1 3 :deref a -> value 1\n2 3 :ref-set a 2 -> value 2\n\
+         3 3 :alter a + 3 -> value 5\n4 3 :ensure a -> value 5\n5 3 :require a = 5 -> ok\n\
+         6 3 :require a = 6 -> not-met\n7 3 :send-in-tx g inc -> ok\n8 3 :read-point -> point 0\n\
+         9 3 :commit -> point 1\n10 3 :abort -> no-tx\n11 3 :begin -> point 1\n\
+         12 3 :commute a + 1 -> value 6\n13 3 :commit -> point 2\n\
+         ref a 6\nagent g 0 ready\ncommits 2\naudit ok\n",
+    ),
+    // A conflict of ref 1.
+    (
+        "{:version 1 :refs [[a 0] [b 0]] :events [[0 :begin] [0 :ref-set b 1] [1 :begin] [1 :ref-set a 1] [1 :commit] \
+         [1 :begin] [1 :ref-set b 2] [1 :commit] [0 :commit]]}",
+        "0 0 :begin -> point 0\n1 0 :ref-set b 1 -> value 1\n2 1 :begin -> point 0\n3 1 :ref-set a 1 -> value 1\n\
+         4 1 :commit -> point 1\n5 1 :begin -> point 1\n6 1 :ref-set b 2 -> value 2\n7 1 :commit -> point 2\n\
+         8 0 :commit -> conflict 1 0 2\nref a 1\nref b 2\ncommits 2\naudit ok\n",
+    ),
+    // Each act on a job, and a job that is out at the end.
+    (
+        "{:version 1 :agents [[g 0] [h 0]] :events [[0 :send h inc] [0 :send h inc] [9 :take] [9 :run] [9 :finish] \
+         [9 :take] [9 :run] [9 :put-back] [9 :run] [8 :take]]}",
+        "0 0 :send h inc -> ok\n1 0 :send h inc -> ok\n2 9 :take -> job 1 0\n3 9 :run -> ok\n4 9 :finish -> changed\n\
+         5 9 :take -> job 1 1\n6 9 :run -> ok\n7 9 :put-back -> ok\n8 9 :run -> no-job\n9 8 :take -> job 1 1\n\
+         agent g 0 ready\nagent h 1 ready\ncommits 0\naudit ok\n",
+    ),
+    // Each act on atoms, with a watch, and a reference by its number.
+    (
+        "{:version 1 :atoms [[w 0] [x 1]] :events [[0 :add-watch x :k] [0 :swap x + 1 2] [0 :reset [:atom 1] 5] [0 :cas x 5 6] \
+         [0 :cas x 5 7] [0 :remove-watch x :k] [0 :reset x 8]]}",
+        "0 0 :add-watch x :k -> true\n1 0 :swap x + 1 2 -> swapped 1 4 watch :k atom 1 1 4\n\
+         2 0 :reset [:atom 1] 5 -> swapped 4 5 watch :k atom 1 4 5\n3 0 :cas x 5 6 -> true watch :k atom 1 5 6\n\
+         4 0 :cas x 5 7 -> false\n5 0 :remove-watch x :k -> true\n6 0 :reset x 8 -> swapped 6 8\n\
+         atom w 0\natom x 8\ncommits 0\naudit ok\n",
+    ),
+];
+
+#[test]
+fn plays_are_written(rt: HostRuntime) -> Result<(), Fail> {
+    let alloc = rt.alloc();
+    for (text, wanted) in PLAYS {
+        match play_text(alloc, &CoreFunctions::new(), text.as_bytes()) {
+            Ok(output) => assert_eq!(rt; output.as_slice(), wanted.as_bytes()),
+            Err(_) => return Err(Fail::new("a list of events isn't played")),
+        }
+    }
+    Ok(())
+}
