@@ -1,5 +1,5 @@
 -- What a value that isn't taken as a list of events would have to be.
-use Rattle.std.proofs.Common.{◌≡◌, List, sym, ◌∙◌, ap, subst, None, Some}
+use Rattle.std.proofs.Common.{◌≡◌, List, sym, ◌∙◌, subst, None, Some}
 use Rattle.ref_value.specs.Edn.{Edn, map, entries_of}
 use Rattle.ref_start.specs.Names.{NamesSeen}
 use Rattle.ref_start.specs.declared.starts.AgentStart.{AgentStart}
@@ -11,7 +11,6 @@ use Rattle.ref_plan.specs.Workload.{part}
 use Rattle.ref_plan.proofs.Elements.{same_entries}
 use Rattle.ref_plan.proofs.Parts.{same_part}
 use Rattle.ref_plan.proofs.Workloads.{one_names}
-use Rattle.ref_play.specs.declared.events.Event.{Event}
 use Rattle.ref_events.specs.Acts.{events_said}
 use Rattle.ref_events.specs.Documents.{AreFew, HasParts, HasVectors, IsScript, ScriptSeen}
 use Rattle.ref_events.specs.Words.{events_word}

@@ -6,7 +6,7 @@
 --
 -- All keys but the first may be left out: what is a vector is empty then. References are written and limited as in a workload, and
 -- events as specs/Acts.antt says. There are at most as many events as a workload has steps.
-use Rattle.std.specs.Prelude.{◌≡◌, ◌≤◌, ℕ, pos, Bool, true, ◌||◌, List, Option, Some, length}
+use Rattle.std.specs.Prelude.{◌≡◌, ◌≤◌, ℕ, pos, Bool, true, ◌||◌, List, Some, length}
 use Rattle.std.specs.List.{list_all}
 use Rattle.ref_value.specs.Edn.{Edn, int, map, entries_of}
 use Rattle.ref_start.specs.Names.{NamesSeen}

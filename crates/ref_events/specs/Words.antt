@@ -1,6 +1,5 @@
 -- The words that stand in lists of events, each a keyword.
 use Rattle.std.specs.Prelude.{ℕ, if◌then◌else◌, List, [], ◌∷◌, Option, None, Some, codes}
-use Rattle.ref_value.specs.Edn.{Edn, keyword}
 use Rattle.ref_value.specs.Names.{bytes_eq}
 use Rattle.ref_events.specs.declared.words.ActWord.{ActWord}
 use Rattle.ref_events.specs.declared.words.ActWord.TheVariants.{Tx, Job, Atom, Agent, Reference, World, Making}
