@@ -14,3 +14,4 @@ pub mod Answering
 pub mod BackAll
 pub mod Puts
 pub mod Starting
+pub mod Tables

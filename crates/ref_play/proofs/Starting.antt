@@ -10,7 +10,6 @@ use Rattle.ref_start.specs.declared.starts.AgentStart.{AgentStart}
 use Rattle.ref_world.specs.Starts.{and_made, made_all, no_agents, or_refused, with_agent}
 use Rattle.ref_world.specs.Starts as starts
 use Rattle.ref_agents.specs.Make as makes
-use Rattle.ref_agents.specs.Agents as agents
 use Rattle.ref_play.specs.Present.{HeldSeen, WithJob}
 use Rattle.ref_play.specs.Runs.{AreHeld, is_out_at}
 use Rattle.ref_play.proofs.KeptJobs.{away_made}

@@ -1,4 +1,4 @@
-use Rattle.std.proofs.Common.{◌≡◌, ℕ, None, Option, Some, ap, subst, sym}
+use Rattle.std.proofs.Common.{◌≡◌, None, Option, Some, ap}
 use Rattle.ref_tx.specs.Seen.{TxSeen}
 use Rattle.ref_world.specs.Seen.{ShareSeen}
 use Rattle.ref_play.specs.Present.{WithTx}
