@@ -3,11 +3,11 @@ use ref_edn::Value;
 use ref_fun::Core;
 use ref_log::{Entry, Who};
 use ref_world::{Share, World};
-use std::alloc::Global;
+use std::alloc::{AllocError, Global};
 use std::sync::ledger::Ledger;
 use tests_rows::answers::{Form, number, word};
 use tests_rows::forms::{agent_at, number_at, who_of, word_at};
-use tests_rows::words::{account_form, name, rule_form, values_form, vector};
+use tests_rows::words::{account_form, name, rule_form, value_form, values_form, vector};
 
 // `[1 [5] [2] [1]]`: the point of the base, its refs, its atoms, and the points at which its refs changed last.
 fn base_form<C: Ledger, A: Ledger>(alloc: Global, world: &World<Core, C, A>) -> Form {
@@ -48,21 +48,44 @@ pub(crate) fn look<C: Ledger, A: Ledger>(
         "base" => base_form(alloc, world),
         "commits" => number(world.commits()),
         "added" => number(world.added()),
+        "now" => value_form(alloc, world.value_of(who_of(word_at(call, 1), None))),
         "rule" => rule_form(alloc, world.rule_of(who_of(word_at(call, 1), None))),
         "account" => account_form(alloc, world.account(agent_at(call, 1))),
         _ => word(alloc, "no-such-look"),
     }
 }
 
-// A job, which never comes back.
-fn taken<C: Ledger, A: Ledger>(alloc: Global, world: &mut World<Core, C, A>) -> Form {
+// A job, which never comes back, if there is one.
+fn taken<C: Ledger, A: Ledger>(
+    alloc: Global,
+    world: &mut World<Core, C, A>,
+) -> Result<Option<Value>, AllocError> {
     let Some(job) = world.take()? else {
-        return word(alloc, "none");
+        return Ok(None);
     };
     let (who, n) = (Who::Agent(job.agent()), job.number());
     job.forsake();
     let (who, n) = (name(alloc, who)?, number(n)?);
-    vector(alloc, vec![in alloc; who, n]?)
+    Ok(Some(vector(alloc, vec![in alloc; who, n]?)?))
+}
+
+fn take<C: Ledger, A: Ledger>(alloc: Global, world: &mut World<Core, C, A>) -> Form {
+    match taken(alloc, world)? {
+        Some(job) => Ok(job),
+        None => word(alloc, "none"),
+    }
+}
+
+// All jobs, in whatever order they came: up to ten, since a job that came back would come without end.
+fn take_all<C: Ledger, A: Ledger>(alloc: Global, world: &mut World<Core, C, A>) -> Form {
+    let mut jobs = Vec::new(alloc);
+    for _ in 0..10u32 {
+        if let Some(job) = taken(alloc, world)? {
+            jobs.push(job)?;
+        }
+    }
+    jobs.sort()?;
+    vector(alloc, jobs)
 }
 
 // `[2 10]`: the commits and what they added to the tally, where the share is whole and has as much.
@@ -87,7 +110,8 @@ pub(crate) fn look_at_end<C: Ledger, A: Ledger>(
     call: &[Value],
 ) -> Form {
     match word_at(call, 0) {
-        "take" => taken(alloc, world),
+        "take" => take(alloc, world),
+        "takes" => take_all(alloc, world),
         "totals" => totals_form(alloc, world, share),
         "receipts" => number(share.receipts().len() as u64),
         _ => look(alloc, world, call),

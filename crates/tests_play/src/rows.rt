@@ -22,9 +22,9 @@
 //! whose name ends in `-by-fewer` is played by the table that has `+` and `>=` alone.
 //!
 //! Between events stands what the world shows, as `[entries 1]`, which ends a list of events: `point`, `entries`, `entry` (a commit's
-//! stamp and read point), `base` (its point, refs, atoms and last changes), `commits`, `added`, `rule`, `account`, and whether a table
-//! serves what is there, as `[served true]` and `[served-by-fewer false]`. After `[end]` the world and its share are looked at:
-//! `[take [g 0]]`, a job that is lost, `[totals [2 10]]` of a share that is whole, and `[receipts 2]`.
+//! stamp and read point), `base` (its point, refs, atoms and last changes), `commits`, `added`, `now`, `rule`, `account`, and whether a
+//! table serves what is there, as `[served true]` and `[served-by-fewer false]`. After `[end]` the world and its share are looked at:
+//! `[take [g 0]]`, a job that is lost, `[takes [[g 0] [h 0]]]`, all jobs, `[totals [2 10]]` of a whole share, and `[receipts 2]`.
 ghost use Rattle.std.specs.Prelude.{◌≡◌};
 ghost use Rattle.ref_world.specs.Shares.{all_parts};
 
