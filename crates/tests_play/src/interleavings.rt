@@ -1,5 +1,7 @@
 //! Transactions, jobs and checkpoints of several actors, event by event.
 use crate::rows::check_all;
+use ref_fun::Core;
+use ref_play::sims::{runs_have_laws, steps_have_laws};
 use std::test::Fail;
 
 #[test]
@@ -58,4 +60,11 @@ fn checkpoints_come_between(rt: HostRuntime) -> Result<(), Fail> {
             [0] [5] [] [0 begin 0] [0 alter a - 1 -1] [0 commit 0 0 [1 0 0]] [0 swap x inc [5 6]] [1 checkpoint-by-fewer 1 [:no-such-fun 2]] [entries 2] [1 checkpoint 1 1] [1 checkpoint-by-fewer 2 [:no-such-fun 3]] [1 checkpoint-by-fewer 1 0] [entries 1] [1 checkpoint 2 1] [entries 0]
         "##,
     )
+}
+
+// The laws are those of Core too.
+#[test]
+fn runs_of_core_have_the_laws(_rt: HostRuntime) {
+    steps_have_laws::<Core>();
+    runs_have_laws::<Core>();
 }
