@@ -34,6 +34,9 @@ fn sends_wait_for_their_commit(rt: HostRuntime) -> Result<(), Fail> {
             [] [] [0 5] [0 begin 0] [0 send-in-tx g + 1 :ok] [1 begin 0] [1 send-in-tx h + 2 :ok] [0 commit 0 0 [1 0 0]] [1 commit 1 0 [2 1 0]] [2 take :none] [2 release 2 true] [2 take [h 0]] [3 take :none] [2 run :ok] [2 finish :changed] [2 take :none] [2 release 2 false] [3 release 1 true] [3 release 3 false] [3 take [g 0]] [3 run :ok] [3 finish :changed] [0 value-of g 1] [0 value-of h 7]
             // What was sent later waits behind a send that is held, also one of the same actor.
             [] [] [0] [0 send g + 1 :ok] [0 begin 0] [0 send-in-tx g - 2 :ok] [0 send-in-tx g + 30 :ok] [0 commit 0 0 [1 0 0]] [0 send g + 400 :ok] [account g [0 4]] [0 take [g 0]] [0 run :ok] [0 finish :changed] [0 value-of g 1] [0 take :none] [0 release 1 true] [0 take [g 1]] [0 run :ok] [0 finish :changed] [0 value-of g -1] [0 take [g 2]] [0 run :ok] [0 finish :changed] [0 value-of g 29] [0 take [g 3]] [0 run :ok] [0 finish :changed] [0 value-of g 429]
+            // A later commit at the same point releases nothing of a transaction that was aborted, or whose commit was refused.
+            [] [] [0 5] [0 begin 0] [0 send-in-tx g + 1 :ok] [0 abort :ok] [0 begin 0] [0 send-in-tx h + 1 :ok] [0 commit 0 0 [1 0 0]] [0 release 1 true] [0 take [h 0]] [1 take :none] [account g [0 0]]
+            [0] [] [0 5] [0 begin 0] [0 ref-set a 1 1] [0 send-in-tx g + 1 :ok] [1 begin 0] [1 ref-set a 2 2] [1 send-in-tx h + 1 :ok] [1 commit 1 0 [1 1 0]] [0 commit 0 0 [:conflict 0 0 1]] [0 release 1 true] [0 release 2 false] [0 take [h 0]] [1 take :none] [account g [0 0]] [account h [5 1]]
             // A commit that sends nothing has nothing to be released.
             [0] [] [0] [0 begin 0] [0 ref-set a 1 1] [0 commit 0 0 [1 0 0]] [0 release 1 false] [0 release 0 false]
             // A send whose commit finds the agent failed is queued and held.

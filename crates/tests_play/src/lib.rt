@@ -1,7 +1,7 @@
 //! Tests of lists of events, which several actors play on one world. There is nothing else here.
 //!
-//! A row is a text: what there is at the start, and events, each with what its actor is told. The head of `rows` describes the
-//! language. Each row is played twice: in lists of events as long as can be, and with a list for each event.
+//! A row is a text: what there is at the start, and events, each with its reply. The head of `rows` describes the language. Each row
+//! is played twice: in lists of events as long as can be, and with a list for each event.
 //!
 //! | Modules | |
 //! |---|---|

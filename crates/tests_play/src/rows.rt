@@ -1,30 +1,31 @@
 //! Rows of events, and how they are played.
 //!
 //! A row is a text. It begins with what there is at the start: a vector of the refs, one of the atoms, one of the agents, as in the
-//! rows of `tests_rows`. Where they can't be made, `[refused x :invalid]` says which is the first and why, and the row ends. Else
-//! events follow, each a vector of the actor's number, the act and what it takes, which ends with what the actor is told.
+//! rows of `tests_rows`. If they can't be made, `[refused x :invalid]` says which is the first and why, and the row ends. Otherwise
+//! events follow. Each is a vector of the actor's number, the act, what the act takes, and the reply.
 //!
-//! | Event | Is told |
+//! | Event | Reply |
 //! |---|---|
 //! | `[0 begin 0]`, `[0 read-point 0]`, `[0 abort :ok]` | the read point |
 //! | `[0 ref-set a 5 5]`, `[0 alter a + 1 6]`, `[0 commute a + 1 7]`, `[0 ensure a 7]`, `[0 deref a 7]` | the in-transaction value |
 //! | `[0 require a >= 1 :ok]`, `[0 send-in-tx g + 1 :ok]` | |
 //! | `[0 commit 3 4 [1 3 4]]` | by worker 3 in step 4: the point, the stamp, the notices |
 //! | `[0 swap x + 1 [1 2]]`, `[0 reset x 2 [1 2]]`, `[0 cas x 1 2 true]` | the values before and after, or whether it was set; the notices |
-//! | `[0 send g + 1 :ok]`, `[0 release 1 true]` | |
+//! | `[0 send g + 1 :ok]`, `[0 release 1 true]` | whether there was something to release |
 //! | `[0 take [g 0]]`, `[0 run :ok]`, `[0 put-back :ok]` | the agent and the number of the job, or `:none` |
 //! | `[0 finish :changed]`, `[0 finish [:failed :invalid]]` | how it ended, and the notices |
-//! | `[0 restart g 5 :ok]`, `[0 restart g 5 clear :ok]`, `[0 set-error-mode g continue :ok]`, `[0 error-of g :invalid]` | |
-//! | `[0 set-validator a [>= 0] :ok]`, `[0 add-watch a :k true]`, `[0 remove-watch a :k true]`, `[0 value-of a 5]` | |
+//! | `[0 restart g 5 :ok]`, `[0 restart g 5 clear :ok]`, `[0 set-error-mode g continue :ok]`, `[0 error-of g :invalid]` | the error |
+//! | `[0 set-validator a [>= 0] :ok]`, `[0 add-watch a :k true]`, `[0 remove-watch a :k true]`, `[0 value-of a 5]` | whether the key is new, or was there; the value |
 //! | `[0 make-ref 5 b]`, `[0 make-atom 5 y]`, `[0 make-agent 5 h]`, `[0 checkpoint 2 1]` | the new reference; how many entries were folded |
 //!
-//! What was refused is told as a fault, as `[:conflict 0 0 1]`, and an act that wasn't made as `:no-tx`, `:no-job` or `:busy`. An act
-//! whose name ends in `-by-fewer` is played by the table that has `+` and `>=` alone.
+//! A refusal is a fault, as `[:conflict 0 0 1]`. The reply to an act that wasn't made is `:no-tx`, `:no-job` or `:busy`. An act whose
+//! name ends in `-by-fewer` is played by the table that has `+` and `>=` alone.
 //!
-//! Between events stands what the world shows, as `[entries 1]`, which ends a list of events: `point`, `entries`, `entry` (a commit's
-//! stamp and read point), `base` (its point, refs, atoms and last changes), `commits`, `added`, `now`, `rule`, `account`, and whether a
-//! table serves what is there, as `[served true]` and `[served-by-fewer false]`. After `[end]` the world and its share are looked at:
-//! `[take [g 0]]`, a job that is lost, `[takes [[g 0] [h 0]]]`, all jobs, `[totals [2 10]]` of a whole share, and `[receipts 2]`.
+//! A look at the world stands between events and ends a list of them, as `[entries 1]`: `point`, `entries`, `entry` (a commit's stamp
+//! and read point), `base` (its point, refs, atoms and last changes), `commits`, `added`, `now`, `rule`, `account`, and whether a
+//! table serves what is there, as `[served true]` and `[served-by-fewer false]`. After `[end]` the looks are at the world and the
+//! share that are left: also `[take [g 0]]` (a job that is lost), `[takes [[g 0] [h 0]]]` (all jobs), `[totals [2 10]]` (of a whole
+//! share) and `[receipts 2]`.
 ghost use Rattle.std.specs.Prelude.{◌≡◌};
 ghost use Rattle.ref_world.specs.Shares.{all_parts};
 
@@ -46,21 +47,21 @@ use tests_rows::answers::{Form, truth, word};
 use tests_rows::forms::{Start as Given, members, number_at, read, row_of, starts_at, word_at};
 use tests_rows::words::{name, variant_form, vector};
 
-/// The place in a row at which something else is told than the row says, and what.
+// The place in a row at which the reply or the look is another one, and which.
 #[derive(Drop)]
 struct Difference {
     place: usize,
     told: Value,
 }
 
-// Nothing, or the first that is wrong.
+// The first difference, if there is one.
 type Checked = Result<Option<Difference>, AllocError>;
 
 fn differs(place: usize, told: Value) -> Checked {
     Ok(Some(Difference { place, told }))
 }
 
-// What is wanted of a form, which is its last member.
+// Compares with the last member of a form.
 fn check(place: usize, told: Value, parts: &[Value]) -> Checked {
     match parts.last() {
         Some(wanted) if *wanted == told => Ok(None),
@@ -120,8 +121,8 @@ fn check_reply(alloc: Global, row: &[Value], place: usize, reply: &Reply) -> Che
 
 fn check_replies(alloc: Global, row: &[Value], first: usize, replies: &[Reply]) -> Checked {
     for (i, reply) in replies.iter().enumerate() {
-        if let Some(wrong) = check_reply(alloc, row, first.saturating_add(i), reply)? {
-            return Ok(Some(wrong));
+        if let Some(found) = check_reply(alloc, row, first.saturating_add(i), reply)? {
+            return Ok(Some(found));
         }
     }
     Ok(None)
@@ -197,7 +198,7 @@ fn list_of(alloc: Global, row: &[Value], first: usize, end: usize) -> Result<Lis
     Ok(list)
 }
 
-// What is wrong of what begins at a place, and the place after it.
+// The first difference in the list or the look that begins at a place, and the place after it.
 fn next<C: Ledger, A: Ledger>(
     alloc: Global,
     sim: &mut Sim<Core, C, A>,
@@ -245,9 +246,9 @@ fn check_events<C: Ledger, A: Ledger>(
         if place >= row.len() {
             return Ok(None);
         }
-        let (end, wrong) = next(alloc, sim, row, place, lists)?;
-        if let Some(wrong) = wrong {
-            return Ok(Some(wrong));
+        let (end, found) = next(alloc, sim, row, place, lists)?;
+        if let Some(found) = found {
+            return Ok(Some(found));
         }
         place = end;
     }
@@ -264,8 +265,8 @@ fn check_end<C: Ledger, A: Ledger>(
     for (i, form) in row.iter().enumerate().skip(first) {
         let parts = members(alloc, form)?;
         let told = look_at_end(alloc, world, share, &parts)?;
-        if let Some(wrong) = check(i, told, &parts)? {
-            return Ok(Some(wrong));
+        if let Some(found) = check(i, told, &parts)? {
+            return Ok(Some(found));
         }
     }
     if share.is_whole() {
@@ -287,7 +288,7 @@ fn check_row<C: Ledger, A: Ledger>(
     let played = check_events(alloc, &mut sim, events, lists);
     let (mut world, mut share) = sim.end();
     match played? {
-        Some(wrong) => Ok(Some(wrong)),
+        Some(found) => Ok(Some(found)),
         None => check_end(alloc, &mut world, &mut share, row, end.saturating_add(1)),
     }
 }
@@ -382,11 +383,11 @@ fn run(alloc: Global, row: &[Value], lists: Lists) -> Checked {
     run_in::<Brand, Brand>(alloc, row, lists, commits, added)
 }
 
-// What is wrong of a row, which is played in both ways.
-fn wrong_of(alloc: Global, row: &str) -> Checked {
+// The first difference in a row, which is played in both ways.
+fn difference(alloc: Global, row: &str) -> Checked {
     let row = read(alloc, row)?;
-    if let Some(wrong) = run(alloc, &row, Lists::Long)? {
-        return Ok(Some(wrong));
+    if let Some(found) = run(alloc, &row, Lists::Long)? {
+        return Ok(Some(found));
     }
     run(alloc, &row, Lists::Short)
 }
@@ -397,13 +398,13 @@ fn text_of(alloc: Global, value: &Value) -> Result<String, AllocError> {
     String::from_utf8_lossy(alloc, out.as_slice())
 }
 
-/// A failure where a row of a table is told something else. A line is a row, or a remark if it begins with `//`.
+/// A failure where a reply or a look isn't that of a row of a table. A line is a row, or a remark if it begins with `//`.
 pub(crate) fn check_all(alloc: Global, table: &str) -> Result<(), Fail> {
     for line in table.lines() {
         let Some(row) = row_of(line) else {
             continue;
         };
-        if let Some(Difference { place, told }) = wrong_of(alloc, row)? {
+        if let Some(Difference { place, told }) = difference(alloc, row)? {
             let told = text_of(alloc, &told)?;
             return Err(Fail::new(format_args!("at {place} was told {told}: {row}")));
         }
