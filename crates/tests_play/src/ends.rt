@@ -10,6 +10,8 @@ fn tables_serve_rules_and_open_commutes(rt: HostRuntime) -> Result<(), Fail> {
             // A function that an open transaction commutes by: until it is dropped, or committed.
             [0 5] [] [] [served true] [served-by-fewer true] [0 begin 0] [1 begin 0] [0 commute a - 1 -1] [1 commute b + 1 6] [served true] [served-by-fewer false] [0 abort :ok] [served-by-fewer true] [1 commute a inc 1] [served-by-fewer false] [1 commit 1 0 [1 1 0]] [served-by-fewer true] [served true]
             [0 5] [] [] [1 begin 0] [0 begin 0] [0 commute a + 1 1] [1 commute b + 1 6] [served-by-fewer true] [0 commute b - 1 4] [served-by-fewer false] [1 commit 1 0 [1 1 0]] [served-by-fewer false] [0 commit 0 0 [2 0 0]] [served-by-fewer true] [0 value-of b 5]
+            // Of each actor, in whatever order they are.
+            [0 5] [] [] [0 begin 0] [1 begin 0] [2 begin 0] [0 commute a + 1 1] [1 commute b - 1 4] [2 commute a + 1 1] [served-by-fewer false] [1 abort :ok] [served-by-fewer true] [2 commute b inc 6] [served-by-fewer false] [0 abort :ok] [served-by-fewer false] [2 commit 2 0 [1 2 0]] [served-by-fewer true]
             // Also after a commit was refused.
             [0 5] [] [] [0 begin 0] [0 commute a - 1 -1] [0 ensure b 5] [1 begin 0] [1 ref-set b 6 6] [1 commit 1 0 [1 1 0]] [0 commit 0 0 [:conflict 1 0 1]] [served-by-fewer false] [0 abort :ok] [served-by-fewer true]
             // An alter isn't made again, and an action may wait for another table.

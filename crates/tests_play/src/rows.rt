@@ -384,7 +384,7 @@ fn run(alloc: Global, row: &[Value], lists: Lists) -> Checked {
 }
 
 // The first difference in a row, which is played in both ways.
-fn difference(alloc: Global, row: &str) -> Checked {
+fn first_difference(alloc: Global, row: &str) -> Checked {
     let row = read(alloc, row)?;
     if let Some(found) = run(alloc, &row, Lists::Long)? {
         return Ok(Some(found));
@@ -404,7 +404,7 @@ pub(crate) fn check_all(alloc: Global, table: &str) -> Result<(), Fail> {
         let Some(row) = row_of(line) else {
             continue;
         };
-        if let Some(Difference { place, told }) = difference(alloc, row)? {
+        if let Some(Difference { place, told }) = first_difference(alloc, row)? {
             let told = text_of(alloc, &told)?;
             return Err(Fail::new(format_args!("at {place} was told {told}: {row}")));
         }
