@@ -10,13 +10,15 @@
 //! | `[0 ref-set a 5 5]`, `[0 alter a + 1 6]`, `[0 commute a + 1 7]`, `[0 ensure a 7]`, `[0 deref a 7]` | the in-transaction value |
 //! | `[0 require a >= 1 :ok]`, `[0 send-in-tx g + 1 :ok]` | |
 //! | `[0 commit 3 4 [1 3 4]]` | by worker 3 in step 4: the point, the stamp, the notices |
-//! | `[0 swap x + 1 [1 2]]`, `[0 reset x 2 [1 2]]`, `[0 cas x 1 2 true]` | the values before and after, or whether it was set; the notices |
+//! | `[0 swap x + 1 [1 2]]`, `[0 reset x 2 [1 2]]`, `[0 cas x 1 2 true]` | the values before and after; whether it was set; notices |
 //! | `[0 send g + 1 :ok]`, `[0 release 1 true]` | whether there was something to release |
 //! | `[0 take [g 0]]`, `[0 run :ok]`, `[0 put-back :ok]` | the agent and the number of the job, or `:none` |
 //! | `[0 finish :changed]`, `[0 finish [:failed :invalid]]` | how it ended, and the notices |
 //! | `[0 restart g 5 :ok]`, `[0 restart g 5 clear :ok]`, `[0 set-error-mode g continue :ok]`, `[0 error-of g :invalid]` | the error |
-//! | `[0 set-validator a [>= 0] :ok]`, `[0 add-watch a :k true]`, `[0 remove-watch a :k true]`, `[0 value-of a 5]` | whether the key is new, or was there; the value |
-//! | `[0 make-ref 5 b]`, `[0 make-atom 5 y]`, `[0 make-agent 5 h]`, `[0 checkpoint 2 1]` | the new reference; how many entries were folded |
+//! | `[0 set-validator a [>= 0] :ok]`, `[0 value-of a 5]` | the value |
+//! | `[0 add-watch a :k true]`, `[0 remove-watch a :k true]` | whether the key is new; whether it was there |
+//! | `[0 make-ref 5 b]`, `[0 make-atom 5 y]`, `[0 make-agent 5 h]` | the new reference |
+//! | `[0 checkpoint 2 1]` | how many entries were folded |
 //!
 //! A refusal is a fault, as `[:conflict 0 0 1]`. The reply to an act that wasn't made is `:no-tx`, `:no-job` or `:busy`. An act whose
 //! name ends in `-by-fewer` is played by the table that has `+` and `>=` alone.
