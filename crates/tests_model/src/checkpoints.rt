@@ -10,8 +10,8 @@ use tests_plain::player::Player;
 use tests_plain::shows::is_whole_log;
 use tests_plain::tables::Table;
 
-// What a checkpoint answers by the model, which is not changed.
-fn answer(model: &Model, table: Table, point: u64) -> Result<u64, CheckpointFault> {
+/// What a checkpoint answers by the model, which is not changed.
+pub(crate) fn answer(model: &Model, table: Table, point: u64) -> Result<u64, CheckpointFault> {
     let base = model.base.point();
     if point < base || point > model.point() {
         return Err(CheckpointFault::NoSuchPoint);
@@ -23,7 +23,11 @@ fn answer(model: &Model, table: Table, point: u64) -> Result<u64, CheckpointFaul
     }
 }
 
-fn fold(model: &mut Model, wanted: Result<u64, CheckpointFault>) -> Result<(), AllocError> {
+/// Folds as many entries as a checkpoint answers, if it isn't refused.
+pub(crate) fn fold(
+    model: &mut Model,
+    wanted: Result<u64, CheckpointFault>,
+) -> Result<(), AllocError> {
     match wanted {
         Ok(count) => model.fold(count as usize),
         Err(_) => Ok(()),

@@ -5,6 +5,9 @@
 //! comes, but those for want of memory, for 2^20 references of a kind and for the last point, which no short list of calls meets.
 //! The model, what is drawn, and the calls that need no world stand in `tests_plain`.
 //!
+//! Beside these, lists of events of several actors are drawn and played on one world, list by list. Each reply has to be that of the
+//! model, and then all that can be seen.
+//!
 //! | Modules | |
 //! |---|---|
 //! | `seen`, `books` | what a world shows, its books and its share, and whether they are as in the model |
@@ -12,10 +15,13 @@
 //! | `references`, `commits`, `jobs`, `checkpoints` | the calls, each on both: of atoms and references, of transactions, of agents, of the log |
 //! | [`receipts`] | whether a receipt is that of the model. It stands outside of the tests, so that a wrong body of it can be tried |
 //! | `stages`, `playing` | two worlds at once; lists of calls |
+//! | `casts`, `wanted`, `sims` | acts of several actors; what they are to be told; lists of events, played on one world |
 #![tactic(auto)]
 
 #[cfg(test)]
 mod books;
+#[cfg(test)]
+mod casts;
 #[cfg(test)]
 mod checkpoints;
 #[cfg(test)]
@@ -34,4 +40,8 @@ mod seen;
 #[cfg(test)]
 mod sides;
 #[cfg(test)]
+mod sims;
+#[cfg(test)]
 mod stages;
+#[cfg(test)]
+mod wanted;

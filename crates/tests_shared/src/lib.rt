@@ -5,6 +5,7 @@
 //! |---|---|
 //! | `calls`, `conflicts`, `finishing` | each call, transactions that are tried again, the end |
 //! | `work`, `kept` | agents, and what a world has when it comes out again |
+//! | `strangers` | transactions that were begun in another world |
 //! | `faults` | what faults say |
 //! | `tables`, `same` | a table that may want memory or predicates; an assertion |
 //! | [`worlds`], [`jobs`] | making worlds and values, and what is read of them; two agents, and what runs their actions |
@@ -28,6 +29,8 @@ pub mod numbers;
 mod same;
 pub mod scenarios;
 pub mod steps;
+#[cfg(test)]
+mod strangers;
 #[cfg(test)]
 mod tables;
 #[cfg(test)]

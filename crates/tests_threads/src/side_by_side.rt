@@ -1,4 +1,5 @@
-//! Agents and two threads: actions of two agents run side by side, those of one agent in turn.
+//! Agents and two threads: actions of two agents run side by side, also where one of them is held after it has run; those of one
+//! agent in turn.
 ghost use Rattle.std.specs.Prelude.{◌≡◌};
 ghost use Rattle.ref_world.specs.Shares.{all_parts};
 
@@ -17,7 +18,7 @@ use std::test::Fail;
 use std::thread;
 use std::thread::Threads;
 use std::time::{Clock, Duration};
-use tests_shared::jobs::{Work, two_agents, work};
+use tests_shared::jobs::{Work, agents_at, two_agents, work};
 use tests_shared::worlds::{PLUS, Stop, action, done, int_at, opened};
 
 // Waits for a flag, and then some time more, in which whoever set it has begun to wait.
@@ -212,5 +213,120 @@ fn an_agents_next_action_waits_for_the_first(rt: HostRuntime) -> Result<(), Fail
         value: Some(3),
     };
     assert_eq!(rt; turns, wanted);
+    Ok(())
+}
+
+// ---- One that is held after its action
+
+// A gate that holds the first of two actions after it has run, until the call for the other one has returned.
+#[derive(Drop)]
+struct Last<'a, 'b, R: Clock> {
+    rt: &'a R,
+    flags: &'b Flags,
+    is_first: bool,
+    in_time: bool,
+}
+
+impl<'a, 'b, R: Clock> Gate for Last<'a, 'b, R> {
+    fn pass(&mut self, spot: Spot) {
+        if spot == Spot::AfterAction && !self.flags.first.swap(true, Ordering::SeqCst) {
+            self.is_first = true;
+            self.in_time = wait_for(self.rt, &self.flags.second);
+        }
+    }
+}
+
+// What a thread did, whether its action was held, and if so whether the other call returned in time.
+#[derive(Clone, Copy, Drop)]
+struct Did {
+    work: Work,
+    is_first: bool,
+    in_time: bool,
+}
+
+// Runs one action, and says so once the call has returned.
+fn work_beside<R: AllocGlobal + Wait + Clock, C: Ledger, A: Ledger>(
+    rt: &R,
+    shared: &Shared<Core, C, A>,
+    flags: &Flags,
+) -> Did {
+    let alloc = rt.alloc();
+    let mut gate = Last {
+        rt,
+        flags,
+        is_first: false,
+        in_time: false,
+    };
+    let work = shared.work_once(rt, alloc, &CoreFunctions, &mut gate, &mut Quiet);
+    flags.second.store(true, Ordering::SeqCst);
+    Did {
+        work,
+        is_first: gate.is_first,
+        in_time: gate.in_time,
+    }
+}
+
+// How many actions were held and how many of these in time, whether the actions were of both agents, and what these are then.
+#[derive(Debug, Drop, PartialEq)]
+struct Held {
+    first: usize,
+    in_time: usize,
+    of_both: bool,
+    values: (Option<i64>, Option<i64>),
+}
+
+fn work_by_two<
+    C: Ledger + Send + Sync,
+    A: Ledger + Send + Sync,
+    R: AllocGlobal + Threads + Wait + Clock + Sync,
+>(rt: &R, shared: &Shared<Core, C, A>) -> (Did, Did) {
+    let flags = Flags::new();
+    let lent = &flags;
+    let (one, two) = thread::join(
+        rt,
+        move || work_beside(rt, shared, lent),
+        move || work_beside(rt, shared, lent),
+    );
+    (one, two)
+}
+
+// Whether one is of the first agent, and the other of the second.
+fn are_of_both(one: Work, two: Work) -> bool {
+    let (first, second) = (Ok(Worked::Did(0)), Ok(Worked::Did(1)));
+    (one == first && two == second) || (one == second && two == first)
+}
+
+fn try_holding<
+    C: Ledger + Send + Sync,
+    A: Ledger + Send + Sync,
+    R: AllocGlobal + Threads + Wait + Clock + Sync,
+>(rt: &R, alloc: Global, commits: Blank, added: Blank) -> Result<Held, Stop>
+    requires commits { (commits.name ≡ C.name) × (commits.parts ≡ C.parts) × (commits.parts ≡ all_parts) }
+    requires added { (added.name ≡ A.name) × (added.parts ≡ A.parts) × (added.parts ≡ all_parts) }
+{
+    let (shared, _share) = opened::<C, A>(alloc, two_agents(alloc)?, commits, added)?;
+    done(shared.send(rt, alloc, 0, action(alloc, PLUS, "1")?))?;
+    done(shared.send(rt, alloc, 1, action(alloc, PLUS, "2")?))?;
+    let (one, two) = work_by_two(rt, &shared);
+    Ok(Held {
+        first: usize::from(one.is_first) + usize::from(two.is_first),
+        in_time: usize::from(one.in_time) + usize::from(two.in_time),
+        of_both: are_of_both(one.work, two.work),
+        values: agents_at(rt, &shared),
+    })
+}
+
+#[test]
+fn an_action_ends_while_another_one_is_held(rt: HostRuntime) -> Result<(), Fail> {
+    let alloc = rt.alloc();
+    let (commits, added) = (Blank::new(ALL_PARTS), Blank::new(ALL_PARTS));
+    let held = try_holding::<Brand, Brand, _>(&rt, alloc, commits, added)?;
+    let wanted = Held {
+        first: 1,
+        in_time: 1,
+        of_both: true,
+        values: (Some(1), Some(2)),
+    };
+    assert_eq!(rt; held, wanted);
     Ok(())
 }

@@ -1,0 +1,7 @@
+use Rattle.tests_play.proofs.rows.run.Given as goal
+
+abbrev pub ghosts-run_in-C-Ledger : goal.ghosts-run_in-C-Ledger
+ghosts-run_in-C-Ledger a = record { name = a.commits.name; parts = a.commits.parts }
+
+abbrev pub ghosts-run_in-A-Ledger : goal.ghosts-run_in-A-Ledger
+ghosts-run_in-A-Ledger a = record { name = a.added.name; parts = a.added.parts }
