@@ -647,9 +647,9 @@ module _ (means : Means) (accepts : Accepts) (knows : Known) (base : Base) (log 
   acted_rule w rule reply added new was did =
       let act = acts.SetValidator w rule in
       acted_call act replies.SetValidator _ _ reply added new was (λ f fits. formal act (replies.SetValidator (Err f)) refl tt tt tt (λ g. (refl, refl)) (kept_from (old.txs a)) refl)
-      (λ u none ok. by_equations act (replies.SetValidator (Ok u)) (replies.SetValidator (Ok u)) added [] new (with_guards old w (with_rule (guards_of old w) (number_of w) rule)) refl ok.0 ok.1
+      (λ u fits ok. by_equations act (replies.SetValidator (Ok u)) (replies.SetValidator (Ok u)) added [] new (with_guards old w (with_rule (guards_of old w) (number_of w) rule)) refl ok.0 ok.1
       (acted_guards act (replies.SetValidator (Ok u)) w (with_rule (guards_of old w) (number_of w) rule) was refl
-      (known_change (guards_of old w) (number_of w) (λ guard. record guard { rule = rule }) (slice_get (guards_of old w) (number_of w)) (λ g known. rule_known rule (value_at old w) none) refl)
+      (known_change (guards_of old w) (number_of w) (λ guard. record guard { rule = rule }) (slice_get (guards_of old w) (number_of w)) (λ g known. rule_known rule (value_at old w) fits.0) refl)
       tt tt tt (λ g. (refl, refl)) (kept_from (old.txs a)) refl refl)) did
 
   acted_add_watch : (w : Who) (key : Edn) (reply : Reply) (added : List Entry) (new : Present) → Was → AddsWatch old w key reply added new → Acted (acts.AddWatch w key) reply added new

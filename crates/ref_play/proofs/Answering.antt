@@ -1,5 +1,8 @@
 -- What each act does, from what its calls tell.
 use Rattle.std.proofs.Common.{◌≡◌, ◌≢◌, ℕ, ◌+◌, ◌-◌, ◌++◌, ◌≤◌, ◌||◌, nat_lt, cond, not, Bool, true, false, List, [], ◌∷◌, length, length-append, take, Option, None, Some, Result, Ok, Err, IfOk, OnErr, slice_get, refl, sym, ap, subst, ◌∙◌, arith}
+use Rattle.ref_log.specs.Guards.{rule_fault, rule_refusal}
+use Rattle.ref_log.specs.declared.faults.RuleFault.TheVariants as rule_faults
+use Rattle.ref_fun.specs.Rule.{passes, unknown}
 use Rattle.std.specs.Option.{option_or}
 use Rattle.std.proofs.lemmas.Bool.{ltb-false}
 use Rattle.std.proofs.lemmas.List.{append-nil, take-append-drop}
@@ -283,14 +286,22 @@ module _ (means : Means) (accepts : Accepts) (knows : Known) (s : SimSeen) (acto
       (served means accepts knows s actor (record s { world = w }) act reply [] none did (log ∙ sym (append-nil s.world.log)) (ap (λ (b : Base). b.point) base) (ap state_of base))
 
   pub rule_set : (w : Who) (rule : Option Rule) (v : WorldSeen) → references.rule_refusal accepts knows.preds s.world w rule ≡ None → v ≡ references.with_rule s.world w rule → Serves means accepts knows s actor (acts.SetValidator w rule) (replies.SetValidator (Ok tt)) (record s { world = v })
-  rule_set (who.Ref r) rule v none is = guarded v (references.with_rule s.world (who.Ref r) rule) (acts.SetValidator (who.Ref r) rule) (replies.SetValidator (Ok tt)) refl is refl refl (Ok tt, refl, none, (refl, refl), tt)
-  rule_set (who.Atom n) rule v none is = guarded v (references.with_rule s.world (who.Atom n) rule) (acts.SetValidator (who.Atom n) rule) (replies.SetValidator (Ok tt)) refl is refl refl (Ok tt, refl, none, (refl, refl), tt)
-  rule_set (who.Agent g) rule v none is = guarded v (references.with_rule s.world (who.Agent g) rule) (acts.SetValidator (who.Agent g) rule) (replies.SetValidator (Ok tt)) refl is refl refl (Ok tt, refl, none, (refl, refl), tt)
+  rule_set (who.Ref r) rule v none is = guarded v (references.with_rule s.world (who.Ref r) rule) (acts.SetValidator (who.Ref r) rule) (replies.SetValidator (Ok tt)) refl is refl refl (Ok tt, refl, (none, tt), (refl, refl), tt)
+  rule_set (who.Atom n) rule v none is = guarded v (references.with_rule s.world (who.Atom n) rule) (acts.SetValidator (who.Atom n) rule) (replies.SetValidator (Ok tt)) refl is refl refl (Ok tt, refl, (none, tt), (refl, refl), tt)
+  rule_set (who.Agent g) rule v none is = guarded v (references.with_rule s.world (who.Agent g) rule) (acts.SetValidator (who.Agent g) rule) (replies.SetValidator (Ok tt)) refl is refl refl (Ok tt, refl, (none, tt), (refl, refl), tt)
+
+  never_memory : (rule : Option Rule) (there : Option Edn) → rule_refusal accepts knows.preds there rule ≡ Some rule_faults.Memory → ⊥
+  never_memory rule None is = cc
+  never_memory rule (Some v) is = by (unknown knows.preds rule) (passes accepts rule v) is where
+    by : (code : Option ℕ) (ok : Bool) → rule_fault code ok ≡ Some rule_faults.Memory → ⊥
+    by (Some code) ok is = cc
+    by None true is = cc
+    by None false is = cc
 
   pub rule_refused : (w : Who) (rule : Option Rule) (v : WorldSeen) (f : RuleFault) → references.rule_refusal accepts knows.preds s.world w rule ≡ Some f → v ≡ s.world → Serves means accepts knows s actor (acts.SetValidator w rule) (replies.SetValidator (Err f)) (record s { world = v })
-  rule_refused (who.Ref r) rule v f reason is = guarded v s.world (acts.SetValidator (who.Ref r) rule) (replies.SetValidator (Err f)) refl is refl refl (Err f, refl, (λ other. reason, λ memory. refl), tt, (refl, refl))
-  rule_refused (who.Atom n) rule v f reason is = guarded v s.world (acts.SetValidator (who.Atom n) rule) (replies.SetValidator (Err f)) refl is refl refl (Err f, refl, (λ other. reason, λ memory. refl), tt, (refl, refl))
-  rule_refused (who.Agent g) rule v f reason is = guarded v s.world (acts.SetValidator (who.Agent g) rule) (replies.SetValidator (Err f)) refl is refl refl (Err f, refl, (λ other. reason, λ memory. refl), tt, (refl, refl))
+  rule_refused (who.Ref r) rule v f reason is = guarded v s.world (acts.SetValidator (who.Ref r) rule) (replies.SetValidator (Err f)) refl is refl refl (Err f, refl, ((λ other. reason, λ memory. refl), λ memory. absurd (never_memory rule (references.value_at s.world (who.Ref r)) (reason ∙ ap Some memory))), tt, (refl, refl))
+  rule_refused (who.Atom n) rule v f reason is = guarded v s.world (acts.SetValidator (who.Atom n) rule) (replies.SetValidator (Err f)) refl is refl refl (Err f, refl, ((λ other. reason, λ memory. refl), λ memory. absurd (never_memory rule (references.value_at s.world (who.Atom n)) (reason ∙ ap Some memory))), tt, (refl, refl))
+  rule_refused (who.Agent g) rule v f reason is = guarded v s.world (acts.SetValidator (who.Agent g) rule) (replies.SetValidator (Err f)) refl is refl refl (Err f, refl, ((λ other. reason, λ memory. refl), λ memory. absurd (never_memory rule (references.value_at s.world (who.Agent g)) (reason ∙ ap Some memory))), tt, (refl, refl))
 
   pub watch_added : (w : Who) (key : Edn) (v : WorldSeen) (is_new : Bool) → is_new ≡ not (has_key (references.keys_at s.world w) key) → references.value_at s.world w ≢ None → v ≡ references.with_watch s.world w key
       → Serves means accepts knows s actor (acts.AddWatch w key) (replies.AddWatch (Ok is_new)) (record s { world = v })

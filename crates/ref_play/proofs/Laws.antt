@@ -23,7 +23,14 @@ use Rattle.ref_refs.specs.Commit.{commuted_code, commuted_codes, lacking}
 use Rattle.ref_refs.specs.declared.faults.CommitFault.TheVariants as commits
 use Rattle.ref_play.specs.Machine.{IsStep, Look, Machine, history, look_at, looked}
 use Rattle.ref_play.specs.Present.{Present, WithTx, begun}
-use Rattle.ref_play.specs.Laws.{HasLaws, RunsHaveLaws, StepsHaveLaws, with_all_counted}
+use Rattle.ref_play.specs.Laws.{HasLaws, IsHeard, IsTold, RunsHaveLaws, StepsHaveLaws, is_refused, with_all_counted}
+use Rattle.ref_tx.specs.declared.faults.TxFault.TheVariants as txs
+use Rattle.ref_world.specs.declared.faults.CheckpointFault.{CheckpointFault}
+use Rattle.ref_log.specs.Replay.{replay}
+use Rattle.std.proofs.Common.{false, Result, Err, OnErr}
+use Rattle.ref_play.specs.Machine.{Folds, checkpoint_of}
+use Rattle.ref_play.specs.declared.events.Act.TheVariants as acts
+use Rattle.ref_play.specs.declared.events.Reply.TheVariants as replies
 use Rattle.ref_play.specs.Runs.{AreJobs, AreOpen, IsLawful, IsLook, IsOpen, IsServed}
 use Rattle.ref_world.specs.Shares.{all_parts}
 use Rattle.ref_world.specs.World.{IsWorld, with_tally}
@@ -40,6 +47,7 @@ use Rattle.std.proofs.lemmas.Bool.{and_from}
 use Rattle.std.proofs.lemmas.List.Folds.{list_all-append}
 use Rattle.ref_play.proofs.Grows.{answer-Ok, called-Ok, looks_grown, open_grown}
 use Rattle.ref_play.proofs.Later.{IsLater, open_later}
+use Rattle.ref_play.proofs.Left.{left}
 
 -- ---- open transactions
 
@@ -216,12 +224,41 @@ module _ (means : Means) (accepts : Accepts) (knows : Known) (k l : Machine) (e 
         (λ b other. subst (λ o. WithTx o (λ t. lacking knows.funs t.dones ≡ None) (Unit {0})) (sym (did.others b other).0) (served.3 b)),
   )
 
+  true_isnt_false : true ≡ false → ⊥
+  true_isnt_false is = cc
+
+  no_folds : (o : Option ℕ) (reply : Reply) (went : List Entry) → Folds means knows k.now.point (point_after k.base k.gone) (replay means k.base k.gone) k.log o reply went → is_refused reply ≡ true → went ≡ []
+  no_folds None reply went folds is = folds
+  no_folds (Some p) reply went folds is = by folds.0 folds.1 folds.4 where
+    by : (told : Result ℕ CheckpointFault) → reply ≡ replies.Checkpoint told → OnErr told (went ≡ []) → went ≡ []
+    by (Ok n) same err = absurd (true_isnt_false (sym is ∙ ap is_refused same))
+    by (Err f) same err = err
+
+  heard_at : (t : TxSeen) (q : ℕ) (v : Edn) (before after : List Look) → after ≡ look_at means t q ∷ before → inner_value means t q ≡ Some v → after ≡ record { r = q; after = length t.dones; value = Some v } ∷ before
+  heard_at t q v before after is has = is ∙ ap (λ o. (record { r = q; after = length t.dones; value = o }) ∷ before) has
+
+  heard_of : (act : Act) (reply : Reply) (tx : Option TxSeen) (before after : List Look) → after ≡ looked means act reply tx before → IsTold means accepts k.now tx act reply → IsHeard accepts tx act reply before after
+  heard_of (acts.Deref q) (replies.Deref (Ok v)) None before after is told = told
+  heard_of (acts.Deref q) (replies.Deref (Ok v)) (Some t) before after is told = heard_at t q v before after is told
+  heard_of (acts.Require q rule) (replies.Require (Ok u)) None before after is told = told
+  heard_of (acts.Require q rule) (replies.Require (Ok u)) (Some t) before after is told = (told.0, told.2, heard_at t q told.0 before after is told.1)
+  heard_of (acts.Require q rule) (replies.Require (Err txs.NotMet)) None before after is told = told
+  heard_of (acts.Require q rule) (replies.Require (Err txs.NotMet)) (Some t) before after is told = (told.0, told.2, heard_at t q told.0 before after is told.1)
+  heard_of (acts.Deref q) reply None before after is told = ([], is)
+  heard_of (acts.Deref q) reply (Some t) before after is told = (look_at means t q ∷ [], is)
+  heard_of (acts.Require q rule) reply None before after is told = ([], is)
+  heard_of (acts.Require q rule) reply (Some t) before after is told = (look_at means t q ∷ [], is)
+  heard_of acts.Begin (replies.Begin told) tx before after is none = is
+  heard_of act reply tx before after is told = ([], is)
+
   laws : HasLaws means accepts k e r l
   laws = record {
     native = did.native served (lawful.opens e.actor);
     told = did.told;
     opens = opens_after;
     begun = did.began;
+    kept = (left means accepts knows k.now e.actor e.act r step.added l.now step.acts).0;
+    held = (left means accepts knows k.now e.actor e.act r step.added l.now step.acts).1;
     placed = did.placed (lawful.opens e.actor) (lawful.looks e.actor);
     replayed = lawful_after.world.replayed;
     base = step.base;
@@ -230,8 +267,14 @@ module _ (means : Means) (accepts : Accepts) (knows : Known) (k l : Machine) (e 
     jobs = did.jobs lawful.jobs;
     handled = did.handled lawful.jobs;
     given = did.given (lawful.opens e.actor);
-    refused = λ is. ((did.refused is).1, longer ∙ (ap (λ x. history k ++ x) (did.refused is).0 ∙ append-nil (history k)));
-    others = did.others;
+    refused = λ is.
+        let none = no_folds (checkpoint_of e.act) r step.went step.folds is in (
+          (did.refused is).1,
+          step.gone ∙ (ap (λ w. k.gone ++ w) none ∙ append-nil k.gone),
+          ap (λ w. w ++ l.log) (sym none) ∙ (sym step.log ∙ (ap (λ x. k.log ++ x) (did.refused is).0 ∙ append-nil k.log)),
+        );
+    heard = heard_of e.act r (k.now.txs e.actor) (k.looks e.actor) (l.looks e.actor) (ap (λ f. f e.actor) step.looks ∙ put_here k.looks e.actor _) did.told;
+    others = λ b other. ((did.others b other).0, ap (λ f. f b) step.looks ∙ put_other k.looks e.actor _ b other, (did.others b other).1);
   }
 
 -- ---- steps and runs

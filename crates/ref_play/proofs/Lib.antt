@@ -4,6 +4,7 @@ pub mod Grows
 pub mod Native
 pub mod Kept
 pub mod Acting
+pub mod Left
 pub mod Laws
 pub mod Standing
 pub mod Slots

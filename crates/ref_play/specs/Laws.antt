@@ -1,10 +1,11 @@
 -- The laws of every run.
-use Rattle.std.specs.Prelude.{◌≢◌, ◌≡◌, ℕ, ◌+◌, true, false, Bool, List, [], ◌∷◌, ◌++◌, if◌then◌else◌, take, slice_get, Option, None, Some, Result, Ok, Err}
+use Rattle.std.specs.Prelude.{◌≢◌, ◌≡◌, ℕ, ◌+◌, true, false, Bool, List, [], ◌∷◌, ◌++◌, if◌then◌else◌, length, take, slice_get, Option, None, Some, Result, Ok, Err}
 use Rattle.std.specs.List.{AllByRecursion}
 use Rattle.ref_value.specs.Edn.{Edn}
 use Rattle.ref_fun.specs.Calls.{Known}
 use Rattle.ref_fun.specs.Meaning.{Means}
 use Rattle.ref_fun.specs.Rule.{Accepts, is_accepted}
+use Rattle.ref_fun.specs.declared.actions.Action.{Action}
 use Rattle.ref_fun.specs.declared.rules.Rule.{Rule}
 use Rattle.ref_log.specs.Replay.{after_dones, is_protected, point_after, replay}
 use Rattle.ref_log.specs.Tally.{added_by_dones}
@@ -20,15 +21,13 @@ use Rattle.ref_log.specs.declared.states.PlainState.{PlainState}
 use Rattle.ref_tx.specs.Inner.{and_place, inner_value}
 use Rattle.ref_tx.specs.Seen.{TxSeen}
 use Rattle.ref_tx.specs.declared.faults.TxFault.TheVariants as txs
-use Rattle.ref_refs.specs.Commit.{entry_of}
 use Rattle.ref_refs.specs.declared.faults.CommitFault.{CommitFault}
 use Rattle.ref_refs.specs.declared.faults.CommitFault.TheVariants as commits
 use Rattle.ref_world.specs.Seen.{ShareSeen}
-use Rattle.ref_world.specs.Shares.{with_commit, with_receipt}
 use Rattle.ref_world.specs.World.{values_now}
 use Rattle.ref_play.specs.Given.{accepted, ended_by, given_at, handled_at}
 use Rattle.ref_play.specs.Machine.{IsStep, Look, Machine, Run, history}
-use Rattle.ref_play.specs.Present.{Present, WithTx, value_at}
+use Rattle.ref_play.specs.Present.{HeldSeen, Present, WithJob, WithTx, value_at}
 use Rattle.ref_play.specs.Runs.{AreJobs, AreOpen, IsLawful, IsServed}
 use Rattle.ref_play.specs.declared.events.Act.{Act}
 use Rattle.ref_play.specs.declared.events.Act.TheVariants as acts
@@ -131,6 +130,48 @@ IsFrom means base entries now was acts.Begin (replies.Begin (Ok p)) tx =
     (p ≡ now.point) × (tx.read_point ≡ p) × IsStateAt means base entries p tx.began × (tx.dones ≡ []) × (tx.sends ≡ [])
 IsFrom means base entries now was act reply tx = Of was (λ before. (tx.read_point ≡ before.read_point) × (tx.began ≡ before.began))
 
+-- ---- what an actor has open, and which job it has
+
+-- with an operation and its answer, or a send, more: the last
+abbrev pub and_done : Option TxSeen → ℕ → Op → Edn → Option TxSeen
+and_done None r op v = None
+and_done (Some tx) r op v = Some (record tx { dones = tx.dones ++ (record { r = r; op = op; answer = v }) ∷ [] })
+
+abbrev pub and_sent : Option TxSeen → ℕ → Action → Option TxSeen
+and_sent None g action = None
+and_sent (Some tx) g action = Some (record tx { sends = tx.sends ++ record { agent = g; action = action } ∷ [] })
+
+-- The transaction that an actor has open after its act: an answered begin opens one on what there is now; an answered operation and an
+-- answered send are in it, last; an answered commit and an abort close it; and nothing else changes it.
+abbrev pub left_open : Present → Option TxSeen → Act → Reply → Option TxSeen
+left_open now tx acts.Begin (replies.Begin (Ok p)) = Some (record {
+  read_point = now.point;
+  began = now.refs.values;
+  dones = [];
+  sends = [];
+  tally = now.refs.tally;
+  agents = length now.agents.agents;
+})
+left_open now tx (acts.RefSet r w) (replies.RefSet (Ok v)) = and_done tx r (Set w) v
+left_open now tx (acts.Alter r code args) (replies.Alter (Ok v)) = and_done tx r (Alter code args) v
+left_open now tx (acts.Commute r code args) (replies.Commute (Ok v)) = and_done tx r (Commute code args) v
+left_open now tx (acts.Ensure r) (replies.Ensure (Ok v)) = and_done tx r Ensure v
+left_open now tx (acts.SendInTx g code args) (replies.SendInTx (Ok u)) = and_sent tx g (record { code = code; args = args })
+left_open now tx (acts.Commit stamp) (replies.Commit (Ok receipt)) = None
+left_open now tx acts.Abort replies.Abort = None
+left_open now tx act reply = tx
+
+-- The job that an actor has after its act: an answered take gives it the one that it tells, which hasn't run; an answered run keeps what
+-- its action means; put back and an answered finish end it, the latter one that has run; and nothing else changes it.
+abbrev pub IsLeft : Means → Option HeldSeen → Act → Reply → Option HeldSeen → Type 0
+IsLeft means was acts.Take (replies.Take (Ok (Some told))) now =
+    (was ≡ None) × WithJob now (λ held. (told ≡ (held.job.agent, held.job.number)) × (held.outcome ≡ None)) ⊥
+IsLeft means was acts.Run (replies.Run (Ok u)) now = WithJob was (λ held. (held.outcome ≡ None)
+    × (now ≡ Some (record held { outcome = Some (means held.job.action.code held.job.action.args held.job.state) }))) ⊥
+IsLeft means was acts.PutBack replies.PutBack now = WithJob was (λ held. now ≡ None) ⊥
+IsLeft means was acts.Finish (replies.Finish (Ok finished)) now = WithJob was (λ held. (held.outcome ≢ None) × (now ≡ None)) ⊥
+IsLeft means was act reply now = now ≡ was
+
 -- ---- what a committed transaction was told
 
 -- the value of a ref after the first n operations of an entry at a point, on the values before it
@@ -153,11 +194,21 @@ abbrev pub PlacedAt : Means → Present → List Look → Option TxSeen → Act 
 PlacedAt means now looks tx (acts.Commit stamp) (replies.Commit (Ok receipt)) = Of tx (λ t. IsPlaced means now t looks)
 PlacedAt means now looks tx act reply = Unit {0}
 
+-- What `deref` and `require` told of a ref is kept, with the number of operations before it, until the actor begins anew.
+abbrev pub IsHeard : Accepts → Option TxSeen → Act → Reply → List Look → List Look → Type 0
+IsHeard accepts tx (acts.Deref r) (replies.Deref (Ok v)) before after = Of tx (λ t. after ≡ record { r = r; after = length t.dones; value = Some v } ∷ before)
+IsHeard accepts tx (acts.Require r rule) (replies.Require (Ok u)) before after =
+    Of tx (λ t. (v : Edn) × (is_accepted accepts rule v ≡ true) × (after ≡ record { r = r; after = length t.dones; value = Some v } ∷ before))
+IsHeard accepts tx (acts.Require r rule) (replies.Require (Err txs.NotMet)) before after =
+    Of tx (λ t. (v : Edn) × (is_accepted accepts rule v ≡ false) × (after ≡ record { r = r; after = length t.dones; value = Some v } ∷ before))
+IsHeard accepts tx acts.Begin (replies.Begin told) before after = after ≡ []
+IsHeard accepts tx act reply before after = (more : List Look) × (after ≡ more ++ before)
+
 -- ---- what is added to the history
 
 abbrev pub committed : Option TxSeen → Stamp → List Entry
 committed None stamp = []
-committed (Some tx) stamp = entry_of stamp tx ∷ []
+committed (Some tx) stamp = Trans (record { stamp = stamp; read_point = tx.read_point; dones = tx.dones; sends = tx.sends }) ∷ []
 
 -- The entries that an act adds: an answered commit, a change of an atom and a making one each, and nothing else any.
 abbrev pub entered : Option TxSeen → Act → Reply → List Entry
@@ -173,8 +224,18 @@ entered tx act reply = []
 
 -- with what an entry at a point gives it: the receipt of a commit or of a change of an atom, and of a commit what it counts
 abbrev pub with_counted : Option ℕ → ℕ → ShareSeen → Entry → ShareSeen
-with_counted tally point share (Trans t) = with_commit share point (Trans t) (added_by_dones tally t.dones)
-with_counted tally point share (Atom n op v) = with_receipt share point (Atom n op v)
+with_counted tally point share (Trans t) = record {
+  parts = share.parts;
+  commits = share.commits + 1;
+  added = share.added + added_by_dones tally t.dones;
+  receipts = share.receipts ++ record { point = point; entry = Trans t } ∷ [];
+}
+with_counted tally point share (Atom n op v) = record {
+  parts = share.parts;
+  commits = share.commits;
+  added = share.added;
+  receipts = share.receipts ++ record { point = point; entry = Atom n op v } ∷ [];
+}
 with_counted tally point share (MadeRef v) = share
 with_counted tally point share (MadeAtom v) = share
 
@@ -192,7 +253,10 @@ pub record HasLaws (means : Means) (accepts : Accepts) (k : Machine) (e : Event)
   pub told : IsTold means accepts k.now (k.now.txs e.actor) e.act r
   pub opens : AreOpen means l.now
   pub begun : WithTx (l.now.txs e.actor) (IsFrom means k.base (history k) k.now (k.now.txs e.actor) e.act r) (Unit {0})
+  -- What it has open has just the operations and sends that were answered since, and none when it was committed or aborted.
+  pub kept : l.now.txs e.actor ≡ left_open k.now (k.now.txs e.actor) e.act r
   -- What a committed transaction was told of a ref that it protects is also right at its place in the history.
+  pub heard : IsHeard accepts (k.now.txs e.actor) e.act r (k.looks e.actor) (l.looks e.actor)
   pub placed : PlacedAt means k.now (k.looks e.actor) (k.now.txs e.actor) e.act r
   -- The values are the replay of the whole history, to which each act adds its own entry: no update is lost.
   pub replayed : replay means l.base (history l) ≡ Ok (values_now l.now.refs l.now.atoms)
@@ -201,12 +265,13 @@ pub record HasLaws (means : Means) (accepts : Accepts) (k : Machine) (e : Event)
   pub counted : l.now.share ≡ with_all_counted k.now.refs.tally k.now.point k.now.share (entered (k.now.txs e.actor) e.act r)
   -- At most one job of an agent is out, an actor has it, and actions are handled in the order in which they were accepted.
   pub jobs : AreJobs means l.now
+  pub held : IsLeft means (k.now.jobs e.actor) e.act r (l.now.jobs e.actor)
   pub handled : (g : ℕ) → handled_at l.now.agents.agents g ≡ ended_by k.now (k.now.jobs e.actor) e.act r g
   -- Only an answered send or commit gives an agent something: nothing of an aborted or refused transaction is in a queue.
   pub given : (g : ℕ) → given_at l.now.agents.agents g ≡ accepted k.now (k.now.txs e.actor) e.act r g
   -- A refusal changes nothing, and what an actor has open no other actor changes.
-  pub refused : is_refused r ≡ true → (l.now ≡ k.now) × (history l ≡ history k)
-  pub others : (a : ℕ) → a ≢ e.actor → (l.now.txs a ≡ k.now.txs a) × (l.now.jobs a ≡ k.now.jobs a)
+  pub refused : is_refused r ≡ true → (l.now ≡ k.now) × (l.gone ≡ k.gone) × (l.log ≡ k.log)
+  pub others : (a : ℕ) → a ≢ e.actor → (l.now.txs a ≡ k.now.txs a) × (l.looks a ≡ k.looks a) × (l.now.jobs a ≡ k.now.jobs a)
 
 -- A step of a lawful machine that the table serves has the laws, and what comes of it is lawful and served.
 abbrev pub StepsHaveLaws : Means → Accepts → Type 0

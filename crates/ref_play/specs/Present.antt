@@ -19,6 +19,7 @@ use Rattle.ref_log.specs.declared.entries.Entry.{Entry}
 use Rattle.ref_log.specs.declared.entries.Entry.TheVariants as entries
 use Rattle.ref_log.specs.declared.entries.Stamp.{Stamp}
 use Rattle.ref_log.specs.declared.faults.MakeFault.TheVariants as makes
+use Rattle.ref_log.specs.declared.faults.RuleFault.{RuleFault}
 use Rattle.ref_log.specs.declared.faults.RuleFault.TheVariants as rules
 use Rattle.ref_log.specs.declared.faults.WatchFault.{WatchFault}
 use Rattle.ref_log.specs.declared.faults.WatchFault.TheVariants as watches
@@ -268,9 +269,13 @@ with_guards now (who.Agent g) gs = record now { agents = agents.with_guards now.
 abbrev pub watches_of : Present → Who → List Edn
 watches_of now w = keys_at (guards_of now w) (number_of w)
 
+-- Memory is asked for only to share the rule: where there is none it isn't lacking.
+abbrev pub FitsRule : Option RuleFault → Option Rule → Result (Unit {0}) RuleFault → Type 0
+FitsRule reason rule told = TellsOrMemory rules.Memory None reason told × IfErr told (λ f. f ≡ rules.Memory → rule ≢ None)
+
 abbrev pub SetsRule : Accepts → Known → Present → Who → Option Rule → Reply → List Entry → Present → Type 0
 SetsRule accepts knows old w rule reply added new =
-    Calls replies.SetValidator (TellsOrMemory rules.Memory None (guards.rule_refusal accepts knows.preds (value_at old w) rule))
+    Calls replies.SetValidator (FitsRule (guards.rule_refusal accepts knows.preds (value_at old w) rule) rule)
     (λ u. Becomes (with_guards old w (guards.with_rule (guards_of old w) (number_of w) rule)) added new) old reply added new
 
 -- whether the key is new, or that the reference isn't there

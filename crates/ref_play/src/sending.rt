@@ -1,5 +1,5 @@
 //! What actors do with agents.
-ghost use Rattle.std.specs.Prelude.{◌≡◌, [], IfOk};
+ghost use Rattle.std.specs.Prelude.{◌≡◌, ◌≢◌, [], None, IfOk, OnErr};
 ghost use Rattle.ref_play.specs.Present.{MakesAgent, Releases, Restarts, Sends, SetsMode};
 ghost use Rattle.ref_play.specs.Sims.{SimSeen, present};
 ghost use Rattle.ref_world.specs.World.{with_agents};
@@ -107,7 +107,8 @@ pub(crate) fn make_agent<M: Meaning, C: Ledger, A: Ledger, F: Functions<M>>(
 
 // One more owner of a rule's arguments, if there is one.
 pub(crate) fn share_rule(rule: &Option<Rule>) -> Result<Option<Rule>, AllocError>
-    ensures { IfOk result (λ r. r ≡ rule.now) }
+    ensures value { IfOk result (λ r. r ≡ rule.now) }
+    ensures none { OnErr result (rule.now ≢ None) }
 {
     match rule {
         None => Ok(None),

@@ -111,6 +111,7 @@ impl<M: Meaning, C: Ledger, A: Ledger> Sim<M, C, A> {
             → IsPlayed M.means M.accepts (F.knows funs.now) m events.now replies.items self.new) }
         ensures served { OnOk result (IsServed (F.knows funs.now) (present self.new)) }
         ensures err { OnErr result (self.new ≡ self.old) }
+        ensures memory { OnErr result (events.now ≢ []) }
     {
         let mut replies = Vec::with_capacity(alloc, events.len())?;
         for event in events {

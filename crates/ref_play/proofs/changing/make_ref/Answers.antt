@@ -31,6 +31,6 @@ returns-in-Err g c = λ s actor.
     let old : SimSeen = record s { world = c.args.world.now } in
     let new : SimSeen = record s { world = c.make_ref.new.self } in
     subst (λ x. Serves means accepts knows old actor (acts.MakeRef x c.args.rule.now c.args.tally) (replies.MakeRef (Err c.in-Err.fault)) new) c.in-Ok.ensures
-    (subst (λ x. Serves means accepts knows old actor (acts.MakeRef c.in-Ok.value x c.args.tally) (replies.MakeRef (Err c.in-Err.fault)) new) c.in-Ok-share_rule.ensures
+    (subst (λ x. Serves means accepts knows old actor (acts.MakeRef c.in-Ok.value x c.args.tally) (replies.MakeRef (Err c.in-Err.fault)) new) c.in-Ok-share_rule.ensures.value
     (refused_world means accepts knows old actor c.make_ref.new.self s.share (acts.MakeRef c.in-Ok.value c.in-Ok-share_rule.rule c.args.tally) (replies.MakeRef (Err c.in-Err.fault)) refl did.err refl
     (Err c.in-Err.fault, refl, late_fault faults.Memory _ _ c.in-Err.fault did.refused, tt, (refl, refl))))

@@ -1,4 +1,6 @@
-use Rattle.std.proofs.Common.{Err, Ok, subst}
+use Rattle.std.proofs.Common.{[], Err, Ok, refl, subst, arith}
+use Rattle.std.proofs.lemmas.List.{append-nil}
+use Rattle.ref_log.specs.declared.faults.RuleFault.TheVariants as rule_faults
 use Rattle.ref_play.specs.Sims.{Serves, SimSeen}
 use Rattle.ref_play.specs.declared.events.Act.TheVariants as acts
 use Rattle.ref_play.specs.declared.events.Reply.TheVariants as replies
@@ -12,7 +14,7 @@ returns-in-Ok-set_validator g c = λ s actor.
     let knows = g.F.Functions.knows c.args.funs.now in
     let did = c.in-Ok-set_validator.ensures in
     let old : SimSeen = record s { world = c.args.world.now } in
-    subst (λ x. Serves means accepts knows old actor (acts.SetValidator c.args.who x) (replies.SetValidator (Ok tt)) (record s { world = c.set_validator.new.self })) c.in-Ok.ensures
+    subst (λ x. Serves means accepts knows old actor (acts.SetValidator c.args.who x) (replies.SetValidator (Ok tt)) (record s { world = c.set_validator.new.self })) c.in-Ok.ensures.value
     (rule_set means accepts knows old actor c.args.who c.in-Ok.rule c.set_validator.new.self did.refused did.sets)
 
 pub returns-in-Err : goal.returns-in-Err
@@ -22,5 +24,14 @@ returns-in-Err g c = λ s actor.
     let knows = g.F.Functions.knows c.args.funs.now in
     let did = c.in-Err.ensures in
     let old : SimSeen = record s { world = c.args.world.now } in
-    subst (λ x. Serves means accepts knows old actor (acts.SetValidator c.args.who x) (replies.SetValidator (Err c.in-Err.fault)) (record s { world = c.set_validator.new.self })) c.in-Ok.ensures
+    subst (λ x. Serves means accepts knows old actor (acts.SetValidator c.args.who x) (replies.SetValidator (Err c.in-Err.fault)) (record s { world = c.set_validator.new.self })) c.in-Ok.ensures.value
     (rule_refused means accepts knows old actor c.args.who c.in-Ok.rule c.set_validator.new.self c.in-Err.fault did.refused did.err)
+
+pub returns-in_default : goal.returns-in_default
+returns-in_default g c = λ s actor. record {
+  added = [];
+  went = [];
+  acts = (Err rule_faults.Memory, refl, ((λ other. absurd (other refl), λ memory. refl), λ memory. c.in_default.ensures.none), tt, (refl, refl));
+  folds = refl;
+  logs = record { log = append-nil c.args.world.now.log; point = omega arith; base = refl };
+}

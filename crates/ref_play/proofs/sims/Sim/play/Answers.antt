@@ -58,4 +58,5 @@ returns g c =
           (subst (λ xs. Reaches means accepts knows m xs c.loop-event.replies.items s) all (c.loop-event.invariant.run m stands));
       served = c.loop-event.invariant.served;
       err = tt;
+      memory = tt;
     }
