@@ -1,7 +1,7 @@
 //! Transactions, jobs and checkpoints of several actors, event by event.
 use crate::rows::check_all;
 use ref_fun::Core;
-use ref_play::sims::{runs_have_laws, steps_have_laws};
+use ref_play::{runs_have_laws, steps_have_laws};
 use std::test::Fail;
 
 #[test]
