@@ -1,5 +1,5 @@
 #!/usr/bin/env python3
-"""Measures a program that reads and prints EDN, beside serde_json, Clojure and jq where they are installed, and beside an
+"""Measures a program that reads and prints EDN, next to serde_json, Clojure and jq where they are installed, and next to an
 older build of itself where one is named.
 
 run.sh builds the programs and calls this: compare.py PROGRAM FOLDER [--json PROGRAM] [--against PROGRAM] [--refrun REFRUN]
@@ -19,7 +19,7 @@ from generate import arguments
 HERE = os.path.dirname(os.path.abspath(__file__))
 MIB = 1024 * 1024
 
-# The C library is to keep what the program frees, as the JVM keeps its heap. By itself it hands each block of 32 MiB or more
+# The C library is to hold what the program frees, as the JVM holds its heap. By itself it hands each block of 32 MiB or more
 # back, and the next round pays for fresh pages.
 KEEPS = {"GLIBC_TUNABLES": f"glibc.malloc.mmap_max=0:glibc.malloc.trim_threshold={2**33}"}
 
@@ -170,7 +170,7 @@ def measure_jq(programs, text, json):
 
 
 def show_row(row, once):
-    """A set beside a vector of the same members in the same order."""
+    """A set next to a vector of the same members in the same order."""
     show("row", f"as a set: read {min(once.read) / min(row.read):.2f} times as long as a vector,"
          f" print {min(once.print) / min(row.print):.2f} times")
 
@@ -241,7 +241,7 @@ def main():
     said.add_argument("folder")
     said.add_argument("--json", help="the program that does the same with serde_json")
     said.add_argument("--against", metavar="PROGRAM", help="an older build of the program, to be measured in the same turns")
-    said.add_argument("--refrun", help="the program whose `print` is measured beside jq")
+    said.add_argument("--refrun", help="the program whose `print` is measured next to jq")
     said.add_argument("--quick", action="store_true", help="no texts of half and of twice the size, no Clojure and no jq")
     said.add_argument("--rounds", type=int, default=15, help=f"of reading and printing, in {TURNS} processes")
     said.add_argument("--seconds", type=float, default=10, help="that Clojure gets for each measurement")

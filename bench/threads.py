@@ -1,5 +1,5 @@
 #!/usr/bin/env python3
-"""Measures calls on a shared world from several threads, beside Clojure and a plain Rust program.
+"""Measures calls on a shared world from several threads, next to Clojure and a plain Rust program.
 
 threads.sh builds the programs and calls this: threads.py PROGRAM [--plain PLAIN] [--seconds S] [--warm-up S] [--acts N]
 [--threads N,N..] [SHAPE..]. The shapes are

@@ -1,5 +1,5 @@
 #!/usr/bin/env python3
-"""Measures `refrun run` on a standard set of workloads, beside Clojure.
+"""Measures `refrun run` on a standard set of workloads, next to Clojure.
 
 workloads.sh calls this: workloads.py PROGRAM [--steps N] [--rounds N] [--warm-up S] [SHAPE..]. The shapes are
 

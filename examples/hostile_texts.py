@@ -29,7 +29,7 @@ def scaled(count):
 
 
 def fitting(part, around=0):
-    """How many such parts a text has room for, beside what stands around them."""
+    """How many such parts a text has room for, next to what stands around them."""
     return (Length.size - around) // len(part)
 
 
@@ -448,7 +448,7 @@ def last_steps(count):
 
 
 def complaint_of_failed(count, out):
-    """What is wrong with the report of an agent that fails at its first action: sends behind that are refused, each told once."""
+    """What is wrong with the report of an agent that fails at its first action: sends behind that are refused, each reported once."""
     if out.readline() != b"agent g :k failed\n":
         return "the first line isn't that of an agent that is failed"
     last = (-1, -1)

@@ -1,4 +1,4 @@
-"""Pages of Markdown as GitHub shows them: the anchors of headings, links that are told once a page, and a check of all links.
+"""Pages of Markdown as GitHub shows them: the anchors of headings, links that are defined once a page, and a check of all links.
 
 For `reference`.
 """

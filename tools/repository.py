@@ -1,4 +1,4 @@
-"""What the commands here, `quick` and `wrong-bodies` share: the crates, and the wrong bodies beside them."""
+"""What the commands here, `quick` and `wrong-bodies` share: the crates, and their wrong bodies."""
 
 import fnmatch
 import os
@@ -53,7 +53,7 @@ def edits(name, folder, top=TOP):
 
 
 def edited(edit):
-    """The files that a wrong body changes, by path, each before and after; and why it can't be put in the place of the right one, or None."""
+    """The files that a wrong body changes, by path, each before and after; and why it can't replace the right one, or None."""
     crate, path, old, texts = edit.parent.parent, None, None, {}
     for line in edit.read_text(encoding="utf-8").split("\n"):
         if line.startswith("file: "):
@@ -76,7 +76,7 @@ def edited(edit):
 
 
 def misfit(edit):
-    """Why a wrong body can't be put in the place of the right one, or None."""
+    """Why a wrong body can't replace the right one, or None."""
     return edited(edit)[1]
 
 

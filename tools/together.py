@@ -1,7 +1,7 @@
 """Wrong bodies of different functions, tried in one check.
 
 A function is proved against its own contract and those of what it calls, never against a body. So wrong bodies of different functions
-don't disturb each other, and one check tells of each of these functions whether it is proved. What such a check leaves open, since the
+don't disturb each other, and one check says of each of these functions whether it is proved. What such a check leaves open, since the
 prover waits for a function that it calls, comes into the next one; what it says nothing sure of is for a check of its own.
 """
 
@@ -94,7 +94,7 @@ def changed(edit):
 
 
 class Room:
-    """A copy of a crate and of the libraries below it, in which the crate is checked with other bodies over what its own check kept."""
+    """A copy of a crate and of the libraries below it, in which the crate is checked with other bodies over what its own check stored."""
 
     def __init__(self, name, folder):
         below = repository.crates()
@@ -107,7 +107,7 @@ class Room:
         self.functions = {(path, at): it for path, text in self.texts.items() for at, it in enumerate(functions(text))}
 
     def begin(self):
-        """Lets the next check begin with what the crate's own check kept, and with nothing else."""
+        """Lets the next check begin with what the crate's own check stored, and with nothing else."""
         shutil.rmtree(self.crate / "out", ignore_errors=True)
         # what is proved is replaced by a check, and never written into; the rest may be
         repository.link_tree(self.source / "out" / "incremental", self.crate / "out" / "incremental", links="*.oantt")
@@ -128,7 +128,7 @@ class Room:
         return ran.stdout
 
     def key(self, function):
-        """What the prover's name of a function tells of it: functions that have the same one are not told apart."""
+        """What the prover's name of a function says of it: functions with the same one are not distinguished."""
         it = self.functions[function]
         return it.name, it.type or function[0], it.trait
 
@@ -138,7 +138,7 @@ class Room:
         for (path, at), it in self.functions.items():
             module = [part for part in Path(path).with_suffix("").parts[1:] if part not in ("lib", "main")]
             owner = words[-2] if len(words) > 1 else ""
-            # a trait's method is told by the type, with Ref before it where it is a reference, and the trait
+            # a trait's method is named by the type, with Ref before it where it is a reference, and the trait
             of_trait = it.trait and owner.startswith((it.type + it.trait, "Ref" + it.type + it.trait))
             if words[-1] == it.name and (owner == it.type or of_trait if it.type else words[:-1] == module):
                 found.add((path, at))

@@ -54,7 +54,7 @@ fn args(alloc: Global, value: &Value) -> Result<Args, AllocError> {
     Args::of(alloc, vec![in alloc; value.share()?]?)
 }
 
-// An account, which its rule `[>= 0]` keeps from going below 0.
+// An account, which its rule `[>= 0]` doesn't let go below 0.
 fn account(alloc: Global, balance: &str) -> Result<RefStart, AllocError> {
     Ok(RefStart {
         value: value(alloc, balance)?,
@@ -119,7 +119,7 @@ impl<'a, C: Ledger, A: Ledger> Bank<'a, C, A> {
         }
     }
 
-    /// Moves a sum from one account to another and tells the journal of it, or changes nothing. The step goes into the log.
+    /// Moves a sum from one account to another and sends a note of it to the journal, or changes nothing. The step goes into the log.
     pub(crate) fn transfer(
         &mut self,
         step: u32,
@@ -135,7 +135,7 @@ impl<'a, C: Ledger, A: Ledger> Bank<'a, C, A> {
             .commit_with(alloc, funs, &mut self.share, stamp, tx)
         {
             Ok(receipt) => Ok(receipt),
-            // The transaction comes back and could be committed once more. Here it is let go, with what it would have sent.
+            // The transaction comes back and could be committed once more. Here it is dropped, with what it would have sent.
             Err((_tx, fault)) => Err(Refusal::Commit(fault)),
         }
     }
@@ -151,7 +151,7 @@ impl<'a, C: Ledger, A: Ledger> Bank<'a, C, A> {
         Ok(tx)
     }
 
-    /// Lets what a transfer sent be taken, which is for when its watches were told, and does it.
+    /// Releases what a transfer sent, once its watches were called, and runs it.
     pub(crate) fn settle(&mut self, receipt: &Receipt) -> Result<(), AllocError> {
         self.world.release(receipt.point);
         match self.world.take()? {
@@ -160,7 +160,7 @@ impl<'a, C: Ledger, A: Ledger> Bank<'a, C, A> {
         }
     }
 
-    // Runs an action, with no world at hand, and finishes it. What can't be done now goes back to the head of its queue.
+    // Runs an action, without the world, and finishes it. What can't be done now goes back to the head of its queue.
     fn work(&mut self, job: Job) -> Result<(), AllocError> {
         let ran = match job.run(self.alloc, self.funs) {
             Ok(ran) => ran,

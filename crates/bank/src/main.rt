@@ -37,7 +37,7 @@ fn main(rt: HostRuntime) -> ExitCode {
     }
 }
 
-// C and A name the books of the bank's world. They are told from those of another world by their types alone.
+// C and A name the books of the bank's world. Only their types tell them from those of another world.
 fn business<C: Ledger, A: Ledger, R: AllocGlobal + Print>(
     rt: &R,
     funs: &FunTable,
@@ -88,7 +88,7 @@ fn transfer<C: Ledger, A: Ledger, R: AllocGlobal + Print>(
     }
 }
 
-// Tells the watches, and then lets the journal have what was sent.
+// Calls the watches, and then releases what was sent to the journal.
 fn settle<C: Ledger, A: Ledger, R: AllocGlobal + Print>(
     rt: &R,
     bank: &mut Bank<C, A>,

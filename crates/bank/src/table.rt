@@ -11,7 +11,7 @@ use std::alloc::Global;
 use std::marker::Brand;
 use std::sync::ledger::Blank;
 
-// The codes that are used here. `ref_fun::code_of` tells them by name too.
+// The codes that are used here. `ref_fun::code_of` returns them by name too.
 pub(crate) const PLUS: u32 = 1;
 
 pub(crate) const MINUS: u32 = 2;

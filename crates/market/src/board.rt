@@ -1,8 +1,8 @@
-//! The board at the market's gate: who is told what the watches are to be told.
+//! The board at the market's gate: the sink for the notices of all watches.
 use ref_log::{Notice, Who};
 use ref_shared::WatchSink;
 
-/// How often it was told of a ref, an atom and an agent. Each thread has one of its own.
+/// How many notices of a ref, an atom and an agent it got. Each thread has one of its own.
 #[derive(Clone, Copy, Debug, Drop, Default)]
 pub(crate) struct Board {
     pub(crate) refs: u64,
@@ -22,7 +22,7 @@ impl WatchSink for Board {
 }
 
 impl Board {
-    /// What two boards were told.
+    /// The notices of two boards, added up.
     pub(crate) fn with(self, other: Board) -> Board {
         Board {
             refs: self.refs.saturating_add(other.refs),

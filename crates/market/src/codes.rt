@@ -1,4 +1,4 @@
-//! The codes of Core that the market uses. `ref_fun::code_of` tells them by name too.
+//! The codes of Core that the market uses. `ref_fun::code_of` returns them by name too.
 
 pub(crate) const PLUS: u32 = 1;
 

@@ -16,7 +16,7 @@ const THREADS: u32 = 4;
 // How many customers come in each thread. Each of them wants one piece of a good.
 const CUSTOMERS: u32 = 60;
 
-// A thread's customers, who are told apart from those of others by their worker's number.
+// A thread's customers, whose numbers begin with their worker's.
 #[derive(Drop)]
 struct Visit<C: Ledger, A: Ledger> {
     worker: u32,
@@ -51,7 +51,7 @@ impl Wishes {
     }
 }
 
-/// What came of customers: the share that was used for them, how their wishes ended, and what the board was told.
+/// What came of customers: the share that was used for them, how their wishes ended, and the notices that the board got.
 #[derive(Drop)]
 pub(crate) struct Custom<C: Ledger, A: Ledger> {
     pub(crate) share: Share<C, A>,

@@ -9,7 +9,7 @@ use std::sync::ledger::Ledger;
 use std::thread;
 use std::thread::Threads;
 
-/// Has two helpers help, and answers what they told the board.
+/// Has two helpers help, and returns the notices that they gave to the board.
 pub(crate) fn help_both<
     C: Ledger + Send + Sync,
     A: Ledger + Send + Sync,

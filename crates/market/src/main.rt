@@ -75,7 +75,7 @@ fn run_day<R: AllocGlobal + Print + Threads + Wait + Sync>(rt: &R) -> Result<(),
     )
 }
 
-// The day in a world. C and A name the books of its world, which are told from those of another world by their types alone.
+// The day in a world. C and A name the books of its world, which only their types tell from those of another world.
 fn day<
     C: Ledger + Send + Sync,
     A: Ledger + Send + Sync,

@@ -84,7 +84,7 @@ fn at_least(alloc: Global, least: &str) -> Result<Rule, AllocError> {
     })
 }
 
-// A stock, which its rule `[>= 0]` keeps from going below 0.
+// A stock, which its rule `[>= 0]` doesn't let go below 0.
 fn stock(alloc: Global, pieces: &str) -> Result<RefStart, AllocError> {
     Ok(RefStart {
         value: value(alloc, pieces)?,
@@ -176,7 +176,7 @@ impl<'a, F: Functions<Core>, C: Ledger, A: Ledger> Market<'a, F, C, A> {
         }
     }
 
-    /// Counts a customer. A call on an atom answers what its watches are to be told, and the caller tells them.
+    /// Counts a customer. A call on an atom returns the notices, and its caller delivers them.
     pub(crate) fn come<R: Wait>(
         &self,
         rt: &R,

@@ -1,6 +1,6 @@
 -- An agent's account: its start, the actions that it handled since then with their marks, and its queue.
 --
--- Clojure's page on agents: actions are queued, and at most one of an agent runs at a time; where one fails the agent keeps
+-- Clojure's page on agents: actions are queued, and at most one of an agent runs at a time; where one fails the agent holds
 -- its state, and takes no more or goes on, by its error mode.
 use Rattle.std.specs.Prelude.{ℕ, ◌-◌, length, take, Bool, true, false, not, ◌&&◌, List, [], ◌∷◌, ◌++◌, Result, Ok, Err}
 use Rattle.std.specs.BTreeMap.{is_at}
@@ -106,6 +106,6 @@ abbrev pub kept_queue : Bool → List Queued → List Queued
 kept_queue true queue = []
 kept_queue false queue = queue
 
--- after a restart with this state, which clears the queue or keeps it
+-- after a restart with this state, which clears the queue or leaves it
 abbrev pub restarted : AccountSeen → Edn → Bool → AccountSeen
 restarted account state clear = record { start = state; handled = []; queue = kept_queue clear account.queue }

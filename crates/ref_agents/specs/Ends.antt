@@ -1,7 +1,7 @@
 -- How a job ends, and how a failed agent is restarted.
 --
 -- Clojure's page on agents: the value of the action becomes the agent's state, where the validator accepts it. Else, in the
--- mode `:fail`, the agent is failed and keeps its state until `restart-agent`; in the mode `:continue` it is as if neither
+-- mode `:fail`, the agent is failed and its state stays until `restart-agent`; in the mode `:continue` it is as if neither
 -- action nor error had been.
 use Rattle.std.specs.Prelude.{◌≡◌, ℕ, Bool, not, if◌then◌else◌, is_some, List, Option, None, Some, Result, Ok, Err, slice_get, slice_set}
 use Rattle.std.specs.Option.{option_map, option_or}

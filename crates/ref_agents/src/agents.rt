@@ -14,7 +14,7 @@ use std::marker::{Model, PhantomData};
 /// What happens where an action fails or the rule doesn't accept its value, as Clojure's `:error-mode`.
 #[derive(Clone, Copy, Debug, Drop, PartialEq, Eq)]
 pub enum ErrorMode {
-    /// The agent is failed: it keeps its state and its queue, and takes no send until it is restarted.
+    /// The agent is failed: its state and its queue stay, and it takes no send until it is restarted.
     Fail,
     /// The agent goes on as if neither action nor error had been.
     Continue,

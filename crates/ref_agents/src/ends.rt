@@ -29,9 +29,9 @@ pub enum Finished {
 
 impl<M: Meaning> AgentStore<M> {
     /// Ends a job that has run, exactly where it is on its way here. Where the function gave a value that the agent's rule
-    /// accepts, that is the state from now on. Else the agent keeps its state, and is failed or goes on, by its error mode.
+    /// accepts, that is the state from now on. Else the state stays, and the agent is failed or goes on, by its error mode.
     /// The action leaves the queue. The time is linear in the sizes of its arguments and its state, which are compared, and
-    /// in the number of watches. A refused call changes nothing, and hands the job back.
+    /// in the number of watches. A refused call changes nothing, and returns the job.
     pub fn finish<F: Functions<M>>(
         &mut self,
         alloc: Global,

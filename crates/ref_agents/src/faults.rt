@@ -118,7 +118,7 @@ pub enum FinishFault {
 }
 
 impl FinishFault {
-    /// The number of the fault. `NoSuchFun` is told right after `Foreign`.
+    /// The number of the fault. `NoSuchFun` comes right after `Foreign`.
     pub fn number(&self) -> u8
         ensures { result ≡ finish_fault_number self.now }
     {
@@ -160,7 +160,7 @@ pub enum RestartFault {
 }
 
 impl RestartFault {
-    /// The number of the fault. `NoSuchFun` is told right after `NoSuchAgent`.
+    /// The number of the fault. `NoSuchFun` comes right after `NoSuchAgent`.
     pub fn number(&self) -> u8
         ensures { result ≡ restart_fault_number self.now }
     {

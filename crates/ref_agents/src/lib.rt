@@ -1,9 +1,9 @@
 //! Agents: references whose state changes by actions that are sent to them, one at a time.
 //!
 //! An [`AgentStore`] holds all agents, numbered from 0: an [`Action`](ref_fun::Action) that is sent waits in its agent's queue, and
-//! [`AgentStore::take`] hands out the first of some agent as a [`Job`], which is run wherever its taker likes ([`Job::run`]) and then
+//! [`AgentStore::take`] returns the first of some agent as a [`Job`], which is run wherever its taker likes ([`Job::run`]) and then
 //! comes back to [`AgentStore::finish`]. Clojure's page on agents says what happens where an action fails or the agent's rule, its
-//! validator, doesn't accept its value: by its error mode the agent fails, keeps its state and takes no more sends until
+//! validator, doesn't accept its value: by its error mode the agent fails, its state stays, and it takes no more sends until
 //! [`AgentStore::restart`], or goes on as if there had been no such action.
 //!
 //! At most one job of an agent is on its way; one that isn't finished goes back by [`AgentStore::put_back`]. What a transaction sent is
@@ -24,12 +24,12 @@
 //! **Costs.** A send is logarithmic in the number of agents with an action that waits, and `release` in that of the commits that are
 //! held. `take` looks at such agents until one is ready, and is linear in how many it looks at. `finish` and `put_back` compare
 //! arguments and state of the job, in time linear in their sizes; `finish` tests the rule too and makes a notice for each watch. An
-//! account keeps each action that ended until a restart, which takes a step for each that it lets go.
+//! account stores each action that ended until a restart, which takes a step for each that it drops.
 //!
-//! **Not promised.** Which of the ready agents `take` hands out: they take turns, but no contract says so. That an action is ever run,
-//! or that a job comes back: one that is lost keeps its agent from being taken, and only that job or an equal one ends it. That the
-//! refusal of a job's function isn't told by `run` as 'out of memory'. That a watch is told before the agent's next action is run: who
-//! finishes a job gets the notices. No contract speaks of time, or of how much memory is taken.
+//! **Not promised.** Which of the ready agents `take` returns: they take turns, but no contract says so. That an action is ever run,
+//! or that a job comes back: while one is lost, its agent can't be taken, and only that job or an equal one ends it. That
+//! `run` doesn't return 'out of memory' instead of the refusal of a job's function. That a watch is called before the agent's next
+//! action is run: who finishes a job gets the notices. No contract speaks of time, or of how much memory is taken.
 #![tactic(auto)]
 
 pub mod accounts;

@@ -35,7 +35,7 @@ impl<M: Meaning> AgentStore<M> {
         Ok(self.add(alloc, start, rule, mode)?)
     }
 
-    /// Tells whether an agent can be made with this state and this rule, if any. It takes no memory.
+    /// Checks whether an agent can be made with this state and this rule, if any. It takes no memory.
     pub fn check_make<F: Functions<M>>(
         &self,
         funs: &F,

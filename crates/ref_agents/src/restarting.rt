@@ -14,7 +14,7 @@ use std::alloc::{AllocError, Global};
 
 impl<M: Meaning> AgentStore<M> {
     /// Restarts a failed agent with this state, which its rule has to accept, as Clojure's `restart-agent`: it takes sends
-    /// again. The actions that wait proceed, or are dropped where `clear` says so. Watches are told nothing. A refused call
+    /// again. The actions that wait proceed, or are dropped where `clear` says so. Watches aren't called. A refused call
     /// changes nothing.
     pub fn restart<F: Functions<M>>(
         &mut self,
@@ -35,7 +35,7 @@ impl<M: Meaning> AgentStore<M> {
         Ok(())
     }
 
-    // Tells whether an agent can be restarted with this state.
+    // Checks whether an agent can be restarted with this state.
     fn check_restart<F: Functions<M>>(
         &self,
         funs: &F,

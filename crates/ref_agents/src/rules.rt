@@ -29,7 +29,7 @@ impl<M: Meaning> AgentStore<M> {
         self.guards.are_known(funs)
     }
 
-    /// Gives an agent this rule, or none, in the place of the one that it had. The rule has to accept the state of the agent
+    /// Gives an agent this rule, or none, instead of the one that it had. The rule has to accept the state of the agent
     /// now. It takes no memory. A refused call changes nothing.
     pub fn set_validator<F: Functions<M>>(
         &mut self,

@@ -1,4 +1,4 @@
-//! Handing out jobs, and taking them back.
+//! Taking jobs, and taking them back.
 ghost use Rattle.std.specs.Prelude.{◌≡◌, ◌≢◌, ◌↔◌, ℕ, true, false, None, Some, IfOk, IfErr, IfSome, IsTrue, OnOk, OnErr, is_some, slice_get};
 ghost use Rattle.ref_agents.specs.Agents.{AreAgents, is_ready_at, job_out, next_job, with_out};
 
@@ -9,7 +9,7 @@ use ref_fun::Meaning;
 use std::alloc::AllocError;
 
 impl<M: Meaning> AgentStore<M> {
-    /// Hands out the first action of some agent that is ready: one that isn't failed, of which no job is on its way, and whose
+    /// Returns the first action of some agent that is ready: one that isn't failed, of which no job is on its way, and whose
     /// first action may be taken. None only where no agent is ready. The action stays in the queue. Agents take turns: those
     /// with actions that wait are looked at from the next one on, and where none of these is ready from the first on, until
     /// one is ready. The time is linear in the number of agents that are looked at, and logarithmic in that of all with actions

@@ -92,8 +92,8 @@ compare_refusal accepts knows atoms at a old new = compare_refusal_if_here accep
 
 -- ---- what comes of it
 
--- Of an atom with the value before: its value after the operation, its entry, what is answered and what its watches are
--- told.
+-- Of an atom with the value before: its value after the operation, its entry, what is returned and its
+-- notices.
 abbrev pub IsChangeOf : Means → AtomsSeen → ℕ → Op → Change → Type 0
 IsChangeOf means atoms a op change =
     (slice_get atoms.values a ≡ Some change.swapped.old)

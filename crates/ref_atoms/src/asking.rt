@@ -92,7 +92,7 @@ impl<M: Meaning> AtomStore<M> {
         Ok(Some(change))
     }
 
-    // Tells the code of the function or of the rule that the table lacks.
+    // The code of the function or of the rule that the table lacks, if it lacks one.
     fn check_served<F: Functions<M>>(&self, funs: &F, a: u32, op: &Op) -> Result<(), AtomFault>
         ensures refused { Tells (lacking (F.knows funs.now) (rule_at self.now.guards a) op.now) result }
         ensures fun { OnOk result (missing (F.knows funs.now).funs (codes_of op.now) ≡ None) }
@@ -147,7 +147,7 @@ impl<M: Meaning> AtomStore<M> {
         Ok(value)
     }
 
-    // Tells whether an atom may get this value: whether its rule accepts it, and a point is left.
+    // Checks whether an atom may get this value: whether its rule accepts it, and a point is left.
     fn check_value<F: Functions<M>>(
         &self,
         funs: &F,

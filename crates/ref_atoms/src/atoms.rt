@@ -90,7 +90,7 @@ impl<M: Meaning> AtomStore<M> {
         self.guards.are_known(funs)
     }
 
-    /// Gives an atom this rule, or none, in the place of the one that it had. The rule has to accept the value of the atom
+    /// Gives an atom this rule, or none, instead of the one that it had. The rule has to accept the value of the atom
     /// now. It takes no memory. A refused call changes nothing.
     pub fn set_validator<F: Functions<M>>(
         &mut self,

@@ -4,7 +4,7 @@ use ref_log::{Entry, Notice};
 use ref_value::Value;
 
 /// What `swap` and `reset` answer: the values before and after, as Clojure's `swap-vals!` and `reset-vals!` do, and
-/// what the atom's watches are to be told.
+/// the notices for the atom's watches.
 #[derive(Drop)]
 pub struct Swapped {
     pub old: Value,
@@ -12,7 +12,7 @@ pub struct Swapped {
     pub notices: Vec<Notice>,
 }
 
-/// What `compare_and_set` answers: whether the atom was set, and what its watches are to be told.
+/// What `compare_and_set` returns: whether the atom was set, and the notices for its watches.
 #[derive(Drop)]
 pub struct Cas {
     pub done: bool,

@@ -119,7 +119,7 @@ impl<M: Meaning> AtomStore<M> {
         }
     }
 
-    /// Puts the value of a prepared change in the place of the atom's. It can't fail.
+    /// Stores the value of a prepared change in the atom. It can't fail.
     pub fn install(&mut self, a: u32, value: Value)
         requires here { a < length self.old.values }
         requires accepted { AreAccepted M.accepts self.old.guards (slice_set self.old.values a value) }

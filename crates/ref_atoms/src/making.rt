@@ -33,7 +33,7 @@ impl<M: Meaning> AtomStore<M> {
         Ok(self.add(alloc, start, rule)?)
     }
 
-    /// Tells whether an atom can be made with this value and this rule, if any, at this point. It takes no memory.
+    /// Checks whether an atom can be made with this value and this rule, if any, at this point. It takes no memory.
     pub fn check_make<F: Functions<M>>(
         &self,
         funs: &F,

@@ -13,7 +13,7 @@ use Rattle.ref_audit.specs.declared.kinds.Kind.TheVariants as kinds
 use Rattle.ref_audit.specs.declared.words.Word.{Word}
 use Rattle.ref_audit.specs.declared.words.Word.TheVariants as words
 
--- The fault of a form that isn't made: that it nests too deep, which is so then, or want of memory.
+-- The fault of a form that isn't made: that it nests too deep, which is so then, or out of memory.
 pub record IsMakeFault (depth : ℕ) (fault : DumpMakeFault) : Type 0 where
   pub deep : fault ≡ TooDeep → 64 < depth
   pub named : (code : ℕ) → fault ≢ Unnamed code

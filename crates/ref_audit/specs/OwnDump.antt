@@ -208,7 +208,7 @@ pub record IsSound (w : WorldSeen) : Type 0 where
   pub added : w.books.added ≡ w.base.added + added_of w.base.tally w.log
   pub lawful : list_all (fits_entry w.base.tally) w.log ≡ true
 
--- What the calls of a world tell of it: what is always so, and what the types of its parts say.
+-- What the calls of a world guarantee of it: what is always so, and what the types of its parts say.
 pub record IsTold (w : WorldSeen) : Type 0 where
   pub log : list_all is_small_entry w.log ≡ true
   pub accounts : (g : ℕ) → account_fact (account_at w.agents.agents g) ≡ true

@@ -27,7 +27,7 @@ pub(crate) use worlds::unnamed_in;
 /// its form.
 ///
 /// Where an action in the log's sends or in an agent's account names a function that Core doesn't have, the least such code is
-/// told, and else that the dump would nest deeper than 64. The time is linear in what is dumped; values are shared, not copied.
+/// reported, and else that the dump would nest deeper than 64. The time is linear in what is dumped; values are shared, not copied.
 #[tactic(auto, using(crate::proofs::Dumps::dump_told))]
 pub fn dump<C: Ledger, A: Ledger>(
     alloc: Global,

@@ -80,7 +80,7 @@ pub fn audit_world<F: Functions<Core>, C: Ledger, A: Ledger>(
     }
 }
 
-// What is always so in a world, and what the types of its parts say, told of the whole. It changes nothing, and costs a look at each
+// What is always so in a world, and what the types of its parts say, stated of the whole. It changes nothing, and costs a look at each
 // part.
 fn tell<C: Ledger, A: Ledger>(world: &World<Core, C, A>)
     ensures { IsTold world.now }

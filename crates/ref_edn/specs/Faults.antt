@@ -77,7 +77,7 @@ fault_at kinds.LeftOut place = faults.LeftOut place
 fault_at kinds.NotUtf8 place = faults.NotUtf8 place
 fault_at kinds.Trailing place = faults.Trailing place
 
--- What is left over from a fault's place on tells the place.
+-- What is left over from a fault's place on gives the place.
 abbrev pub public_fault : List ℕ → Fault → ReadFault
 public_fault text f = fault_at f.kind (length text - f.left)
 

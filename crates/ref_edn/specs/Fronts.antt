@@ -1,4 +1,4 @@
--- What a look at the front of a text tells, without reading more of it.
+-- What a look at the front of a text shows, without reading more of it.
 use Rattle.std.specs.Prelude.{◌≡◌, ℕ, ◌+◌, ◌-◌, ◌*◌, Bool, false, ◌||◌, ◌==◌, List, [], ◌∷◌, ◌++◌, cond, IsTrue}
 use Rattle.ref_edn.specs.Bytes.{is_space, is_digit, is_numeral, digits_value}
 use Rattle.ref_edn.specs.Grammar.{Ends}

@@ -1,6 +1,6 @@
 -- To be read and believed: Bytes, Grammar, Printed, Faults, Streams; and, of ref_value, Edn (values), Lawful, Names, Letters, Order,
 -- Collections, View, Texts.
--- What the reader answers, fault by fault, is told in Reading, ReadTokens and ReadParts; Grammar doesn't depend on it.
+-- What the reader returns, fault by fault, is defined in Reading, ReadTokens and ReadParts; Grammar doesn't depend on it.
 -- The others are for private functions and proofs: Fronts, SortKeys, Sorting, Marks.
 pub mod SortKeys
 pub mod Bytes

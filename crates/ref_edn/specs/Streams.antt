@@ -1,4 +1,4 @@
--- What readers and writers tell: how many reads or writes failed, and which bytes were taken.
+-- What readers and writers report: how many reads or writes failed, and which bytes were taken.
 use Rattle.std.specs.Prelude.{◌≡◌, ℕ, ◌+◌, ◌-◌, ◌^◌, ◌<◌, ◌≤◌, List, length, take, min, Option, Result, Ok, Err, MatchResult}
 use Rattle.std.specs.Io.KnownBytes.{Appends, Consumes}
 use Rattle.ref_edn.specs.declared.streams.InputFault.{InputFault}
@@ -12,7 +12,7 @@ counted n = min (n + 1) (2 ^ 64 - 1)
 abbrev pub Counts : {T E : Type 0} → ℕ → ℕ → Result T E → Type 0
 Counts old new r = MatchResult r (λ _. new ≡ old) (λ _. new ≡ counted old)
 
--- of what reading all of a source may answer, only the fault Read tells of a failure
+-- of what reading all of a source may return, only the fault Read reports a failure
 abbrev pub CountsRead : {T : Type 0} → ℕ → ℕ → Result T InputFault → Type 0
 CountsRead old new (Ok x) = new ≡ old
 CountsRead old new (Err faults.Read) = new ≡ counted old

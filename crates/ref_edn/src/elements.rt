@@ -3,7 +3,7 @@
 //! Each function takes the bytes from a place on and gives those behind what it read. `room` is how many more
 //! collections and discards may be open, so that the calls are at most 64 levels deep.
 //!
-//! The members of a map and a set are kept in the order of reading, each with its place, and sorted at the closing
+//! The members of a map and a set are stored in the order of reading, each with its place, and sorted at the closing
 //! bracket or at a fault. Then equals stand side by side, so that the first one that is there already is known.
 ghost use Rattle.std.specs.Prelude.{◌≡◌, ◌<◌, ◌≤◌, [], ◌∷◌, ◌++◌, length, IsTrue, IfOk};
 ghost use Rattle.ref_value.specs.Edn.{items_of, entries_of};

@@ -13,21 +13,21 @@ const MOST_KNOWN: usize = 128;
 // From how many bytes on a text may have enough names to look for them among the known ones.
 const LONG: usize = 4_096;
 
-// So many that aren't known pass before one is kept, so that those which don't come again cost little, and drive out few that do.
+// So many that aren't known pass before one is stored, so that those which don't come again cost little, and drive out few that do.
 const MOST_PASSED: u8 = 7;
 
-// How often one is handed out before it gets a block of its own again, so that threads which go on with the parts of a text don't
+// How often one is shared before it gets a block of its own again, so that threads which go on with the parts of a text don't
 // count the owners of one and the same block.
 const MOST_SHARED: u8 = 200;
 
-// A value, and how often it was handed out.
+// A value, and how often it was shared.
 #[derive(Drop)]
 struct Known {
     value: Value,
     shared: u8,
 }
 
-/// Some of the names and strings that were read, each at the place that its bytes tell, how many came since the last one was kept, and
+/// Some of the names and strings that were read, each at the place that its bytes give, how many came since the last one was stored, and
 /// the vector, the map and the set without members, once there was one.
 #[derive(Drop)]
 pub(crate) struct Interner {

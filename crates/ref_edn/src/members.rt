@@ -43,7 +43,7 @@ fn most_left_of_keys(sorted: &[((Keyed, Reverse<usize>), Value)]) -> usize
     most
 }
 
-/// Puts elements into value order, and tells how many bytes were left at the first that equals an earlier one, or 0. It
+/// Puts elements into value order, and returns how many bytes were left at the first that equals an earlier one, or 0. It
 /// takes no memory, and linear time where they ascend already.
 pub(crate) fn sort_elements(found: &mut Vec<(Keyed, Reverse<usize>)>) -> usize
     requires { Falls found.old.items }

@@ -34,7 +34,7 @@ impl Scratch {
         }
     }
 
-    /// Takes the room of a list back; where there is no memory to remember it, it is let go. As many are kept as were in use at once, 64
+    /// Takes the room of a list back; where there is no memory to store it, it is dropped. As many are stored as were in use at once, 64
     /// at most.
     pub(crate) fn give_back(&mut self, list: Vec<Value>) {
         if list.capacity() > 0 {

@@ -1,4 +1,4 @@
-//! Values with a number that tells most of them apart: what a sort looks at first.
+//! Values with a number by which most of them differ: what a sort looks at first.
 ghost use Rattle.std.specs.Prelude.{◌≡◌, get_or};
 ghost use Rattle.ref_value.specs.Edn.{Edn};
 ghost use Rattle.ref_value.specs.Order.{edn_cmp, rank as rank_of};

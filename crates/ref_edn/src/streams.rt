@@ -1,4 +1,4 @@
-//! Readers and writers that tell their bytes and count their failures.
+//! Readers and writers whose contracts name their bytes and count their failures.
 ghost use Rattle.std.specs.Prelude.{◌≡◌, ◌≤◌, ◌<◌, ◌+◌, ◌-◌, ℕ, List, length, Option, IfOk, IfErr, IfSome, OnOk, OnErr, min, vec_len};
 ghost use Rattle.std.specs.Io.{ReadsAtMost, WritesAtMost};
 ghost use Rattle.std.specs.Io.KnownBytes.{Appends, IsAtEnd, ReadConsumes, WriteAppends};
@@ -10,7 +10,7 @@ use std::alloc::{AllocError, AllocFailed, Global};
 use std::io::{Read, Write};
 use thiserror::Error;
 
-/// A read or a write failed. Which of them, and why, is not told.
+/// A read or a write failed. Which of them, and why, is not said.
 #[derive(Clone, Copy, Debug, PartialEq, Eq, Error)]
 #[error("a read or a write failed")]
 pub struct Failed;
@@ -169,7 +169,7 @@ pub fn read_to_end<S: Source>(
         → IfSome (S.left source.old) (λ all. limit < length all)) }
     // No more is taken, and what was taken before a fault is lost.
     ensures taken { ConsumesUpTo (S.left source.old) (S.left source.new) (limit + 1) }
-    // A read that failed is told by Read, and by nothing else.
+    // Read alone reports a read that failed.
     ensures failures { CountsRead (S.failures source.old) (S.failures source.new) result }
 {
     let mut block = zeros(alloc, BLOCK)?;

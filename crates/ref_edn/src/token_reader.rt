@@ -101,7 +101,7 @@ fn ends_token(rest: &[u8]) -> bool
 }
 
 // The number of a numeral at the front that ends its token, and what follows it. It looks at each byte once, and leaves
-// what isn't told by that to others.
+// what this doesn't decide to others.
 #[inline(always)]
 #[tactic(auto, using(crate::proofs::Numerals::numeral_0, crate::proofs::Numerals::numeral_front, crate::proofs::Numerals::first_shorter))]
 fn front_numeral(text: &[u8]) -> Option<(u64, &[u8])>
@@ -145,7 +145,7 @@ fn negative(n: u64) -> Option<i64>
     0i64.checked_sub_unsigned(n)
 }
 
-// The integer at the front, and what follows it, where one look at each byte tells: most integers are such.
+// The integer at the front, and what follows it, where one look at each byte is enough: most integers are such.
 #[tactic(auto, using(crate::proofs::Numerals::unsigned_at, crate::proofs::Numerals::plus_at, crate::proofs::Numerals::minus_at))]
 fn front_integer(text: &[u8]) -> Option<(i64, &[u8])>
     ensures value { IfSome result (λ r. token_at text.now ≡ Ok (int r.0, r.1.now)) }

@@ -199,7 +199,7 @@ fn parts_of<'a>(entries: &'a Entries) -> Result<Parts<'a>, ScriptFault>
 /// What a value says, where it is a list of events: docs/EVENTS.md has the form. It takes time in proportion to the value. It shares
 /// values with the value that it is made of, and copies none.
 ///
-/// Of what is wrong the first is told, in the order that [`ScriptFault`] names; which one it is, no contract says. Keys, version and
+/// Of what is wrong the first is returned, in the order that [`ScriptFault`] names; which one it is, no contract says. Keys, version and
 /// limits are asked before any memory is taken.
 pub fn script_of(alloc: Global, value: &Value) -> Result<Script, ScriptFault>
     ensures ok { IfOk result (λ s. IsScript value.now s) }

@@ -72,7 +72,7 @@ tested has accepted = if has then Some accepted else None
 -- ---- a closure more
 
 -- Whether a table takes a closure, where its code is taken or not and there are so many of its kind. It takes at most 64
--- of a kind, and tells a taken code first.
+-- of a kind, and reports a taken code first.
 abbrev pub HasRoom : Bool → ℕ → Type 0
 HasRoom taken count = (taken ≡ false) × (count < 64)
 

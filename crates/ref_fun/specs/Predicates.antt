@@ -13,7 +13,7 @@ abbrev pub at_most : List Edn → Edn → Bool
 at_most (int n ∷ []) (int m) = int_le m n
 at_most args x = false
 
--- `=`: a value equal to the one argument; equal are those that the value order doesn't tell apart
+-- `=`: a value equal to the one argument; equal are those of which neither is before the other in the value order
 abbrev pub equals : List Edn → Edn → Bool
 equals (y ∷ []) x = is_eq (edn_cmp x y)
 equals args x = false

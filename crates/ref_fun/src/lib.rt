@@ -2,7 +2,7 @@
 //!
 //! A [`Meaning`] says, for each code, which value the function gives or why it refuses, and what the predicate accepts.
 //! [`Core`] is the meaning of those that come with this project: [`core_fun`] calls a function, [`core_test`] a
-//! predicate, and [`code_of`] and [`name_of`] tell their names. They take a state and at most 8 arguments, all of them
+//! predicate, and [`code_of`] and [`name_of`] are from names to codes and back. They take a state and at most 8 arguments, all of them
 //! EDN values. A [`Rule`] is a predicate with its arguments, and an [`Action`] a function with its arguments.
 //!
 //! A program that has no functions of its own takes [`CoreFunctions`], the table of Core. Another runs closures: a [`StoredFun`] or

@@ -28,7 +28,7 @@ impl Rule {
     }
 }
 
-/// Tells the code of a rule, if there is one, that a table has no predicate of.
+/// The code of a rule for which a table has no predicate, if there is one.
 pub fn check_known<M: Meaning, F: Functions<M>>(funs: &F, rule: &Option<Rule>) -> Result<(), u32>
     ensures ok { OnOk result (unknown (F.knows funs.now).preds rule.now ≡ None) }
     ensures known { is_ok result ≡ is_known (F.knows funs.now).preds rule.now }

@@ -41,7 +41,7 @@ pub struct StoredPred {
 impl StoredFun {
     ghost use Rattle.ref_fun.specs.Table.{fun_code};
 
-    /// The closure under this code. Who makes the closure proves what the type keeps of it.
+    /// The closure under this code. Who makes the closure proves what the type guarantees of it.
     pub fn new(code: u32, run: Fun) -> StoredFun
         requires callable { (alloc : _) (state : _) (args : _) → length args.now ≤ 8 → Fun.pre run alloc state args }
         requires answers { (alloc : _) (state : _) (args : _) (r : _) → Fun.post run alloc state args r
@@ -73,7 +73,7 @@ impl StoredFun {
 impl StoredPred {
     ghost use Rattle.ref_fun.specs.Table.{pred_code};
 
-    /// The closure under this code. Who makes the closure proves what the type keeps of it.
+    /// The closure under this code. Who makes the closure proves what the type guarantees of it.
     pub fn new(code: u32, run: Pred) -> StoredPred
         requires callable { (state : _) (args : _) → length args.now ≤ 8 → Pred.pre run state args }
         requires answers { (state : _) (args : _) (r : _) → Pred.post run state args r

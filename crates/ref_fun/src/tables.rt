@@ -84,7 +84,7 @@ impl FunTable {
         }
     }
 
-    /// Puts a function under its code. A code that is taken is told before a full table.
+    /// Puts a function under its code. A code that is taken is reported before a full table.
     pub fn add_fun(&mut self, fun: StoredFun) -> Result<(), (StoredFun, AddFault)>
         ensures ok { OnOk result (AddsFun self.old fun self.new) }
         ensures room { OnOk result (HasRoom (knows_fun_of self.old (fun_code fun)) (fun_count self.old)) }
@@ -107,7 +107,7 @@ impl FunTable {
         }
     }
 
-    /// Puts a predicate under its code. A code that is taken is told before a full table.
+    /// Puts a predicate under its code. A code that is taken is reported before a full table.
     pub fn add_pred(&mut self, pred: StoredPred) -> Result<(), (StoredPred, AddFault)>
         ensures ok { OnOk result (AddsPred self.old pred self.new) }
         ensures room { OnOk result (HasRoom (knows_pred_of self.old (pred_code pred)) (pred_count self.old)) }

@@ -1,4 +1,4 @@
--- The guards of references: the rule and the watches that each has beside its value, as Clojure keeps a validator and
+-- The guards of references: the rule and the watches that each has next to its value, as Clojure has a validator and
 -- watches for refs, atoms and agents alike. Guards and values are lists by number.
 use Rattle.std.specs.Prelude.{◌≡◌, ℕ, Bool, true, if◌then◌else◌, List, [], ◌∷◌, ◌++◌, Option, None, Some, slice_get, slice_set}
 use Rattle.std.specs.List.{list_all}

@@ -55,7 +55,7 @@ replay_from-Err means point (e ∷ es) fault = replay_from-Err means (point + 1)
 pub same_value : (v w : Edn) → eq_by_cmp edn_cmp v w ≡ true → v ≡ w
 same_value v w same = (edn_eq v w true (sym same)).0 refl
 
--- An operation that keeps what its function gave on the ref's value sets the ref to it.
+-- An operation that stores what its function gave on the ref's value sets the ref to it.
 pub is_kept-itself : (d : Done) → is_kept d d.answer ≡ true
 is_kept-itself d = ap is_eq (tied_itself edn_cmp_total d.answer)
 

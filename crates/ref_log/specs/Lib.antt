@@ -1,5 +1,5 @@
--- To be read and believed: Told (what a call tells where it is refused), Replay, Tally, Fold, Watches, Guards, Make, Faults.
--- Laws, TallyLaws and FoldLaws are proved, for whoever keeps a log.
+-- To be read and believed: Told (what a refused call returns), Replay, Tally, Fold, Watches, Guards, Make, Faults.
+-- Laws, TallyLaws and FoldLaws are proved, for whoever holds a log.
 pub mod Told
 pub mod Faults
 pub mod Replay

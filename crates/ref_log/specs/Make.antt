@@ -7,8 +7,8 @@ use Rattle.ref_fun.specs.declared.rules.Rule.{Rule}
 use Rattle.ref_log.specs.declared.faults.MakeFault.{MakeFault}
 use Rattle.ref_log.specs.declared.faults.MakeFault.TheVariants.{Full, BadTally, Invalid, PointLimit, NoSuchFun}
 
--- The first fault of making a reference beside so many of its kind at this point, with this value and this rule, if any; as
--- a tally that can't be one or not. A rule that the table can't ask is told first.
+-- The first fault of making a reference next to so many of its kind at this point, with this value and this rule, if any; as
+-- a tally that can't be one or not. A rule that the table can't ask is reported first.
 abbrev pub make_refusal : Accepts → (ℕ → Bool) → ℕ → Bool → ℕ → Edn → Option Rule → Option MakeFault
 make_refusal accepts knows count is_bad_tally at start rule = option_or (option_map NoSuchFun (unknown knows rule)) (
     if not (nat_lt count (2 ^ 20)) then Some Full else

@@ -1,6 +1,6 @@
 -- The replay of a log: its entries are applied in order, and their operations in order, to plain finite maps, that of the
 -- refs and that of the atoms. Such a map is the list of the values by number, since numbers begin at 0 and leave no gap.
--- What the functions mean is handed in.
+-- What the functions mean is an argument.
 --
 -- In each operation it is asked, in this order: whether the reference is there; whether the function gives a value; whether
 -- that value is the kept answer, but where a transaction doesn't protect the ref. The first fault ends the replay, and
@@ -98,7 +98,7 @@ after_dones means all point (d ∷ ds) values = after_dones means all point ds (
 
 -- ---- entries
 
--- what stands for the refs in the place of those of a state, and for the atoms
+-- other refs instead of those of a state, with the same atoms
 abbrev pub with_refs : PlainState → Result (List Edn) AuditFault → Result PlainState AuditFault
 with_refs state (Ok refs) = Ok (record { refs = refs; atoms = state.atoms })
 with_refs state (Err fault) = Err fault
@@ -165,7 +165,7 @@ abbrev pub last_change_from : ℕ → ℕ → List Entry → ℕ → ℕ → ℕ
 last_change_from point refs [] r before = before
 last_change_from point refs (e ∷ es) r before = last_change_from (point + 1) (refs_after_one refs e) es r (if is_changed_by refs e r then point + 1 else before)
 
--- The point of the last change of a ref: the base tells it of what came before its entries.
+-- The point of the last change of a ref: the base has it for what came before its entries.
 abbrev pub last_change : Base → List Entry → ℕ → ℕ
 last_change base entries r = last_change_from base.point (length base.refs) entries r (slice_index_or base.last r 0)
 

@@ -1,4 +1,4 @@
--- The watches of a reference, and what they are told of a change.
+-- The watches of a reference, and their notices of a change.
 use Rattle.std.specs.Prelude.{◌≡◌, ◌++◌, [], ◌∷◌, Bool, false, not, if◌then◌else◌, List, map}
 use Rattle.std.specs.List.{filter, list_any}
 use Rattle.std.specs.Ordering.{eq_by_cmp}

@@ -15,7 +15,7 @@ use ref_value::Value;
 use std::alloc::{AllocError, Global};
 use std::marker::Model;
 
-/// What a reference has beside its value: a rule, if it has one, and watches.
+/// What a reference has next to its value: a rule, if it has one, and watches.
 #[derive(Drop)]
 pub struct Guard {
     pub rule: Option<Rule>,
@@ -23,7 +23,7 @@ pub struct Guard {
 }
 
 /// The guards of references of one kind, by number. Contracts see a list. The values are whose the references are, and each
-/// call that asks a rule is handed the value.
+/// call that asks a rule takes the value.
 #[derive(Drop)]
 pub struct Guards {
     items: Vec<Guard>,
@@ -90,7 +90,7 @@ impl Guards {
         true
     }
 
-    /// Tells the code of a reference's rule, if it has one that a table has no predicate of.
+    /// The code of a reference's rule for which a table has no predicate, if it has one.
     pub fn check_known<M: Meaning, F: Functions<M>>(&self, funs: &F, n: u32) -> Result<(), u32>
         ensures refused { Tells (unknown (F.knows funs.now).preds (rule_at self.now n)) result }
     {
@@ -114,8 +114,8 @@ impl Guards {
         }
     }
 
-    /// Gives a reference this rule, or none, in the place of the one that it had. The rule has to accept the value that is
-    /// handed in, the reference's; none where there is no such reference. It takes no memory. A refused call changes nothing.
+    /// Gives a reference this rule, or none, instead of the one that it had. The rule has to accept the value that is
+    /// passed, the reference's; none where there is no such reference. It takes no memory. A refused call changes nothing.
     pub fn set_rule<M: Meaning, F: Functions<M>>(
         &mut self,
         funs: &F,

@@ -2,12 +2,12 @@
 //!
 //! An [`Entry`] is one committed change, of refs by a transaction or of one atom, or the making of a reference. It has a
 //! point: the entries after a [`Base`] have the points after the base's, one by one. [`replay_plain`] applies the entries
-//! to the base's values, slowly and plainly, and so tells what the values at the end of a log are, or the first entry whose
+//! to the base's values, slowly and plainly, and returns the values at the end of a log, or the first entry whose
 //! kept answers can't be right. [`fold`] makes a base of a base and the entries that are the first after it, so that the others
 //! stand on that one.
 //!
-//! Beside that stands what all kinds of references have in common, as Clojure's refs, atoms and agents have: a validator,
-//! called a rule here, and watches. [`Guards`] keeps them for the references of a kind; [`check_make`] asks what a making has to
+//! It also has what all kinds of references have in common, as Clojure's refs, atoms and agents have: a validator,
+//! called a rule here, and watches. [`Guards`] holds them for the references of a kind; [`check_make`] asks what a making has to
 //! meet.
 //!
 //! | Type | Is |
@@ -16,7 +16,7 @@
 //! | [`Entry`], [`Transaction`], [`Stamp`] | one committed change; that of a transaction; who made it |
 //! | [`Base`], [`PlainState`] | what a log begins with, and what its replay ends with |
 //! | [`Guard`], [`Guards`], [`Watches`] | the rule and the watches of one reference, and of all of a kind |
-//! | [`Who`], [`Notice`], [`Sent`] | a reference, what a watch is told, what a transaction sends |
+//! | [`Who`], [`Notice`], [`Sent`] | a reference, the notice for a watch, what a transaction sends |
 //! | [`MakeFault`], [`RuleFault`], [`WatchFault`], [`AuditFault`] | why a call that all kinds have is refused, and why entries have no replay |
 //! | [`SharedVec`], [`Share`] | a list with several owners, and what can have one more owner |
 //! | [`Same`] | what can be compared whole, as two entries |

@@ -27,7 +27,7 @@ pub fn share_all<T: Share>(alloc: Global, items: &[T]) -> Result<Vec<T>, AllocEr
     Ok(all)
 }
 
-/// One more owner of each of these, in a list that keeps its old versions.
+/// One more owner of each of these, in a list whose old versions stay.
 pub fn vector_of<T: Share>(alloc: Global, items: &[T]) -> Result<PVec<T>, AllocError>
     ensures { IfOk result (λ all. all ≡ items.now) }
 {

@@ -15,7 +15,7 @@ pub const LAST_POINT: u64 = 1 << 62;
 /// The most references of one kind.
 pub const MOST_REFERENCES: usize = 1 << 20;
 
-/// Tells whether a reference can be made beside `count` others of its kind at this point, with this value and this rule, if
+/// Checks whether a reference can be made next to `count` others of its kind at this point, with this value and this rule, if
 /// any. The caller says whether it would be a tally that can't be one. It takes no memory.
 pub fn check_make<M: Meaning, F: Functions<M>>(
     funs: &F,

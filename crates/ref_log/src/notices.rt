@@ -1,4 +1,4 @@
-//! What watches are told.
+//! Notices for watches.
 use ref_value::Value;
 
 /// A reference, by its kind and its number.
@@ -9,7 +9,7 @@ pub enum Who {
     Agent(u32),
 }
 
-/// What a watch is told of a change: the reference, the watch's key, and the values before and after.
+/// What a watch is called with after a change: the reference, the watch's key, and the values before and after.
 #[derive(Drop)]
 pub struct Notice {
     pub who: Who,

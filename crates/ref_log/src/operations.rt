@@ -21,7 +21,7 @@ pub enum Op {
     /// Clojure's `commute`: as `alter` in the transaction; at the commit the function is called again, with the latest
     /// value.
     Commute(u32, Args),
-    /// Clojure's `ensure`: the ref keeps its value. Where somebody else changes it before the commit, the transaction is in
+    /// Clojure's `ensure`: the value of the ref stays. Where somebody else changes it before the commit, the transaction is in
     /// conflict.
     Ensure,
 }

@@ -176,7 +176,7 @@ fn apply_op<M: Meaning, F: Functions<M>>(
     if value != *answer {
         return Err(AuditFault::Answer(point));
     }
-    // It goes on from the answer that is kept, so that what is made of it next shares its parts with the entries.
+    // It goes on from the kept answer, so that what is made of it next shares its parts with the entries.
     values[at] = answer.share()?;
     Ok(())
 }

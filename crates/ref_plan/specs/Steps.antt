@@ -5,7 +5,7 @@
 --   [:reset X V]              `reset!` of X to the value V
 --   [:cas X OLD NEW]          `compare-and-set!` of X
 --   [:send G F ARG ..]        `send` to the agent G
---   [:restart G V]            `restart-agent` of G with the state V, which keeps what waits
+--   [:restart G V]            `restart-agent` of G with the state V, where what waits stays
 --   [:restart G V :clear]     the same, which drops what waits
 --   [:mode G :fail]           `set-error-mode!` of G, or :continue
 --   [:validator NAME RULE]    `set-validator!` of any reference; nil in place of the rule takes it away

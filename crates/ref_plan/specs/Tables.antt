@@ -1,4 +1,4 @@
--- A table from names to references, beside the names by number.
+-- A table from names to references, next to the names by number.
 use Rattle.std.specs.Prelude.{◌≡◌, ℕ, [], List, Option, None, Some, cond, nat_eq}
 use Rattle.std.specs.Cmp.Lexicographic.{pointwise}
 use Rattle.std.specs.Map.{lookup}

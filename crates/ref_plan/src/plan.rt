@@ -16,8 +16,8 @@ use std::alloc::Global;
 /// name is looked up by its hash, whose seed are all names together, so that they can't be chosen to have one hash. The plan shares
 /// values with the value that it is made of, and copies none.
 ///
-/// Of what is wrong the first is told, in the order that [`PlanFault`] names; which one it is, no contract says. Keys, version and limits
-/// are asked before any memory is taken.
+/// Of what is wrong the first is returned, in the order that [`PlanFault`] names; which one it is, no contract says. Keys, version and
+/// limits are asked before any memory is taken.
 pub fn plan(alloc: Global, value: &Value) -> Result<Plan, PlanFault>
     ensures ok { IfOk result (λ p. IsWorkload value.now p) }
     // What is refused, for another reason than memory, is no workload.

@@ -102,7 +102,7 @@ IsInner means op r v tx = and_place means op (inner_value means tx r) ≡ Some v
 abbrev pub IsJudged : Means → Accepts → Rule → ℕ → Bool → TxSeen → Type 0
 IsJudged means accepts rule r verdict tx = (v : Edn) × (inner_value means tx r ≡ Some v) × (is_accepted accepts rule v ≡ verdict)
 
--- Each value that an actor is told: in a transaction the in-transaction value, outside of one the value now.
+-- Each value that an actor gets: in a transaction the in-transaction value, outside of one the value now.
 abbrev pub IsTold : Means → Accepts → Present → Option TxSeen → Act → Reply → Type 0
 IsTold means accepts now tx (acts.Deref r) (replies.Deref (Ok v)) = Of tx (λ t. inner_value means t r ≡ Some v)
 IsTold means accepts now tx (acts.RefSet r w) (replies.RefSet (Ok v)) = Of tx (IsInner means (Set w) r v)
@@ -161,7 +161,7 @@ left_open now tx (acts.Commit stamp) (replies.Commit (Ok receipt)) = None
 left_open now tx acts.Abort replies.Abort = None
 left_open now tx act reply = tx
 
--- The job that an actor has after its act: an answered take gives it the one that it tells, which hasn't run; an answered run keeps what
+-- The job that an actor has after its act: an answered take gives it the one in the reply, which hasn't run; an answered run leaves what
 -- its action means; put back and an answered finish end it, the latter one that has run; and nothing else changes it.
 abbrev pub IsLeft : Means → Option HeldSeen → Act → Reply → Option HeldSeen → Type 0
 IsLeft means was acts.Take (replies.Take (Ok (Some told))) now =
@@ -172,7 +172,7 @@ IsLeft means was acts.PutBack replies.PutBack now = WithJob was (λ held. now �
 IsLeft means was acts.Finish (replies.Finish (Ok finished)) now = WithJob was (λ held. (held.outcome ≢ None) × (now ≡ None)) ⊥
 IsLeft means was act reply now = now ≡ was
 
--- ---- what a committed transaction was told
+-- ---- replies to a committed transaction
 
 -- the value of a ref after the first n operations of an entry at a point, on the values before it
 abbrev pub value_in : Result (List Edn) AuditFault → ℕ → Option Edn
@@ -182,8 +182,8 @@ value_in (Err fault) r = None
 abbrev pub placed_value : Means → List Done → ℕ → List Edn → ℕ → ℕ → Option Edn
 placed_value means dones point values n r = value_in (after_dones means dones point (take n dones) (Ok values)) r
 
--- What a transaction was told of a ref that it protects is right at its place in the history: an answer of an operation is the value
--- after it, and `deref` and `require` told of the value there.
+-- What a transaction learned of a ref that it protects is right at its place in the history: an answer of an operation is the value
+-- after it, and `deref` and `require` gave the value there.
 pub record IsPlaced (means : Means) (now : Present) (tx : TxSeen) (looks : List Look) : Type 0 where
   pub answers : (n : ℕ) (d : Done) → slice_get tx.dones n ≡ Some d → is_protected tx.dones d.r ≡ true
       → placed_value means tx.dones (now.point + 1) now.refs.values (n + 1) d.r ≡ Some d.answer
@@ -194,7 +194,7 @@ abbrev pub PlacedAt : Means → Present → List Look → Option TxSeen → Act 
 PlacedAt means now looks tx (acts.Commit stamp) (replies.Commit (Ok receipt)) = Of tx (λ t. IsPlaced means now t looks)
 PlacedAt means now looks tx act reply = Unit {0}
 
--- What `deref` and `require` told of a ref is kept, with the number of operations before it, until the actor begins anew.
+-- What `deref` and `require` gave of a ref is stored, with the number of operations before it, until the actor begins anew.
 abbrev pub IsHeard : Accepts → Option TxSeen → Act → Reply → List Look → List Look → Type 0
 IsHeard accepts tx (acts.Deref r) (replies.Deref (Ok v)) before after = Of tx (λ t. after ≡ record { r = r; after = length t.dones; value = Some v } ∷ before)
 IsHeard accepts tx (acts.Require r rule) (replies.Require (Ok u)) before after =
@@ -255,7 +255,7 @@ pub record HasLaws (means : Means) (accepts : Accepts) (k : Machine) (e : Event)
   pub begun : WithTx (l.now.txs e.actor) (IsFrom means k.base (history k) k.now (k.now.txs e.actor) e.act r) (Unit {0})
   -- What it has open has just the operations and sends that were answered since, and none when it was committed or aborted.
   pub kept : l.now.txs e.actor ≡ left_open k.now (k.now.txs e.actor) e.act r
-  -- What a committed transaction was told of a ref that it protects is also right at its place in the history.
+  -- What a committed transaction learned of a ref that it protects is also right at its place in the history.
   pub heard : IsHeard accepts (k.now.txs e.actor) e.act r (k.looks e.actor) (l.looks e.actor)
   pub placed : PlacedAt means k.now (k.looks e.actor) (k.now.txs e.actor) e.act r
   -- The values are the replay of the whole history, to which each act adds its own entry: no update is lost.

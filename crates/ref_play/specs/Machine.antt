@@ -23,14 +23,14 @@ use Rattle.ref_play.specs.declared.events.Event.{Event}
 use Rattle.ref_play.specs.declared.events.Reply.{Reply}
 use Rattle.ref_play.specs.declared.events.Reply.TheVariants as replies
 
--- What a transaction was told of a ref by `deref` or `require`: after so many of its operations, and by this value.
+-- What a transaction learned of a ref by `deref` or `require`: after so many of its operations, and by this value.
 pub record Look : Type 0 where
   pub r : ℕ
   pub after : ℕ
   pub value : Option Edn
 
 -- The base with which it began; the entries since then, those up to the present base's point and those after it; what there is
--- now; and of each actor what its open transaction was told without an operation.
+-- now; and of each actor what its open transaction learned without an operation.
 pub record Machine : Type 0 where
   pub base : Base
   pub gone : List Entry
@@ -66,7 +66,7 @@ Folds means knows present point state log (Some p) reply went =
     × IfOk told (λ n. (n + point ≡ p) × (went ≡ take n log))
     × OnErr told (went ≡ [])
 
--- ---- what a transaction was told
+-- ---- what a transaction learned
 
 abbrev pub look_at : Means → TxSeen → ℕ → Look
 look_at means tx r = record { r = r; after = length tx.dones; value = inner_value means tx r }
@@ -79,7 +79,7 @@ looked means act reply tx looks = looks
 
 -- ---- steps and runs
 
--- From old, the machine may tell the actor so, and go on to new.
+-- From old, the machine may reply so to the actor, and go on to new.
 pub record IsStep (means : Means) (accepts : Accepts) (knows : Known) (old : Machine) (event : Event) (reply : Reply) (new : Machine) : Type 0 where
   pub added : List Entry
   pub went : List Entry
@@ -97,6 +97,6 @@ Along each old (e ∷ es) (r ∷ rs) new = (mid : Machine) × each old e r mid �
 Along each old [] (r ∷ rs) new = ⊥
 Along each old (e ∷ es) [] new = ⊥
 
--- The machine may tell these to the actors, one after the other.
+-- The machine may give these replies to the actors, one after the other.
 abbrev pub Run : Means → Accepts → Known → Machine → List Event → List Reply → Machine → Type 0
 Run means accepts knows = Along (IsStep means accepts knows)

@@ -109,7 +109,7 @@ Leads means all (d ∷ ds) values after =
     (old new : Edn) × (slice_get values d.r ≡ Some old) × Makes means d.op old new × (IsProtected all d.r → new ≡ d.answer)
     × Leads means all ds (slice_set values d.r new) after
 
--- What an entry makes of all refs and atoms: a transaction's operations lead on; the operation on an atom makes the answer that is kept
+-- What an entry makes of all refs and atoms: a transaction's operations lead on; the operation on an atom makes the kept answer
 -- of the atom's value; and a reference that is made is the last of its kind.
 abbrev pub StepsTo : Means → Entry → PlainState → PlainState → Type 0
 StepsTo means (entries.Trans t) old new = Leads means t.dones t.dones old.refs new.refs × (new.atoms ≡ old.atoms)
@@ -153,7 +153,7 @@ abbrev pub LastAt : ℕ → ℕ → List Entry → ℕ → ℕ → Type 0
 LastAt point refs [] r p = ⊥
 LastAt point refs (e ∷ es) r p = (ChangesRef refs e r × NoneChanges (refs_with refs e) es r × (p ≡ point + 1)) ⊎ LastAt (point + 1) (refs_with refs e) es r p
 
--- The point of the last change of a ref in a history on a base, which tells it where no entry changes the ref; and after a commit.
+-- The point of the last change of a ref in a history on a base, which has it where no entry changes the ref; and after a commit.
 pub record LastsMean : Type 0 where
   pub history : (base : Base) (es : List Entry) (r p : ℕ)
       → last_change base es r ≡ p ↔ (LastAt base.point (length base.refs) es r p ⊎ (NoneChanges (length base.refs) es r × (slice_index_or base.last r 0 ≡ p)))
@@ -192,7 +192,7 @@ abbrev pub KeepsRules : Accepts → RefsSeen → TxSeen → List Edn → Type 0
 KeepsRules accepts store tx after = (r : ℕ) (v : Edn) → IsChanged tx.dones r → slice_get after r ≡ Some v → RuleAccepts accepts store.guards r v
 
 -- All that a transaction needs to be committed at a point, where there are so many agents: its operations lead from the latest values
--- to others, which keep the rules. Points end at 2^62.
+-- to others, whose rules stay. Points end at 2^62.
 pub record CanCommit (means : Means) (accepts : Accepts) (knows : Known) (store : RefsSeen) (at agents : ℕ) (tx : TxSeen) : Type 0 where
   pub refs : HasRefs store tx
   pub agents_here : HasAgents agents tx
@@ -274,9 +274,9 @@ pub record IsSmallestInvalid (accepts : Accepts) (store : RefsSeen) (tx : TxSeen
   pub refuses : accepts rule.code rule.args value ≡ false
   pub smallest : (q : ℕ) (v : Edn) → q < r → IsChanged tx.dones q → slice_get after q ≡ Some v → RuleAccepts accepts store.guards q v
 
--- Each fault of a commit: what it says, and that nothing is so which is told before it.
+-- Each fault of a commit: what it says, and that no fault before it holds.
 module _ (means : Means) (accepts : Accepts) (knows : Known) (store : RefsSeen) (at agents : ℕ) (tx : TxSeen) where
-  -- Nothing is foreign but a value, perhaps; and besides the table has what is called; and besides nothing that is protected has changed.
+  -- Nothing is foreign but a value, perhaps; and also the table has what is called; and also nothing that is protected has changed.
   abbrev pub IsHere : Type 0
   IsHere = HasRefs store tx × HasAgents agents tx × OnlyCounts store tx × (tx.read_point < at)
 
@@ -304,7 +304,7 @@ RefusalsSayWhy means accepts =
     (knows : Known) (store : RefsSeen) (at agents : ℕ) (tx : TxSeen) (fault : CommitFault) → IsTx means tx.began tx.dones tx.tally
     → commit_refusal means accepts knows store at agents tx ≡ Some fault ↔ Why means accepts knows store at agents tx fault
 
--- ---- what the watches are told of a commit
+-- ---- the notices of a commit
 
 -- Each is smaller than all later ones.
 abbrev pub AreRising : List ℕ → Type 0
@@ -318,7 +318,7 @@ Tell guards before after (r ∷ rs) told =
     (guard : Guard) × (old new : Edn) × (rest : List Notice) × (slice_get guards r ≡ Some guard) × (slice_get before r ≡ Some old) × (slice_get after r ≡ Some new)
     × (told ≡ map (λ key. record { who = who.Ref r; key = key; before = old; after = new }) guard.watches ++ rest) × Tell guards before after rs rest
 
--- The refs that a commit tells of are those that it changes, each once, in ascending order; of those that are here it tells so.
+-- The refs that a commit has notices of are those that it changes, each once, in ascending order; of those that are here there is a notice.
 pub record NoticesMean : Type 0 where
   pub rising : (dones : List Done) → AreRising (touched_refs dones)
   pub changed : (dones : List Done) (r : ℕ) → AnyByRecursion (λ q. q ≡ r) (touched_refs dones) ↔ IsChanged dones r

@@ -79,7 +79,7 @@ pub record OnlyAgent (g : ℕ) (after : Agent) (old new : AgentsSeen) : Type 0 w
   pub guards : new.guards ≡ old.guards
   pub unreleased : new.unreleased ≡ old.unreleased
 
--- An agent that was restarted has the state given, from which it starts, no error and nothing handled. Its queue is kept, or is empty
+-- An agent that was restarted has the state given, from which it starts, no error and nothing handled. Its queue stays, or is empty
 -- after a clear.
 pub record IsRestarted (before after : Agent) (state : Edn) (clear : Bool) : Type 0 where
   pub value : after.value ≡ state

@@ -113,7 +113,7 @@ Becomes after added new = (added ≡ []) × (new ≡ after)
 abbrev pub Enters : Entry → Present → List Entry → Present → Type 0
 Enters e after added new = (added ≡ e ∷ []) × (new ≡ after)
 
--- A call: its result fits, the reply tells it, and a fault changes nothing and adds no entry.
+-- A call: its result fits, the reply is it, and a fault changes nothing and adds no entry.
 abbrev pub Calls : {T Fault : Type 0} → (Result T Fault → Reply) → (Result T Fault → Type 0) → (T → Type 0) → Present → Reply → List Entry → Present → Type 0
 Calls {T} {Fault} tell Fits done old reply added new =
     (told : Result T Fault) × (reply ≡ tell told) × Fits told × IfOk told done × OnErr told (Becomes old added new)
@@ -418,7 +418,7 @@ Finishes accepts knows old a reply added new = OnJob old a reply added new (λ h
 abbrev pub Checkpoints : Present → Reply → List Entry → Present → Type 0
 Checkpoints old reply added new = (told : Result ℕ CheckpointFault) × (reply ≡ replies.Checkpoint told) × Becomes old added new
 
--- What an act of an actor may be told, the entries that it adds, and what there is then.
+-- The replies that an act of an actor may get, the entries that it adds, and what there is then.
 abbrev pub Acts : Means → Accepts → Known → Present → ℕ → Act → Reply → List Entry → Present → Type 0
 Acts means accepts knows old a acts.Begin = Begins old a
 Acts means accepts knows old a (acts.Deref r) = Derefs means old a r

@@ -37,7 +37,7 @@ pub record IsOpen (means : Means) (now : Present) (tx : TxSeen) : Type 0 where
 abbrev pub AreOpen : Means → Present → Type 0
 AreOpen means now = (a : ℕ) → WithTx (now.txs a) (IsOpen means now) (Unit {0})
 
--- What it was told by is the in-transaction value after the operations before it.
+-- What it was read from is the in-transaction value after the operations before it.
 abbrev pub IsLook : Means → TxSeen → Look → Type 0
 IsLook means tx look = (look.after ≤ length tx.dones) × (value_after means tx.began (take look.after tx.dones) look.r ≡ look.value)
 

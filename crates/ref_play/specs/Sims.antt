@@ -80,7 +80,7 @@ present s = record {
   jobs = jobs_of s.jobs;
 }
 
--- What its type keeps: what is always so of open transactions and of jobs, and that the share is whole.
+-- What its type guarantees: what is always so of open transactions and of jobs, and that the share is whole.
 pub record IsSim (means : Means) (s : SimSeen) : Type 0 where
   pub opens : AreOpen means (present s)
   pub jobs : AreHeld means s.world.agents.agents (jobs_of s.jobs)
@@ -92,7 +92,7 @@ pub record Logs (means : Means) (old new : WorldSeen) (added went : List Entry) 
   pub point : new.base.point ≡ point_after old.base went
   pub base : replay means old.base went ≡ Ok (state_of new.base)
 
--- What an act of an actor is told, and what there is then.
+-- The reply to an act of an actor, and what there is then.
 pub record Serves (means : Means) (accepts : Accepts) (knows : Known) (old : SimSeen) (actor : ℕ) (act : Act) (reply : Reply) (new : SimSeen) : Type 0 where
   pub added : List Entry
   pub went : List Entry
@@ -102,7 +102,7 @@ pub record Serves (means : Means) (accepts : Accepts) (knows : Known) (old : Sim
 
 -- ---- the machine that it stands for
 
--- The machine has seen what is kept: its present is the same, and its entries that are gone are in the base.
+-- The machine has seen what the Sim holds: its present is the same, and its entries that are gone are in the base.
 pub record Stands (means : Means) (m : Machine) (s : SimSeen) : Type 0 where
   pub now : m.now ≡ present s
   pub log : m.log ≡ s.world.log
@@ -110,11 +110,11 @@ pub record Stands (means : Means) (m : Machine) (s : SimSeen) : Type 0 where
   pub base : replay means m.base m.gone ≡ Ok (state_of s.world.base)
   pub lawful : IsLawful means m
 
--- The machine that begins with what is kept.
+-- The machine that begins with what the Sim holds.
 abbrev pub machine_of : SimSeen → Machine
 machine_of s = record { base = s.world.base; gone = []; log = s.world.log; now = present s; looks = λ a. [] }
 
--- What was played: a run of the machine, to one that has seen what is kept then, with the laws at each of its steps.
+-- What was played: a run of the machine, to one that has seen what the Sim holds then, with the laws at each of its steps.
 pub record IsPlayed (means : Means) (accepts : Accepts) (knows : Known) (m : Machine) (events : List Event) (replies : List Reply) (new : SimSeen) : Type 0 where
   pub last : Machine
   pub run : Run means accepts knows m events replies last

@@ -1,4 +1,4 @@
-//! What actors do, and what they are told.
+//! What actors do, and the replies to them.
 use ref_agents::{
     AgentError, ErrorMode, FinishFault, Finished, JobFault, ModeFault, RestartFault, SendFault,
 };
@@ -18,7 +18,7 @@ pub struct Event {
     pub act: Act,
 }
 
-/// A call, with what it takes besides the world, its table and its share: of the actor's open transaction from `Deref` to `Abort`,
+/// A call, with what it takes in addition to the world, its table and its share: of the actor's open transaction from `Deref` to `Abort`,
 /// of its job from `Run` to `Finish`, and else of the world.
 pub enum Act {
     /// Opens a transaction, where the actor has none.
@@ -92,7 +92,7 @@ impl Drop for Act {
     }
 }
 
-/// What an actor is told: what its call returned, or why it was not made.
+/// The reply to an actor: what its call returned, or why it was not made.
 pub enum Reply {
     /// The actor has no transaction open.
     NoTx,

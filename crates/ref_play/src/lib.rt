@@ -16,13 +16,13 @@
 //! |---|---|
 //! | [`Sim`] | a world, its share and its actors |
 //! | [`Event`], [`Act`] | an act of an actor, and the 31 kinds of acts |
-//! | [`Reply`] | what an actor is told |
+//! | [`Reply`] | the reply to an actor |
 //!
 //! Use this to test how transactions, atoms and agents interact in a given order, without threads. Use `ref_world` for a program of one
 //! thread, and `ref_shared` for threads.
 //!
 //! **Costs.** An event costs what its call costs, and a logarithm of the number of actors. [`Sim::play`] takes the memory for its list of
-//! replies before the first event. What an act passes to its call (a value, arguments, a rule) gets one more owner. A [`Sim`] keeps a
+//! replies before the first event. What an act passes to its call (a value, arguments, a rule) gets one more owner. A [`Sim`] stores a
 //! slot for each actor that ever began a transaction or took a job.
 //!
 //! **Not promised.** Which ready agent a `Take` finds. That a call isn't reported as 'out of memory' if there is memory. That the events

@@ -92,14 +92,14 @@ impl<M: Meaning, C: Ledger, A: Ledger> Sim<M, C, A> {
     /// The world that its actors act on.
     pub fn world(&self) -> &World<M, C, A>
         ensures world { result.now ≡ self.now.world }
-        // There is a machine that has seen what is kept: the one that begins with it.
+        // There is a machine that has seen what the log holds: the one that begins with it.
         ensures stands { Stands M.means (machine_of self.now) self.now }
     {
         always_so(&self.world);
         &self.world
     }
 
-    /// Plays events, one after the other, and returns what the actors are told, a reply each.
+    /// Plays events, one after the other, and returns the replies to the actors, one for each event.
     pub fn play<F: Functions<M>>(
         &mut self,
         alloc: Global,
@@ -130,7 +130,7 @@ impl<M: Meaning, C: Ledger, A: Ledger> Sim<M, C, A> {
         Ok(replies)
     }
 
-    /// Puts every job back, drops the open transactions, and hands out the world and its whole share.
+    /// Puts every job back, drops the open transactions, and returns the world and its whole share.
     pub fn end(self) -> (World<M, C, A>, Share<C, A>)
         ensures world { result.0 ≡ with_agents self.world (all_back self.jobs self.world.agents) }
         ensures share { result.1 ≡ self.share }

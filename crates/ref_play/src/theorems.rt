@@ -64,7 +64,7 @@ pub fn last_changes_in_plain_words()
     ensures { LastsMean }
 {}
 
-/// Which refs a commit tells the watches of, and what.
+/// Of which refs a commit has notices, and which.
 pub fn notices_in_plain_words()
     ensures { NoticesMean }
 {}

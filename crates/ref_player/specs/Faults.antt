@@ -1,4 +1,4 @@
--- The faults of a play, and those that others are told as.
+-- The faults of a play, and which of them others become.
 use Rattle.std.specs.Prelude.{◌≡◌, ℕ, Result, Ok, Err}
 use Rattle.ref_edn.specs.declared.faults.ReadFault.{ReadFault}
 use Rattle.ref_workload.specs.RunFaults.{edn_fault_of}
@@ -25,7 +25,7 @@ IsOfText (plays.Run runs.InputTooLong) = ⊥
 IsOfText (plays.Run (runs.Plan fault)) = ⊥
 IsOfText fault = Unit {0}
 
--- A read that fails is told by Read and by nothing else, and a write by Write.
+-- Read alone reports a read that failed, and Write alone a write that failed.
 abbrev pub CountsReads : {T : Type 0} → ℕ → ℕ → Result T PlayFault → Type 0
 CountsReads old new (Ok x) = new ≡ old
 CountsReads {T = T} old new (Err (plays.Run fault)) = streams.CountsReads {T = T} old new (Err fault)

@@ -1,4 +1,4 @@
--- The lines of a play: of each event its number, how it is written without the brackets, ` -> ` and what its actor is told.
+-- The lines of a play: of each event its number, how it is written without the brackets, ` -> ` and the reply to its actor.
 use Rattle.std.specs.Prelude.{ℕ, ◌+◌, Bool, true, false, List, [], ◌∷◌, ◌++◌, Option, None, Some, Result, Ok, Err, codes, decimal}
 use Rattle.ref_value.specs.Edn.{Edn, vector, list_of}
 use Rattle.ref_edn.specs.Printed.{printed}
@@ -88,7 +88,7 @@ tx_fault_text txs.NoSuchAgent = codes "no-such-agent"
 tx_fault_text txs.NotMet = codes "not-met"
 tx_fault_text txs.Memory = out_of_memory
 
--- A conflict tells the ref, the read point and the point of the ref's last change.
+-- A conflict names the ref, the read point and the point of the ref's last change.
 abbrev pub commit_fault_text : CommitFault → List ℕ
 commit_fault_text (commits.Foreign alien) = codes "foreign"
 commit_fault_text (commits.Conflict c) = numbered (numbered (numbered (codes "conflict") c.r) c.read_point) c.changed_at
@@ -172,7 +172,7 @@ abbrev pub notices_text : List Notice → List ℕ
 notices_text [] = []
 notices_text (n ∷ ns) = notice_text n ++ notices_text ns
 
--- ---- what is told
+-- ---- the lines of a play
 
 abbrev pub value_text : Edn → List ℕ
 value_text v = valued (codes "value") v

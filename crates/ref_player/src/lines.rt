@@ -50,7 +50,7 @@ fn append_line(
     out.extend_from_slice(b"\n")
 }
 
-/// A line for each event that was answered: its number, how it is written, and what its actor is told. Linear in the text.
+/// A line for each event that was answered: its number, how it is written, and the reply to its actor. Linear in the text.
 pub fn lines_of(alloc: Global, forms: &Items, replies: &[Reply]) -> Result<Vec<u8>, AllocError>
     ensures { IfOk result (λ text. text.items ≡ event_lines 0 forms.now replies.now) }
 {

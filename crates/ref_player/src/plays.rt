@@ -48,7 +48,7 @@ fn begin<F: Functions<Core>, C: Ledger, A: Ledger>(
     }
 }
 
-// What was told, and the world that it came to.
+// The replies, and the world that it came to.
 struct Played<C: Ledger, A: Ledger> {
     replies: Vec<Reply>,
     world: World<Core, C, A>,

@@ -1,4 +1,4 @@
-//! What actors are told, as text.
+//! Replies to actors, as text.
 ghost use Rattle.std.specs.Prelude.{◌≡◌, ◌++◌, OnOk, codes};
 ghost use Rattle.ref_player.specs.Lines.{cas_text, checkpoint_fault_text, commit_fault_text, done_text, either, error_text, finish_fault_text, finished_text, flag_text, job_fault_text, make_fault_text, mode_fault_text, notice_text, notices_text, numbered, atom_fault_text, out_of_memory, point_text, receipt_text, reply_text, restart_fault_text, rule_fault_text, send_fault_text, swapped_text, taken_text, tx_fault_text, value_if_there, value_text, valued, watch_fault_text, who_text};
 
@@ -334,7 +334,7 @@ fn append_value_of(
     }
 }
 
-/// Appends what an actor is told.
+/// Appends the reply to an actor.
 pub(crate) fn append_reply(
     alloc: Global,
     reply: &Reply,

@@ -1,9 +1,9 @@
-//! Maps from numbers that keep their old versions: [`PMap`], and [`Numbered`], values by number from 0 on, which is a list kept in
-//! such a map.
+//! Persistent maps from numbers, whose old versions stay as they were: [`PMap`]; and [`Numbered`], a list of values by number
+//! from 0 on, stored in such a map.
 //!
-//! Take one where somebody keeps a map as it was while somebody else goes on, as a transaction keeps the values of its
-//! beginning while others commit: [`PMap::with`] and [`PMap::without`] answer a new map and leave the old one as it is, and
-//! [`PMap::share`] gives one more owner of a map in constant time. A map that nobody keeps is better off in a `BTreeMap` or
+//! Take one where somebody holds a map as it was while somebody else goes on, as a transaction holds the values of its
+//! beginning while others commit: [`PMap::with`] and [`PMap::without`] return a new map and leave the old one as it is, and
+//! [`PMap::share`] gives one more owner of a map in constant time. A map with one owner is better off in a `BTreeMap` or
 //! an `IndexMap`, which change in place, several times as fast.
 //!
 //! Keys are `u32`, and close ones are best: numbers that count up from 0 make a tree without gaps.
@@ -21,17 +21,17 @@
 //! | `Numbered`: `with`, `with_next` | as `with` | as `with` |
 //! | `Numbered`: going over all | a `get` for each value | none |
 //!
-//! **How it is kept.** As a binary radix tree, which is also known as a Patricia tree; Okasaki and Gill's 'Fast Mergeable
+//! **How it is stored.** As a binary radix tree, which is also known as a Patricia tree; Okasaki and Gill's 'Fast Mergeable
 //! Integer Maps' has it as a persistent map. A fork stands for a block of numbers, of a power of two at a multiple of it, and its
 //! sides for the two halves; forks with an empty side are left out, so the tree needs no balancing. A new version shares
 //! all of the tree but the forks on the way to its key, and values are never copied. (Nodes with 16 and 32 sides, as in Clojure's
 //! maps, were measured: reads get faster and new versions slower, since a node that is copied counts an owner more of each side.)
 //!
-//! Each fork keeps the bounds of its block, and `get` compares its key with these. So what is found rests on comparisons alone, and
+//! Each fork stores the bounds of its block, and `get` compares its key with these. So what is found rests on comparisons alone, and
 //! on no arithmetic of bits, which only shapes the tree.
 //!
 //! **Not promised.** Contracts see a finite map, and say what is in it. No contract speaks of time, of memory, of the height
-//! of the tree, or of which versions share what. Where memory is refused, `with` lets the value go that it was handed: where it
+//! of the tree, or of which versions share what. Where memory is refused, `with` drops the value that it was passed: where it
 //! couldn't be made again, share it before the call.
 #![tactic(auto)]
 

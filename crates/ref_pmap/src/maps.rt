@@ -76,7 +76,7 @@ impl<V: Drop> PMap<V> {
         }
     }
 
-    /// The map with this value at the key, in the place of the one that may be there. Where memory is refused, the value is let go.
+    /// The map with this value at the key, instead of the one that may be there. Where memory is refused, the value is dropped.
     #[tactic(auto, using(crate::proofs::WholeMaps::maps))]
     pub fn with(&self, alloc: Global, key: u32, value: V) -> Result<PMap<V>, AllocError>
         ensures { IfOk result (λ m. m ≡ map.insert self.now key value) }

@@ -12,7 +12,7 @@ pub struct Numbered<V> {
     map: PMap<V>,
 }
 
-// A derived one would be written out wherever values are let go.
+// A derived one would be written out wherever values are dropped.
 impl<V: Drop> Drop for Numbered<V> {
     fn drop(self) {
         let Numbered { map: _map } = self;
@@ -81,7 +81,7 @@ impl<V: Drop> Numbered<V> {
         }
     }
 
-    /// The values with another one at a number. Where memory is refused, the value is let go.
+    /// The values with another one at a number. Where memory is refused, the value is dropped.
     pub fn with(&self, alloc: Global, number: u32, value: V) -> Result<Numbered<V>, AllocError>
         requires { number < length self.now }
         ensures { IfOk result (λ values. values ≡ slice_set self.now number value) }
@@ -91,7 +91,7 @@ impl<V: Drop> Numbered<V> {
         })
     }
 
-    /// The values with one more, whose number is the next one. Where memory is refused, the value is let go.
+    /// The values with one more, whose number is the next one. Where memory is refused, the value is dropped.
     pub fn with_next(&self, alloc: Global, value: V) -> Result<Numbered<V>, AllocError>
         ensures { IfOk result (λ values. values ≡ self.now ++ value ∷ []) }
     {

@@ -14,7 +14,7 @@ module _ {T : Type 0} where
   tree_of (Leaf chunk) = (chunk_items chunk, 0)
   tree_of (Fork branch) = branch_of branch.value
 
-  -- the lengths that are kept are those of the sides
+  -- the lengths that are stored are those of the sides
   abbrev pub IsBranch : Branch T → Type 0
   IsBranch (Sides left_len len left right) = (left_len ≡ length left.0) × (len ≡ length left.0 + length right.0)
 

@@ -83,7 +83,7 @@ pub(crate) fn first_of_chunk<T: Drop>(
     Ok(first)
 }
 
-/// Puts a copy in the place of a chunk that has other owners. They keep the old one.
+/// Replaces a chunk that has other owners by a copy. The others still have the old one.
 pub(crate) fn unshare<T: Drop>(alloc: Global, chunk: &mut Chunk<T>) -> Result<(), AllocError>
     ensures { chunk_items chunk.new ≡ chunk_items chunk.old }
 {
@@ -95,7 +95,7 @@ pub(crate) fn unshare<T: Drop>(alloc: Global, chunk: &mut Chunk<T>) -> Result<()
     Ok(())
 }
 
-/// Puts one more item behind the others. It is handed back where the chunk has other owners or memory is refused.
+/// Puts one more item behind the others. It is returned where the chunk has other owners or memory is refused.
 #[tactic(auto, using(crate::proofs::Lists::values_push))]
 pub(crate) fn push_in_place<T: Drop>(
     alloc: Global,

@@ -10,7 +10,7 @@ use std::sync::Arc;
 #[derive(Drop)]
 pub struct Iter<'a, T> {
     vector: &'a PVec<T>,
-    // What is left of the chunk at hand, the index behind it, and the vector's length.
+    // What is left of the present chunk, the index behind it, and the vector's length.
     run: &'a [Arc<T>],
     next: usize,
     end: usize,

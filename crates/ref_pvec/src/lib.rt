@@ -1,8 +1,8 @@
-//! Lists that keep their old versions: [`PVec`].
+//! Persistent lists, whose old versions stay as they were: [`PVec`].
 //!
-//! Take one where somebody keeps a list as it was while somebody else pushes, as a reader of a log does while the log grows:
+//! Take one where somebody holds a list as it was while somebody else pushes, as a reader of a log does while the log grows:
 //! [`PVec::share`] gives one more owner of the list as it is now, in constant time, and a later push shows in one of the two
-//! alone. A list that nobody keeps is better off in a `Vec`, whose reads and pushes are several times as fast. Items are
+//! alone. A list with one owner is better off in a `Vec`, whose reads and pushes are several times as fast. Items are
 //! never cloned: each stands behind an `Arc`, and all versions that have it share it.
 //!
 //! | Call | Time, for n items | Memory |
@@ -17,10 +17,10 @@
 //! | `iter`, each item | constant; each 32nd as a `get` | none |
 //! | letting the last owner go | linear | |
 //!
-//! **How it is kept.** Whole chunks of 32 items hang in a binary tree, in order, each fork with the number of items on its
+//! **How it is stored.** Whole chunks of 32 items hang in a binary tree, in order, each fork with the number of items on its
 //! left: a rope, as Boehm, Atkinson and Plass have it for text. The last items are a chunk of their own outside of the tree, its
 //! tail, as in Clojure's persistent vector; so 31 of 32 pushes touch no tree. A new version shares all of the tree but the
-//! forks on the way to its right end. The tree grows so that the left side of each fork is full, which keeps it low. A
+//! forks on the way to its right end. In a tree that grew by pushes the left side of each fork is full, so it is low. A
 //! [`PVec::first`] and a [`PVec::rest`] share all on their side of the index: they copy the one chunk that it lies in, and the forks
 //! above it.
 //!

@@ -1,4 +1,4 @@
-//! The vector: a tree of whole chunks, and the last chunk beside it.
+//! The vector: a tree of whole chunks, and the last chunk next to it.
 ghost use Rattle.std.specs.Prelude.{◌≡◌, ◌+◌, ◌<◌, ◌≤◌, ◌↔◌, ◌^◌, [], ◌∷◌, ◌++◌, length, take, drop, slice_get, option_copied, IsTrue, IfOk, IfErr, OnOk, OnErr};
 ghost use Rattle.ref_pvec.specs.Chunks.{front_items, tail_items, IsRun};
 
@@ -208,8 +208,8 @@ impl<T: Drop> PVec<T> {
         })
     }
 
-    /// Puts an item behind the others. Versions that were shared before keep what they have. Where memory is refused the item
-    /// is handed back, and the list is the same.
+    /// Puts an item behind the others. Versions that were shared before stay as they were. Where memory is refused the item
+    /// is returned, and the list is the same.
     #[tactic(auto, using(crate::proofs::Lists::append_associates, crate::proofs::Lists::length_both))]
     pub fn push(&mut self, alloc: Global, item: T) -> Result<(), AllocFailed<T>>
         ensures ok { OnOk result (self.new ≡ self.old ++ item ∷ []) }
@@ -228,7 +228,7 @@ impl<T: Drop> PVec<T> {
     }
 
     /// The list with one item more, which stands behind the others. This list stays as it is. Where memory is refused the item
-    /// is handed back.
+    /// is returned.
     pub fn pushed(&self, alloc: Global, item: T) -> Result<PVec<T>, AllocFailed<T>>
         ensures ok { IfOk result (λ longer. longer ≡ self.now ++ item ∷ []) }
         ensures back { IfErr result (λ failed. failed.value ≡ item) }

@@ -118,7 +118,7 @@ alien_value values tx = option_map (λ r. Foreign (aliens.Value r)) (first_prote
 
 -- ---- what refuses over the latest values
 
--- An operation on a ref that isn't here is told before, and doesn't count here.
+-- An operation on a ref that isn't here is reported before, and doesn't count here.
 abbrev pub refused_at : ℕ → Option (Result Edn Cause) → (Edn → Option CommitFault) → Option CommitFault
 refused_at r (Some (Ok v)) later = later v
 refused_at r (Some (Err cause)) later = Some (Refused r cause)
@@ -135,7 +135,7 @@ refused means (d ∷ ds) values = refused_at d.r (option_map (place means d.op) 
 abbrev pub first_invalid : Accepts → List Guard → List Edn → List ℕ → Option ℕ
 first_invalid accepts guards values rs = find (λ r. not (is_accepted_at accepts guards values r)) rs
 
--- The rules of the refs that the operations change are asked of the values that they make. What refuses is told before, and
+-- The rules of the refs that the operations change are asked of the values that they make. What refuses is reported before, and
 -- doesn't count here.
 abbrev pub invalid : Accepts → List Guard → List Done → Result (List Edn) AuditFault → Option CommitFault
 invalid accepts guards ds (Ok after) = option_map Invalid (first_invalid accepts guards after (touched_refs ds))

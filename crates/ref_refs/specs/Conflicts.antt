@@ -1,4 +1,4 @@
--- What a conflict that is told says of the transaction.
+-- What a conflict that is returned says of the transaction.
 use Rattle.std.specs.Prelude.{◌≡◌, ℕ, ◌<◌, ◌^◌, nat_lt, Bool, true, false, not, cond, ◌&&◌, List, [], ◌∷◌, length, Option, None, Some, Result, Ok, Err, refl, slice_get, slice_set}
 use Rattle.std.proofs.Common.{subst}
 use Rattle.std.proofs.lemmas.Bool.{and_parts, ltb-true}
@@ -31,7 +31,7 @@ pub record IsConflictOf (tx : TxSeen) (c : told.Conflict) : Type 0 where
   pub read : c.read_point ≡ tx.read_point
   pub later : tx.read_point < c.changed_at
 
--- Where a commit of a transaction tells a conflict, it is one of that transaction. Of other faults this says nothing.
+-- Where a commit of a transaction returns a conflict, it is one of that transaction. Of other faults this says nothing.
 abbrev pub ConflictFits : TxSeen → CommitFault → Type 0
 ConflictFits tx (Conflict c) = IsConflictOf tx c
 ConflictFits tx fault = Unit {0}
@@ -114,7 +114,7 @@ refusal-fits tx means accepts knows store at agents =
     (or-fits tx (invalid accepts store.guards tx.dones after) (past_points at) (invalid-fits tx accepts store.guards tx.dones after)
     (if-fits tx (nat_lt (2 ^ 62) at) (Some PointLimit) None tt tt)))
 
--- What a call tells besides want of memory is its reason.
+-- A fault of a call other than out of memory is its reason.
 pub told-fits : (tx : TxSeen) (early reason : Option CommitFault) (fault : CommitFault) → TellsFault Memory early reason fault → Fits tx reason → ConflictFits tx fault
 told-fits tx early reason (Conflict c) tells fits = some-fits tx reason (Conflict c) (tells.0 (λ same. absurd cc)) fits
 told-fits tx early reason (Foreign what) tells fits = tt

@@ -5,7 +5,7 @@ use Rattle.ref_refs.specs.declared.faults.Alien.TheVariants as aliens
 use Rattle.ref_refs.specs.declared.faults.CommitFault.{CommitFault}
 use Rattle.ref_refs.specs.declared.faults.CommitFault.TheVariants as commits
 
--- A foreign value is told after a conflict.
+-- A foreign value is reported after a conflict.
 abbrev pub alien_number : Alien → ℕ
 alien_number (aliens.Ref r) = 1
 alien_number (aliens.Agent g) = 1

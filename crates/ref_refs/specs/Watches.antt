@@ -1,4 +1,4 @@
--- What the watches of refs are told of a commit.
+-- The notices of a commit for the watches of refs.
 use Rattle.std.specs.Prelude.{ℕ, if◌then◌else◌, List, [], ◌∷◌, Option, None, Some, slice_get}
 use Rattle.std.specs.BTreeSet.{insert_key}
 use Rattle.std.specs.List.{flat_map}

@@ -13,7 +13,7 @@ use ref_log::{Done, Op, Sent};
 use ref_tx::{Snapshot, Tx};
 use ref_value::{Node, Value};
 
-// Tells the first operation on a ref that isn't here.
+// The first operation on a ref that isn't here, if there is one.
 pub(crate) fn check_refs(refs: &Snapshot, dones: &[Done]) -> Result<(), CommitFault>
     ensures refused { Tells (alien_ref refs.now.values dones.now) result }
     ensures told { IfErr result (λ f. f ≢ Memory) }
@@ -27,7 +27,7 @@ pub(crate) fn check_refs(refs: &Snapshot, dones: &[Done]) -> Result<(), CommitFa
     Ok(())
 }
 
-// Tells the first send to an agent that isn't here, where there are so many.
+// The first send to an agent that isn't here, where there are so many.
 pub(crate) fn check_agents(agents: usize, sends: &[Sent]) -> Result<(), CommitFault>
     ensures refused { Tells (alien_agent agents sends.now) result }
     ensures told { IfErr result (λ f. f ≢ Memory) }

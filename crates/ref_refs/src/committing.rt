@@ -28,7 +28,7 @@ use ref_log::{Done, Entry, LAST_POINT, Notice, SharedVec, Stamp, Transaction, sh
 use ref_tx::{Snapshot, Tx};
 use std::alloc::Global;
 
-/// A commit that was made: its entry for the log, and what its watches are to be told.
+/// A commit that was made: its entry for the log, and the notices for its watches.
 #[derive(Drop)]
 pub struct Landed {
     pub entry: Entry,
@@ -52,13 +52,13 @@ impl<M: Meaning> RefStore<M> {
     /// point. What was commuted is made on the latest value; where a ref was set, altered or ensured too, it gets its
     /// in-transaction value. The stamp goes into the entry.
     ///
-    /// The rules of the refs that it changes are asked of the values that they get. Their watches are told in the order of
+    /// The rules of the refs that it changes are asked of the values that they get. The notices for their watches are in the order of
     /// the refs, and those of one ref in the order of adding, also where the value is the same as before.
     ///
     /// The caller says how many agents there are. What the transaction sends stands in the entry, and nothing else comes of it
     /// here.
     ///
-    /// A refused commit changes nothing and hands the transaction back. The tests are made in this order: what is foreign,
+    /// A refused commit changes nothing and returns the transaction. The tests are made in this order: what is foreign,
     /// functions and predicates that the table lacks, the conflict, a foreign value, a refusal over the latest values, a
     /// rule that doesn't accept, the end of points.
     /// Each operation costs time logarithmic in the number of refs. A protected ref costs a comparison of its value with the one
@@ -91,7 +91,7 @@ impl<M: Meaning> RefStore<M> {
         // The tally goes up by what was commuted, and by nothing else.
         ensures tally { OnOk result (tally_value self.new.tally self.new.values
             ≡ tally_value self.old.tally self.old.values + added_by_dones self.old.tally tx.dones) }
-        // A conflict is told with a ref that the transaction protects, its read point and a later point.
+        // A conflict is returned with a ref that the transaction protects, its read point and a later point.
         ensures conflict { IfErr result (λ e. ConflictFits tx e.1) }
         ensures back { IfErr result (λ e. e.0 ≡ tx) }
         ensures err { OnErr result (self.new ≡ self.old) }
@@ -155,7 +155,7 @@ impl<M: Meaning> RefStore<M> {
         })
     }
 
-    /// Puts the refs after a prepared commit in the place of those before it. It can't fail.
+    /// Replaces the refs by those after a prepared commit. It can't fail.
     pub fn install(&mut self, at: u64, refs: Snapshot, dones: &[Done])
         requires new { 1 ≤ at }
         requires limit { at ≤ 2 ^ 62 }
@@ -224,7 +224,7 @@ impl<M: Meaning> RefStore<M> {
         self.check_values(tx)
     }
 
-    // Tells what of a transaction is foreign, but for its values.
+    // What of a transaction is foreign, but for its values.
     fn check_foreign(&self, at: u64, agents: usize, tx: &Tx<M>) -> Result<(), CommitFault>
         ensures refused { Tells (alien self.now at agents tx.now) result }
         ensures here { OnOk result (alien_ref self.now.values tx.now.dones ≡ None) }

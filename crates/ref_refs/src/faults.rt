@@ -8,7 +8,7 @@ use std::alloc::{AllocError, AllocFailed};
 use thiserror::Error;
 
 /// What of a transaction is foreign to the store that should commit it. One that was begun on this store has nothing foreign, if
-/// its read point was the present one then; no contract says so, since whoever calls the store hands it its points. One of another
+/// its read point was the present one then; no contract says so, since the caller passes the points. One of another
 /// store may have nothing foreign either: where it only commuted, say, it is committed here as if it had been begun here.
 #[derive(Clone, Copy, Debug, Drop, PartialEq, Eq, Error)]
 pub enum Alien {
@@ -66,7 +66,7 @@ pub enum CommitFault {
 }
 
 impl Alien {
-    // The number of the fault that tells it.
+    // The number of the fault of it.
     fn number(&self) -> u8
         ensures { result ≡ alien_number self.now }
     {

@@ -39,7 +39,7 @@ impl<M: Meaning> RefStore<M> {
         Ok(self.add(alloc, at, start, rule, tally)?)
     }
 
-    /// Tells whether a ref can be made with this value and this rule, if any, the tally or not, at this point. It takes no
+    /// Checks whether a ref can be made with this value and this rule, if any, the tally or not, at this point. It takes no
     /// memory.
     pub fn check_make<F: Functions<M>>(
         &self,

@@ -12,7 +12,7 @@ use ref_fun::{Functions, Meaning};
 use ref_log::{Done, Guards};
 use ref_tx::Snapshot;
 
-// Tells the first rule of a ref that these operations change whose predicate the table lacks.
+// The first rule of a ref that these operations change whose predicate the table lacks.
 pub(crate) fn check_rules_known<M: Meaning, F: Functions<M>>(
     funs: &F,
     guards: &Guards,

@@ -138,7 +138,7 @@ impl<M: Meaning> RefStore<M> {
         self.guards.are_known(funs)
     }
 
-    /// Gives a ref this rule, or none, in the place of the one that it had. The rule has to accept the value of the ref now.
+    /// Gives a ref this rule, or none, instead of the one that it had. The rule has to accept the value of the ref now.
     /// It takes no memory. A refused call changes nothing.
     pub fn set_validator<F: Functions<M>>(
         &mut self,

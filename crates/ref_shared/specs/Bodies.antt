@@ -51,7 +51,7 @@ pub record Committed {B R : Type 0} (g : BodyOf B R) (body last : B) (tries : �
   pub answered : call.answer ≡ answer
   pub landed : HasCommitted stamp call.left point old new
 
--- a fault of a commit that ends a transaction as such: neither a conflict nor want of memory
+-- a fault of a commit that ends a transaction as such: neither a conflict nor out of memory
 abbrev pub IsFinal : CommitFault → Type 0
 IsFinal (commits.Foreign what) = Unit {0}
 IsFinal (commits.Conflict c) = ⊥

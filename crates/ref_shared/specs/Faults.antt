@@ -25,7 +25,7 @@ gather_fault_number gathers.ReceiptMissing = 1
 gather_fault_number gathers.OutOfOrder = 2
 gather_fault_number gathers.Memory = 3
 
--- what the refusal of a run is told as
+-- the fault that the refusal of a run becomes
 abbrev pub work_fault_of : JobFault → WorkFault
 work_fault_of (jobs.NoSuchFun code) = works.NoSuchFun code
 work_fault_of jobs.Memory = works.Memory

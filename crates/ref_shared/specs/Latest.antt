@@ -1,4 +1,4 @@
--- What is kept of each worker's latest entry.
+-- What is stored of each worker's latest entry.
 use Rattle.std.specs.Prelude.{◌<◌, ◌≤◌, ℕ, Option, None, Some}
 use Rattle.ref_log.specs.declared.entries.Transaction.{Transaction}
 use Rattle.ref_shared.specs.declared.order.Turn.{Turn}

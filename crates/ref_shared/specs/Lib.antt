@@ -1,4 +1,4 @@
--- To be read and believed: Bodies, Commits, Faults and Gather. Latest and Marks are what loops keep.
+-- To be read and believed: Bodies, Commits, Faults and Gather. Latest and Marks are invariants of loops.
 pub mod Bodies
 pub mod Commits
 pub mod Faults

@@ -16,7 +16,7 @@ pub trait Gate {
     fn pass(&mut self, spot: Spot);
 }
 
-/// Who is told what the watches are to be told, with the lock free: of one commit or one action in order. Between two of them
+/// Who gets the notices for watches, with the lock free: of one commit or one action in order. Between two of them
 /// there is none, since two threads deliver side by side.
 pub trait WatchSink {
     fn told(&mut self, notice: &Notice);
@@ -30,7 +30,7 @@ impl Gate for Open {
     fn pass(&mut self, _spot: Spot) {}
 }
 
-/// A sink that tells nobody.
+/// A sink that drops all notices.
 #[derive(Clone, Copy, Debug, Drop)]
 pub struct Quiet;
 
@@ -38,7 +38,7 @@ impl WatchSink for Quiet {
     fn told(&mut self, _notice: &Notice) {}
 }
 
-// Tells each notice, in order.
+// Delivers each notice, in order.
 pub(crate) fn tell<S: WatchSink>(sink: &mut S, notices: &[Notice]) {
     for notice in notices {
         sink.told(notice);

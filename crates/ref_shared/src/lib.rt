@@ -8,9 +8,9 @@
 //!
 //! | Name | Is |
 //! |---|---|
-//! | [`Shared`] | the world under its lock; whoever finds that free finds all so that the type `World` tells |
+//! | [`Shared`] | the world under its lock; whoever finds that free finds all that the type `World` guarantees |
 //! | [`Gate`], [`Spot`], [`Open`] | what is called between two steps, where that is, and a gate that lets all pass |
-//! | [`WatchSink`], [`Quiet`] | who is told what the watches are to be told of a commit or an action, and a sink that tells nobody |
+//! | [`WatchSink`], [`Quiet`] | who gets the notices of a commit or an action, and a sink that drops them |
 //! | [`Worked`], [`WorkFault`] | what a call of `work_once` did, and why it didn't run an action to its end |
 //! | [`TransactFault`] | why a transaction came to no commit: it gave up, its body ended it, or its commit or memory was refused |
 //! | [`match_receipts`], [`GatherFault`] | the comparison of a log with receipts, which `finish` makes, and why they don't fit |
@@ -25,10 +25,10 @@
 //! of log and receipts, but for logarithms of the workers and of the entries, and takes a byte for each entry and some for each worker.
 //!
 //! **Not promised.** Which thread comes first, how often a transaction is tried within its limit and whether it gets through, that a
-//! waiter ever wakes or an action is ever run, and how long anything takes; a call that locks or waits keeps its promise where it
-//! returns. That what was found at one lock holds at the next, and in which order two threads tell their notices. Of the calls on a
+//! waiter ever wakes or an action is ever run, and how long anything takes; a call that locks or waits holds its promise where it
+//! returns. That what was found at one lock holds at the next, and in which order two threads deliver their notices. Of the calls on a
 //! `Shared` only `begin`, `commit`, `transact`, `transact_by`, those on atoms and `finish` have clauses: what the others do, that
-//! `transact` tells the watches and then lets the sends out, and that no lock is held over a body, an action, a gate or a sink, is only
+//! `transact` delivers the notices and then releases the sends, and that no lock is held over a body, an action, a gate or a sink, is only
 //! tested.
 #![tactic(auto)]
 

@@ -39,13 +39,13 @@ pub(crate) struct Held<M: Meaning, C: Ledger, A: Ledger> {
 /// A world that threads share.
 ///
 /// It stands under one lock. Each call but [`Shared::new`] and [`Shared::finish`] takes that lock, makes one call of the world, or none
-/// as [`Shared::close`], and lets go; [`Shared::transact`] and [`Shared::work_once`] take it for each of their steps. The lock is never
-/// held while a transaction's body, an action, a gate or a sink runs, and whoever finds it free finds a world of which all is so
-/// that the type [`World`] tells. What was found at one lock need not hold at the next. Where a commit commutes, where an atom is
+/// as [`Shared::close`], and then releases it; [`Shared::transact`] and [`Shared::work_once`] take it for each of their steps. The lock
+/// is never held while a transaction's body, an action, a gate or a sink runs, and whoever finds it free finds a world of which all is so
+/// that the type [`World`] guarantees. What was found at one lock need not hold at the next. Where a commit commutes, where an atom is
 /// changed and where a rule is asked, the table's functions are called under the lock: they are to be quick.
 ///
 /// The calls may wait for the lock, and promise what they say where they return. A thread that never lets its body, its gate or
-/// its sink come back keeps nobody from the lock.
+/// its sink return holds up nobody who waits for the lock.
 #[derive(Drop)]
 pub struct Shared<M: Meaning, C: Ledger, A: Ledger> {
     held: Mutex<Held<M, C, A>>,
@@ -66,7 +66,7 @@ impl<M: Meaning, C: Ledger, A: Ledger> Shared<M, C, A> {
         }
     }
 
-    // The lock. It is free again where the guard is let go. Whoever finds it held looks again after pauses, and then sleeps: a call
+    // The lock. It is free again where the guard is dropped. Whoever finds it held looks again after pauses, and then sleeps: a call
     // holds it for some microseconds, and to sleep and be woken takes longer.
     pub(crate) fn lock<R: Wait>(&self, rt: &R) -> MutexGuard<'_, Held<M, C, A>> {
         for pauses in PAUSES {
@@ -87,8 +87,8 @@ impl<M: Meaning, C: Ledger, A: Ledger> Shared<M, C, A> {
         self.lock(rt).world.begin(alloc)
     }
 
-    /// Commits a transaction: see [`World::commit_with`]. The watches are to be told the notices of the receipt, and then the
-    /// commit's sends to be let out by [`Shared::release`], which whoever calls this does; [`Shared::transact`] does all of it.
+    /// Commits a transaction: see [`World::commit_with`]. The caller delivers the notices of the receipt to the watches, and
+    /// then releases the commit's sends by [`Shared::release`]; [`Shared::transact`] does all of it.
     pub fn commit<R: Wait, F: Functions<M>>(
         &self,
         rt: &R,
@@ -104,7 +104,7 @@ impl<M: Meaning, C: Ledger, A: Ledger> Shared<M, C, A> {
         ensures back { IfErr result (λ e. e.0 ≡ tx) }
         ensures same { OnErr result (share.new ≡ share.old) }
     {
-        // One owner more, so that the refs before the commit are let go when the lock is free again.
+        // One owner more, so that the refs before the commit are dropped when the lock is free again.
         let began = tx.began().share();
         let committed = self
             .lock(rt)
@@ -201,8 +201,8 @@ impl<M: Meaning, C: Ledger, A: Ledger> Shared<M, C, A> {
             .make_agent(alloc, funs, value, rule, mode)
     }
 
-    /// Sets an atom to the function of its value and the arguments: see [`World::swap`]. The watches are to be told the notices
-    /// of the answer, which whoever calls this does.
+    /// Sets an atom to the function of its value and the arguments: see [`World::swap`]. The caller delivers
+    /// the notices of the answer to the watches.
     pub fn swap<R: Wait, F: Functions<M>>(
         &self,
         rt: &R,
@@ -220,8 +220,8 @@ impl<M: Meaning, C: Ledger, A: Ledger> Shared<M, C, A> {
         self.lock(rt).world.swap(alloc, funs, share, a, code, args)
     }
 
-    /// Sets an atom to a value regardless of the one that it has: see [`World::reset`]. The watches are to be told the notices of
-    /// the answer, which whoever calls this does.
+    /// Sets an atom to a value regardless of the one that it has: see [`World::reset`]. The caller delivers the
+    /// notices of the answer to the watches.
     pub fn reset<R: Wait, F: Functions<M>>(
         &self,
         rt: &R,
@@ -238,8 +238,8 @@ impl<M: Meaning, C: Ledger, A: Ledger> Shared<M, C, A> {
         self.lock(rt).world.reset(alloc, funs, share, a, value)
     }
 
-    /// Sets an atom to a new value where it has the old one that is given: see [`World::compare_and_set`]. The watches are to be
-    /// told the notices of the answer, which whoever calls this does.
+    /// Sets an atom to a new value where it has the old one that is given: see [`World::compare_and_set`]. The caller
+    /// delivers the notices of the answer to the watches.
     pub fn compare_and_set<R: Wait, F: Functions<M>>(
         &self,
         rt: &R,
@@ -308,7 +308,7 @@ impl<M: Meaning, C: Ledger, A: Ledger> Shared<M, C, A> {
         self.lock(rt).world.error_of(g)
     }
 
-    /// The base and the log as they are now, kept: see [`World::view`]. The lock is held for a few steps, whatever the length of
+    /// The base and the log as they are now: see [`World::view`]. The lock is held for a few steps, whatever the length of
     /// the log; the view is read with the lock free.
     pub fn view<R: Wait>(&self, rt: &R) -> Result<View<M>, AllocError> {
         self.lock(rt).world.view()

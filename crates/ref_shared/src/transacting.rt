@@ -16,13 +16,13 @@ use std::sync::ledger::Ledger;
 
 impl<C: Ledger, A: Ledger> Shared<Core, C, A> {
     /// Runs a body on a transaction and commits it, as Clojure's `dosync`. Where the commit is in conflict all begins anew, with
-    /// the values then, at most `tries` times, at least once. After a commit the sink is told what the watches are to be told,
-    /// and then what the transaction sent is let out, which takes the lock once more where it sent something. The answer is what
-    /// the body's last call answered, and the receipt.
+    /// the values then, at most `tries` times, at least once. After a commit the sink gets the notices for the watches,
+    /// and then what the transaction sent is released, which takes the lock once more where it sent something. The answer is what
+    /// the body's last call returned, and the receipt.
     ///
     /// The body is called with the lock free, at most `tries` times, each time with a transaction in which nothing was done.
-    /// What its earlier calls did beside the transaction stays done. Where a fault is answered, this call has committed nothing,
-    /// and no send is left of it. A fault of the body, a refused commit other than a conflict, and want of memory end it.
+    /// What its earlier calls did outside the transaction stays done. Where a fault is returned, this call has committed nothing,
+    /// and no send is left of it. A fault of the body, a refused commit other than a conflict, and out of memory end it.
     ///
     /// A program whose functions mean what [`Core`]'s mean calls this; another begins, commits and releases by itself.
     pub fn transact<
@@ -56,7 +56,7 @@ impl<C: Ledger, A: Ledger> Shared<Core, C, A> {
         self.transact_by(rt, alloc, funs, share, stamp, tries, gate, sink, &mut body)
     }
 
-    /// As [`Shared::transact`], with a body that is lent: it comes back as its last call left it, and the clauses tell all its
+    /// As [`Shared::transact`], with a body that is lent: it comes back as its last call left it, and the clauses name all its
     /// calls, at most `tries`.
     pub fn transact_by<
         R: Wait,

@@ -18,8 +18,8 @@ pub enum Worked {
 }
 
 impl<M: Meaning, C: Ledger, A: Ledger> Shared<M, C, A> {
-    /// Waits for a ready agent, runs its next action with the lock free, ends it, and tells the sink what the watches are to be
-    /// told. Where [`Shared::close`] was called and no agent is ready, it says so and does nothing. A thread that calls this in
+    /// Waits for a ready agent, runs its next action with the lock free, ends it, and gives the sink the notices for the watches.
+    /// Where [`Shared::close`] was called and no agent is ready, it says so and does nothing. A thread that calls this in
     /// a loop until then is one of a pool; as many of them as there are may run side by side, and no two of them run
     /// actions of one agent at a time.
     ///
@@ -46,7 +46,7 @@ impl<M: Meaning, C: Ledger, A: Ledger> Shared<M, C, A> {
             Err((job, fault)) => return Err(self.give_up(rt, job, WorkFault::from(fault))),
         };
         gate.pass(Spot::AfterAction);
-        // The guard is let go before the match.
+        // The guard is dropped before the match.
         let finished = self.lock(rt).world.finish(alloc, funs, ran);
         match finished {
             Ok(finished) => {

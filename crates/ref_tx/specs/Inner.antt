@@ -123,7 +123,7 @@ with_sent tx g action = record tx { sends = tx.sends ++ record { agent = g; acti
 abbrev pub with_done : TxSeen → ℕ → Op → Edn → TxSeen
 with_done tx r op v = record tx { dones = tx.dones ++ (record { r = r; op = op; answer = v }) ∷ [] }
 
--- ---- what the type keeps
+-- ---- what the type guarantees
 
 -- What a transaction is: each operation answered the in-transaction value, and those on the tally fit it.
 pub record IsTx (means : Means) (began : List Edn) (dones : List Done) (tally : Option ℕ) : Type 0 where

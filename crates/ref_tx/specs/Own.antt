@@ -1,4 +1,4 @@
--- How a transaction keeps its in-transaction values: a table of the refs that it has operated on.
+-- How a transaction stores its in-transaction values: a table of the refs that it has operated on.
 use Rattle.std.specs.Prelude.{ℕ, ◌==◌, Bool, false, Option, None, Some, List, ◌≡◌, slice_get}
 use Rattle.std.specs.List.{list_any}
 use Rattle.ref_value.specs.Edn.{Edn}
@@ -21,7 +21,7 @@ abbrev pub own_protected : Option Own → Bool
 own_protected (Some own) = own.protected
 own_protected None = false
 
--- The table, as a function, has the in-transaction values, and tells which refs were commuted, and which are protected.
+-- The table, as a function, has the in-transaction values, and says which refs were commuted, and which are protected.
 pub record IsTableOf (means : Means) (began : List Edn) (dones : List Done) (own : ℕ → Option Own) : Type 0 where
   pub values : (r : ℕ) → own_value (own r) (slice_get began r) ≡ value_after means began dones r
   pub commuted : (r : ℕ) → own_commuted (own r) ≡ is_commuted dones r

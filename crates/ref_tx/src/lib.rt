@@ -1,7 +1,7 @@
 //! Transactions while they are open: reads and changes over a snapshot, which nobody else sees.
 //!
 //! A [`Tx`] is begun over the values of all refs at one point, its read point, and answers in-transaction values, as Clojure's page on
-//! refs and transactions calls them: the value of the snapshot, after the transaction's own operations on that ref. It keeps these
+//! refs and transactions calls them: the value of the snapshot, after the transaction's own operations on that ref. It stores these
 //! operations with their answers, and what it sends, for a commit, which is another crate's and applies them to the latest values.
 //!
 //! | Type | Is |
@@ -20,13 +20,13 @@
 //!
 //! **Costs.** A call on a ref looks it up among all refs and among those that the transaction has operated on, each in logarithmic time,
 //! and calls its function or asks its rule; `send` looks its function up in the table and doesn't call it. `deref` and `require` take
-//! no memory; operations and sends are kept, and the value now of each ref that was operated on. `start` and one more owner of a
+//! no memory; operations and sends are stored, and the value now of each ref that was operated on. `start` and one more owner of a
 //! snapshot take constant time and no memory; a snapshot with another value takes time and memory logarithmic in the number of refs.
-//! The values of the read point are kept as long as the transaction is open.
+//! The values of the read point are held as long as the transaction is open.
 //!
 //! **Not promised.** That a ref which was only read, by `deref` or `require`, still has its value at the commit: `ensure` is the remedy.
-//! That the snapshot which `start` is handed is that of the read point, and that there are so many agents: its caller says so. That a
-//! function's refusal isn't told as 'out of memory', and that a call succeeds where there is memory. No contract speaks of time, of how
+//! That the snapshot which `start` takes is that of the read point, and that there are so many agents: its caller says so. That a
+//! function's refusal isn't returned as 'out of memory', and that a call succeeds where there is memory. No contract speaks of time, of how
 //! much memory is taken, of which snapshots share what, or of the last changes in the snapshot that a `Tx` lends.
 #![tactic(auto)]
 

@@ -1,4 +1,4 @@
-//! What a transaction keeps of a ref that it has operated on.
+//! What a transaction stores of a ref that it has operated on.
 use ref_value::Value;
 
 /// The in-transaction value of a ref, whether it was commuted, and whether it is protected.

@@ -22,7 +22,7 @@ pub struct Snapshot {
     refs: Numbered<Version>,
 }
 
-// A derived one would be written out wherever snapshots are let go.
+// A derived one would be written out wherever snapshots are dropped.
 impl Drop for Snapshot {
     fn drop(self) {
         let Snapshot { refs: _refs } = self;
@@ -104,7 +104,7 @@ impl Snapshot {
         &self.refs
     }
 
-    /// The refs with another value of one of them, which changes at this point. Where memory is refused, the value is let go.
+    /// The refs with another value of one of them, which changes at this point. Where memory is refused, the value is dropped.
     pub fn with(&self, alloc: Global, r: u32, value: Value, at: u64) -> Result<Snapshot, AllocError>
         requires { r < length self.now.values }
         ensures values { IfOk result (λ after. after.values ≡ slice_set self.now.values r value) }
@@ -119,7 +119,7 @@ impl Snapshot {
         })
     }
 
-    /// The refs with one more, whose number is the next one. Where memory is refused, its value is let go.
+    /// The refs with one more, whose number is the next one. Where memory is refused, its value is dropped.
     pub fn with_next(&self, alloc: Global, value: Value, at: u64) -> Result<Snapshot, AllocError>
         ensures values { IfOk result (λ after. after.values ≡ self.now.values ++ value ∷ []) }
         ensures lasts { IfOk result (λ after. after.lasts ≡ self.now.lasts ++ at ∷ []) }

@@ -336,7 +336,7 @@ impl<M: Meaning> Tx<M> {
     }
 }
 
-// Keeps what stands for a ref from now on.
+// Stores what stands for a ref from now on.
 #[tactic(auto, using(crate::proofs::Grown::tied))]
 fn put(
     own: &mut BTreeMap<u32, Own>,

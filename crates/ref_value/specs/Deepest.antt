@@ -1,4 +1,4 @@
--- The depth of the deepest member, as a tree keeps it beside its members.
+-- The depth of the deepest member, as a tree stores it next to its members.
 use Rattle.std.specs.Prelude.{ℕ, ◌≡◌, ◌≤◌, List}
 use Rattle.ref_value.specs.Edn.{Edn, entries_of, entries_depth}
 use Rattle.ref_value.specs.Lawful.{AreLawfulEntries}

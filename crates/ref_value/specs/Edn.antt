@@ -3,7 +3,7 @@ use Rattle.std.specs.Prelude.{ℕ, ℤ, Bool, List, [], ◌∷◌, suc, max, ◌
 use Rattle.std.proofs.Common.{ap}
 
 -- Texts are their UTF-8 bytes; a keyword's is its name without the colon. A map's entries and a set's elements stand
--- in the order in which they are kept, which in a lawful value is the value order.
+-- in the order in which they are stored, which in a lawful value is the value order.
 mutual
   pub data Edn : Type 0 where
     nil : Edn

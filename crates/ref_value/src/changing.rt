@@ -1,4 +1,4 @@
-//! The members of a chunk, and beside them the depth of the deepest: a copy, one more, one less and one replaced.
+//! The members of a chunk, and next to them the depth of the deepest: a copy, one more, one less and one replaced.
 ghost use Rattle.std.specs.Prelude.{◌≡◌, ◌≤◌, ◌<◌, ◌++◌, length, slice_set, insert, remove, max, IfOk, OnOk, OnErr};
 ghost use Rattle.ref_value.specs.Deepest.{IsDeepestEntry};
 ghost use Rattle.ref_value.specs.Edn.{nesting};
@@ -122,7 +122,7 @@ pub(crate) fn insert_pair(
     Ok(())
 }
 
-/// Puts a pair in the place of another. The others are looked at only where that was the deepest and this is not.
+/// Replaces a pair by another. The others are looked at only where that was the deepest and this is not.
 pub(crate) fn replace_pair(
     deepest: &mut u8,
     pairs: &mut Vec<(Value, Value)>,

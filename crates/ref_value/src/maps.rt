@@ -185,8 +185,8 @@ impl Entries {
         Ok(all)
     }
 
-    /// Puts this entry among these, in the place of one with an equal key. It takes log n comparisons and steps. What has
-    /// other owners, which keep the old entries, is copied along the way: log n nodes and one list of up to 32. A refusal
+    /// Puts this entry among these, instead of one with an equal key. It takes log n comparisons and steps. What has
+    /// other owners, whose entries stay, is copied along the way: log n nodes and one list of up to 32. A refusal
     /// changes nothing.
     pub fn insert(&mut self, alloc: Global, key: Value, value: Value) -> Result<(), AllocError>
         requires { IsTrue (keys_ascend (entries_of self.old)) }
@@ -302,7 +302,7 @@ impl<'a> Model for Iter<'a> {
 }
 
 impl<'a> Iter<'a> {
-    // Goes past what comes next in both and is the same: as many as can be told at a glance.
+    // Goes past what comes next in both and is the same: as many as one glance shows.
     pub(crate) fn pass_same(&mut self, other: &mut Iter<'_>)
         ensures { HavePassed self.old other.old self.new other.new }
     {

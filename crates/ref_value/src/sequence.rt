@@ -13,8 +13,8 @@
 //! | all in order | n: a descent for each chunk |
 //! | memory of one version more | log n nodes of some 60 bytes, and one or two chunks |
 //!
-//! No clause tells the height, nor what is shared. Balance is no matter of correctness either: a rotation that is refused
-//! for want of memory is left out, and the next change on that way tries again.
+//! No clause names the height, nor what is shared. Balance is no matter of correctness either: a rotation that is refused
+//! because memory is refused is left out, and the next change on that way tries again.
 
 pub(crate) mod balance;
 pub(crate) mod changes;

@@ -186,7 +186,7 @@ impl Elements {
     }
 
     /// Puts this element among these; where an equal one is there, nothing changes. It takes log n comparisons and
-    /// steps. What has other owners, which keep the old elements, is copied along the way: log n nodes and one list of up
+    /// steps. What has other owners, whose elements stay, is copied along the way: log n nodes and one list of up
     /// to 32. A refusal changes nothing.
     pub fn insert(&mut self, alloc: Global, x: Value) -> Result<(), AllocError>
         requires { IsTrue (elements_ascend (items_of self.old)) }
@@ -284,7 +284,7 @@ impl<'a> Model for Iter<'a> {
 }
 
 impl<'a> Iter<'a> {
-    // Goes past what comes next in both and is the same: as many as can be told at a glance.
+    // Goes past what comes next in both and is the same: as many as one glance shows.
     #[tactic(auto, using(crate::proofs::Passing::singles_passed))]
     pub(crate) fn pass_same(&mut self, other: &mut Iter<'_>)
         ensures { HavePassed self.old other.old self.new other.new }

@@ -9,7 +9,7 @@ use std::sync::Arc;
 // As many bytes as a `String` takes without its content, less one for the length.
 const MOST_SHORT: usize = 23;
 
-// Short texts lie beside the count of their owners, so that they take one block and not two.
+// Short texts lie next to the count of their owners, so that they take one block and not two.
 #[derive(Drop)]
 enum Chars {
     Short(u8, [u8; MOST_SHORT]),
@@ -117,7 +117,7 @@ impl Text {
         }
     }
 
-    /// Whether both are kept alike and have the same bytes. Of two short texts it looks at the whole blocks at once.
+    /// Whether both are stored alike and have the same bytes. Of two short texts it looks at the whole blocks at once.
     #[inline(always)]
     pub(crate) fn is_same(&self, other: &Text) -> bool
         ensures { IsTrue result → self.now ≡ other.now }

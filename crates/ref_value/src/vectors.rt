@@ -164,7 +164,7 @@ impl Items {
         Ok(all)
     }
 
-    /// Puts one more element behind these, in log n steps. What has other owners, which keep the old elements, is copied
+    /// Puts one more element behind these, in log n steps. What has other owners, whose elements stay, is copied
     /// along the way: log n nodes and one list of up to 32. A refusal changes nothing.
     #[tactic(auto, using(crate::proofs::Pairing::length_singles, crate::proofs::Pairing::singles_insert, crate::proofs::Pairing::are_twins_insert, crate::proofs::Pieces::insert_end))]
     pub fn push(&mut self, alloc: Global, x: Value) -> Result<(), AllocError>
@@ -199,7 +199,7 @@ impl<'a> Model for Iter<'a> {
 }
 
 impl<'a> Iter<'a> {
-    // Goes past what comes next in both and is the same: as many as can be told at a glance.
+    // Goes past what comes next in both and is the same: as many as one glance shows.
     #[tactic(auto, using(crate::proofs::Passing::singles_passed))]
     pub(crate) fn pass_same(&mut self, other: &mut Iter<'_>)
         ensures { HavePassed self.old other.old self.new other.new }

@@ -404,7 +404,7 @@ abbrev pub dump_of : Edn → Result Dump DumpFault
 dump_of (edn.map es) = parts_unless (misfit (pairs_of es)) (pairs_of es)
 dump_of x = Err NotDump
 
--- the fault that keys and version tell
+-- the fault that keys and version give
 abbrev pub early_fault : Edn → Option DumpFault
 early_fault (edn.map es) = misfit (pairs_of es)
 early_fault x = Some NotDump

@@ -1,4 +1,4 @@
--- Which faults of a dump are told before any memory is taken: those of its keys and its version, that its first part is no number, and
+-- Which faults of a dump are found before any memory is taken: those of its keys and its version, that its first part is no number, and
 -- that its second one is no list.
 use Rattle.std.specs.Prelude.{Bool, not, if◌then◌else◌, List, Option, None, Some, is_some, option_and_then}
 use Rattle.ref_value.specs.Edn.{Edn, pairs_of}

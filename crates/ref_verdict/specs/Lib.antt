@@ -1,4 +1,4 @@
--- To be read and believed: Words, DumpForm and Early (which data is a dump, what is read of it, and which faults are told first),
+-- To be read and believed: Words, DumpForm and Early (which data is a dump, what is read of it, and which faults are found first),
 -- Verdict, Faults. FormLaws are proved, for whoever makes a dump. OfCore says what `read_dump` promises to `verdict`. Reading is for
 -- private functions.
 pub mod Words

@@ -12,7 +12,7 @@ Reads said (Ok x) = said ≡ Some x
 Reads said (Err wrongs.Form) = said ≡ None
 Reads said (Err wrongs.Memory) = Unit {0}
 
--- A value or the fault that is meant is told; or memory is refused.
+-- A value or the fault that is meant is returned; or memory is refused.
 abbrev pub Told : {A : Type 0} → Result A DumpFault → Result A DumpFault → Type 0
 Told meant (Ok x) = meant ≡ Ok x
 Told meant (Err fault) = fault ≢ Memory → meant ≡ Err fault

@@ -1,5 +1,5 @@
 -- The words of dumps, and the forms that stand in more than one place of a dump. Keys, tags, marks and statuses are keywords;
--- each is told here without its colon.
+-- each stands here without its colon.
 use Rattle.std.specs.Prelude.{ℕ, pos, List, [], ◌∷◌, Option, None, Some, codes}
 use Rattle.ref_value.specs.Edn.{Edn, nil, int, symbol, vector, items_of}
 use Rattle.ref_fun.specs.Names.{core_names, name_in}

@@ -19,8 +19,8 @@ use std::alloc::Global;
 /// a dump, and the lines of a verdict.
 ///
 /// It rests on nothing that the dump was made by but the functions of the table. Linear in the dump and in what its functions cost,
-/// but for look-ups. That a value is no dump, or one of another version, that its first part is no number or its second no list, is told
-/// before any memory is taken.
+/// but for look-ups. That a value is no dump, or one of another version, that its first part is no number or its second no list, is
+/// reported before any memory is taken.
 pub fn audit<F: Functions<Core>>(
     alloc: Global,
     funs: &F,

@@ -45,7 +45,7 @@ pub fn read_dump(alloc: Global, value: &Value) -> Result<Dump, DumpFault>
     }
 }
 
-// What the parts of a dump say, whose keys and version are right. That the first ones are wrong is told before any memory is taken.
+// What the parts of a dump say, whose keys and version are right. That the first ones are wrong is found before any memory is taken.
 #[tactic(auto, using(crate::proofs::Early::parts_told))]
 fn checked_parts(alloc: Global, entries: &Entries) -> Result<Dump, DumpFault>
     ensures reads { AnswersOrMemory Memory (parts_fault entries.now) (parts_said entries.now) result }

@@ -1,4 +1,4 @@
--- The marks that the check of an order keeps: which steps are refused, and which have an entry.
+-- The marks that the check of an order stores: which steps are refused, and which have an entry.
 use Rattle.std.specs.Prelude.{◌≡◌, ◌≢◌, ℕ, Bool, true, false, if◌then◌else◌, List, [], Option, None, Some, slice_get}
 use Rattle.std.specs.List.{All, IsDistinct}
 use Rattle.ref_audit.specs.declared.reports.Refusal.{Refusal}

@@ -23,7 +23,7 @@ abbrev pub told : Bool → PlanSeen → WorldSeen → List Refusal → List ℕ
 told true plan world refused = printed (dumped world) ++ 10 ∷ []
 told false plan world refused = reported plan.names world refused verdicts.Ok
 
--- The output is what is told of a world in which the plan was run, each worker's steps in order, and nothing else was. The audit of
+-- The output is the report or dump of a world in which the plan was run, each worker's steps in order, and nothing else was. The audit of
 -- that world's dump says ok.
 pub record IsPlanRun (dump : Bool) (plan : PlanSeen) (output : List ℕ) : Type 0 where
   pub world : WorldSeen
@@ -41,7 +41,7 @@ pub record IsRun (dump : Bool) (text output : List ℕ) : Type 0 where
   pub lawful : IsWorkload value plan
   pub run : IsPlanRun dump plan output
 
--- faults that come from a plan or for want of memory alone, and those of a text besides
+-- faults that come from a plan or out of memory alone, and those of a text in addition
 abbrev pub IsOfPlan : RunFault → Type 0
 IsOfPlan faults.Memory = Unit {0}
 IsOfPlan faults.Internal = Unit {0}

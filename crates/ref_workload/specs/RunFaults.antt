@@ -1,4 +1,4 @@
--- The numbers of the faults of a run, and the faults that others are told as.
+-- The numbers of the faults of a run, and which of them others become.
 use Rattle.std.specs.Prelude.{ℕ}
 use Rattle.ref_edn.specs.declared.faults.ReadFault.{ReadFault}
 use Rattle.ref_edn.specs.declared.faults.ReadFault.TheVariants as reads

@@ -38,13 +38,13 @@ IsOfInput faults.InputTooLong = Unit {0}
 IsOfInput faults.Memory = Unit {0}
 IsOfInput fault = ⊥
 
--- A read that fails is told by Read and by nothing else.
+-- Read alone reports a read that failed.
 abbrev pub CountsReads : {T : Type 0} → ℕ → ℕ → Result T RunFault → Type 0
 CountsReads old new (Ok x) = new ≡ old
 CountsReads old new (Err faults.Read) = new ≡ counted old
 CountsReads old new (Err fault) = new ≡ old
 
--- A write that fails is told by Write and by nothing else.
+-- Write alone reports a write that failed.
 abbrev pub CountsWrites : {T : Type 0} → ℕ → ℕ → Result T RunFault → Type 0
 CountsWrites old new (Ok x) = new ≡ old
 CountsWrites old new (Err faults.Write) = new ≡ counted old

@@ -1,6 +1,6 @@
 //! Workloads: their run by threads on a shared world.
 //!
-//! [`run::run_plan`] runs a [`Plan`], each worker in a thread of its own beside a pool for the actions of agents, and compares what
+//! [`run::run_plan`] runs a [`Plan`], each worker in a thread of its own next to a pool for the actions of agents, and compares what
 //! came of it with the plan. [`run_workload`] reads a workload, plans it by [`plan::plan`], runs it, and writes the report or the
 //! dump. Plans are those of `ref_plan`, whose items stand here too.
 //!

@@ -28,12 +28,12 @@ pub struct RunOut<C: Ledger, A: Ledger> {
     pub refused: Vec<Refusal>,
 }
 
-/// Runs a plan in a world of its own: each worker's steps in order, in a thread of its own, beside a pool of threads that run
+/// Runs a plan in a world of its own: each worker's steps in order, in a thread of its own, next to a pool of threads that run
 /// the actions of agents. A transaction is tried so often, and once where that is 0. Each thread gets a gate, the workers the
 /// first ones, by number. The blanks become the books.
 ///
 /// When all workers have ended the shared world is closed, and the pool does what is left. Where a thread can't be made, or one
-/// meets a fault, the others run to their end before the fault is told, the first of the workers by number and then of the
+/// meets a fault, the others run to their end before the fault is returned, the first of the workers by number and then of the
 /// pool. A table that lacks a function or a predicate that the plan names ends the run with [`RunFault::Internal`]. What comes
 /// out is compared with the plan, in time linear in both.
 pub fn run_plan<F, C, A, R, G>(

@@ -35,11 +35,11 @@ use std::thread::Threads;
 pub struct Options {
     /// How often a transaction is tried that is in conflict, at least once.
     pub tries: u32,
-    /// Whether the dump of the run is written in the place of its report.
+    /// Whether the dump of the run is written instead of its report.
     pub dump: bool,
 }
 
-/// Reads a workload to its end, runs it by a table of Core's functions, with a thread for each worker beside a pool, audits what came
+/// Reads a workload to its end, runs it by a table of Core's functions, with a thread for each worker next to a pool, audits what came
 /// of it, and writes the report, or the dump that was audited and a newline.
 ///
 /// Nothing is written before the run has ended. The reader is read to its end or to one byte more than a workload may have.

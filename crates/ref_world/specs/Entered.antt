@@ -41,7 +41,7 @@ since_later (x ∷ xs) p is =
     let parts = and_parts (not (nat_lt p x)) (are_unchanged_since xs p) is in
     and_from (not (nat_lt (p + 1) x)) (are_unchanged_since xs (p + 1)) (not_later p x parts.0) (since_later xs p parts.1)
 
--- A commit's point is held beside those that were.
+-- A commit's point is held next to those that were.
 held_at : (p k x : ℕ) (xs : List ℕ) (o : Ordering) → not (nat_lt p k) ≡ true → (not (nat_lt p x) && are_past p xs) ≡ true → are_past p (insert_key nat_cmp xs k) ≡ true
     → are_past p (match_ordering o (k ∷ x ∷ xs) (x ∷ xs) (x ∷ insert_key nat_cmp xs k)) ≡ true
 held_at p k x xs Less here are later = and_from (not (nat_lt p k)) (not (nat_lt p x) && are_past p xs) here are

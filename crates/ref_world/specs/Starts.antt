@@ -20,7 +20,7 @@ use Rattle.ref_start.specs.declared.starts.AtomStart.{AtomStart}
 use Rattle.ref_start.specs.declared.starts.RefStart.{RefStart}
 use Rattle.ref_start.specs.declared.starts.Start.{Start}
 
--- A store's fault is told with the number that the reference would have.
+-- A store's fault is returned with the number that the reference would have.
 abbrev pub or_refused : {Store : Type 0} → Who → Option MakeFault → Store → Result Store (Who × MakeFault)
 or_refused who (Some fault) store = Err (who, fault)
 or_refused who None store = Ok store
@@ -88,7 +88,7 @@ start_refusal accepts knows start =
     (option_or (refusal_of (declared_atoms accepts knows start.atoms.items))
     (refusal_of (declared_agents accepts knows start.agents.items)))
 
--- Why the first of these can't be made; where there is none, what comes next tells.
+-- Why the first of these can't be made; where there is none, what comes next decides.
 abbrev pub first_refused : {S Store : Type 0} → (S → Store → Result Store (Who × MakeFault)) → List S → Store → Option (Who × MakeFault) → Option (Who × MakeFault)
 first_refused make [] store next = next
 first_refused make (s ∷ ss) store next = refusal_of (make s store)

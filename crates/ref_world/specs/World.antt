@@ -42,7 +42,7 @@ HasLastChanges base log refs = (r : ℕ) → changed_at refs.lasts r ≡ last_ch
 abbrev pub are_past : ℕ → List ℕ → Bool
 are_past point points = list_all (λ p. not (nat_lt point p)) points
 
--- What is always so: besides, the base has the last change of each of its refs and names the tally, no ref has changed after
+-- What is always so: also, the base has the last change of each of its refs and names the tally, no ref has changed after
 -- the present point and no commit whose sends are held comes after it, an atom's entries set it, and points end at 2^62.
 pub record IsWorld (means : Means) (base : Base) (log : List Entry) (refs : RefsSeen) (atoms : AtomsSeen) (unreleased : List ℕ) : Type 0 where
   pub replayed : IsReplayed means base log refs atoms

@@ -69,7 +69,7 @@ impl<M: Meaning, C: Ledger, A: Ledger> World<M, C, A> {
         self.agents.release(point)
     }
 
-    /// Hands out the first action of some agent that is ready: one that isn't failed, of which no job is on its way, and whose
+    /// Returns the first action of some agent that is ready: one that isn't failed, of which no job is on its way, and whose
     /// first action is released. None only where no agent is ready. The action stays in the queue. The time is linear in the
     /// number of agents with actions that wait which have to be looked at. A refused call changes nothing.
     pub fn take(&mut self) -> Result<Option<Job>, AllocError>
@@ -99,9 +99,9 @@ impl<M: Meaning, C: Ledger, A: Ledger> World<M, C, A> {
     }
 
     /// Ends a job that has run, exactly where it is on its way here. Where the function gave a value that the agent's rule
-    /// accepts, that is the state from now on. Else the agent keeps its state, and is failed or goes on, by its error mode.
+    /// accepts, that is the state from now on. Else the state stays, and the agent is failed or goes on, by its error mode.
     /// The action leaves the queue. The time is linear in the sizes of its arguments and its state, which are compared, and
-    /// in the number of watches. A refused call changes nothing, and hands the job back.
+    /// in the number of watches. A refused call changes nothing, and returns the job.
     pub fn finish<F: Functions<M>>(
         &mut self,
         alloc: Global,
@@ -127,7 +127,7 @@ impl<M: Meaning, C: Ledger, A: Ledger> World<M, C, A> {
     }
 
     /// Restarts a failed agent with this state, which its rule has to accept, as Clojure's `restart-agent`: it takes sends
-    /// again. The actions that wait proceed, or are dropped where `clear` says so. Watches are told nothing. A refused call
+    /// again. The actions that wait proceed, or are dropped where `clear` says so. Watches aren't called. A refused call
     /// changes nothing.
     pub fn restart<F: Functions<M>>(
         &mut self,

@@ -19,9 +19,9 @@ use std::sync::ledger::Ledger;
 
 impl<M: Meaning, C: Ledger, A: Ledger> World<M, C, A> {
     /// Folds the entries up to this point into the base, and answers how many these were: the base gets the values and the last
-    /// change of each ref at that point, and the commits and additions up to there. The log keeps the entries after it. All
+    /// change of each ref at that point, and the commits and additions up to there. The log holds the entries after it. All
     /// values, last changes, rules, agents and books stay, so that no later call answers otherwise. The table has to have the
-    /// functions that the folded entries call, for they are replayed. Views keep what they have.
+    /// functions that the folded entries call, for they are replayed. Views stay as they were.
     ///
     /// It costs a replay of the folded entries, a step for each ref and atom, and a logarithm of the entries that are left. All
     /// growths come before the first change; a refused call changes nothing.

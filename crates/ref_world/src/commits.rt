@@ -24,7 +24,7 @@ use ref_tx::Tx;
 use std::alloc::{AllocError, Global};
 use std::sync::ledger::Ledger;
 
-/// What a commit answers: its point, its stamp, and what the watches are to be told.
+/// What a commit returns: its point, its stamp, and the notices for the watches.
 #[derive(Drop)]
 pub struct Receipt {
     pub point: u64,
@@ -53,7 +53,7 @@ impl<M: Meaning, C: Ledger, A: Ledger> World<M, C, A> {
     /// transaction sends waits at the ends of its agents' queues, in order, and is held until [`World::release`] is called with
     /// the commit's point; a failed agent takes it too. The share gets the commit, what it adds to the tally, and its receipt.
     ///
-    /// A refused commit changes nothing and hands the transaction back. The tests are made in this order: what is foreign,
+    /// A refused commit changes nothing and returns the transaction. The tests are made in this order: what is foreign,
     /// functions and predicates that the table lacks, the conflict, a foreign value, a refusal over the latest values, a rule
     /// that doesn't accept, the end of points. All growths come before the first change, but for the sends, which are taken back
     /// where there is no memory for all of them. The cost is that of the store's commit, logarithmic in the number of refs for
@@ -87,7 +87,7 @@ impl<M: Meaning, C: Ledger, A: Ledger> World<M, C, A> {
             ≡ notices self.old.refs.guards self.old.refs.values self.new.refs.values (touched_refs tx.dones)) }
         ensures share { OnOk result (share.new ≡ shares.with_commit share.old (point_of self.old + 1) (entry_of stamp tx)
             (added_by_dones self.old.refs.tally tx.dones)) }
-        // A conflict is told with a ref that the transaction protects, its read point and a later point.
+        // A conflict is returned with a ref that the transaction protects, its read point and a later point.
         ensures conflict { IfErr result (λ e. ConflictFits tx e.1) }
         ensures back { IfErr result (λ e. e.0 ≡ tx) }
         ensures err { OnErr result (self.new ≡ self.old) }
@@ -129,7 +129,7 @@ impl<M: Meaning, C: Ledger, A: Ledger> World<M, C, A> {
 }
 
 // Puts an entry behind the others, and what it sends at the ends of the queues, or leaves both. Where it sends nothing the entry
-// is put in place; else it is put into a version of its own, which is let go where there is no memory for the sends.
+// is put in place; else it is put into a version of its own, which is dropped where there is no memory for the sends.
 fn write<M: Meaning>(
     alloc: Global,
     log: &mut PVec<Entry>,

@@ -4,18 +4,18 @@
 //! state is its start folded over its done actions; and that each rule, Clojure's validator, accepts its reference's value. Each call
 //! is one step that needs nobody else, and one that is refused changes nothing.
 //!
-//! [`World::begin`] hands out a transaction and [`World::commit_with`] commits it; [`World::swap`], [`World::reset`] and
+//! [`World::begin`] returns a transaction and [`World::commit_with`] commits it; [`World::swap`], [`World::reset`] and
 //! [`World::compare_and_set`] change an atom; [`World::make_ref`] and [`World::make_atom`] make a reference. Each of these changes adds
 //! one entry at the next point, also where all values stay; a comparison that answers false adds none. Agents have no entries: what is
-//! sent waits in a queue, where a commit's sends are held until [`World::release`], which is for when its watches were told.
-//! [`World::take`] hands out a job, which is run with no world at hand and comes back to [`World::finish`] or [`World::put_back`].
+//! sent waits in a queue, where a commit's sends are held until [`World::release`], which is for when its watches were called.
+//! [`World::take`] returns a job, which is run without the world and comes back to [`World::finish`] or [`World::put_back`].
 //!
 //! | Type | Is |
 //! |---|---|
 //! | [`World`] | refs, atoms and agents, at most 2^20 of each, with a base, a log, and books of what was done |
 //! | [`Start`], [`RefStart`], [`AtomStart`], [`AgentStart`] | what a world begins with ([`World::new`]), and the parts of that |
 //! | [`Share`] | what commits and changes of atoms are counted in. It is split and joined; one with [`ALL_PARTS`] has what the books have |
-//! | [`Receipt`], [`LogReceipt`] | what a commit answers; what a share keeps of an entry: its point and the whole entry |
+//! | [`Receipt`], [`LogReceipt`] | what a commit returns; what a share stores of an entry: its point and the whole entry |
 //! | [`Totals`] | what the books say: how many commits there were, and how much they added to the tally |
 //! | [`View`] | base and log as they were ([`World::view`]), for whoever reads them while the world goes on |
 //! | [`CheckpointFault`] | why [`World::checkpoint`] folded nothing. Other calls have the faults of the stores and of `ref_log` |
@@ -26,12 +26,12 @@
 //! **Costs.** `begin` and `view` take constant time and no memory, whatever the number of refs and entries. A commit, a change of an atom
 //! and a making cost what they do in their stores and a push to the log, a [`ref_pvec::PVec`]; a commit also takes a step for each send,
 //! logarithmic in the number of agents with actions that wait. A checkpoint costs a replay of the entries that it folds, a step for each
-//! ref and atom, and a logarithm of the entries that are left; a join a step for each receipt of the other share. The log keeps an entry
+//! ref and atom, and a logarithm of the entries that are left; a join a step for each receipt of the other share. The log holds an entry
 //! until it is folded, a share each receipt, and an account each action that ended until a restart.
 //!
-//! **Not promised.** That a share which was let go comes back: no other one is whole then. That a transaction of this world has nothing
-//! foreign, or that one of another world is refused. That watches are told and sends released: both are for the caller. Which agent
-//! `take` finds, and that an action is ever run. That what is refused after a growth, as by a function, isn't told as 'out of memory'.
+//! **Not promised.** That a share which was dropped comes back: no other one is whole then. That a transaction of this world has nothing
+//! foreign, or that one of another world is refused. That watches are called and sends released: both are for the caller. Which agent
+//! `take` finds, and that an action is ever run. That what is refused after a growth, as by a function, isn't returned as 'out of memory'.
 //! No contract speaks of time, or of how much memory is taken.
 #![tactic(auto)]
 

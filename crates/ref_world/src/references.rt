@@ -66,7 +66,7 @@ impl<M: Meaning, C: Ledger, A: Ledger> World<M, C, A> {
         }
     }
 
-    /// Gives a reference this rule, or none, in the place of the one that it had. The rule has to accept the value now. It
+    /// Gives a reference this rule, or none, instead of the one that it had. The rule has to accept the value now. It
     /// takes no memory. A refused call changes nothing.
     pub fn set_validator<F: Functions<M>>(
         &mut self,

@@ -9,7 +9,7 @@ use std::sync::ledger::{Ledger, Share as Part};
 /// How many parts all shares of a world have: 2^32.
 pub const ALL_PARTS: u64 = 4_294_967_296;
 
-/// What is kept of a call that added an entry to the log: the entry whole, and its point.
+/// What is stored of a call that added an entry to the log: the entry whole, and its point.
 #[derive(Drop)]
 pub struct LogReceipt {
     pub point: u64,
@@ -22,7 +22,7 @@ pub struct LogReceipt {
 /// A world comes with one share, which has all parts. Whoever is to change it gets some of them by [`Share::split`]; the calls
 /// that add such an entry take the share and count in it. C and A name the world's books, so that a share fits no other
 /// world and meets no share of one. Where all are joined again, what is in the share is what is in the world's books. A share
-/// that is let go takes its parts with it.
+/// that is dropped takes its parts with it.
 #[derive(Drop)]
 pub struct Share<C: Ledger, A: Ledger> {
     parts: u64,
@@ -120,7 +120,7 @@ impl<C: Ledger, A: Ledger> Share<C, A> {
 
     /// Takes all of another share in. The receipts that were here stand first, in their order, and then the other's, in theirs;
     /// so where both shares were used side by side, the receipts of the joined one needn't stand in the order of their points.
-    /// Linear in the number of the other's receipts. Where there is no memory for these it changes nothing and hands the other
+    /// Linear in the number of the other's receipts. Where there is no memory for these it changes nothing and returns the other
     /// share back; one without receipts takes no memory.
     pub fn join(&mut self, other: Share<C, A>) -> Result<(), Share<C, A>>
         ensures ok { OnOk result (self.new ≡ joined self.old other) }

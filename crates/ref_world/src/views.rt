@@ -83,7 +83,7 @@ impl<M: Meaning> View<M> {
 }
 
 impl<M: Meaning, C: Ledger, A: Ledger> World<M, C, A> {
-    /// The base and the log as they are now, kept. It takes no memory, and as long whatever the length of the log; only a count
+    /// The base and the log as they are now. It takes no memory, and as long whatever the length of the log; only a count
     /// of owners can refuse.
     pub fn view(&self) -> Result<View<M>, AllocError>
         ensures { IfOk result (λ view. view ≡ record { base = self.now.base; log = self.now.log }) }

@@ -1,4 +1,4 @@
-//! The world and what it tells.
+//! The world and what can be asked of it.
 ghost use Rattle.std.specs.Prelude.{◌≡◌, ◌≢◌, ◌≤◌, ◌^◌, ◌+◌, [], true, length, None, Some, Ok, IfOk, IfErr, OnOk};
 ghost use Rattle.std.specs.List.{list_all};
 ghost use Rattle.ref_log.specs.Replay.{sets_atom};
@@ -71,7 +71,7 @@ impl<M: Meaning, C: Ledger, A: Ledger> Model for World<M, C, A> {
 
 impl<M: Meaning, C: Ledger, A: Ledger> World<M, C, A> {
     /// A world that begins with these references, refs made before atoms before agents, at point 0 and with no entry, and its
-    /// whole share. Where one of the references can't be made it is told which and why; where memory is refused, which one says
+    /// whole share. Where one of the references can't be made which and why is returned; where memory is refused, which one says
     /// nothing. The blanks become the books, and are spent where the world is refused, too.
     #[tactic(auto, using(crate::proofs::Starting::first_made))]
     pub fn new<F: Functions<M>>(
@@ -146,7 +146,7 @@ impl<M: Meaning, C: Ledger, A: Ledger> World<M, C, A> {
         &self.base
     }
 
-    /// The entries after the base, the first of them at the point after its. [`World::view`] keeps them as they are now.
+    /// The entries after the base, the first of them at the point after its. [`World::view`] holds them as they are now.
     pub fn log(&self) -> &PVec<Entry>
         ensures log { result.now ≡ self.now.log }
         // An atom's entry is `reset!` or `swap!`.

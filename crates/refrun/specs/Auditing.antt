@@ -57,7 +57,7 @@ abbrev pub dump_fault_of : DumpFault → AuditRunFault
 dump_fault_of dumps.Memory = faults.Memory
 dump_fault_of fault = faults.Dump fault
 
--- A read that fails is told by Read and by nothing else, and a write by Write.
+-- Read alone reports a read that failed, and Write alone a write that failed.
 abbrev pub CountsReads : {T : Type 0} → ℕ → ℕ → Result T AuditRunFault → Type 0
 CountsReads old new (Ok x) = new ≡ old
 CountsReads old new (Err faults.Read) = new ≡ counted old

@@ -1,4 +1,4 @@
--- What a fault is told by: a number, and a status of the program.
+-- How a fault is reported: a number, and a status of the program.
 use Rattle.std.specs.Prelude.{ℕ}
 use Rattle.ref_events.specs.declared.faults.ScriptFault.{ScriptFault}
 use Rattle.ref_events.specs.declared.faults.ScriptFault.TheVariants as scripts
@@ -18,7 +18,7 @@ audit_run_number_of audits.Write = 5
 audit_run_number_of audits.Memory = 6
 
 -- The status that the program ends with: 3 where the input is refused, 4 where reading or writing failed, 5 where the audit of a run
--- says no, and 6 for want of memory.
+-- says no, and 6 for out of memory.
 abbrev pub run_status_of : RunFault → ℕ
 run_status_of runs.InputTooLong = 3
 run_status_of (runs.NotEdn fault) = 3

@@ -20,7 +20,7 @@ pub record IsPrintOf (text output : List ℕ) : Type 0 where
   pub belongs : AreTexts text values
   pub output_is : output ≡ printed_lines values
 
--- faults that come from a text whose elements are printed, and those of printing it besides: nothing is planned or run
+-- faults that come from a text whose elements are printed, and those of printing it in addition: nothing is planned or run
 abbrev pub IsOfElements : RunFault → Type 0
 IsOfElements (faults.NotEdn fault) = Unit {0}
 IsOfElements faults.Memory = Unit {0}

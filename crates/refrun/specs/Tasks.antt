@@ -21,7 +21,7 @@ play_fault_of (play_faults.Run fault) = faults.Run fault
 play_fault_of (play_faults.Script fault) = faults.Script fault
 
 -- The whole output was written: of a run its report or its dump, of an audit the line of its verdict, of a play its lines and its report.
--- What was left to read and what was written are told before and after.
+-- What was left to read and what was written are named before and after.
 abbrev pub IsDone : Task → Verdict → Option (List ℕ) → Option (List ℕ) → Option (List ℕ) → Option (List ℕ) → Type 0
 IsDone (Run options tells) verdict before after old new = (verdict ≡ verdicts.Ok) × streams.HasWritten (runs.IsRun options.dump) before after old new
 IsDone Audit verdict before after old new = streams.HasWritten (audits.IsAuditOf verdict) before after old new
@@ -46,7 +46,7 @@ IsLeft Play (faults.Run fault) before after old new =
 IsLeft Play (faults.Script fault) before after old new = new ≡ old
 IsLeft task fault before after old new = ⊥
 
--- A read that fails is told by the fault for it and by nothing else, and so is a write.
+-- Only the fault for it reports a read that failed, and so for a write.
 abbrev pub CountsReads : ℕ → ℕ → Result Verdict Fault → Type 0
 CountsReads old new (Ok verdict) = new ≡ old
 CountsReads old new (Err (faults.Run fault)) = streams.CountsReads {T = Verdict} old new (Err fault)

@@ -93,7 +93,7 @@ where
 
 // ---- what ends a command early
 
-// Says what went wrong, and answers the status. Where standard error can't be written, the status alone tells.
+// Says what went wrong, and returns the status. Where standard error can't be written, only the status says it.
 fn say<R: Eprint>(rt: &R, fault: Fault) -> u8 {
     let line = Line(fault);
     let _said = eprintln!(rt; "refrun: {line}");

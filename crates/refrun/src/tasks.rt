@@ -22,7 +22,7 @@ use std::time::Clock;
 pub(crate) enum Task {
     Run {
         options: Options,
-        /// Whether it is told on standard error how far the run is.
+        /// Whether standard error shows how far the run is.
         tells: bool,
     },
     Audit,

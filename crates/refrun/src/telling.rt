@@ -1,4 +1,4 @@
-//! What is told of a run while it lasts.
+//! Progress of a run while it lasts.
 ghost use Rattle.std.specs.Prelude.{◌≡◌, ◌≢◌, IfOk, IfErr, IfSome};
 ghost use Rattle.std.specs.Thread.{IsSync};
 ghost use Rattle.ref_edn.specs.Streams.{ConsumesUpTo};
@@ -19,17 +19,17 @@ use std::thread;
 use std::thread::Threads;
 use std::time::{Clock, Duration};
 
-// How long the thread that tells sleeps between two looks, in milliseconds.
+// How long the thread that shows progress sleeps between two looks, in milliseconds.
 const PAUSE: u64 = 20;
 
-// It tells at each of so many looks, which is about once a second.
+// It writes at each of so many looks, which is about once a second.
 const LOOKS: u32 = 50;
 
 // Back to the beginning of the line, which is cleared.
 const AGAIN: &str = "\r\u{1b}[K";
 
-/// Runs a workload as [`ref_workload::run_workload`] does, and tells on standard error about once a second how far the run is, in one
-/// line that is written again and again, and cleared at the end. Where no thread can be made for that, nothing is told.
+/// Runs a workload as [`ref_workload::run_workload`] does, and shows on standard error about once a second how far the run is, in one
+/// line that is written again and again, and cleared at the end. Where no thread can be made for that, nothing is shown.
 pub(crate) fn run_and_tell<F, R, I, O>(
     rt: &R,
     alloc: Global,
@@ -65,7 +65,7 @@ where
     Ok(Verdict::Ok)
 }
 
-// Runs a workload's text, with a thread beside that tells how far the run is.
+// Runs a workload's text, with a thread that shows how far the run is.
 fn run_beside<F, R>(
     rt: &R,
     alloc: Global,
@@ -103,7 +103,7 @@ where
     )
 }
 
-// Tells how far a run is until it is over.
+// Shows how far a run is until it is over.
 fn tell<R: Wait + Clock + Eprint>(rt: &R, progress: &Progress, is_over: &AtomicBool) {
     let mut looks = 0u32;
     let mut has_told = false;

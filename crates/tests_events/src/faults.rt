@@ -1,4 +1,4 @@
-//! Which fault of a list of events is told, and what faults say.
+//! Which fault of a list of events is returned, and what faults say.
 use ref_edn::ReadFault;
 use ref_events::ScriptFault;
 use ref_fun::CoreFunctions;

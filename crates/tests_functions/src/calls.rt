@@ -50,7 +50,7 @@ pub fn call_of(alloc: Global, text: &str) -> Result<Call, Fail> {
 
 const DEPTHS: &[usize] = &[46, 47, 48, 49, 62, 63];
 
-// The text with a vector nested 48 deep, and nothing in it, in the place of `@48`.
+// The text with a vector nested 48 deep, and nothing in it, instead of `@48`.
 fn written_out(alloc: Global, text: &str) -> Result<String, AllocError> {
     let mut text = String::from_str(alloc, text)?;
     for depth in DEPTHS {

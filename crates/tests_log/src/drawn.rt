@@ -69,7 +69,7 @@ fn with<G: Ground, V: Visit>(
     }
 }
 
-// Makes up to 8 operations on the first three refs, and tells how many were refused.
+// Makes up to 8 operations on the first three refs, and returns how many were refused.
 fn operate_often(by: By, tx: &mut Tx<Core>, seed: &mut u64) -> Result<usize, AllocError> {
     let mut refused: usize = 0;
     for _ in 0..draw(seed, 9) {
@@ -126,7 +126,7 @@ fn agrees(by: By, base: &Base, tx: &Tx<Core>) -> Result<bool, AllocError> {
     }
 }
 
-// How many operations of drawn transactions were kept and refused.
+// How many operations of drawn transactions were made and refused.
 #[derive(Clone, Copy, Debug, Drop)]
 struct Counts {
     recorded: usize,

@@ -52,7 +52,7 @@ fn a_store_takes_a_thousand_refs(rt: HostRuntime) -> Result<(), Fail> {
     Ok(())
 }
 
-// How many refs there are, whether one more would be a tally that can't be one, a point and a rule, and what is told. Each kind
+// How many refs there are, whether one more would be a tally that can't be one, a point and a rule, and what is returned. Each kind
 // asks this in the one place that is asked here: to make so many refs takes minutes, since each making is a version of its own.
 const COUNTS: &[(usize, bool, &str)] = &[
     (0, false, "0 nil :ok"),
@@ -66,7 +66,7 @@ const COUNTS: &[(usize, bool, &str)] = &[
     (1_048_576, true, "0 nil :full"),
 ];
 
-// Whether what is asked of one more tells what a row says.
+// Whether what is asked of one more returns what a row says.
 fn tells(
     alloc: Global,
     funs: &FunTable,
@@ -84,7 +84,7 @@ fn tells(
     Ok(row.last() == Some(&told))
 }
 
-// What is asked of one more tells what each row says.
+// What is asked of one more returns what each row says.
 #[derive(Drop)]
 struct OneMore;
 
@@ -123,7 +123,7 @@ fn atoms_of(
     Ok(Some(store))
 }
 
-// A point, a rule and the fault. A missing predicate is told before it is full, and the rule and the last point after.
+// A point, a rule and the fault. A missing predicate is returned before it is full, and the rule and the last point after.
 const FULL: &[&str] = &[
     "0 nil :full",
     "0 [<= 0] [:no-such-fun 102]",

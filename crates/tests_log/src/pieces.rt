@@ -44,7 +44,7 @@ fn keys_of(
     Ok(keys)
 }
 
-// Whether these keys, and no others, are told of atom 4.
+// Whether these keys, and no others, get notices of atom 4.
 fn are_told(alloc: Global, watches: &Watches, keys: &[Value]) -> Result<bool, AllocError> {
     let (before, after) = (number(5)?, number(6)?);
     let mut notices: Vec<Notice> = Vec::new(alloc);
@@ -63,7 +63,7 @@ fn have_all(watches: &Watches, keys: &[Value], wanted: bool) -> bool {
     true
 }
 
-// Whether watches are told in the order of a row's keys, have these, and don't have the others that it names.
+// Whether watches get notices in the order of a row's keys, have these, and don't have the others that it names.
 fn are_as(alloc: Global, watches: &Watches, row: &[Value]) -> Result<bool, AllocError> {
     let keys = members(alloc, &value_at(row, 1)?)?;
     let others = members(alloc, &value_at(row, 2)?)?;

@@ -1,7 +1,7 @@
 //! The slow replay, on logs by hand.
 //!
 //! A row has the point of the base, entries, and last what their replay gives: the values of the refs and of the atoms, or the
-//! fault. The base has the refs a, 0, and b, 10, and the atom x, 1. An operation ends with the answer that is kept.
+//! fault. The base has the refs a, 0, and b, 10, and the atom x, 1. An operation ends with its kept answer.
 ghost use Rattle.std.specs.Prelude.{◌≡◌, IfOk};
 
 use ref_edn::Value;

@@ -1,4 +1,4 @@
-//! The books of a world and its share, beside those of the model.
+//! The books of a world and its share, next to those of the model.
 use ref_fun::Core;
 use ref_world::{LogReceipt, Share, Totals, World};
 use std::sync::ledger::Ledger;

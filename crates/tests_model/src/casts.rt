@@ -21,7 +21,7 @@ pub(crate) struct Actor {
     pub(crate) job: Option<(PlainJob, Option<Ended>)>,
 }
 
-/// An act, and what its actor is to be told. The model has made it.
+/// An act, and the reply that its actor is to get. The model has made it.
 pub(crate) type Told = Result<(Act, Wanted), Stop>;
 
 // ---- Transactions

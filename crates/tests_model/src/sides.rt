@@ -1,4 +1,4 @@
-//! Worlds beside their models.
+//! Worlds next to their models.
 ghost use Rattle.std.specs.Prelude.{◌≡◌};
 ghost use Rattle.ref_world.specs.Shares.{all_parts};
 

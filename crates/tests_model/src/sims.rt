@@ -57,7 +57,7 @@ fn drawn_actors(player: &mut Player) -> Result<Vec<Actor>, AllocError> {
 
 // ---- Lists
 
-// Events, and what is to be told.
+// Events, and the replies that are to come.
 #[derive(Drop)]
 struct List {
     events: Vec<Event>,

@@ -10,7 +10,7 @@ use tests_plain::open::{Open, call_on_open};
 use tests_plain::outcomes::{Played, Stop};
 use tests_plain::player::Player;
 
-/// Two worlds, and the open transactions and jobs that may be handed to either.
+/// Two worlds, and the open transactions and jobs that may be passed to either.
 pub(crate) struct Stage<C: Ledger, A: Ledger, D: Ledger, B: Ledger> {
     pub(crate) first: Side<C, A>,
     pub(crate) second: Side<D, B>,

@@ -1,4 +1,4 @@
-//! What an actor is to be told, by the model.
+//! The reply that an actor is to get, by the model.
 use crate::receipts::is_receipt;
 use ref_agents::{AgentError, FinishFault, JobFault, ModeFault, RestartFault, SendFault};
 use ref_atoms::AtomFault;

@@ -161,7 +161,7 @@ fn a_version_with_one_item_more(rt: HostRuntime) -> Result<(), Fail> {
     Ok(())
 }
 
-// ---- Drawn steps on versions that are all kept
+// ---- Drawn steps on versions that are all held
 
 // Mostly the newest version goes on, and sometimes an older one.
 fn drawn_place(seed: &mut u64, count: usize) -> usize {

@@ -178,7 +178,7 @@ fn keys_in_any_order(rt: HostRuntime) -> Result<(), Fail> {
     Ok(())
 }
 
-// ---- Drawn steps on versions that are all kept
+// ---- Drawn steps on versions that are all held
 
 // A new version of one that is drawn, with one entry more or less.
 fn step(alloc: Global, seed: &mut u64, versions: &mut Vec<Version>) -> Result<(), AllocError> {

@@ -18,7 +18,7 @@ pub struct PlainJob {
     pub state: Plain,
 }
 
-/// What an agent has beside its state, its rule and its watches.
+/// What an agent has next to its state, its rule and its watches.
 pub struct PlainAccount {
     pub start: Plain,
     pub handled: Vec<(PlainCall, Mark)>,

@@ -7,7 +7,7 @@ use crate::shows::{Shows, agree};
 use ref_agents::{AgentError, FinishFault, Finished, Job, JobFault, Ran};
 use ref_fun::{Cause, Core};
 
-/// A job, before it ran or afterwards. One that is let go is forsaken.
+/// A job, before it ran or afterwards. One that is dropped is forsaken.
 pub enum Hand {
     Waits(Job),
     Ran(Ran<Core>),

@@ -33,7 +33,7 @@ pub struct Reference {
     pub keys: Vec<Plain>,
 }
 
-/// What a watch is told.
+/// The notice for a watch.
 #[derive(Drop)]
 pub struct Told {
     pub who: Who,
@@ -286,7 +286,7 @@ fn are_served(references: &[Reference], table: Table) -> bool {
 }
 
 impl Model {
-    /// Gives a reference a value, and adds what its watches are told.
+    /// Gives a reference a value, and adds the notices for its watches.
     pub fn set_value(
         &mut self,
         who: Who,

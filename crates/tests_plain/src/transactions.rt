@@ -334,7 +334,7 @@ pub fn step(values: &mut Vec<Plain>, dones: &[PlainDone]) -> Result<(), CommitFa
 // ---- What a commit makes
 
 impl Model {
-    // The touched refs get their values, in order, and their watches are told.
+    // The touched refs get their values, in order, and their watches get notices.
     fn place_all(&mut self, tx: &PlainTx, after: &[Plain]) -> Result<Vec<Told>, AllocError> {
         let mut told = Vec::new(self.alloc);
         for (r, value) in (0..u32::MAX).zip(after) {

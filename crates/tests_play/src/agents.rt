@@ -16,7 +16,7 @@ fn jobs_are_taken_run_and_finished(rt: HostRuntime) -> Result<(), Fail> {
             [] [] [0 5] [0 send h + 1 :ok] [0 take [h 0]] [0 run :ok] [0 put-back :ok] [0 value-of h 5] [account h [5 1]] [1 take [h 0]] [1 finish :busy] [1 run :ok] [1 finish :changed] [0 value-of h 6] [account h [5 :done 0]]
             // Actions of one agent come in the order sent, whoever takes them. A job's number counts the handled ones.
             [] [] [5] [0 send g - 1 :ok] [1 send g + 10 :ok] [0 send g inc :ok] [1 take [g 0]] [1 run :ok] [0 take :none] [0 send g + 100 :ok] [1 finish :changed] [0 value-of g 4] [0 take [g 1]] [1 take :none] [0 run :ok] [0 finish :changed] [1 value-of g 14] [1 take [g 2]] [1 run :ok] [1 finish :changed] [1 take [g 3]] [1 run :ok] [1 finish :changed] [0 value-of g 115] [account g [5 :done :done :done :done 0]] [entries 0]
-            // Watches are told.
+            // Watches get notices.
             [] [] [0 5] [0 add-watch h :k true] [0 add-watch g :l true] [0 send h + 1 :ok] [1 take [h 0]] [1 run :ok] [1 finish [:changed [h :k 5 6]]] [0 send g + 0 :ok] [1 take [g 0]] [1 run :ok] [1 finish [:changed [g :l 0 0]]]
             // A function that the table lacks when it is run. The job stays, and runs by another table.
             [] [] [5] [0 send g conj 1 :ok] [0 send g - 1 :ok] [0 take [g 0]] [0 run [:no-such-fun 7]] [0 finish :busy] [0 run-by-fewer [:no-such-fun 7]] [0 put-back :ok] [1 take [g 0]] [1 run [:no-such-fun 7]] [account g [5 2]]

@@ -11,7 +11,7 @@ fn transactions_interleave(rt: HostRuntime) -> Result<(), Fail> {
         r##"
             // The second of two transactions that change a ref is refused, and stays open until it is dropped.
             [0] [] [0] [0 begin 0] [0 alter a + 1 1] [1 begin 0] [1 ref-set a 5 5] [1 commit 1 0 [1 1 0]] [0 commit 0 0 [:conflict 0 0 1]] [0 commit 0 0 [:conflict 0 0 1]] [0 begin :busy] [0 abort :ok] [0 commit 0 0 :no-tx] [0 value-of a 5] [entries 1] [end] [totals [1 0]] [receipts 1]
-            // Commutes meet no conflict, and both are in the sum. Each actor keeps the answer that it was given.
+            // Commutes meet no conflict, and both are in the sum. Each actor still has the answer that it got.
             [[tally 0]] [] [] [0 begin 0] [0 commute a + 1 1] [1 begin 0] [1 commute a + 10 10] [1 commit 1 0 [1 1 0]] [0 deref a 1] [0 commit 0 0 [2 0 0]] [0 value-of a 11] [added 11] [commits 2] [end] [totals [2 11]] [receipts 2]
             // Points are compared, and not values.
             [0 0] [] [] [0 begin 0] [0 ref-set b 1 1] [0 ensure a 0] [1 begin 0] [1 ref-set a 1 1] [1 commit 1 0 [1 1 0]] [2 begin 1] [2 ref-set a 0 0] [2 commit 2 0 [2 2 0]] [0 commit 0 0 [:conflict 0 0 2]] [0 value-of b 0] [entries 2]
@@ -35,7 +35,7 @@ fn jobs_interleave(rt: HostRuntime) -> Result<(), Fail> {
         r##"
             // An agent has one job out, an actor has one job, and a job is run once before it is finished.
             [0] [] [0] [0 send g + 1 :ok] [0 take [g 0]] [1 take :none] [0 take :busy] [0 finish :busy] [0 run :ok] [0 run :busy] [0 finish :changed] [0 finish :no-job] [0 value-of g 1] [account g [0 :done 0]]
-            // An action that the rule refuses fails the agent, which keeps its state and its queue; a restart goes on with it.
+            // An action that the rule refuses fails the agent, whose state and queue stay; a restart goes on with it.
             [] [] [[rule 0 [>= 0]]] [0 send g + 1 :ok] [0 send g - 5 :ok] [0 send g + 2 :ok] [0 take [g 0]] [0 run :ok] [0 finish :changed] [1 take [g 1]] [1 run :ok] [1 finish [:failed :invalid]] [1 value-of g 1] [1 error-of g :invalid] [account g [0 :done :failed 1]] [1 take :none] [1 send g + 1 :failed] [1 restart g 10 :ok] [1 error-of g :none] [1 take [g 0]] [1 run :ok] [1 finish :changed] [1 value-of g 12]
             // A restart that clears drops it.
             [] [] [[rule 0 [>= 0]]] [0 send g + 1 :ok] [0 send g - 5 :ok] [0 send g + 2 :ok] [0 take [g 0]] [0 run :ok] [0 finish :changed] [1 take [g 1]] [1 run :ok] [1 finish [:failed :invalid]] [1 restart g 10 clear :ok] [1 value-of g 10] [1 take :none] [account g [10 0]]

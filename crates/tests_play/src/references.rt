@@ -41,7 +41,7 @@ fn worlds_begin_or_are_refused(rt: HostRuntime) -> Result<(), Fail> {
         rt.alloc(),
         r##"
             [0 [rule 5 [>= 5]] [tally 7]] [[rule 1 [<= 1]] 6] [[continue 2 [>= 2]] [rule 3 [<= 3]]] [0 value-of a 0] [0 value-of b 5] [0 value-of c 7] [0 value-of x 1] [0 value-of y 6] [0 value-of g 2] [0 value-of h 3] [0 value-of d :none] [0 value-of z :none] [0 value-of i :none] [rule b [>= 5]] [rule x [<= 1]] [rule g [>= 2]] [rule h [<= 3]] [rule a :none] [rule c :none] [rule y :none] [point 0] [entries 0] [commits 0] [added 0] [base [0 [0 5 7] [1 6] [0 0 0]]] [account g [2 0]] [account h [3 0]] [0 begin 0] [0 alter c + 1 :tally-only] [0 send g - 1 :ok] [0 take [g 0]] [0 run :ok] [0 finish [:continued :invalid]] [0 send h + 1 :ok] [0 take [h 0]] [0 run :ok] [0 finish [:failed :invalid]] [end] [totals [0 0]]
-            // Where one can't be made, the first that is refused is told: refs come before atoms, and atoms before agents.
+            // Where one can't be made, the first that is refused is returned: refs come before atoms, and atoms before agents.
             [1 [rule 0 [>= 1]]] [] [] [refused b :invalid]
             [[rule 0 [<= -1]]] [] [] [refused a :invalid]
             [[tally -1]] [] [] [refused a :bad-tally]

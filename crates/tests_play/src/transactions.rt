@@ -13,11 +13,11 @@ fn operations_answer_in_transaction_values(rt: HostRuntime) -> Result<(), Fail> 
             [0 0] [] [] [4294967295 begin 0] [7 begin 0] [7 alter b inc 1] [4294967295 commute a + 1 2 3] [7 commit 1 2 [1 1 2]] [4294967295 commit 4294967295 0 [2 4294967295 0]] [7 begin 2] [7 commit 0 4294967295 [3 0 4294967295]] [entry 1 [1 2 0]] [entry 2 [4294967295 0 0]] [entry 3 [0 4294967295 2]] [0 value-of a 3] [0 value-of b 1]
             // What is ensured is answered, also after changes; what is commuted is on the snapshot, and made again at the commit.
             [0 5] [] [] [0 begin 0] [0 ensure b 5] [0 alter b + 1 6] [0 ensure b 6] [0 commute a + 2 2] [0 commute a - 1 1] [1 begin 0] [1 ref-set a 10 10] [1 commit 1 0 [1 1 0]] [0 deref a 1] [0 commit 0 0 [2 0 0]] [2 value-of a 11] [2 value-of b 6]
-            // A ref that was set besides being commuted keeps its in-transaction value.
+            // A ref that was both set and commuted gets its in-transaction value.
             [0] [] [] [0 begin 0] [0 ref-set a 5 5] [0 commute a + 1 6] [0 commit 0 0 [1 0 0]] [0 value-of a 6]
             // What is required of the in-transaction value.
             [0 5] [] [] [0 begin 0] [0 require a >= 1 :not-met] [0 require a >= 0 :ok] [0 require b <= 4 :not-met] [0 require b <= 5 :ok] [0 alter a + 1 1] [0 require a >= 1 :ok] [0 require b >= 6 :not-met] [0 commit 0 0 [1 0 0]]
-            // A commit tells the watches of the refs that it changed, by number. What was only ensured isn't told.
+            // A commit has notices of the refs that it changed, by number, and none of those that were only ensured.
             [0 5] [] [] [0 add-watch b :l true] [0 add-watch a :k true] [0 add-watch b :m true] [1 begin 0] [1 ref-set b 6 6] [1 commute a + 2 2] [1 commit 7 8 [1 7 8 [a :k 0 2] [b :l 5 6] [b :m 5 6]]] [1 begin 1] [1 ensure a 2] [1 ref-set b 6 6] [1 commit 7 9 [2 7 9 [b :l 6 6] [b :m 6 6]]]
             // A commit that does nothing makes an entry.
             [] [] [] [3 begin 0] [3 commit 1 1 [1 1 1]] [entries 1] [3 begin 1] [3 commit 2 2 [2 2 2]] [point 2]
@@ -62,7 +62,7 @@ fn refused_commits_leave_all(rt: HostRuntime) -> Result<(), Fail> {
             [0 5] [] [0] [0 begin 0] [0 alter b + 1 6] [0 send-in-tx g + 1 :ok] [1 begin 0] [1 alter b + 2 7] [1 commit 1 0 [1 1 0]] [0 commit 0 0 [:conflict 1 0 1]] [0 deref b 6] [0 alter a + 1 1] [0 commit 0 1 [:conflict 1 0 1]] [1 begin 1] [1 alter a + 3 3] [1 commit 1 1 [2 1 1]] [0 commit 0 2 [:conflict 0 0 2]] [0 read-point 0] [account g [0 0]] [1 release 1 false] [1 release 2 false] [1 take :none] [0 abort :ok] [1 take :none] [1 value-of a 3] [1 value-of b 7] [commits 2] [end] [totals [2 0]] [receipts 2]
             // A function that refuses the latest value of the second ref.
             [0 0] [] [0] [0 begin 0] [0 ref-set a 1 1] [0 commute b + 1 1] [0 send-in-tx g + 1 :ok] [1 begin 0] [1 ref-set b :k :k] [1 commit 1 0 [1 1 0]] [0 commit 0 0 [:refused 1 :wrong-kind]] [0 commit 0 0 [:refused 1 :wrong-kind]] [0 deref b 1] [account g [0 0]] [1 take :none] [1 value-of a 0] [1 begin 1] [1 ref-set b 5 5] [1 commit 1 1 [2 1 1]] [0 commit 0 1 [3 0 1]] [1 value-of a 1] [1 value-of b 6] [account g [0 1]] [1 take :none] [1 release 3 true] [1 take [g 0]]
-            // A rule that refuses: the smaller ref is told. With another rule it is committed.
+            // A rule that refuses: the smaller ref is returned. With another rule it is committed.
             [[rule 0 [<= 5]] [rule 0 [<= 3]]] [] [0] [0 begin 0] [0 ref-set b 4 4] [0 ref-set a 6 6] [0 send-in-tx g + 1 :ok] [0 commit 0 0 [:invalid 0]] [0 alter a - 1 5] [0 commit 0 1 [:invalid 1]] [0 commit 0 1 [:invalid 1]] [account g [0 0]] [1 take :none] [1 value-of a 0] [1 value-of b 0] [1 set-validator b nil :ok] [0 commit 0 2 [1 0 2]] [1 value-of a 5] [1 value-of b 4] [account g [0 1]]
             // A rule that was taken in between is asked.
             [[rule 0 [>= -1]]] [] [] [1 set-validator a [>= 1] :invalid] [0 begin 0] [0 alter a - 1 -1] [0 commit 0 0 [1 0 0]] [0 begin 1] [0 alter a - 1 -2] [0 commit 0 1 [:invalid 0]] [1 value-of a -1] [1 set-validator a [>= -2] :ok] [0 commit 0 1 [2 0 1]] [1 value-of a -2]

@@ -6,7 +6,7 @@ ghost use Rattle.ref_value.specs.Edn.{boolean, int, keyword};
 use ref_edn::{Node, Text, Value};
 use std::alloc::{AllocError, Global};
 
-/// A value that is told.
+/// A value that is returned.
 pub type Form = Result<Value, AllocError>;
 
 /// `:ok`: a word.

@@ -1,4 +1,4 @@
-//! The stores side by side as the subject of rows. They are called as a world calls them; the present point and the log are kept
+//! The stores side by side as the subject of rows. They are called as a world calls them; the present point and the log are stored
 //! here. The present point can be set by hand, so that rows reach the last one.
 use crate::forms::Start;
 use crate::subjects::{
@@ -61,7 +61,7 @@ fn base_of(alloc: Global, starts: &Starts) -> Result<Base, AllocError> {
     })
 }
 
-// What a making answers, where the test before it told the same.
+// What a making returns, where the test before it returned the same.
 fn agreed(told: Result<(), MakeFault>, made: Result<u32, MakeFault>) -> Result<u32, MakeFault> {
     match (told, made) {
         (Ok(()), Ok(n)) => Ok(n),

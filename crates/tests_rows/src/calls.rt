@@ -156,7 +156,7 @@ fn is_last(dones: &[Done], before: usize, r: u32, answer: &Value) -> bool {
     }
 }
 
-// Makes an operation. The transaction keeps it with its answer, or is as before where it only reads or is refused.
+// Makes an operation. The transaction stores it with its answer, or is as before where it only reads or is refused.
 fn operated(by: By, open: &mut Open, called: &str, r: u32, call: &[Value]) -> Form {
     let alloc = by.alloc;
     let (before, count) = (open_form(alloc, open)?, open.dones().len());
@@ -174,7 +174,7 @@ fn operated(by: By, open: &mut Open, called: &str, r: u32, call: &[Value]) -> Fo
     }
 }
 
-// Sends an action in a transaction. It is kept as the last, or the transaction is as before.
+// Sends an action in a transaction. It is stored as the last, or the transaction is as before.
 fn sent(by: By, open: &mut Open, call: &[Value]) -> Form {
     let By { alloc, funs } = by;
     let (g, code) = (agent_at(call, 1), code_at(call, 2));
@@ -345,7 +345,7 @@ fn tally_form(alloc: Global, tally: Option<u32>) -> Form {
     }
 }
 
-// What is told of a whole subject.
+// What can be asked of a whole subject.
 fn tell<S: Subject>(by: By, subject: &S, called: &str, call: &[Value]) -> Form {
     let (alloc, extent) = (by.alloc, subject.extent());
     if let Some(n) = extent.number(called) {
@@ -360,7 +360,7 @@ fn tell<S: Subject>(by: By, subject: &S, called: &str, call: &[Value]) -> Form {
     }
 }
 
-// What is told of a reference, if the call is about one.
+// What can be asked of a reference, if the call is about one.
 fn look<S: Subject>(
     alloc: Global,
     subject: &S,

@@ -6,7 +6,8 @@
 //! each a vector that ends with what it answers.
 //!
 //! Names say kind and number: a b c d e are refs and t is the tally, x y z are atoms, g h i agents. A function is written as its
-//! name and its arguments; `[>= 0]` is a rule. A fault is the name of its variant and what it tells, as `:not-met` and `[:conflict 0 0 1]`, where a ref is a number.
+//! name and its arguments; `[>= 0]` is a rule. A fault is the name of its variant and what it holds, as
+//! `:not-met` and `[:conflict 0 0 1]`, where a ref is a number.
 //! Notices stand behind an answer, as in `[swap x inc [1 2 [x :k 1 2]]]`. A call whose name ends in `-by-fewer` is made by the
 //! table with fewer functions.
 //!
@@ -31,7 +32,7 @@
 //! | `[other [5] [] [] :ok]` | another subject takes this one's place; the open transactions stay |
 //! | `[at 7 :ok]` | the present point is set by hand |
 //!
-//! Where a call is refused or only tells something, the subject has to be as it was before. At the end the slow replay of its
+//! Where a call is refused or only returns something, the subject has to be as it was before. At the end the slow replay of its
 //! log has to give its values. A row that isn't written so ends its test with an `AllocError`.
 use crate::answers::Form;
 use crate::apart::Aparts;

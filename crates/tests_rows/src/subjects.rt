@@ -52,7 +52,7 @@ pub struct Receipt {
     pub notices: Vec<Notice>,
 }
 
-/// What a commit answers. Want of memory is also where the subject is in no state to commit.
+/// What a commit returns. Out of memory is also where the subject is in no state to commit.
 pub type Committed = Result<Result<Receipt, (Open, CommitFault)>, AllocError>;
 
 /// What a reference shows, as forms.

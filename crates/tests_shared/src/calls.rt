@@ -109,7 +109,7 @@ fn first_answers(
     Ok(all)
 }
 
-// What is kept of two transactions that commute the tally, of which the one that was begun first is committed last.
+// What is stored of two transactions that commute the tally, of which the one that was begun first is committed last.
 #[derive(Debug, Drop, PartialEq)]
 struct Counted {
     kept: Vec<(Stamp, Option<i64>)>,
@@ -199,7 +199,7 @@ fn what_is_commuted_is_made_on_the_latest_value(rt: HostRuntime) -> Result<(), F
     Ok(())
 }
 
-// What a sink is told, and what the receipt says.
+// What a sink gets, and what the receipt says.
 #[derive(Drop)]
 struct Telling;
 
@@ -353,7 +353,7 @@ struct Changes {
     from_seven: (bool, usize),
 }
 
-// What a change of an atom answered: the values before and after, and what its watch is told.
+// What a change of an atom answered: the values before and after, and the notice for its watch.
 #[derive(Debug, Drop, PartialEq)]
 struct Change {
     values: (Option<i64>, Option<i64>),

@@ -95,7 +95,7 @@ fn alter(alloc: Global, case: Case, tx: &mut Tx<Core>) -> Result<(), Stop> {
     Ok(())
 }
 
-// The tries of a case beside a gate. It answers what came of them and how many times the body was called.
+// The tries of a case next to a gate. It returns what came of them and how many times the body was called.
 fn transact<C: Ledger, A: Ledger, R: Wait, G: Gate>(
     rt: &R,
     alloc: Global,
@@ -230,7 +230,7 @@ fn a_caller_gives_up_after_the_last_conflict(rt: HostRuntime) -> Result<(), Fail
     check(&rt, &case, wanted, &[(other(0), 0)])
 }
 
-// The conflict that is told is the last one.
+// The conflict that is returned is the last one.
 #[test]
 fn a_caller_gives_up_after_as_many_tries_as_it_said(rt: HostRuntime) -> Result<(), Fail> {
     let case = Case {

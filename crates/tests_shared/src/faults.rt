@@ -8,7 +8,7 @@ use std::fmt::Display;
 use std::process::Abort;
 use std::test::Fail;
 
-// A fault whose number was told has this one, and says this.
+// A fault whose number was asked has this one, and says this.
 fn check<F: Display>(
     rt: &(impl Abort + AllocGlobal),
     fault: &F,

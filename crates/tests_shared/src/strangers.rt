@@ -76,7 +76,7 @@ impl<R: Wait> Scenario<R> for Begun {
     }
 }
 
-// What two commits of one transaction are told, how many receipts the share has then, and the value of a.
+// What two commits of one transaction return, how many receipts the share has then, and the value of a.
 #[derive(Clone, Copy, Debug, Drop, PartialEq)]
 struct Tried {
     first: Option<CommitFault>,

@@ -1,4 +1,4 @@
-//! Agents whose actions one thread runs, and what it is told where none is ready.
+//! Agents whose actions one thread runs, and what it gets where none is ready.
 use crate::jobs::{CLOSED, Work, commit_four, send_four, two_agents, work};
 use crate::same::same;
 use crate::scenarios::{Inspection, Scenario, run_shared, run_to_end};

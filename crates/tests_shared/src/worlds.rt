@@ -178,7 +178,7 @@ pub fn all_told(alloc: Global, notices: &[Notice]) -> Result<Vec<Told>, AllocErr
     Ok(all)
 }
 
-/// A sink that keeps what it is told, up to where there is no memory.
+/// A sink that stores what it gets, up to where there is no memory.
 #[derive(Drop)]
 pub struct Listener {
     pub told: Vec<Told>,

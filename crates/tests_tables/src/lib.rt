@@ -21,7 +21,7 @@ pub struct Row {
 }
 
 impl Row {
-    /// What is told of the text behind so many bytes, where this is printed with it in the place of `@`.
+    /// What is found in the text behind so many bytes, where this is printed with it instead of `@`.
     pub fn told(&self, alloc: Global, behind: usize, printed: &str) -> Result<String, AllocError> {
         match self.place {
             Some(place) => format!(in alloc; "{} at {}", self.want, place.saturating_add(behind)),

@@ -165,7 +165,7 @@ fn transact_and_look<
     (mine, seen)
 }
 
-// A transaction in a world that is closed, so that whoever works there is told when no agent is ready.
+// A transaction in a world that is closed, so that whoever works there learns when no agent is ready.
 fn try_transaction<
     C: Ledger + Send + Sync,
     A: Ledger + Send + Sync,
@@ -199,7 +199,7 @@ const OF_A_TRANSACTION: &[(Place, i64)] = &[
     (Place::Told, 1),
 ];
 
-// What it sends isn't ready before the watches are told.
+// What it sends isn't ready before the watches are called.
 #[test]
 fn the_lock_is_free_at_each_step_of_a_transaction(rt: HostRuntime) -> Result<(), Fail> {
     let alloc = rt.alloc();

@@ -118,7 +118,7 @@ fn no_commit_of_two_threads_is_lost(rt: HostRuntime) -> Result<(), Fail> {
     Ok(())
 }
 
-// A gate that holds the first body's commit until another thread says so, and tells when it does.
+// A gate that holds the first body's commit until another thread says so, and says when it does.
 #[derive(Drop)]
 struct Hold<'a, 'b, 'c, R: Clock> {
     rt: &'a R,
@@ -147,7 +147,7 @@ fn read_and_add(alloc: Global, tx: &mut Tx<Core>) -> Result<Option<i64>, Stop> {
     Ok(read)
 }
 
-// Adds 1 to a beside a gate, and answers the commit's point, and what the last body read.
+// Adds 1 to a next to a gate, and returns the commit's point, and what the last body read.
 fn add_beside<R: Wait, C: Ledger, A: Ledger, G: Gate>(
     rt: &R,
     alloc: Global,
@@ -315,7 +315,7 @@ fn who_is_overtaken_begins_anew(rt: HostRuntime) -> Result<(), Fail> {
     Ok(())
 }
 
-// A sink that waits, where it is told, until another thread has looked.
+// A sink that waits, when it is called, until another thread has looked.
 #[derive(Drop)]
 struct Watcher<'a, 'b, 'c, R: Clock> {
     rt: &'a R,
@@ -335,7 +335,7 @@ impl<'a, 'b, 'c, R: Clock> WatchSink for Watcher<'a, 'b, 'c, R> {
     }
 }
 
-// What a sink was told: how often, and what last; and what is in the receipt.
+// What a sink got: how often, and what last; and what is in the receipt.
 #[derive(Debug, Drop, PartialEq)]
 struct Delivered {
     times: u32,
@@ -343,7 +343,7 @@ struct Delivered {
     receipt: Vec<Told>,
 }
 
-// Adds 1 to a, whose watches tell a sink, and answers what the receipt says of them.
+// Adds 1 to a, whose notices go to a sink, and returns what the receipt says of them.
 fn add_to<R: Wait, C: Ledger, A: Ledger, W: WatchSink>(
     rt: &R,
     alloc: Global,
@@ -365,7 +365,7 @@ fn add_to<R: Wait, C: Ledger, A: Ledger, W: WatchSink>(
     Ok(all_told(alloc, &receipt.notices)?)
 }
 
-// Adds 1 to a, and answers the share, and what was told.
+// Adds 1 to a, and returns the share, and the notices.
 fn add_told<R: AllocGlobal + Wait + Clock, C: Ledger, A: Ledger>(
     rt: &R,
     shared: &Shared<Core, C, A>,
@@ -394,7 +394,7 @@ fn add_told<R: AllocGlobal + Wait + Clock, C: Ledger, A: Ledger>(
     (share, told)
 }
 
-// What a holds once the sink is told.
+// What a holds once the sink is called.
 fn look<R: Wait + Clock, C: Ledger, A: Ledger>(
     rt: &R,
     shared: &Shared<Core, C, A>,
@@ -408,7 +408,7 @@ fn look<R: Wait + Clock, C: Ledger, A: Ledger>(
     Ok(now)
 }
 
-// What one thread is told of its commit, and what another sees meanwhile.
+// What one thread's commit returns, and what another sees meanwhile.
 #[derive(Debug, Drop, PartialEq)]
 struct Telling {
     told: Result<Delivered, Stop>,
@@ -416,7 +416,7 @@ struct Telling {
     commits: u64,
 }
 
-// A commit of one thread, whose watch is told while another looks.
+// A commit of one thread, whose watch is called while another looks.
 fn tell<
     C: Ledger + Send + Sync,
     A: Ledger + Send + Sync,

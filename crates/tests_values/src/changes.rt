@@ -1,5 +1,5 @@
-//! Vectors, sets and maps with one member more or less: what they are then, how deep, and that other owners keep
-//! theirs.
+//! Vectors, sets and maps with one member more or less: what they are then, how deep, and that
+//! other owners still have theirs.
 use ref_edn::{Elements, Entries, Items, Node, Value, read_all, read_one};
 use std::alloc::{AllocError, Global};
 use std::test::Fail;
@@ -102,7 +102,7 @@ fn alone(alloc: Global, text: &str) -> Result<Node, Fail> {
 }
 
 // The value after steps is as wanted, where the value before has one owner at first, and where it has two, of which the
-// other one keeps it as it was.
+// other one still has it as it was.
 fn check_after(alloc: Global, row: &Row, before: &Value, steps: &[Value]) -> Result<(), Fail> {
     let was = text_of(alloc, before)?;
     check_made(alloc, row, alone(alloc, &was)?, steps)?;

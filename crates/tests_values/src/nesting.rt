@@ -6,7 +6,7 @@ use std::test::Fail;
 use tests_tables::{nested, right};
 
 // What opens a level, what closes it, how many of these levels there may be, and where the opening is then that is too
-// deep: what stands beside an opening is one level deeper.
+// deep: what stands next to an opening is one level deeper.
 const LEVELS: &[(&str, &str, usize, usize)] = &[
     ("[", "]", 64, 64),
     ("(", ")", 64, 64),

@@ -79,7 +79,7 @@ pub(crate) fn check_series(alloc: Global, table: &str) -> Result<(), Fail> {
     Ok(())
 }
 
-// Texts with an element in the place of `@`, and what is printed of them: the element alone, in each collection, before
+// Texts with an element instead of `@`, and what is printed of them: the element alone, in each collection, before
 // each byte that ends a token, and discarded.
 const AROUND: &[(&str, &str)] = &[
     ("@", "@"),

@@ -71,7 +71,7 @@ fn is_failed_read<S: Source>(alloc: Global, source: &mut S) -> bool {
     read_to_end(alloc, source, 100).err() == Some(InputFault::Read)
 }
 
-// Whether a source tells a read that fails, each time, after so many good ones.
+// Whether a source reports a read that fails, each time, after so many good ones.
 fn tells_failures(alloc: Global, good: u64) -> bool {
     let mut source = Pieces::new(b"abcdefghij", 2, good);
     let first = is_failed_read(alloc, &mut source) && source.failures == 1;
@@ -116,7 +116,7 @@ fn writes_all_in_pieces(rt: HostRuntime) -> Result<(), Fail> {
     right(is_written_to_std(alloc, &text), "a writer of std")
 }
 
-// Whether a sink tells that it has room for a front of ten bytes alone.
+// Whether a sink says that it has room for a front of ten bytes alone.
 fn tells_its_end(alloc: Global, piece: usize, room: usize) -> bool {
     let mut sink = Narrow::new(alloc, piece, room);
     let told = write_all(&mut sink, b"abcdefghij");

@@ -5,7 +5,7 @@ use std::alloc::{AllocError, Global};
 use std::collections::BTreeMap;
 use std::test::Fail;
 
-// How many changes are drawn, after how many a version is kept, and about how many members a collection has at most.
+// How many changes are drawn, after how many a version is stored, and about how many members a collection has at most.
 const CHANGES: usize = 100_000;
 
 const KEPT_AFTER: usize = 1_000;
@@ -273,7 +273,7 @@ fn start(alloc: Global) -> Result<Version, Fail> {
     })
 }
 
-// Changes the last version so often, from one of the kept ones on now and then.
+// Changes the last version so often, from one of the stored ones on now and then.
 fn go_on(
     alloc: Global,
     seed: &mut u64,

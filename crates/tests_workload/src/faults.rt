@@ -1,4 +1,4 @@
-//! Which of several faults of a plan is told, and what faults say.
+//! Which of several faults of a plan is returned, and what faults say.
 use ref_edn::{ReadFault, read_one};
 use ref_log::Who;
 use ref_workload::plan::plan;

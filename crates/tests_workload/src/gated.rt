@@ -1,4 +1,4 @@
-//! Plans whose threads are held by gates, so that it is told which of them comes first.
+//! Plans whose threads are held by gates, so that a test decides which of them comes first.
 use crate::gates::Role;
 use crate::runs::{How, Seen, run};
 use crate::tables::{ALL_OF_CORE, CoreWithout};

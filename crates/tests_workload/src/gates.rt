@@ -45,7 +45,7 @@ pub(crate) enum Role {
     Meeting(u32),
 }
 
-/// A gate of one thread, which tells the others on the board how far it has come.
+/// A gate of one thread, which shows the others on the board how far it has come.
 #[derive(Drop)]
 pub(crate) struct Turn<'a, 'b, R: Clock> {
     pub(crate) rt: &'a R,

@@ -7,7 +7,7 @@
 //! | Modules | |
 //! |---|---|
 //! | `gated` | plans by `run_plan`, where gates force the order |
-//! | `sums` | four workers beside a pool, and what holds whatever the order |
+//! | `sums` | four workers and a pool, and what holds whatever the order |
 //! | `streams` | `run_workload`, from a reader to a writer, some of which fail |
 //! | `progress` | how far a run is, at its end and where it ends early |
 //! | `tries` | `run_workload` tries a transaction as often as its options say |

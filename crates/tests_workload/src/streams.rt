@@ -147,7 +147,7 @@ fn an_input_has_its_limit(rt: HostRuntime) -> Result<(), Fail> {
     assert_eq!(rt; run_brackets(&rt, MOST)?, (Err(deep), 0));
     let long = RunFault::InputTooLong;
     assert_eq!(rt; run_brackets(&rt, MOST + 1)?, (Err(long), 0));
-    // No more is read than tells that it is too long.
+    // No more is read than shows that it is too long.
     assert_eq!(rt; run_brackets(&rt, MOST + 1000)?, (Err(long), 999));
     Ok(())
 }
@@ -237,7 +237,7 @@ impl Write for Narrow {
     }
 }
 
-// What is told of an output that has room for the first bytes alone.
+// What is written to an output that has room for the first bytes alone.
 fn check_write<R: AllocGlobal + Threads + Wait + Sync + Abort>(
     rt: &R,
     piece: usize,

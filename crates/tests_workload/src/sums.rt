@@ -1,4 +1,4 @@
-//! Four workers beside a pool, and what holds whatever the order.
+//! Four workers and a pool, and what holds whatever the order.
 use crate::runs::{How, Seen, run};
 use crate::tables::ALL_OF_CORE;
 use ref_edn::{Node, Value, read_all};

@@ -100,7 +100,7 @@ impl<'a, R: Clock> Functions<Core> for Holding<'a, R> {
     }
 }
 
-// The last step tells that the third one of its worker is committed.
+// The last step shows that the third one of its worker is committed.
 const TEXT: &str =
     "{:version 1 :refs [[a 0] [b 0]] :workers [[[:tx [:alter a inc]]] [[:tx [:alter a + 10]] [:tx [:alter a + 10]] [:tx [:alter a + 10]] [:tx [:alter b + 1]]]]}";
 

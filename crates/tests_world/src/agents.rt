@@ -8,7 +8,7 @@ fn agents_by_hand(rt: HostRuntime) -> Result<(), Fail> {
         rt.alloc(),
         "",
         r##"
-            // An action that the rule refuses fails the agent, which keeps its state and its queue; a restart goes on with it.
+            // An action that the rule refuses fails the agent, whose state and queue stay; a restart goes on with it.
             [] [] [[rule 0 [>= 0]]] [send g + 1 :ok] [send g - 5 :ok] [send g + 2 :ok] [act :changed] [act [:failed :invalid]] [now g 1] [error g :invalid] [account g [0 :done :failed 1]] [act :none] [send g + 1 :failed] [restart g 10 :ok] [error g :none] [account g [10 1]] [act :changed] [now g 12] [account g [10 :done 0]]
             // A restart that clears drops it.
             [] [] [[rule 0 [>= 0]]] [send g + 1 :ok] [send g - 5 :ok] [send g + 2 :ok] [act :changed] [act [:failed :invalid]] [restart g 10 clear :ok] [now g 10] [account g [10 0]] [act :none]
@@ -37,9 +37,9 @@ fn agents_by_hand(rt: HostRuntime) -> Result<(), Fail> {
             [] [] [0] [send g + 1 :ok] [send g + 2 :ok] [lose g] [send g + 3 :ok] [account g [0 3]] [begin 1 0] [1 send g + 4 :ok] [commit 1 1] [account g [0 4]] [act :none]
             // A job that isn't on its way here is foreign.
             [] [] [0] [stranger g + 1 :foreign] [send g + 2 :ok] [stranger g + 2 :foreign] [lose g] [stranger g + 1 :foreign] [now g 0] [stranger g + 2 :changed] [now g 2]
-            // Watches are told, but not of a restart.
+            // Watches get notices, but not of a restart.
             [] [] [0] [watch g :k true] [watch g :k false] [watch g :l true] [watch h :k :no-such] [send g + 1 :ok] [act [:changed [g :k 0 1] [g :l 0 1]]] [unwatch g :k true] [unwatch g :k false] [unwatch h :l false] [send g + :k :ok] [act [:failed [:refused :wrong-kind]]] [restart g 1 :ok] [send g + 0 :ok] [act [:changed [g :l 1 1]]]
-            // What a table lacks is told: the function, and the predicate of the rule.
+            // What a table lacks is returned: the function, and the predicate of the rule.
             [] [] [[rule 0 [>= 0]]] [served true] [served-by-fewer false] [send g inc :ok] [act-by-fewer [:no-such-fun 3]] [act :none] [stranger g inc :changed] [send g - 5 :ok] [act [:failed :invalid]] [restart-by-fewer g 1 [:no-such-fun 101]] [restart-by-fewer h 1 :no-such-agent]
             [] [] [[rule 0 [>= 0]]] [send g + 1 :ok] [act-by-fewer [:no-such-fun 101]] [act :none] [now g 0] [account g [0 1]]
             [] [] [5] [send g conj 1 :ok] [next [g 0]] [act [:no-such-fun 7]]

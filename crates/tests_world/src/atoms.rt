@@ -21,7 +21,7 @@ fn changes_of_atoms_by_hand(rt: HostRuntime) -> Result<(), Fail> {
             [] [1 1] [] [reset y [] [1 []]] [now x 1] [now y []] [cas y [] {} true] [now x 1] [now y {}]
             // An atom that isn't there.
             [] [1] [] [swap y + 1 :no-such-atom] [reset y 1 :no-such-atom] [cas y 1 1 :no-such-atom] [now y :none] [atoms 1]
-            // A function that isn't there, and the predicate of the atom's rule; the function is told first.
+            // A function that isn't there, and the predicate of the atom's rule; the function is returned first.
             [] [[rule 1 [<= 5]]] [] [swap-by-fewer x - 1 [:no-such-fun 2]] [swap-by-fewer x + 1 [:no-such-fun 102]] [swap x conj 1 [:no-such-fun 7]] [now x 1]
             [] [[rule 1 [<= 5]] 1] [] [reset-by-fewer x 1 [:no-such-fun 102]] [cas-by-fewer x 1 1 [:no-such-fun 102]] [cas-by-fewer x 9 1 [:no-such-fun 102]] [swap-by-fewer y + 1 [1 2]] [swap-by-fewer y - 1 [:no-such-fun 2]] [reset-by-fewer y 0 [2 0]] [cas-by-fewer y 0 1 true]
             // A function that refuses.
@@ -52,9 +52,9 @@ fn rules_and_watches_of_atoms_by_hand(rt: HostRuntime) -> Result<(), Fail> {
             [] [0] [] [watch x :k2 true] [watch x :k1 true] [watch x :k2 false] [reset x 1 [0 1 [x :k2 0 1] [x :k1 0 1]]]
             [] [0] [] [watch x 1 true] [watch x 2 true] [watch x 3 true] [unwatch x 2 true] [unwatch x 2 false] [watch x 4 true] [watch x 2 true] [unwatch x 1 true] [swap x + 7 [0 7 [x 3 0 7] [x 4 0 7] [x 2 0 7]]]
             [] [0] [] [watch x {1 2 3 4} true] [watch x {3 4 1 2} false] [unwatch x {3 4 1 2} true] [unwatch x {1 2 3 4} false] [reset x 1 [0 1]]
-            // A watch is told also where the value is the same as before, and only by its own atom.
+            // A watch gets a notice also where the value is the same as before, and only by its own atom.
             [] [0 0] [] [watch y :k true] [reset x 1 [0 1]] [reset y 0 [0 0 [y :k 0 0]]] [cas y 0 0 [true [y :k 0 0]]] [swap y + 0 [0 0 [y :k 0 0]]]
-            // It isn't told where nothing is set.
+            // It gets none where nothing is set.
             [] [[rule 1 [<= 5]]] [] [watch x :k true] [cas x 9 2 false] [reset x 9 :invalid] [swap x + :k [:refused :wrong-kind]] [reset x 2 [1 2 [x :k 1 2]]]
             [] [0] [] [watch y :k :no-such] [unwatch y :k false] [unwatch x :k false] [reset x 1 [0 1]]
             // Watches, rules and values leave each other as they are.

@@ -31,7 +31,7 @@ fn commits_by_hand(rt: HostRuntime) -> Result<(), Fail> {
             [0 0] [] [] [begin 1 0] [1 set a 1 1] [1 commute b + 1 1] [begin 2 0] [2 set b :k :k] [commit 2 1] [commit 1 [:refused 1 :wrong-kind]] [now a 0] [now b :k]
             // The tally only counts up.
             [[tally 0]] [] [] [begin 1 0] [1 alter t + 1 :tally-only] [1 commute t + -1 :tally-only] [1 commute t + 1 1 :tally-only] [1 set t 1 :tally-only] [1 ensure t 0] [commit 1 1] [now t 0] [changed t 0]
-            // Of several conflicts that of the smallest ref is told.
+            // Of several conflicts that of the smallest ref is returned.
             [0 0 0] [] [] [begin 1 0] [1 set c 1 1] [1 set b 1 1] [begin 2 0] [2 set b 2 2] [2 set c 2 2] [commit 2 1] [commit 1 [:conflict 1 0 1]] [now b 2] [now c 2]
             [0 0 0] [] [] [begin 1 0] [1 set c 1 1] [1 set b 1 1] [begin 2 0] [2 set c 2 2] [commit 2 1] [begin 3 1] [3 set b 3 3] [commit 3 2] [commit 1 [:conflict 1 0 2]]
             // An alter isn't made again, so its function isn't needed.
@@ -62,7 +62,8 @@ fn foreign_transactions_by_hand(rt: HostRuntime) -> Result<(), Fail> {
             [0] [] [] [begin 1 0] [1 set a 5 5] [other [[tally 0]] :ok] [commit 1 [:foreign :tally]] [begin 2 0] [2 commute t + 5 5] [commit 2 1] [now t 5]
             [0] [] [] [begin 1 0] [1 commute a + 1 1] [other [5] :ok] [commit 1 1] [now a 6]
             [0] [] [0 0] [begin 1 0] [1 send h + 1 :ok] [other [0] [] [0] :ok] [commit 1 [:foreign :agent 1]] [account g [0 0]] [entries 0] [make-agent 0 h] [commit 1 1] [account h [0 1]]
-            // Of two faults the first in order is told: foreign refs, agents, tally and point, functions, conflicts, foreign values, refusals.
+            // Of two faults the first in order is returned: foreign refs, agents, tally and point, functions, conflicts, foreign
+            // values, refusals.
             [0 0] [] [0 0] [begin 1 0] [1 send h + 1 :ok] [1 set b 1 1] [other [[tally 0]] [] [0] :ok] [commit 1 [:foreign :ref 1]]
             [0] [] [0 0] [begin 1 0] [1 set a 1 1] [1 send g + 1 :ok] [1 send h + 1 :ok] [other [[tally 0]] [] [0] :ok] [commit 1 [:foreign :agent 1]] [make-agent 0 h] [commit 1 [:foreign :tally]]
             [0 0] [] [] [begin 2 0] [commit 2 1] [begin 1 1] [1 set b 1 1] [other [0] :ok] [commit 1 [:foreign :ref 1]]

@@ -10,7 +10,7 @@ fn starts_by_hand(rt: HostRuntime) -> Result<(), Fail> {
         r##"
             [] [] [] [refs 0] [tally :none] [now a :none] [changed a 0]
             [1 [tally 2]] [3] [] [base [0 [1 2] [3]]] [point 0] [entries 0] [now b 2] [now x 3] [now c :none] [now g :none] [rule x :none] [served-by-fewer true]
-            // What can't be made: the first is told, the refs before the atoms.
+            // What can't be made: the first is returned, the refs before the atoms.
             [1] [[rule :x [<= 5]]] [] [refused x :invalid]
             [1 [tally 2] [tally 3]] [] [] [refused c :bad-tally]
             [1 2 [rule 0 [>= 1]]] [[rule :x [<= 5]]] [] [refused c :invalid]

@@ -1,4 +1,4 @@
-//! A transaction keeps the values that it began with, whatever others commit.
+//! A transaction reads the values that it began with, whatever others commit.
 ghost use Rattle.std.specs.Prelude.{◌≡◌};
 ghost use Rattle.ref_world.specs.Shares.{all_parts};
 
@@ -19,7 +19,7 @@ const CHANGED: u32 = 1000;
 /// How many refs there are. Each is 0 at the start.
 const REFS: u32 = 1003;
 
-// What a transaction does with a ref, besides reading all.
+// What a transaction does with a ref, other than reading all.
 #[derive(Clone, Copy, Debug, Drop, PartialEq)]
 enum Act {
     Read,

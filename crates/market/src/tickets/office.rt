@@ -88,7 +88,7 @@ impl<C: Ledger, A: Ledger> Office<C, A> {
             }
             match self.shared.commit(rt, self.alloc, &Acts, share, stamp, tx) {
                 Ok(receipt) => {
-                    // Here the watches would be told, and then what was sent is let out. This world has neither.
+                    // Here the watches would be called, and then what was sent is released. This world has neither.
                     self.shared.release(rt, receipt.point);
                     return Ok(Sale::Made);
                 }

@@ -42,7 +42,7 @@ pub(crate) fn nil() -> Value
 }
 
 // The integer of a number. Points end at 2^62, and no count of a world passes that; a number past an integer's, and no other, would
-// be told as want of memory.
+// be reported as out of memory.
 pub(crate) fn number(n: u64) -> Result<Value, AllocError>
     ensures ok { IfOk result (λ v. v ≡ number_form n) }
     ensures err { OnErr result (9223372036854775807 < n) }

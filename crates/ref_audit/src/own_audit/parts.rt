@@ -1,4 +1,4 @@
-//! What the types of entries and accounts say, told of the whole. These calls change nothing.
+//! What the types of entries and accounts say, stated of the whole. These calls change nothing.
 ghost use Rattle.std.specs.Prelude.{◌≡◌, true};
 ghost use Rattle.std.specs.List.{list_all};
 ghost use Rattle.ref_audit.specs.OwnDump.{is_small_account, is_small_args, is_small_atom, is_small_done, is_small_entry, is_small_handled, is_small_op, is_small_queued, is_small_sent, is_small_transaction};

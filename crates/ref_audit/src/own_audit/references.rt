@@ -1,4 +1,4 @@
-//! What is always so of a world's references, and what the types of rules and accounts say, told of all. These calls change nothing.
+//! What is always so of a world's references, and what the types of rules and accounts say, stated of all. These calls change nothing.
 ghost use Rattle.std.specs.Prelude.{◌≡◌, ◌≤◌, ℕ, true, is_some, length, option_copied, slice_get};
 ghost use Rattle.ref_agents.specs.Agents.{account_at, values_of};
 ghost use Rattle.ref_log.specs.Guards as guards;

@@ -1,4 +1,4 @@
-//! The form of a reference, and what it declares beside those before it.
+//! The form of a reference, and what it declares in addition to those before it.
 ghost use Rattle.std.specs.Prelude.{◌≡◌, ◌≢◌, ◌∷◌, ℕ, [], Bool, List, Option, None, IfErr, IfNone, IfOk, IfSome, false, option_copied, true};
 ghost use Rattle.ref_agents.specs.declared.agents.ErrorMode.{ErrorMode as AgentMode};
 ghost use Rattle.ref_value.specs.Edn.{Edn};
@@ -26,7 +26,7 @@ use ref_value::vectors::Iter;
 use ref_value::{Items, Node, Text, Value};
 use std::alloc::{AllocError, AllocFailed, Global};
 
-/// Why a form declares no reference that can stand beside those before it.
+/// Why a form declares no reference that can follow those before it.
 #[derive(Clone, Copy, Debug, Drop, PartialEq, Eq)]
 pub enum Refused {
     Form,

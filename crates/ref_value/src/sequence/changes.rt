@@ -169,7 +169,7 @@ impl Tree {
         Ok(())
     }
 
-    /// Puts a pair in the place of another. On its way there, what has other owners is copied.
+    /// Replaces a pair by another. On its way there, what has other owners is copied.
     #[tactic(auto, using(crate::proofs::Pieces::set_left, crate::proofs::Pieces::set_right, crate::proofs::Pieces::set_length, crate::proofs::Pieces::length_both, crate::proofs::Edited::deepest_both))]
     pub(crate) fn replace(
         &mut self,

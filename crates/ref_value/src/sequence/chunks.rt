@@ -108,7 +108,7 @@ impl Chunk {
         }
     }
 
-    /// How many of the first members can be told to be the same in both at a glance: none of them is a collection.
+    /// How many of the first members are seen to be the same in both at a glance: none of them is a collection.
     pub(crate) fn same_first(&self, other: &Chunk) -> usize
         ensures there { (result ≤ length (members_of self.now)) × (result ≤ length (members_of other.now)) }
         ensures same { take result (members_of self.now) ≡ take result (members_of other.now) }
@@ -164,7 +164,7 @@ impl Chunk {
         })
     }
 
-    /// The members of both, shared. One that is alone in its tree stands beside no other.
+    /// The members of both, shared. One that is alone in its tree has no other next to it.
     #[tactic(auto, using(crate::proofs::Pairing::twins_append))]
     pub(crate) fn joined(alloc: Global, a: &Chunk, b: &Chunk) -> Result<Chunk, AllocError>
         ensures { IfOk result (λ c. members_of c ≡ members_of a.now ++ members_of b.now) }
@@ -221,7 +221,7 @@ pub(crate) fn insert_in(
     }
 }
 
-/// Puts a pair in the place of another. A chunk of values refuses that.
+/// Replaces a pair by another. A chunk of values refuses that.
 #[tactic(auto, using(crate::proofs::Pairing::length_twins))]
 pub(crate) fn replace_in(
     deepest: &mut u8,
@@ -357,7 +357,7 @@ impl<'a> Run<'a> {
         }
     }
 
-    /// How many of the first members can be told to be the same in both at a glance: none of them is a collection.
+    /// How many of the first members are seen to be the same in both at a glance: none of them is a collection.
     #[tactic(auto, using(crate::proofs::Pairing::length_twins, crate::proofs::Pairing::twins_same))]
     pub(crate) fn same_first(&self, other: &Run<'_>) -> usize
         ensures there { (result ≤ length (run_of self.now)) × (result ≤ length (run_of other.now)) }
@@ -376,7 +376,7 @@ impl<'a> Run<'a> {
     }
 }
 
-// Whether two values can be told to be the same at a glance. Of collections it isn't asked.
+// Whether two values are seen to be the same at a glance. Of collections it isn't asked.
 #[inline(always)]
 fn are_same(a: &Value, b: &Value) -> bool
     ensures { IsTrue result → a.now ≡ b.now }

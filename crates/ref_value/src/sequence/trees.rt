@@ -16,7 +16,7 @@ use std::sync::Arc;
 
 /// Members in order. Contracts see them as pairs, with the height and the mark.
 ///
-/// A mark is what whoever has the tree wants to keep with it; it stays the same in each change.
+/// A mark is what whoever has the tree wants to store with it; it stays the same in each change.
 #[cycle(value)]
 #[derive(Drop)]
 pub(crate) struct Tree {
@@ -82,7 +82,7 @@ pub(super) fn fork(alloc: Global, left: Tree, right: Tree) -> Result<Tree, Alloc
     })
 }
 
-// The same items without room for more. They move into a block of just their size, and the other one is let go whole, so
+// The same items without room for more. They move into a block of just their size, and the other one is dropped whole, so
 // that the next collection can be read into it; cut to size, it would leave a piece that is of use to nobody.
 fn fitted<T: Drop>(items: Vec<T>) -> Result<Vec<T>, AllocError>
     ensures { IfOk result (λ v. v.items ≡ items.items) }
@@ -106,7 +106,7 @@ fn value_chunk(values: Vec<Value>) -> Result<Chunk, AllocError>
     Ok(Chunk::One(values.remove(0)))
 }
 
-// The same of a list, which keeps its room.
+// The same of a list, whose room stays.
 #[tactic(auto, using(crate::proofs::Pieces::alone_is))]
 fn drained_chunk(list: &mut Vec<Value>) -> Result<Chunk, AllocError>
     ensures { IfOk result (λ c. members_of c ≡ twins list.old.items) }
@@ -280,7 +280,7 @@ impl Tree {
         }
     }
 
-    /// How many of the first members can be told to be the same in both at a glance: as far as the trees have one shape, and no
+    /// How many of the first members are seen to be the same in both at a glance: as far as the trees have one shape, and no
     /// member is a collection.
     #[tactic(auto, using(crate::proofs::Pieces::length_both, crate::proofs::Pieces::same_left, crate::proofs::Pieces::same_right))]
     pub(crate) fn same_first(&self, other: &Tree) -> usize

@@ -1,5 +1,5 @@
 //! Which answers of a step are refusals, and for which reason. The others end the run: a reference or a function that isn't
-//! there, which no plan names, and want of memory.
+//! there, which no plan names, and out of memory.
 use crate::faults::Stop;
 use ref_agents::{ModeFault, RestartFault, SendFault};
 use ref_atoms::AtomFault;

@@ -14,7 +14,7 @@ use std::alloc::Global;
 use std::sync::Wait;
 use std::sync::ledger::Ledger;
 
-/// Runs a step, and answers why it was refused, if it was. Nobody is told what the watches of atoms are to be told: a workload
+/// Runs a step, and returns why it was refused, if it was. The notices of atoms are dropped: a workload
 /// has none. A compare that finds another value isn't refused.
 pub(crate) fn run_step<F: Functions<Core>, C: Ledger, A: Ledger, R: Wait, G: Gate>(
     rt: &R,

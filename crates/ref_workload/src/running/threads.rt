@@ -151,7 +151,7 @@ where
     Ok(())
 }
 
-// Waits for each worker, by number, and keeps the first that ended early.
+// Waits for each worker, by number, and returns the first that ended early.
 fn join_workers<C: Ledger, A: Ledger, R: Threads>(
     rt: &R,
     share: &mut Share<C, A>,
@@ -165,7 +165,7 @@ fn join_workers<C: Ledger, A: Ledger, R: Threads>(
     ended
 }
 
-// Takes in what a worker hands back.
+// Takes in what a worker returns.
 fn gather<C: Ledger, A: Ledger>(
     share: &mut Share<C, A>,
     refused: &mut Vec<Refusal>,
@@ -185,7 +185,7 @@ fn gather<C: Ledger, A: Ledger>(
     }
 }
 
-// Waits for each thread of the pool, and keeps the first fault.
+// Waits for each thread of the pool, and returns the first fault.
 fn join_pool<R: Threads>(rt: &R, pool: Vec<JoinHandle<Result<(), Stop>>>) -> Result<(), Stop> {
     let mut ended = Ok(());
     for handle in pool {

@@ -1,4 +1,4 @@
-//! What the threads of a run are lent, what they are started with, and what they hand back.
+//! What the threads of a run are lent, what they are started with, and what they return.
 use crate::faults::Stop;
 use crate::progress::Progress;
 use crate::running::steps::run_step;
@@ -32,7 +32,7 @@ pub(crate) struct Job<C: Ledger, A: Ledger, G> {
     pub(crate) gate: G,
 }
 
-/// What a worker hands back: its share, its refused steps in order, and what ended it early.
+/// What a worker returns: its share, its refused steps in order, and what ended it early.
 #[derive(Drop)]
 pub(crate) struct Ended<C: Ledger, A: Ledger> {
     pub(crate) share: Share<C, A>,
