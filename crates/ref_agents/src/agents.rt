@@ -89,6 +89,7 @@ impl<M: Meaning> AgentStore<M> {
         self.agents.len()
     }
 
+    /// Whether there are no agents.
     pub fn is_empty(&self) -> bool
         ensures { IsTrue result ↔ (self.now.agents ≡ []) }
     {

@@ -55,6 +55,7 @@ impl Job {
         self.number
     }
 
+    /// The function and the arguments of the action.
     pub fn action(&self) -> &Action
         ensures { result.now ≡ self.now.action }
     {
@@ -135,6 +136,7 @@ impl<M: Meaning> Model for Ran<M> {
 }
 
 impl<M: Meaning> Ran<M> {
+    /// The job that was run.
     pub fn job(&self) -> &Job
         ensures { result.now ≡ self.now.job }
     {

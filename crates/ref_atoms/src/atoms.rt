@@ -61,6 +61,7 @@ impl<M: Meaning> AtomStore<M> {
         self.values.len()
     }
 
+    /// Whether there are no atoms.
     pub fn is_empty(&self) -> bool
         ensures { IsTrue result ↔ (self.now.values ≡ []) }
     {

@@ -94,6 +94,7 @@ pub struct Counted<T> {
 }
 
 impl<T> Counted<T> {
+    /// A reader or writer around another one, with no failure so far.
     pub fn new(inner: T) -> Counted<T>
         ensures inner { result.inner ≡ inner }
         ensures none { result.failures ≡ 0 }

@@ -4,6 +4,7 @@ ghost use Rattle.ref_fun.specs.Core.{core_means, takes_memory};
 ghost use Rattle.ref_fun.specs.Meaning.{Answers};
 ghost use Rattle.ref_fun.specs.declared.faults.FunFault.TheVariants.{Memory};
 
+use crate::codes;
 use crate::collections::{assoc, conj, disj, dissoc};
 use crate::faults::{Cause, FunFault};
 use crate::integers::{dec, greatest, inc, least, minus, plus};
@@ -20,16 +21,16 @@ pub fn core_fun(alloc: Global, code: u32, state: &Value, args: &[Value]) -> Resu
     ensures memory { IfErr result (λ f. f ≡ Memory → takes_memory code (core_means code args.now state.now) ≡ true) }
 {
     match code {
-        1 => Ok(plus(state, args)?),
-        2 => Ok(minus(state, args)?),
-        3 => Ok(inc(state, args)?),
-        4 => Ok(dec(state, args)?),
-        5 => Ok(greatest(state, args)?),
-        6 => Ok(least(state, args)?),
-        7 => conj(alloc, state, args),
-        8 => assoc(alloc, state, args),
-        9 => dissoc(alloc, state, args),
-        10 => disj(alloc, state, args),
+        codes::PLUS => Ok(plus(state, args)?),
+        codes::MINUS => Ok(minus(state, args)?),
+        codes::INC => Ok(inc(state, args)?),
+        codes::DEC => Ok(dec(state, args)?),
+        codes::MAX => Ok(greatest(state, args)?),
+        codes::MIN => Ok(least(state, args)?),
+        codes::CONJ => conj(alloc, state, args),
+        codes::ASSOC => assoc(alloc, state, args),
+        codes::DISSOC => dissoc(alloc, state, args),
+        codes::DISJ => disj(alloc, state, args),
         _ => Err(FunFault::Refused(Cause::WrongArity)),
     }
 }

@@ -2,8 +2,8 @@
 //!
 //! A [`Meaning`] says, for each code, which value the function gives or why it refuses, and what the predicate accepts.
 //! [`Core`] is the meaning of those that come with this project: [`core_fun`] calls a function, [`core_test`] a
-//! predicate, and [`code_of`] and [`name_of`] are from names to codes and back. They take a state and at most 8 arguments, all of them
-//! EDN values. A [`Rule`] is a predicate with its arguments, and an [`Action`] a function with its arguments.
+//! predicate, and [`code_of`] and [`name_of`] are from names to codes and back; [`codes`] has the codes as constants. Functions and
+//! predicates take a state and at most 8 arguments, all of them EDN values. A [`Rule`] is a predicate with its arguments, and an [`Action`] a function with its arguments.
 //!
 //! A program that has no functions of its own takes [`CoreFunctions`], the table of Core. Another runs closures: a [`StoredFun`] or
 //! [`StoredPred`] is a closure under a code, which is made only with a proof that it answers what Core means by the code, and a
@@ -16,6 +16,7 @@
 
 pub mod actions;
 pub mod arguments;
+pub mod codes;
 mod collections;
 pub mod core_functions;
 pub mod faults;

@@ -3,26 +3,31 @@ ghost use Rattle.std.specs.Prelude.{◌≡◌, map, option_copied};
 ghost use Rattle.ref_value.specs.Names.{bytes_eq};
 ghost use Rattle.ref_fun.specs.Names.{core_names, code_in, name_in, is_function, is_predicate};
 
+use crate::codes::{
+    ASSOC, AT_LEAST, AT_MOST, CONJ, DEC, DISJ, DISSOC, EQUALS, INC, IS_INT, IS_MAP, IS_SET,
+    IS_SOME, IS_STRING, IS_VECTOR, MAX, MIN, MINUS, PLUS,
+};
+
 const NAMES: [(u32, &str); 19] = [
-    (1, "+"),
-    (2, "-"),
-    (3, "inc"),
-    (4, "dec"),
-    (5, "max"),
-    (6, "min"),
-    (7, "conj"),
-    (8, "assoc"),
-    (9, "dissoc"),
-    (10, "disj"),
-    (101, ">="),
-    (102, "<="),
-    (103, "="),
-    (104, "int?"),
-    (105, "string?"),
-    (106, "vector?"),
-    (107, "map?"),
-    (108, "set?"),
-    (109, "some?"),
+    (PLUS, "+"),
+    (MINUS, "-"),
+    (INC, "inc"),
+    (DEC, "dec"),
+    (MAX, "max"),
+    (MIN, "min"),
+    (CONJ, "conj"),
+    (ASSOC, "assoc"),
+    (DISSOC, "dissoc"),
+    (DISJ, "disj"),
+    (AT_LEAST, ">="),
+    (AT_MOST, "<="),
+    (EQUALS, "="),
+    (IS_INT, "int?"),
+    (IS_STRING, "string?"),
+    (IS_VECTOR, "vector?"),
+    (IS_MAP, "map?"),
+    (IS_SET, "set?"),
+    (IS_SOME, "some?"),
 ];
 
 /// The code of the function or predicate of Core that has this name.
@@ -45,14 +50,14 @@ pub fn name_of(code: u32) -> Option<&'static str>
 pub fn is_function(code: u32) -> bool
     ensures { result ≡ is_function code }
 {
-    1 <= code && code <= 10
+    PLUS <= code && code <= DISJ
 }
 
 /// Whether Core has a predicate of this code.
 pub fn is_predicate(code: u32) -> bool
     ensures { result ≡ is_predicate code }
 {
-    101 <= code && code <= 109
+    AT_LEAST <= code && code <= IS_SOME
 }
 
 fn is_same(a: &[u8], b: &[u8]) -> bool

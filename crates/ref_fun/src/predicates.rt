@@ -3,6 +3,7 @@ ghost use Rattle.std.specs.Prelude.{◌≡◌};
 ghost use Rattle.ref_fun.specs.Core.{core_accepts};
 ghost use Rattle.ref_fun.specs.Predicates.{at_least, at_most, equals};
 
+use crate::codes;
 use crate::kinds::{is_int, is_map, is_not_nil, is_set, is_string, is_vector};
 use ref_value::{Node, Value};
 
@@ -13,15 +14,15 @@ pub fn core_test(code: u32, state: &Value, args: &[Value]) -> bool
     ensures { result ≡ core_accepts code args.now state.now }
 {
     match code {
-        101 => at_least(state, args),
-        102 => at_most(state, args),
-        103 => equals(state, args),
-        104 => args.is_empty() && is_int(state),
-        105 => args.is_empty() && is_string(state),
-        106 => args.is_empty() && is_vector(state),
-        107 => args.is_empty() && is_map(state),
-        108 => args.is_empty() && is_set(state),
-        109 => args.is_empty() && is_not_nil(state),
+        codes::AT_LEAST => at_least(state, args),
+        codes::AT_MOST => at_most(state, args),
+        codes::EQUALS => equals(state, args),
+        codes::IS_INT => args.is_empty() && is_int(state),
+        codes::IS_STRING => args.is_empty() && is_string(state),
+        codes::IS_VECTOR => args.is_empty() && is_vector(state),
+        codes::IS_MAP => args.is_empty() && is_map(state),
+        codes::IS_SET => args.is_empty() && is_set(state),
+        codes::IS_SOME => args.is_empty() && is_not_nil(state),
         _ => false,
     }
 }

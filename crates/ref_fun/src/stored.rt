@@ -51,6 +51,7 @@ impl StoredFun {
         StoredFun { code, run }
     }
 
+    /// The function's code.
     pub fn code(&self) -> u32
         ensures { result ≡ fun_code self.now }
     {
@@ -83,6 +84,7 @@ impl StoredPred {
         StoredPred { code, run }
     }
 
+    /// The predicate's code.
     pub fn code(&self) -> u32
         ensures { result ≡ pred_code self.now }
     {

@@ -71,6 +71,7 @@ impl<T: Drop> SharedVec<T> {
         })
     }
 
+    /// How many items there are, in constant time.
     pub fn len(&self) -> usize
         ensures { result ≡ length self.now }
     {
@@ -80,6 +81,7 @@ impl<T: Drop> SharedVec<T> {
         }
     }
 
+    /// Whether there are no items.
     pub fn is_empty(&self) -> bool
         ensures { IsTrue result ↔ (self.now ≡ []) }
     {
@@ -89,6 +91,7 @@ impl<T: Drop> SharedVec<T> {
         }
     }
 
+    /// The item at an index, in constant time.
     pub fn at(&self, i: usize) -> &T
         requires { i < length self.now }
         ensures { result.now ≡ slice_index_or self.now i result.now }
@@ -99,6 +102,7 @@ impl<T: Drop> SharedVec<T> {
         }
     }
 
+    /// The item at an index, or `None` past the end, in constant time.
     pub fn get(&self, i: usize) -> Option<&T>
         ensures value { option_copied result ≡ slice_get self.now i }
         ensures item { IsItemAt self.now i result }
@@ -109,6 +113,7 @@ impl<T: Drop> SharedVec<T> {
         }
     }
 
+    /// All items.
     pub fn as_slice(&self) -> &[T]
         ensures { result.now ≡ self.now }
     {

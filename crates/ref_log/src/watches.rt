@@ -41,6 +41,7 @@ impl Watches {
         }
     }
 
+    /// Whether there are no watches.
     pub fn is_empty(&self) -> bool
         ensures { IsTrue result ↔ (self.now ≡ []) }
     {

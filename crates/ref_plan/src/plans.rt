@@ -94,6 +94,7 @@ impl Model for Plan {
 }
 
 impl Plan {
+    /// A plan from its parts: the names, the references, the steps of each worker, and how many threads run actions.
     pub fn of(names: Names, start: Start, workers: Vec<SharedVec<Step>>, pool: u32) -> Plan
         ensures { result ≡ record {
           names = names;

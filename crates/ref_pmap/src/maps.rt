@@ -33,6 +33,7 @@ impl<V> Model for PMap<V> {
 }
 
 impl<V: Drop> PMap<V> {
+    /// A map without entries. It takes no memory.
     #[tactic(auto, using(crate::proofs::WholeMaps::maps))]
     pub fn empty() -> PMap<V>
         ensures { result ≡ map.empty }
@@ -40,12 +41,14 @@ impl<V: Drop> PMap<V> {
         PMap { len: 0, tree: None }
     }
 
+    /// How many entries there are, in constant time.
     pub fn len(&self) -> usize
         ensures { result ≡ map.len self.now }
     {
         self.len
     }
 
+    /// Whether there are no entries.
     pub fn is_empty(&self) -> bool
         ensures { IsTrue result ↔ (self.now ≡ map.empty) }
     {
@@ -66,6 +69,7 @@ impl<V: Drop> PMap<V> {
         })
     }
 
+    /// The value at a key, or `None` if there is none, in as many steps as the tree is deep: 32 at most.
     #[tactic(auto, using(crate::proofs::WholeMaps::maps))]
     pub fn get(&self, key: u32) -> Option<&V>
         ensures { option_copied result ≡ map.get self.now key }

@@ -34,12 +34,14 @@ impl<V> Model for Numbered<V> {
 }
 
 impl<V: Drop> Numbered<V> {
+    /// A list without values. It takes no memory.
     pub fn empty() -> Numbered<V>
         ensures { result ≡ [] }
     {
         Numbered { map: PMap::empty() }
     }
 
+    /// How many values there are, in constant time.
     pub fn len(&self) -> usize
         ensures value { result ≡ length self.now }
         ensures bound { result ≤ 2 ^ 32 }
@@ -47,6 +49,7 @@ impl<V: Drop> Numbered<V> {
         self.map.len()
     }
 
+    /// Whether there are no values.
     pub fn is_empty(&self) -> bool
         ensures { IsTrue result ↔ (self.now ≡ []) }
     {
@@ -62,6 +65,7 @@ impl<V: Drop> Numbered<V> {
         })
     }
 
+    /// The value with a number, or `None` if there is none, in a logarithm of the length.
     #[tactic(auto, using(crate::proofs::Listed::items_get))]
     pub fn get(&self, number: u32) -> Option<&V>
         ensures { option_copied result ≡ slice_get self.now number }

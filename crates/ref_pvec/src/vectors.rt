@@ -123,6 +123,7 @@ fn rest_of_tail<T: Drop>(
 }
 
 impl<T: Drop> PVec<T> {
+    /// A list without items. It takes no memory.
     pub fn empty() -> PVec<T>
         ensures { result ≡ [] }
     {
@@ -134,18 +135,21 @@ impl<T: Drop> PVec<T> {
         }
     }
 
+    /// How many items there are, in constant time.
     pub fn len(&self) -> usize
         ensures { result ≡ length self.now }
     {
         self.len
     }
 
+    /// Whether there are no items.
     pub fn is_empty(&self) -> bool
         ensures { IsTrue result ↔ (self.now ≡ []) }
     {
         self.len == 0
     }
 
+    /// The item at an index, or `None` past the end, in a logarithm of the length.
     #[tactic(auto, using(crate::proofs::Lists::get_front, crate::proofs::Lists::get_back))]
     pub fn get(&self, index: usize) -> Option<&T>
         ensures { option_copied result ≡ slice_get self.now index }

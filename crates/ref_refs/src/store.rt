@@ -70,6 +70,7 @@ impl<M: Meaning> RefStore<M> {
         self.refs.len()
     }
 
+    /// Whether there are no refs.
     pub fn is_empty(&self) -> bool
         ensures { IsTrue result ↔ (self.now.values ≡ []) }
     {

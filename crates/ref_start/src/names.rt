@@ -24,6 +24,7 @@ impl Model for Names {
 }
 
 impl Names {
+    /// The names of refs, atoms and agents, each list by number.
     pub fn of(refs: Vec<Text>, atoms: Vec<Text>, agents: Vec<Text>) -> Names
         ensures { result ≡ record { refs = refs.items; atoms = atoms.items; agents = agents.items } }
     {
@@ -34,18 +35,21 @@ impl Names {
         }
     }
 
+    /// The names of the refs, by number.
     pub fn refs(&self) -> &[Text]
         ensures { result.now ≡ self.now.refs }
     {
         self.refs.as_slice()
     }
 
+    /// The names of the atoms, by number.
     pub fn atoms(&self) -> &[Text]
         ensures { result.now ≡ self.now.atoms }
     {
         self.atoms.as_slice()
     }
 
+    /// The names of the agents, by number.
     pub fn agents(&self) -> &[Text]
         ensures { result.now ≡ self.now.agents }
     {

@@ -61,6 +61,7 @@ impl Snapshot {
         self.refs.len()
     }
 
+    /// Whether there are no refs.
     pub fn is_empty(&self) -> bool
         ensures { IsTrue result ↔ (self.now.values ≡ []) }
     {

@@ -153,6 +153,7 @@ impl Value {
         Value { node }
     }
 
+    /// What the value is: nil, a number, a text or a collection, to match on. Constant time.
     pub fn node(&self) -> &Node
         ensures value { edn result.now ≡ self.now }
         ensures lawful { IsLawful self.now }

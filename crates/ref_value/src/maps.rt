@@ -87,12 +87,14 @@ impl Entries {
         Ok(Entries { tree })
     }
 
+    /// How many entries there are, in constant time.
     pub fn len(&self) -> usize
         ensures { result ≡ length self.now }
     {
         self.tree.len()
     }
 
+    /// Whether there are no entries.
     pub fn is_empty(&self) -> bool
         ensures { IsTrue result ↔ (self.now ≡ []) }
     {

@@ -74,6 +74,7 @@ impl Elements {
         Ok(Elements { tree })
     }
 
+    /// How many elements there are, in constant time.
     #[tactic(auto, using(crate::proofs::Pairing::length_singles))]
     pub fn len(&self) -> usize
         ensures { result ≡ length self.now }
@@ -81,6 +82,7 @@ impl Elements {
         self.tree.len()
     }
 
+    /// Whether there are no elements.
     pub fn is_empty(&self) -> bool
         ensures { IsTrue result ↔ (self.now ≡ []) }
     {
@@ -130,6 +132,7 @@ impl Elements {
         self.tree.mark()
     }
 
+    /// The element at an index in value order, or `None` past the end, in a logarithm of the length.
     #[tactic(auto, using(crate::proofs::Pieces::get_some, crate::proofs::Pieces::get_none))]
     pub fn get(&self, i: usize) -> Option<&Value>
         ensures value { option_copied result ≡ slice_get self.now i }

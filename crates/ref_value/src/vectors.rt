@@ -83,6 +83,7 @@ impl Items {
         Ok(Items { tree })
     }
 
+    /// How many elements there are, in constant time.
     #[tactic(auto, using(crate::proofs::Pairing::length_singles))]
     pub fn len(&self) -> usize
         ensures { result ≡ length self.now }
@@ -90,6 +91,7 @@ impl Items {
         self.tree.len()
     }
 
+    /// Whether there are no elements.
     pub fn is_empty(&self) -> bool
         ensures { IsTrue result ↔ (self.now ≡ []) }
     {
@@ -105,6 +107,7 @@ impl Items {
         self.tree.pair_at(i).0
     }
 
+    /// The element at an index, or `None` past the end, in a logarithm of the length.
     #[tactic(auto, using(crate::proofs::Pieces::get_some, crate::proofs::Pieces::get_none))]
     pub fn get(&self, i: usize) -> Option<&Value>
         ensures value { option_copied result ≡ slice_get self.now i }

@@ -41,6 +41,7 @@ fn arguments(alloc: Global, parts: Iter<'_>) -> Result<Args, Wrong>
     Ok(Args::of(alloc, values)?)
 }
 
+/// The function and its arguments, from a name on to the end of a form.
 pub fn call_in(alloc: Global, parts: Iter<'_>) -> Result<Call<'_>, Wrong>
     ensures form { IfOk result (λ c. parts.entry ≡ symbol c.word.now ∷ c.args) }
     ensures lawful { IfOk result (λ c. (length c.args ≤ 8) × All IsShallow c.args) }

@@ -13,6 +13,7 @@ use ref_value::{Entries, Items, Node, Text, Value};
 /// How deep a value of a workload may be nested.
 pub const MOST_NESTED: u8 = 48;
 
+/// The integer, or `None` for another value.
 pub fn int_in(value: &Value) -> Option<i64>
     ensures found { is_some result ≡ is_int value.now }
     ensures int { IfSome result (λ n. value.now ≡ int n) }
@@ -23,6 +24,7 @@ pub fn int_in(value: &Value) -> Option<i64>
     }
 }
 
+/// The text of a keyword without its colon, or `None` for another value.
 pub fn keyword_in(value: &Value) -> Option<&Text>
     ensures found { is_some result ≡ is_keyword value.now }
     ensures keyword { IfSome result (λ name. value.now ≡ keyword name.now) }
@@ -33,6 +35,7 @@ pub fn keyword_in(value: &Value) -> Option<&Text>
     }
 }
 
+/// The text of a symbol, or `None` for another value.
 pub fn symbol_in(value: &Value) -> Option<&Text>
     ensures found { is_some result ≡ is_symbol value.now }
     ensures symbol { IfSome result (λ name. value.now ≡ symbol name.now) }
@@ -43,6 +46,7 @@ pub fn symbol_in(value: &Value) -> Option<&Text>
     }
 }
 
+/// The elements of a vector, or `None` for another value.
 pub fn vector_in(value: &Value) -> Option<&Items>
     ensures found { is_some result ≡ is_vector value.now }
     ensures vector { IfSome result (λ xs. value.now ≡ vector (items_of xs.now)) }
@@ -53,6 +57,7 @@ pub fn vector_in(value: &Value) -> Option<&Items>
     }
 }
 
+/// The entries of a map, or `None` for another value.
 pub fn map_in(value: &Value) -> Option<&Entries>
     ensures found { is_some result ≡ is_map value.now }
     ensures map { IfSome result (λ es. value.now ≡ map (entries_of es.now)) }
@@ -63,6 +68,7 @@ pub fn map_in(value: &Value) -> Option<&Entries>
     }
 }
 
+/// Whether these are the same bytes.
 #[tactic(auto, using(crate::proofs::SameTexts::same_bytes))]
 pub fn is_same(a: &[u8], b: &[u8]) -> bool
     ensures test { result ≡ bytes_eq a.now b.now }
@@ -97,6 +103,7 @@ pub struct Head<'a> {
     pub parts: Iter<'a>,
 }
 
+/// The keyword at the head of a vector and what follows it, or `None` for another value.
 pub fn head_in(form: &Value) -> Option<Head<'_>>
     ensures some { IfSome result (λ h. form.now ≡ vector (items_of (keyword h.word.now ∷ h.parts))) }
     ensures none { IfNone result ((word : List ℕ) (parts : List Edn)
@@ -114,6 +121,7 @@ pub struct Subject<'a> {
     pub rest: Iter<'a>,
 }
 
+/// The name of a reference and what follows it, or `None` if there is no symbol.
 pub fn subject_in(mut parts: Iter<'_>) -> Option<Subject<'_>>
     ensures some { IfSome result (λ s. parts.entry ≡ symbol s.name.now ∷ s.rest) }
     ensures none { IfNone result ((name : List ℕ) (rest : List Edn) → parts.entry ≡ symbol name ∷ rest → ⊥) }

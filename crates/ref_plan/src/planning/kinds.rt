@@ -4,6 +4,7 @@ ghost use Rattle.ref_plan.specs.Named.{of_kind};
 
 use ref_log::Who;
 
+/// A kind of reference.
 #[derive(Clone, Copy, Debug, Drop, PartialEq, Eq)]
 pub enum Kind {
     Ref,

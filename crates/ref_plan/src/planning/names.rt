@@ -80,6 +80,7 @@ impl Model for NameTable {
 }
 
 impl NameTable {
+    /// A table without names. `hashing` says how names are hashed.
     pub fn empty(alloc: Global, hashing: NameHashing) -> NameTable
         ensures { result ≡ [] }
     {
@@ -135,6 +136,7 @@ impl Model for Declared {
 }
 
 impl Declared {
+    /// Names in two forms: by number, and a table from names to references.
     pub fn of(names: Names, table: NameTable) -> Declared
         requires { Knows table names }
         ensures { result ≡ names }
@@ -150,6 +152,7 @@ impl Declared {
         self.table.find(name)
     }
 
+    /// The names by number. The table is dropped.
     pub fn into_names(self) -> Names
         ensures names { result ≡ self }
         ensures apart { AreApart self }

@@ -31,6 +31,7 @@ pub enum StepWord {
     Validator,
 }
 
+/// The operation of this keyword, or `None` if there is none.
 pub fn op_word_of(word: &[u8]) -> Option<OpWord>
     ensures some { IfSome result (λ w. word.now ≡ op_text w) }
     ensures none { IfNone result ((w : Op) → word.now ≡ op_text w → ⊥) }
@@ -46,6 +47,7 @@ pub fn op_word_of(word: &[u8]) -> Option<OpWord>
     }
 }
 
+/// The step of this keyword, or `None` if there is none.
 pub fn step_word_of(word: &[u8]) -> Option<StepWord>
     ensures some { IfSome result (λ w. word.now ≡ step_text w) }
     ensures none { IfNone result ((w : Step) → word.now ≡ step_text w → ⊥) }
@@ -63,6 +65,7 @@ pub fn step_word_of(word: &[u8]) -> Option<StepWord>
     }
 }
 
+/// The error mode of this keyword, or `None` if there is none.
 pub fn mode_of(word: &[u8]) -> Option<ErrorMode>
     ensures some { IfSome result (λ m. word.now ≡ mode_text m) }
     ensures none { IfNone result ((m : Mode) → word.now ≡ mode_text m → ⊥) }

@@ -4,6 +4,7 @@ ghost use Rattle.ref_plan.specs.declared.planning.wrong.Wrong.TheVariants.{Memor
 
 use std::alloc::{AllocError, AllocFailed};
 
+/// What is wrong with a form: its shape, the name of a reference, the name of a function; or memory was refused.
 #[derive(Clone, Copy, Debug, Drop, PartialEq, Eq)]
 pub enum Wrong {
     Form,

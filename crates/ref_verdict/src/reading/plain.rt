@@ -40,6 +40,7 @@ pub fn reference_in(form: &Value) -> Option<u32>
     }
 }
 
+/// The text of a keyword without its colon, or `None` for another value.
 pub fn keyword_in(form: &Value) -> Option<&Text>
     ensures some { IfSome result (λ name. keyword_of form.now ≡ Some name.now) }
     ensures none { IfNone result (keyword_of form.now ≡ None) }
@@ -50,6 +51,7 @@ pub fn keyword_in(form: &Value) -> Option<&Text>
     }
 }
 
+/// The elements of a vector, or `None` for another value.
 #[tactic(auto, using(crate::specs::FormLaws::elements_of_vector))]
 pub fn elements_in(form: &Value) -> Option<&Items>
     ensures some { IfSome result (λ xs. elements_of form.now ≡ Some xs.now) }
@@ -61,6 +63,7 @@ pub fn elements_in(form: &Value) -> Option<&Items>
     }
 }
 
+/// Whether these are the same bytes.
 pub fn is_same(a: &[u8], b: &[u8]) -> bool
     ensures { result ≡ bytes_eq a.now b.now }
 {
