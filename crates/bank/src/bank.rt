@@ -2,9 +2,9 @@
 ghost use Rattle.std.specs.Prelude.{◌≡◌};
 ghost use Rattle.ref_world.specs.Shares.{all_parts};
 
-use crate::table::{AT_LEAST, CONJ, INC, MINUS, PLUS};
 use ref_agents::{ErrorMode, FinishFault, Job};
 use ref_edn::{Value, read_one};
+use ref_fun::codes::{AT_LEAST, CONJ, INC, MINUS, PLUS};
 use ref_fun::{Args, Core, FunTable, Rule};
 use ref_log::{Stamp, Who};
 use ref_refs::CommitFault;

@@ -11,17 +11,6 @@ use std::alloc::Global;
 use std::marker::Brand;
 use std::sync::ledger::Blank;
 
-// The codes that are used here. `ref_fun::code_of` returns them by name too.
-pub(crate) const PLUS: u32 = 1;
-
-pub(crate) const MINUS: u32 = 2;
-
-pub(crate) const INC: u32 = 3;
-
-pub(crate) const CONJ: u32 = 7;
-
-pub(crate) const AT_LEAST: u32 = 101;
-
 /// Makes the table, and does the business by it. A closure is stored with a proof that it answers what Core means by its code; here
 /// that is what `core_fun` and `core_test` promise.
 pub(crate) fn run_by_core<R: AllocGlobal + Print>(rt: &R) -> Result<(), Trouble> {

@@ -12,7 +12,6 @@ ghost use Rattle.std.specs.Prelude.{◌≡◌};
 ghost use Rattle.ref_world.specs.Shares.{all_parts};
 
 mod board;
-mod codes;
 mod customers;
 mod helpers;
 mod stalls;

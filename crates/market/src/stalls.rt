@@ -1,9 +1,9 @@
 //! The market: its world, and what one customer does.
 use crate::Trouble;
 use crate::board::Board;
-use crate::codes::{AT_LEAST, CONJ, INC, MINUS, PLUS};
 use crate::values::{args, no_args, value};
 use ref_agents::ErrorMode;
+use ref_fun::codes::{AT_LEAST, CONJ, INC, MINUS, PLUS};
 use ref_fun::{Core, Functions, Rule};
 use ref_log::{Stamp, Who};
 use ref_refs::CommitFault;

@@ -7,6 +7,7 @@ ghost use Rattle.ref_fun.specs.Meaning.{Answers};
 
 use crate::subjects::By;
 use ref_edn::Value;
+use ref_fun::codes::PLUS;
 use ref_fun::{Fun, FunFault, FunTable, Pred, StoredFun, StoredPred, core_fun, core_test};
 use std::alloc::{AllocError, Global};
 
@@ -33,8 +34,6 @@ pub trait ByTables: Drop + Sized {
 
     fn run(self, tables: &Tables) -> Self::Out;
 }
-
-const PLUS: u32 = 1;
 
 /// Does something by a table of the functions and the predicates with these codes, and the one with fewer.
 pub fn with_tables<W: ByTables>(

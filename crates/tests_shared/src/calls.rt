@@ -4,11 +4,11 @@ use crate::same::same;
 use crate::scenarios::{CommitCount, Inspection, Scenario, run_shared, run_to_end};
 use crate::steps::{commit, commit_set, watch};
 use crate::worlds::{
-    Listener, PLUS, STAMP, Stop, Told, add, all_told, at_least, done, int_at, one_arg, plain_start,
-    value,
+    Listener, STAMP, Stop, Told, add, all_told, at_least, done, int_at, one_arg, plain_start, value,
 };
 use ref_agents::ErrorMode;
 use ref_atoms::Swapped;
+use ref_fun::codes::PLUS;
 use ref_fun::{Core, CoreFunctions};
 use ref_log::{Entry, MakeFault, RuleFault, Stamp, Who};
 use ref_pvec::PVec;

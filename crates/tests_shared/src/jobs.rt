@@ -1,8 +1,7 @@
 //! Worlds of two agents, what is sent to them, and what runs their actions.
 use crate::steps::commit;
-use crate::worlds::{
-    PLUS, STAMP, Stop, agent, at_least, done, int_at, one_arg, plain_start, value,
-};
+use crate::worlds::{STAMP, Stop, agent, at_least, done, int_at, one_arg, plain_start, value};
+use ref_fun::codes::PLUS;
 use ref_fun::{Core, CoreFunctions};
 use ref_log::Who;
 use ref_shared::{Open, Quiet, Shared, WorkFault, Worked};

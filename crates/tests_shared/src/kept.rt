@@ -4,8 +4,9 @@ ghost use Rattle.ref_world.specs.Shares.{all_parts};
 
 use crate::jobs::two_agents;
 use crate::same::same;
-use crate::worlds::{PLUS, STAMP, Stop, action, closed, done, one_arg, value};
+use crate::worlds::{STAMP, Stop, action, closed, done, one_arg, value};
 use ref_agents::{AgentError, ErrorMode, Finished, Job};
+use ref_fun::codes::PLUS;
 use ref_fun::{Cause, Core, CoreFunctions};
 use ref_log::Who;
 use ref_shared::Shared;

@@ -4,10 +4,9 @@ use crate::same::same;
 use crate::scenarios::{Inspection, Scenario, run_shared, run_to_end};
 use crate::steps::{send, watch};
 use crate::tables::Poor;
-use crate::worlds::{
-    AT_LEAST, Listener, MINUS, PLUS, STAMP, Stop, Told, action, done, int_at, value,
-};
+use crate::worlds::{Listener, STAMP, Stop, Told, action, done, int_at, value};
 use ref_agents::{AgentError, RestartFault, SendFault};
+use ref_fun::codes::{AT_LEAST, MINUS, PLUS};
 use ref_fun::{Core, CoreFunctions};
 use ref_log::Who;
 use ref_shared::{Open, Quiet, Shared, WorkFault, Worked};

@@ -5,6 +5,7 @@ ghost use Rattle.ref_world.specs.Shares.{all_parts};
 use crate::numbers::int_of;
 use ref_agents::ErrorMode;
 use ref_edn::{Node, Value, read_all, read_one};
+use ref_fun::codes::{AT_LEAST, PLUS};
 use ref_fun::{Action, Args, Core, CoreFunctions, Rule};
 use ref_log::{Entry, Notice, Stamp, Who};
 use ref_pvec::PVec;
@@ -16,12 +17,6 @@ use std::sync::Wait;
 use std::sync::ledger::{Blank, Ledger};
 
 /// The codes of `+`, `-` and `>=`.
-pub const PLUS: u32 = 1;
-
-pub const MINUS: u32 = 2;
-
-pub const AT_LEAST: u32 = 101;
-
 /// The stamp of a commit where nothing hangs on it.
 pub const STAMP: Stamp = Stamp { worker: 0, step: 0 };
 

@@ -2,6 +2,7 @@
 ghost use Rattle.std.specs.Prelude.{◌≡◌};
 ghost use Rattle.ref_world.specs.Shares.{all_parts};
 
+use ref_fun::codes::PLUS;
 use ref_fun::{Core, CoreFunctions};
 use ref_log::{Stamp, replay_plain};
 use ref_shared::Shared;
@@ -14,7 +15,7 @@ use std::test::Fail;
 use std::thread;
 use std::thread::Threads;
 use tests_shared::numbers::int_of;
-use tests_shared::worlds::{PLUS, Stop, closed, done, one_arg, opened, plain_start};
+use tests_shared::worlds::{Stop, closed, done, one_arg, opened, plain_start};
 
 // What the checkpoints answered; how many entries the view has, and what its replay gives; what the world's base says at the end,
 // and how many entries there are after it.

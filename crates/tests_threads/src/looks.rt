@@ -6,6 +6,7 @@ ghost use Rattle.ref_world.specs.Shares.{all_parts};
 
 use crate::flags::{Flags, Place};
 use crate::waits::wait_for;
+use ref_fun::codes::PLUS;
 use ref_fun::{CallFault, Core, CoreFunctions, Functions};
 use ref_log::{Notice, Who};
 use ref_shared::{Gate, Shared, Spot, WatchSink, Worked};
@@ -22,7 +23,7 @@ use std::thread;
 use std::thread::Threads;
 use std::time::Clock;
 use tests_shared::jobs::{CLOSED, Work, send_four, two_agents, work};
-use tests_shared::worlds::{PLUS, STAMP, Stop, action, add, closed, done, int_at, opened, value};
+use tests_shared::worlds::{STAMP, Stop, action, add, closed, done, int_at, opened, value};
 
 // Says that it is here, if it is to, and waits until the other has looked. Where that comes in time, the third flag is set.
 fn wait_here<R: Clock>(rt: &R, flags: &Flags, is_to: bool) {

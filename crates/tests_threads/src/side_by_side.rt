@@ -5,6 +5,7 @@ ghost use Rattle.ref_world.specs.Shares.{all_parts};
 
 use crate::flags::Flags;
 use crate::waits::wait_for;
+use ref_fun::codes::PLUS;
 use ref_fun::{Core, CoreFunctions, Functions};
 use ref_log::Who;
 use ref_shared::{Gate, Quiet, Shared, Spot, Worked};
@@ -19,7 +20,7 @@ use std::thread;
 use std::thread::Threads;
 use std::time::{Clock, Duration};
 use tests_shared::jobs::{Work, agents_at, two_agents, work};
-use tests_shared::worlds::{PLUS, Stop, action, done, int_at, opened};
+use tests_shared::worlds::{Stop, action, done, int_at, opened};
 
 // Waits for a flag, and then some time more, in which whoever set it has begun to wait.
 pub(crate) fn wait_past<R: Clock>(rt: &R, flag: &AtomicBool) -> bool {

@@ -2,6 +2,7 @@
 ghost use Rattle.std.specs.Prelude.{◌≡◌};
 ghost use Rattle.ref_world.specs.Shares.{all_parts};
 
+use ref_fun::codes::PLUS;
 use ref_fun::{Core, CoreFunctions};
 use ref_log::{Stamp, Who};
 use ref_shared::{Open, Quiet, Shared, Worked};
@@ -15,9 +16,7 @@ use std::test::Fail;
 use std::thread;
 use std::thread::Threads;
 use tests_shared::numbers::int_of;
-use tests_shared::worlds::{
-    PLUS, Stop, add, agent, closed, done, one_arg, opened, plain_start, value,
-};
+use tests_shared::worlds::{Stop, add, agent, closed, done, one_arg, opened, plain_start, value};
 
 /// So few that any two transactions have one in common.
 const FEW: u32 = 3;

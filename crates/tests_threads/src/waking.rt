@@ -5,6 +5,7 @@ ghost use Rattle.ref_world.specs.Shares.{all_parts};
 use crate::flags::Flags;
 use crate::side_by_side::{wait_past, work_and_meet, work_first, work_next};
 use crate::waits::wait_for;
+use ref_fun::codes::{MINUS, PLUS};
 use ref_fun::{Action, Core, CoreFunctions, FunTable};
 use ref_log::Who;
 use ref_shared::{Shared, WorkFault, Worked};
@@ -21,9 +22,7 @@ use std::thread;
 use std::thread::Threads;
 use std::time::Clock;
 use tests_shared::jobs::{CLOSED, Work, send_four, two_agents, work};
-use tests_shared::worlds::{
-    MINUS, PLUS, STAMP, Stop, action, done, int_at, one_arg, opened, value,
-};
+use tests_shared::worlds::{STAMP, Stop, action, done, int_at, one_arg, opened, value};
 
 // Wakes one who waits, so that a test ends which has failed.
 fn nudge<R: Wait, C: Ledger, A: Ledger>(rt: &R, alloc: Global, shared: &Shared<Core, C, A>) {

@@ -5,6 +5,7 @@ ghost use Rattle.ref_fun.specs.Names.{is_function, is_predicate};
 use crate::gates::{Board, wait_for};
 use ref_audit::Verdict;
 use ref_edn::{Counted, Value};
+use ref_fun::codes::{INC, PLUS};
 use ref_fun::{CallFault, Core, CoreFunctions, Functions, has_core};
 use ref_workload::{Options, run_workload};
 use std::alloc::Global;
@@ -16,10 +17,6 @@ use std::thread::Threads;
 use std::time::Clock;
 
 // Codes of Core.
-const PLUS: u32 = 1;
-
-const INC: u32 = 3;
-
 // How often who calls `inc` is overtaken by who calls `+`.
 const TIMES: u32 = 3;
 
