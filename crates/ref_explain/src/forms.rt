@@ -4,6 +4,7 @@
 ghost use Rattle.std.specs.Iterator.{at_most};
 
 use crate::inside::{Inside, from, is_blank, is_closing, is_delimiter, is_opening, up_to};
+use std::str::from_utf8;
 
 /// A form, by what is left of the text where it begins and behind its end.
 #[derive(Clone, Copy, Debug)]
@@ -76,9 +77,21 @@ impl<'a> Form<'a> {
         }
     }
 
+    /// The number that it is, if it has 64 bits.
+    pub fn integer(&self) -> Option<i64> {
+        match from_utf8(self.bytes()) {
+            Ok(text) => text.parse::<i64>().ok(),
+            Err(_) => None,
+        }
+    }
+
     /// Whether it is the keyword of this name.
     pub fn is_word(&self, word: &str) -> bool {
         self.keyword() == Some(word.as_bytes())
+    }
+
+    pub fn is_nil(&self) -> bool {
+        matches!(self.bytes(), b"nil")
     }
 
     pub fn is_vector(&self) -> bool {

@@ -8,16 +8,16 @@ const MOST_COMPARED: usize = 64;
 
 /// Of the words that were offered, the one nearest to another one.
 #[derive(Drop)]
-pub(crate) struct Nearest<'a> {
-    word: &'a str,
+pub(crate) struct Nearest<'w, 'a> {
+    word: &'w str,
     // One letter in three may be wrong.
     most: usize,
     found: Option<&'a str>,
 }
 
-impl<'a> Nearest<'a> {
+impl<'w, 'a> Nearest<'w, 'a> {
     /// Nothing was offered.
-    pub fn to(word: &'a [u8]) -> Nearest<'a> {
+    pub fn to(word: &'w [u8]) -> Nearest<'w, 'a> {
         let word = match from_utf8(word) {
             Ok(word) if word.len() <= MOST_COMPARED => word,
             _ => "",

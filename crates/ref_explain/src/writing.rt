@@ -11,6 +11,8 @@ pub(crate) struct Writing<'a> {
     pub alloc: Global,
     pub text: &'a [u8],
     output: String,
+    // How far to the right the lines of numbers end.
+    width: usize,
 }
 
 fn push_many(line: &mut String, c: char, count: usize) -> Result<(), AllocError> {
@@ -27,6 +29,7 @@ impl<'a> Writing<'a> {
             alloc,
             text,
             output: String::new(alloc),
+            width: 2,
         }
     }
 
@@ -36,12 +39,9 @@ impl<'a> Writing<'a> {
             alloc: _,
             text: _,
             output,
+            width: _,
         } = self;
         output
-    }
-
-    pub fn is_empty(&self) -> bool {
-        self.output.len() == 0
     }
 
     // The place from which on this is left.
@@ -61,26 +61,30 @@ impl<'a> Writing<'a> {
         let number = line_of(before);
         let column = column_of(before);
         let shown = format!(in self.alloc; "{number}")?;
-        let width = shown.len().saturating_add(1);
+        self.width = shown.len().saturating_add(1);
         let excerpt = excerpt_at(self.alloc, self.text, start, end)?;
-        push_many(&mut self.output, ' ', width)?;
+        push_many(&mut self.output, ' ', self.width)?;
         writeln!(self.output, "--> line {number}, column {column}")?;
-        self.gutter(width)?;
+        self.gutter(" |")?;
         self.output.push('\n')?;
         self.output.push(' ')?;
         self.output.push_str(shown.as_str())?;
-        self.output.push_str(" | ")?;
+        self.output.push_str(" |")?;
+        if !excerpt.line.is_empty() {
+            self.output.push(' ')?;
+        }
         self.line(excerpt.line.as_str())?;
-        self.gutter(width)?;
-        push_many(&mut self.output, ' ', excerpt.before.saturating_add(1))?;
+        self.gutter(" | ")?;
+        push_many(&mut self.output, ' ', excerpt.before)?;
         push_many(&mut self.output, '^', excerpt.marked)?;
         self.output.push(' ')?;
         self.line(message)
     }
 
-    fn gutter(&mut self, width: usize) -> Result<(), AllocError> {
-        push_many(&mut self.output, ' ', width)?;
-        self.output.push_str(" |")
+    // What a line without a number begins with.
+    fn gutter(&mut self, mark: &str) -> Result<(), AllocError> {
+        push_many(&mut self.output, ' ', self.width)?;
+        self.output.push_str(mark)
     }
 
     /// Says this of a form.
@@ -108,7 +112,7 @@ impl<'a> Writing<'a> {
 
     /// A line that says more.
     pub fn note(&mut self, note: &str) -> Result<(), AllocError> {
-        self.output.push_str("   = ")?;
+        self.gutter(" = ")?;
         self.line(note)
     }
 
@@ -116,7 +120,7 @@ impl<'a> Writing<'a> {
     pub fn note_text(&mut self, what: &str, form: &Form<'_>) -> Result<(), AllocError> {
         let whole = form.bytes();
         let shown = head_of(whole, MOST_SHOWN);
-        self.output.push_str("   = ")?;
+        self.gutter(" = ")?;
         self.output.push_str(what)?;
         self.output.push_str(": ")?;
         push_plain(self.alloc, &mut self.output, shown)?;
