@@ -10,7 +10,7 @@ const MOST_COMPARED: usize = 64;
 #[derive(Drop)]
 pub(crate) struct Nearest<'w, 'a> {
     word: &'w str,
-    // One letter in three may be wrong.
+    // How many letters may be wrong: one in three, and not all.
     most: usize,
     found: Option<&'a str>,
 }
@@ -24,7 +24,7 @@ impl<'w, 'a> Nearest<'w, 'a> {
         };
         Nearest {
             word,
-            most: word.len().max(3) / 3,
+            most: (word.len().max(3) / 3).min(word.len().saturating_sub(1)),
             found: None,
         }
     }

@@ -1,5 +1,6 @@
 //! The steps that a run refused, by the lines of its report.
 use crate::documents::step_of;
+use crate::forms::Form;
 use crate::functions::{function_of, wrong_count};
 use crate::sentences::{Said, said_in};
 use crate::words::{Sentence, Slot};
@@ -24,46 +25,35 @@ pub struct Refused {
     pub reason: Reason,
 }
 
-/// Says that a function never takes so many arguments, and whether it is so.
-pub(crate) fn write_bad_count(
-    writing: &mut Writing<'_>,
-    said: &Said<'_>,
-) -> Result<bool, AllocError> {
+/// The name of a function that never takes as many arguments as it has here, and what it takes.
+pub(crate) fn bad_count<'a>(said: &Said<'a>) -> Option<(Form<'a>, &'static str)> {
     let mut parts = said.rest;
     for slot in said.word.slots {
-        let Some(part) = parts.next() else {
-            return Ok(false);
-        };
-        if *slot != Slot::Function {
-            continue;
+        let part = parts.next()?;
+        if *slot == Slot::Function {
+            let code = function_of(part.bytes())?;
+            let message = wrong_count(code, parts.count())?;
+            return Some((part, message));
         }
-        let Some(code) = function_of(part.bytes()) else {
-            return Ok(false);
-        };
-        let Some(message) = wrong_count(code, parts.count()) else {
-            return Ok(false);
-        };
-        writing.mark(&part, message)?;
-        return Ok(true);
     }
-    Ok(false)
+    None
 }
 
-// Says which call of a step has a wrong number of arguments, and whether one has.
-fn write_bad_counts(writing: &mut Writing<'_>, step: &Said<'_>) -> Result<bool, AllocError> {
+// The same for the first such call of a step.
+fn bad_count_in<'a>(step: &Said<'a>) -> Option<(Form<'a>, &'static str)> {
     if !step.is_transaction() {
-        return write_bad_count(writing, step);
+        return bad_count(step);
     }
     for form in step.rest {
-        let is_bad = match said_in(Sentence::Operation, &form) {
-            Some(said) => write_bad_count(writing, &said)?,
-            None => false,
+        let bad = match said_in(Sentence::Operation, &form) {
+            Some(said) => bad_count(&said),
+            None => None,
         };
-        if is_bad {
-            return Ok(true);
+        if bad.is_some() {
+            return bad;
         }
     }
-    Ok(false)
+    None
 }
 
 fn write_refused(writing: &mut Writing<'_>, refused: Refused) -> Result<(), AllocError> {
@@ -75,12 +65,13 @@ fn write_refused(writing: &mut Writing<'_>, refused: Refused) -> Result<(), Allo
         Reason::WrongArity => {
             let line = format!(in writing.alloc; "refused {worker} {step} wrong-arity")?;
             writing.line(line.as_str())?;
-            let is_shown = match said_in(Sentence::Step, &form) {
-                Some(said) => write_bad_counts(writing, &said)?,
-                None => false,
+            let bad = match said_in(Sentence::Step, &form) {
+                Some(said) => bad_count_in(&said),
+                None => None,
             };
-            if !is_shown {
-                writing.mark(&form, "a function in it doesn't take so many arguments")?;
+            match bad {
+                Some((function, message)) => writing.mark(&function, message)?,
+                None => writing.mark(&form, "a function in it doesn't take so many arguments")?,
             }
         }
         Reason::WrongKind => {

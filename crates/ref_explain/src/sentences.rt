@@ -170,7 +170,7 @@ fn is_point(form: &Form<'_>) -> bool {
     }
 }
 
-// What is wrong with what stands at a place, where one look tells.
+// What is wrong with what stands at a place, as far as its own form shows it.
 fn problem_of(sentence: Sentence, slot: Slot, part: &Form<'_>) -> Option<&'static str> {
     let is_act = sentence == Sentence::Act;
     match slot {

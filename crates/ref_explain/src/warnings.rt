@@ -1,7 +1,7 @@
 //! What of a workload can never work.
 use crate::documents::{Named, names_of, part_of};
 use crate::forms::{Form, Members};
-use crate::refusals::{MOST_SHOWN, write_bad_count};
+use crate::refusals::{MOST_SHOWN, bad_count};
 use crate::sentences::{Said, said_in};
 use crate::words::{Sentence, Slot};
 use crate::writing::Writing;
@@ -74,13 +74,15 @@ impl<'a> Warnings<'a> {
     }
 
     fn count(&mut self, said: &Said<'_>) -> Result<(), AllocError> {
-        let mut trial = Writing::new(self.writing.alloc, self.writing.text);
-        if !write_bad_count(&mut trial, said)? || !self.is_next_shown() {
+        let Some((function, message)) = bad_count(said) else {
+            return Ok(());
+        };
+        if !self.is_next_shown() {
             return Ok(());
         }
-        self.writing.line("refrun: warning: this is refused each time")?;
-        let _is_bad = write_bad_count(&mut self.writing, said)?;
-        Ok(())
+        self.writing
+            .line("refrun: warning: this is refused each time")?;
+        self.writing.mark(&function, message)
     }
 
     fn sentence(&mut self, sentence: Sentence, form: &Form<'_>) -> Result<(), AllocError> {
