@@ -16,7 +16,6 @@ use std::alloc::{AllocError, AllocFailed, Global};
 use std::sync::Wait;
 use std::sync::ledger::{Blank, Ledger};
 
-/// The codes of `+`, `-` and `>=`.
 /// The stamp of a commit where nothing hangs on it.
 pub const STAMP: Stamp = Stamp { worker: 0, step: 0 };
 
