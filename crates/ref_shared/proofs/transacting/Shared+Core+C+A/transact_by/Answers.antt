@@ -47,6 +47,7 @@ loop-attempt-preserved g c =
     record {
       body = search (of_calls, rules);
       share = search rules;
+      sink = search rules;
       called = (
         (record { began = _; answer = Ok c.in-Ok-body.answer; left = _ }) ∷ so_far.0,
         (_, so_far.1, record { fresh = c.in-Ok.ensures; called = record { shown = _; shows = refl; left = _; called = call; leaves = refl } }),

@@ -8,6 +8,7 @@ abbrev pub invariant-loop-attempt : goal.invariant-loop-attempt
 invariant-loop-attempt g l = record {
   body : always_mut g.B.FnMut l.initial.body → always_mut g.B.FnMut l.body;
   share : l.share ≡ l.fn.share;
+  sink : l.sink ≡ l.fn.sink;
   called : (calls : List (Call _)) × Called g.B.FnMut l.fn.body calls l.body × (length calls ≡ l.attempt) × All IsRetried calls;
   room : l.attempt < l.tries;
 }
