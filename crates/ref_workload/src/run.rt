@@ -5,7 +5,7 @@ ghost use Rattle.ref_workload.specs.Orderly.{AreInOrder, IsOrderly};
 ghost use Rattle.ref_workload.specs.Reasons.{HaveReasons};
 ghost use Rattle.ref_workload.specs.Run.{IsAlwaysSo, IsOfPlan};
 ghost use Rattle.ref_shared.specs.Gather.{InOrder};
-ghost use Rattle.ref_world.specs.Shares.{all_parts, whole};
+ghost use Rattle.ref_world.specs.Shares.{IsBlank, whole};
 ghost use Rattle.ref_world.specs.Starts.{declared_agents, declared_atoms, declared_refs};
 
 use crate::faults::{RunFault, Stop};
@@ -56,8 +56,8 @@ where
     R: Threads + Wait + Sync,
     G: Gate + Send + Drop,
     requires gates { vec_len gates ≡ length plan.now.workers + plan.now.pool }
-    requires commits { (commits.name ≡ C.name) × (commits.parts ≡ C.parts) × (commits.parts ≡ all_parts) }
-    requires added { (added.name ≡ A.name) × (added.parts ≡ A.parts) × (added.parts ≡ all_parts) }
+    requires commits { IsBlank commits C.name C.parts }
+    requires added { IsBlank added A.name A.parts }
     ensures orderly { IfOk result (λ out. IsOrderly plan.now out.world out.refused.items) }
     ensures order { IfOk result (λ out. AreInOrder out.refused.items) }
     ensures reasons { IfOk result (λ out. HaveReasons plan.now.workers out.refused.items) }
@@ -91,8 +91,8 @@ where
     R: Threads + Wait + Sync,
     G: Gate + Send + Drop,
     requires gates { vec_len gates ≡ length plan.now.workers + plan.now.pool }
-    requires commits { (commits.name ≡ C.name) × (commits.parts ≡ C.parts) × (commits.parts ≡ all_parts) }
-    requires added { (added.name ≡ A.name) × (added.parts ≡ A.parts) × (added.parts ≡ all_parts) }
+    requires commits { IsBlank commits C.name C.parts }
+    requires added { IsBlank added A.name A.parts }
     ensures orderly { IfOk result (λ out. IsOrderly plan.now out.world out.refused.items) }
     ensures order { IfOk result (λ out. AreInOrder out.refused.items) }
     ensures reasons { IfOk result (λ out. HaveReasons plan.now.workers out.refused.items) }
@@ -133,8 +133,8 @@ fn open_world<F: Functions<Core>, C: Ledger, A: Ledger>(
     commits: Blank,
     added: Blank,
 ) -> Result<(World<Core, C, A>, Share<C, A>), Stop>
-    requires commits { (commits.name ≡ C.name) × (commits.parts ≡ C.parts) × (commits.parts ≡ all_parts) }
-    requires added { (added.name ≡ A.name) × (added.parts ≡ A.parts) × (added.parts ≡ all_parts) }
+    requires commits { IsBlank commits C.name C.parts }
+    requires added { IsBlank added A.name A.parts }
     ensures refs { IfOk result (λ r. declared_refs core_accepts (F.knows funs.now).preds plan.now.refs ≡ Ok r.0.refs) }
     ensures atoms { IfOk result (λ r. declared_atoms core_accepts (F.knows funs.now).preds plan.now.atoms ≡ Ok r.0.atoms) }
     ensures agents { IfOk result (λ r. declared_agents core_accepts (F.knows funs.now).preds plan.now.agents ≡ Ok r.0.agents) }
