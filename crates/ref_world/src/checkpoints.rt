@@ -52,9 +52,7 @@ impl<M: Meaning, C: Ledger, A: Ledger> World<M, C, A> {
         }
         // What was added in all fits in 64 bits.
         let _ = self.added();
-        let Ok((base, log)) = parted(alloc, funs, &self.base, &self.log, count as usize) else {
-            return Err(CheckpointFault::Memory);
-        };
+        let (base, log) = parted(alloc, funs, &self.base, &self.log, count as usize)?;
         self.base = base;
         self.log = log;
         Ok(count)
