@@ -1,5 +1,5 @@
 //! The keys of a workload, a list of events or a dump.
-use crate::documents::{member_at, part_of};
+use crate::documents::{member_at, part_of, value_under};
 use crate::forms::{Form, Sort, first_form};
 use crate::nearest::{Nearest, with_hint};
 use crate::writing::Writing;
@@ -236,22 +236,39 @@ fn write_entries(
     Ok(())
 }
 
+// The needed keys that a map lacks, each behind a blank and its colon.
+fn missing_in(
+    writing: &Writing<'_>,
+    document: Document,
+    map: &Form<'_>,
+) -> Result<(String, usize), AllocError> {
+    let mut missing = String::new(writing.alloc);
+    let mut count = 0usize;
+    for place in 0..MOST_KEYS {
+        match document.key(place) {
+            Some(key) if key.is_needed && value_under(map, key.word).is_none() => {
+                missing.push_str(" :")?;
+                missing.push_str(key.word)?;
+                count = count.saturating_add(1);
+            }
+            _ => {}
+        }
+    }
+    Ok((missing, count))
+}
+
 fn write_missing(
     writing: &mut Writing<'_>,
     document: Document,
     map: &Form<'_>,
 ) -> Result<(), AllocError> {
-    for place in 0..MOST_KEYS {
-        let Some(key) = document.key(place) else {
-            continue;
-        };
-        let word = key.word;
-        if key.is_needed && part_of(writing.text, word).is_none() {
-            let message = format!(in writing.alloc; "the key :{word} is missing in this map")?;
-            writing.mark_start(map, message.as_str())?;
-        }
-    }
-    Ok(())
+    let (missing, count) = missing_in(writing, document, map)?;
+    let message = match count {
+        0 => return Ok(()),
+        1 => format!(in writing.alloc; "the key{missing} is missing in this map")?,
+        _ => format!(in writing.alloc; "the keys{missing} are missing in this map")?,
+    };
+    writing.mark_start(map, message.as_str())
 }
 
 /// Says why the keys of a text, and what stands under them, aren't those of such a document.

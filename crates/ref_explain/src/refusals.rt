@@ -1,6 +1,6 @@
 //! The steps that a run refused, by the lines of its report.
 use crate::documents::step_of;
-use crate::forms::Form;
+use crate::forms::{Form, Members};
 use crate::functions::{function_of, wrong_count};
 use crate::sentences::{Said, said_in};
 use crate::words::{Sentence, Slot};
@@ -25,6 +25,14 @@ pub struct Refused {
     pub reason: Reason,
 }
 
+fn count_of(parts: Members<'_>) -> usize {
+    let mut count = 0usize;
+    for _ in parts {
+        count = count.saturating_add(1);
+    }
+    count
+}
+
 /// The name of a function that never takes as many arguments as it has here, and what it takes.
 pub(crate) fn bad_count<'a>(said: &Said<'a>) -> Option<(Form<'a>, &'static str)> {
     let mut parts = said.rest;
@@ -32,7 +40,7 @@ pub(crate) fn bad_count<'a>(said: &Said<'a>) -> Option<(Form<'a>, &'static str)>
         let part = parts.next()?;
         if *slot == Slot::Function {
             let code = function_of(part.bytes())?;
-            let message = wrong_count(code, parts.count())?;
+            let message = wrong_count(code, count_of(parts))?;
             return Some((part, message));
         }
     }

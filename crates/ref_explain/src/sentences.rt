@@ -257,12 +257,15 @@ fn write_bad_slots(
     sentence: Sentence,
     said: &Said<'_>,
 ) -> Result<bool, AllocError> {
+    let form = said.form;
     let mut parts = said.rest;
     for slot in said.word.slots {
-        if *slot == Slot::Arguments {
+        if matches!(slot, Slot::Arguments) {
             return write_bad_arguments(writing, parts);
         }
-        if write_bad_slot(writing, sentence, &said.form, *slot, parts.next())? {
+        let part = parts.next();
+        let is_bad = write_bad_slot(writing, sentence, &form, *slot, part)?;
+        if is_bad {
             return Ok(true);
         }
     }
