@@ -1,6 +1,13 @@
-//! The calls of a row, of which some are this crate's own. `[begin 1]` begins transaction 1 and `[commit 1]` commits it; a refused one
-//! is open still. `[run]` takes a job and runs it, and `[finish]` finishes it; a refused one has run still. `[checkpoint]` folds all
-//! entries but the last. `[acts]` runs actions until no agent is ready, and `[releases]` releases the sends of all commits.
+//! The calls of rows, of which some are this crate's own.
+//!
+//! | Call | |
+//! |---|---|
+//! | `[begin 1]`, `[commit 1]` | transaction 1 begins; it is committed. A refused one is open still |
+//! | `[run]`, `[finish]` | a job is taken and run; it is finished. A refused one has run still |
+//! | `[checkpoint]` | all entries but the last are folded |
+//! | `[acts]`, `[releases]` | actions are run until no agent is ready; the sends of all commits are released |
+//!
+//! `n` stands for the number of the round, from 0 on, `n0` to `n9` for ten numbers that no other round has, and `p` for the present point.
 use crate::stages::Stage;
 use ref_edn::Value;
 use std::alloc::{AllocError, Global};
@@ -162,17 +169,30 @@ pub(crate) fn told<R: Input, C: Ledger, A: Ledger>(
     }
 }
 
-// The call of a form, with the round and the present point for `n` and `p`.
+// The number that a word stands for in a round.
+fn number_of(word: &str, round: u64, point: u64) -> Option<u64> {
+    match word {
+        "n" => Some(round),
+        "p" => Some(point),
+        _ => {
+            let digit = word.strip_prefix("n")?.parse::<u64>().ok()?;
+            Some(
+                round
+                    .saturating_add(1)
+                    .saturating_mul(10)
+                    .saturating_add(digit),
+            )
+        }
+    }
+}
+
+// The call of a form, with the numbers that its words stand for.
 fn call_of(alloc: Global, form: &Value, round: u64, point: u64) -> Result<Vec<Value>, AllocError> {
     let mut call = members(alloc, form)?;
     for i in 1..call.len() {
-        let said = match word_at(&call, i) {
-            "n" => Some(number(round)?),
-            "p" => Some(number(point)?),
-            _ => None,
-        };
+        let said = number_of(word_at(&call, i), round, point);
         if let (Some(said), Some(place)) = (said, call.get_mut(i)) {
-            *place = said;
+            *place = number(said)?;
         }
     }
     Ok(call)

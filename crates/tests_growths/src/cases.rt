@@ -1,9 +1,9 @@
-//! The calls, and the rows that make the states which they are made in. The head of `tests_rows::rows` has the language, and that of
-//! `calls` what is different here; a call doesn't end with what it answers. In a call `n` stands for the number of the round, from 0 on, and `p` for the present point.
+//! The calls, and the rows that make the states which they are made in. The head of `tests_rows::rows` has their language, and that of
+//! `calls` what is different here. A call doesn't end with what it answers.
 
-/// What all worlds begin with: refs a, b, c and the tally, atoms x and y, agents g, h and i.
+/// What all worlds begin with: refs a, b, c and the tally, atoms x, y and z, agents g, h and i.
 pub(crate) const STARTS: &str =
-    "[[rule 100 [>= 0]] 0 0 [tally 0]] [[rule 1 [>= 0]] 2] [[rule 0 [>= 0]] [rule 0 [>= 0]] [continue [] nil]]";
+    "[[rule 100 [>= 0]] 0 0 [tally 0]] [[rule 1 [>= 0]] 2 #{}] [[rule 0 [>= 0]] [rule 0 [>= 0]] [continue [] nil]]";
 
 /// What makes a full world of a new one. There are watches, and so many entries that the log's tail is full after a few more. The first
 /// action of g waits for a release and two more wait behind it; h is failed and has actions that wait; i is ready for nothing, and has
@@ -71,7 +71,7 @@ pub(crate) const DRAWN: &[&str] = &[
     "[release p]",
     "[release n]",
     "[swap x + 1]",
-    "[swap z + 1]",
+    "[swap z conj n]",
     "[reset y n]",
     "[cas x 2 1]",
     "[send g + 1]",
@@ -141,6 +141,11 @@ pub(crate) const CASES: &[Case] = &[
         name: "swap",
         before: "",
         call: Call::Row("[swap x + 1]"),
+    },
+    Case {
+        name: "swap, a set that grows",
+        before: "[swap z conj n0 n1 n2 n3 n4 n5 n6 n7]",
+        call: Call::Row("[swap z conj n8 n9]"),
     },
     Case {
         name: "reset",

@@ -10,7 +10,7 @@ use tests_rows::tables::{ByTables, Tables, with_tables};
 // drawn states.
 const ROUNDS: u64 = 9;
 
-const DRAWS: u64 = 20;
+const DRAWS: u64 = 12;
 
 /// The functions of the table by which calls are made: `+`, `-`, `inc` and `conj`.
 pub(crate) const FUNS: &[u32] = &[1, 2, 3, 7];
