@@ -68,17 +68,32 @@ def text_of(head):
     return b"".join(bytes.fromhex(x) if x else escapes[c] if c else plain.encode() for x, c, plain in parts)
 
 
-def rows_of(file):
-    """The rows of a table: each is a text, and what is wanted of it."""
+def lines_of_rows(file):
+    """The rows of a table: each is a text, and the lines behind it."""
     rows = []
     for line in file.read_text(encoding="utf-8").split("\n"):
         if line.startswith("<<"):
             rows.append((text_of(line), []))
         elif line and line[0] != ";":
             rows[-1][1].append(line)
-    for text, wanted in rows:
+    return rows
+
+
+def joined(lines):
+    return "".join(f"{it}\n" for it in lines)
+
+
+def rows_of(file):
+    """The rows of a table: each is a text, and what is wanted of it."""
+    for text, wanted in lines_of_rows(file):
         fault = re.fullmatch(r"!! (\d) (.*)", wanted[0]) if len(wanted) == 1 else None
-        yield text, refused(int(fault[1]), fault[2]) if fault else printed("".join(f"{it}\n" for it in wanted))
+        yield text, refused(int(fault[1]), fault[2]) if fault else printed(joined(wanted))
+
+
+def explained_rows(file):
+    """The rows of examples/explain.rows: each is a text, a command, and all that standard error says."""
+    for text, (command, *lines) in lines_of_rows(file):
+        yield text, command, joined(lines)
 
 
 def finish(name):

@@ -1,12 +1,23 @@
 //! The command line.
 use crate::tasks::Task;
 use clap::{Arg, ArgAction, ArgMatches, Command, Error, value_parser};
+use ref_explain::FORMAT_VERSION;
 use ref_workload::Options;
 use std::alloc::{AllocError, Global};
 use std::env::Env;
 use std::io;
 
-/// What the words ask for.
+/// What the words ask for, and how it is reported.
+#[derive(Clone, Copy, Drop)]
+pub(crate) struct Wanted {
+    pub act: Act,
+    /// Whether standard error explains what is wrong.
+    pub explains: bool,
+    /// Whether a refused step shows in the status.
+    pub is_strict: bool,
+}
+
+/// What is to be done.
 #[derive(Clone, Copy, Drop)]
 pub(crate) enum Act {
     /// What runs by Core's functions.
@@ -69,6 +80,8 @@ prints
 
 const PRINT: &str = "Reads EDN from standard input, and prints each element on a line";
 
+const EXPLAIN: &str = "Explains on standard error what is wrong";
+
 const PRINT_MORE: &str = "Example:
   echo '{:b 1 :a [2 (3)]} ; c' | refrun print
 prints
@@ -78,32 +91,56 @@ pub(crate) fn arguments<R: AllocGlobal + Env>(rt: &R) -> io::Result<Vec<String>>
     Ok(std::env::args(rt)?.collect(rt.alloc())?)
 }
 
-pub(crate) fn matches_of<'a>(alloc: Global, words: &'a [String]) -> Result<ArgMatches<'a>, Error> {
-    command(alloc)?.try_get_matches_from(words)
+/// The version of workloads, lists of events and dumps, as `--version` prints it.
+pub(crate) fn version(alloc: Global) -> Result<String, AllocError> {
+    format!(in alloc; "format {FORMAT_VERSION}")
+}
+
+pub(crate) fn matches_of<'a>(
+    alloc: Global,
+    version: &'a str,
+    words: &'a [String],
+) -> Result<ArgMatches<'a>, Error> {
+    command(alloc, version)?.try_get_matches_from(words)
 }
 
 // What the program takes.
-fn command<'a>(alloc: Global) -> Result<Command<'a>, AllocError> {
+fn command<'a>(alloc: Global, version: &'a str) -> Result<Command<'a>, AllocError> {
     let check = Command::new(alloc, "check")
         .about(CHECK)
-        .after_help(CHECK_MORE);
+        .after_help(CHECK_MORE)
+        .arg(explain(
+            alloc,
+            "Explains on standard error what is wrong, and warns of what can never work",
+        ))?;
     let audit = Command::new(alloc, "audit")
         .about(AUDIT)
-        .after_help(AUDIT_MORE);
+        .after_help(AUDIT_MORE)
+        .arg(explain(alloc, EXPLAIN))?;
     let play = Command::new(alloc, "play")
         .about(PLAY)
-        .after_help(PLAY_MORE);
+        .after_help(PLAY_MORE)
+        .arg(explain(alloc, EXPLAIN))?;
     let print = Command::new(alloc, "print")
         .about(PRINT)
-        .after_help(PRINT_MORE);
+        .after_help(PRINT_MORE)
+        .arg(explain(alloc, EXPLAIN))?;
     Command::new(alloc, "refrun")
         .about(ABOUT)
+        .version(version)
         .subcommand_required(true)
         .subcommand(run(alloc)?)?
         .subcommand(check)?
         .subcommand(audit)?
         .subcommand(play)?
         .subcommand(print)
+}
+
+fn explain<'a>(alloc: Global, help: &'a str) -> Arg<'a> {
+    Arg::new(alloc, "explain")
+        .long("explain")
+        .action(ArgAction::SetTrue)
+        .help(help)
 }
 
 fn run<'a>(alloc: Global) -> Result<Command<'a>, AllocError> {
@@ -118,30 +155,45 @@ fn run<'a>(alloc: Global) -> Result<Command<'a>, AllocError> {
     let dump = Arg::new(alloc, "dump")
         .long("dump")
         .action(ArgAction::SetTrue)
-        .help("Prints the dump of the run in the place of its report");
+        .help("Prints the dump of the run instead of its report");
     let progress = Arg::new(alloc, "progress")
         .long("progress")
         .action(ArgAction::SetTrue)
-        .help("Tells on standard error, once a second, how far the run is; for a terminal");
+        .help("Shows on standard error, once a second, how far the run is; for a terminal");
+    let strict = Arg::new(alloc, "strict")
+        .long("strict")
+        .action(ArgAction::SetTrue)
+        .conflicts_with("dump")?
+        .help("Ends with the status 7 where a step was refused");
     Command::new(alloc, "run")
         .about(RUN)
         .after_help(RUN_MORE)
         .arg(tries)?
         .arg(dump)?
-        .arg(progress)
+        .arg(progress)?
+        .arg(strict)?
+        .arg(explain(
+            alloc,
+            "Explains on standard error what is wrong, and shows the steps that were refused",
+        ))
 }
 
 /// What the command says.
-pub(crate) fn act_of(matches: &ArgMatches) -> Option<Act> {
+pub(crate) fn wanted_of(matches: &ArgMatches) -> Option<Wanted> {
     let (name, inner) = matches.subcommand()?;
-    match name {
-        "run" => Some(Act::ByCore(run_of(inner))),
-        "check" => Some(Act::Check),
-        "audit" => Some(Act::ByCore(Task::Audit)),
-        "play" => Some(Act::ByCore(Task::Play)),
-        "print" => Some(Act::Print),
-        _ => None,
-    }
+    let act = match name {
+        "run" => Act::ByCore(run_of(inner)),
+        "check" => Act::Check,
+        "audit" => Act::ByCore(Task::Audit),
+        "play" => Act::ByCore(Task::Play),
+        "print" => Act::Print,
+        _ => return None,
+    };
+    Some(Wanted {
+        act,
+        explains: inner.get_flag("explain"),
+        is_strict: matches!(name, "run") && inner.get_flag("strict"),
+    })
 }
 
 fn run_of(matches: &ArgMatches) -> Task {

@@ -113,8 +113,7 @@ fn tell<R: Wait + Clock + Eprint>(rt: &R, progress: &Progress, is_over: &AtomicB
             break;
         }
         looks = looks.wrapping_add(1);
-        // Before there is a plan nothing runs.
-        if looks % LOOKS == 0 && progress.steps() > 0 {
+        if looks % LOOKS == 0 {
             tell_once(rt, progress);
             has_told = true;
         }
@@ -126,6 +125,11 @@ fn tell<R: Wait + Clock + Eprint>(rt: &R, progress: &Progress, is_over: &AtomicB
 
 fn tell_once<R: Eprint>(rt: &R, progress: &Progress) {
     let (steps, ended) = (progress.steps(), progress.ended());
+    // Before there is a plan nothing runs.
+    if steps == 0 {
+        let _said = eprint!(rt; "{AGAIN}refrun: reading");
+        return;
+    }
     let (commits, refused) = (progress.commits(), progress.refused());
     let _said = eprint!(rt;
         "{AGAIN}refrun: {ended} of {steps} steps, {commits} commits, {refused} refused"

@@ -1,0 +1,2 @@
+-- To be read and believed: all of it.
+pub mod Places

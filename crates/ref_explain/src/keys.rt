@@ -1,0 +1,363 @@
+//! The keys of a workload, a list of events or a dump.
+use crate::documents::{member_at, part_of};
+use crate::forms::{Form, Sort, first_form};
+use crate::nearest::{Nearest, with_hint};
+use crate::writing::Writing;
+use ref_events::scripts::MOST_EVENTS;
+use ref_plan::planning::declarations::MOST_REFERENCES;
+use ref_plan::planning::parts::{MOST_POOL, MOST_WORKERS};
+use ref_plan::planning::steps::MOST_STEPS;
+use std::alloc::AllocError;
+
+/// The version of workloads, lists of events and dumps.
+pub const FORMAT_VERSION: u32 = 1;
+
+// So many keys are shown at most.
+const MOST_MARKS: usize = 5;
+
+/// What stands under a key.
+#[derive(Clone, Copy, Debug, PartialEq, Eq)]
+pub(crate) enum Under {
+    Integer,
+    Vector,
+    /// A vector of vectors.
+    Vectors,
+    /// What is looked at later.
+    Any,
+}
+
+/// A key of a map.
+#[derive(Clone, Copy, Debug)]
+pub(crate) struct Key {
+    pub word: &'static str,
+    pub under: Under,
+    pub is_needed: bool,
+}
+
+const fn needed(word: &'static str, under: Under) -> Key {
+    Key {
+        word,
+        under,
+        is_needed: true,
+    }
+}
+
+const fn optional(word: &'static str, under: Under) -> Key {
+    Key {
+        word,
+        under,
+        is_needed: false,
+    }
+}
+
+/// A map with keys.
+#[derive(Clone, Copy, Debug)]
+pub(crate) enum Document {
+    Workload,
+    Events,
+    Dump,
+}
+
+fn workload_key(place: usize) -> Option<Key> {
+    match place {
+        0 => Some(needed("version", Under::Integer)),
+        1 => Some(optional("refs", Under::Vector)),
+        2 => Some(optional("atoms", Under::Vector)),
+        3 => Some(optional("agents", Under::Vector)),
+        4 => Some(optional("workers", Under::Vectors)),
+        5 => Some(optional("pool", Under::Integer)),
+        _ => None,
+    }
+}
+
+fn events_key(place: usize) -> Option<Key> {
+    match place {
+        0 => Some(needed("version", Under::Integer)),
+        1 => Some(optional("refs", Under::Vector)),
+        2 => Some(optional("atoms", Under::Vector)),
+        3 => Some(optional("agents", Under::Vector)),
+        4 => Some(optional("events", Under::Vector)),
+        _ => None,
+    }
+}
+
+fn dump_key(place: usize) -> Option<Key> {
+    let word = match place {
+        0 => "added",
+        1 => "agents",
+        2 => "atoms",
+        3 => "base-atoms",
+        4 => "base-refs",
+        5 => "commits",
+        6 => "dump",
+        7 => "entries",
+        8 => "folded",
+        9 => "point",
+        10 => "refs",
+        11 => "tally",
+        _ => return None,
+    };
+    Some(needed(word, Under::Any))
+}
+
+// No map has more keys.
+const MOST_KEYS: usize = 12;
+
+impl Document {
+    fn key(self, place: usize) -> Option<Key> {
+        match self {
+            Document::Workload => workload_key(place),
+            Document::Events => events_key(place),
+            Document::Dump => dump_key(place),
+        }
+    }
+
+    fn find(self, word: &[u8]) -> Option<Key> {
+        for place in 0..MOST_KEYS {
+            match self.key(place) {
+                Some(key) if key.word.as_bytes() == word => return Some(key),
+                _ => {}
+            }
+        }
+        None
+    }
+
+    fn is_map(self) -> &'static str {
+        match self {
+            Document::Workload => {
+                "a workload is a map, as {:version 1 :refs [[a 0]] :workers [[[:tx [:alter a + 5]]]]}"
+            }
+            Document::Events => {
+                "a list of events is a map, as {:version 1 :refs [[a 0]] :events [[0 :begin]]}"
+            }
+            Document::Dump => "a dump is a map with twelve keys, as `refrun run --dump` prints it",
+        }
+    }
+
+    fn keys(self) -> &'static str {
+        match self {
+            Document::Workload => "the keys are :version :refs :atoms :agents :workers :pool",
+            Document::Events => "the keys are :version :refs :atoms :agents :events",
+            Document::Dump => {
+                "the keys are :dump :point :base-refs :base-atoms :folded :tally :entries :refs :atoms :agents :commits :added"
+            }
+        }
+    }
+}
+
+fn write_unknown(
+    writing: &mut Writing<'_>,
+    document: Document,
+    form: &Form<'_>,
+) -> Result<(), AllocError> {
+    let Some(word) = form.keyword() else {
+        return writing.mark(form, "a key is a keyword");
+    };
+    let mut nearest = Nearest::to(word);
+    for place in 0..MOST_KEYS {
+        if let Some(key) = document.key(place) {
+            nearest.offer(writing.alloc, key.word)?;
+        }
+    }
+    let message = with_hint(writing.alloc, "no such key", ":", nearest.found())?;
+    writing.mark(form, message.as_str())
+}
+
+// Says what is wrong under a key, and whether something is.
+fn write_under(writing: &mut Writing<'_>, key: Key, value: &Form<'_>) -> Result<bool, AllocError> {
+    let word = key.word;
+    match key.under {
+        Under::Integer if value.sort() != Sort::Number => {
+            let message = format!(in writing.alloc; "an integer is wanted under :{word}")?;
+            writing.mark(value, message.as_str())?;
+            Ok(true)
+        }
+        Under::Vector | Under::Vectors if !value.is_vector() => {
+            let message = format!(in writing.alloc; "a vector is wanted under :{word}")?;
+            writing.mark(value, message.as_str())?;
+            Ok(true)
+        }
+        Under::Vectors => write_workers(writing, value),
+        _ => Ok(false),
+    }
+}
+
+fn write_workers(writing: &mut Writing<'_>, workers: &Form<'_>) -> Result<bool, AllocError> {
+    for worker in workers.members() {
+        if !worker.is_vector() {
+            writing.mark(&worker, "a worker is a vector of steps")?;
+            return Ok(true);
+        }
+    }
+    Ok(false)
+}
+
+// Says what is wrong with a key or what stands under it, and whether something is.
+fn write_entry(
+    writing: &mut Writing<'_>,
+    document: Document,
+    form: &Form<'_>,
+    value: &Form<'_>,
+) -> Result<bool, AllocError> {
+    let known = match form.keyword() {
+        Some(word) => document.find(word),
+        None => None,
+    };
+    match known {
+        Some(key) => write_under(writing, key, value),
+        None => {
+            write_unknown(writing, document, form)?;
+            Ok(true)
+        }
+    }
+}
+
+fn write_entries(
+    writing: &mut Writing<'_>,
+    document: Document,
+    map: &Form<'_>,
+) -> Result<(), AllocError> {
+    let mut key = None;
+    let mut marks = 0usize;
+    for member in map.members() {
+        match key {
+            None => key = Some(member),
+            Some(form) => {
+                if write_entry(writing, document, &form, &member)? {
+                    marks = marks.saturating_add(1);
+                }
+                key = None;
+            }
+        }
+        if marks >= MOST_MARKS {
+            return Ok(());
+        }
+    }
+    Ok(())
+}
+
+fn write_missing(
+    writing: &mut Writing<'_>,
+    document: Document,
+    map: &Form<'_>,
+) -> Result<(), AllocError> {
+    for place in 0..MOST_KEYS {
+        let Some(key) = document.key(place) else {
+            continue;
+        };
+        let word = key.word;
+        if key.is_needed && part_of(writing.text, word).is_none() {
+            let message = format!(in writing.alloc; "the key :{word} is missing in this map")?;
+            writing.mark_start(map, message.as_str())?;
+        }
+    }
+    Ok(())
+}
+
+/// Says why the keys of a text, and what stands under them, aren't those of such a document.
+pub(crate) fn write_keys(writing: &mut Writing<'_>, document: Document) -> Result<(), AllocError> {
+    let Some(map) = first_form(writing.text) else {
+        return Ok(());
+    };
+    if map.sort() != Sort::Map {
+        return writing.mark(&map, document.is_map());
+    }
+    write_entries(writing, document, &map)?;
+    write_missing(writing, document, &map)?;
+    writing.note(document.keys())
+}
+
+/// Says that the version is another one.
+pub(crate) fn write_version(writing: &mut Writing<'_>, word: &str) -> Result<(), AllocError> {
+    match part_of(writing.text, word) {
+        Some(version) => {
+            let message = format!(in writing.alloc;
+                "the version of this form is {FORMAT_VERSION}"
+            )?;
+            writing.mark(&version, message.as_str())
+        }
+        None => Ok(()),
+    }
+}
+
+// Says that a part has a member too many, if it has one.
+fn write_too_long(
+    writing: &mut Writing<'_>,
+    forms: &Form<'_>,
+    most: usize,
+    what: &str,
+) -> Result<bool, AllocError> {
+    match member_at(forms, most) {
+        Some(member) => {
+            let message = format!(in writing.alloc; "one too many: at most {most} {what}")?;
+            writing.mark(&member, message.as_str())?;
+            Ok(true)
+        }
+        None => Ok(false),
+    }
+}
+
+fn write_part_too_long(
+    writing: &mut Writing<'_>,
+    word: &str,
+    most: usize,
+    what: &str,
+) -> Result<bool, AllocError> {
+    match part_of(writing.text, word) {
+        Some(forms) => write_too_long(writing, &forms, most, what),
+        None => Ok(false),
+    }
+}
+
+fn write_references_too_many(writing: &mut Writing<'_>) -> Result<bool, AllocError> {
+    Ok(
+        write_part_too_long(writing, "refs", MOST_REFERENCES, "refs are allowed")?
+            || write_part_too_long(writing, "atoms", MOST_REFERENCES, "atoms are allowed")?
+            || write_part_too_long(writing, "agents", MOST_REFERENCES, "agents are allowed")?,
+    )
+}
+
+fn write_steps_too_many(writing: &mut Writing<'_>) -> Result<bool, AllocError> {
+    let Some(workers) = part_of(writing.text, "workers") else {
+        return Ok(false);
+    };
+    if write_too_long(writing, &workers, MOST_WORKERS, "workers are allowed")? {
+        return Ok(true);
+    }
+    for worker in workers.members() {
+        if write_too_long(
+            writing,
+            &worker,
+            MOST_STEPS,
+            "steps of a worker are allowed",
+        )? {
+            return Ok(true);
+        }
+    }
+    Ok(false)
+}
+
+/// Says which limit of a workload was passed.
+pub(crate) fn write_too_many(writing: &mut Writing<'_>) -> Result<(), AllocError> {
+    if write_references_too_many(writing)? || write_steps_too_many(writing)? {
+        return Ok(());
+    }
+    match part_of(writing.text, "pool") {
+        Some(pool) => {
+            let message = format!(in writing.alloc;
+                "1 to {MOST_POOL} threads may run the actions of agents"
+            )?;
+            writing.mark(&pool, message.as_str())
+        }
+        None => Ok(()),
+    }
+}
+
+/// Says which limit of a list of events was passed.
+pub(crate) fn write_too_many_events(writing: &mut Writing<'_>) -> Result<(), AllocError> {
+    if write_references_too_many(writing)? {
+        return Ok(());
+    }
+    let _is_said = write_part_too_long(writing, "events", MOST_EVENTS, "events are allowed")?;
+    Ok(())
+}

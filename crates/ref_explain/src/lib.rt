@@ -1,0 +1,45 @@
+//! Explanations, for people, of why a text was refused: line and column, the line itself, what is wrong in it, and the known word that
+//! is nearest to one that is unknown.
+//!
+//! | Name | Is |
+//! |---|---|
+//! | [`explain`], [`Mistake`] | the explanation of a fault of reading, of a plan, of a list of events or of a dump |
+//! | [`explain_refused`], [`Refused`] | the texts of the steps that a run refused |
+//! | [`warnings_of`] | what of a workload can never work |
+//! | [`Remembering`] | a reader that remembers what was read, for the two above |
+//! | [`Watching`], [`RefusedSteps`] | a writer that finds the refused steps in the lines of a report |
+//! | [`places`] | line and column of a place |
+//!
+//! Values hold no places, so forms are found in the text by a walk of its bytes, which goes over each a few times and has no recursion. An
+//! explanation shows a few places and at most 80 bytes of a line. Guaranteed: line and column of a place, and that any text is gone through
+//! to an end. Not guaranteed: what is said, which only tests see.
+#![tactic(auto)]
+
+mod documents;
+mod dumps;
+mod excerpts;
+mod explaining;
+mod forms;
+mod functions;
+mod inside;
+mod keys;
+mod nearest;
+pub mod places;
+mod read_faults;
+mod references;
+pub mod refusals;
+pub mod remembering;
+pub mod reports;
+mod sentences;
+mod steps;
+mod surroundings;
+pub mod warnings;
+mod words;
+mod writing;
+
+pub use explaining::{Mistake, explain};
+pub use keys::FORMAT_VERSION;
+pub use refusals::{Reason, Refused, explain_refused};
+pub use remembering::Remembering;
+pub use reports::{RefusedSteps, Watching};
+pub use warnings::warnings_of;

@@ -1,0 +1,108 @@
+//! The steps that a run refused, by the lines of its report.
+use crate::documents::step_of;
+use crate::forms::Form;
+use crate::functions::{function_of, wrong_count};
+use crate::sentences::{Said, said_in};
+use crate::words::{Sentence, Slot};
+use crate::writing::Writing;
+use std::alloc::{AllocError, Global};
+
+/// So many refused steps, and so many warnings, are shown at most.
+pub const MOST_SHOWN: usize = 10;
+
+/// Why a step was refused, if its text can show it.
+#[derive(Clone, Copy, Debug, Drop, PartialEq, Eq)]
+pub enum Reason {
+    WrongArity,
+    WrongKind,
+}
+
+/// A step that was refused.
+#[derive(Clone, Copy, Debug, Drop, PartialEq, Eq)]
+pub struct Refused {
+    pub worker: u32,
+    pub step: u32,
+    pub reason: Reason,
+}
+
+/// The name of a function that never takes as many arguments as it has here, and what it takes.
+pub(crate) fn bad_count<'a>(said: &Said<'a>) -> Option<(Form<'a>, &'static str)> {
+    let mut parts = said.rest;
+    for slot in said.word.slots {
+        let part = parts.next()?;
+        if *slot == Slot::Function {
+            let code = function_of(part.bytes())?;
+            let message = wrong_count(code, parts.count())?;
+            return Some((part, message));
+        }
+    }
+    None
+}
+
+// The same for the first such call of a step.
+fn bad_count_in<'a>(step: &Said<'a>) -> Option<(Form<'a>, &'static str)> {
+    if !step.is_transaction() {
+        return bad_count(step);
+    }
+    for form in step.rest {
+        let bad = match said_in(Sentence::Operation, &form) {
+            Some(said) => bad_count(&said),
+            None => None,
+        };
+        if bad.is_some() {
+            return bad;
+        }
+    }
+    None
+}
+
+fn write_refused(writing: &mut Writing<'_>, refused: Refused) -> Result<(), AllocError> {
+    let (worker, step) = (refused.worker, refused.step);
+    let Some(form) = step_of(writing.text, worker as usize, step as usize) else {
+        return Ok(());
+    };
+    match refused.reason {
+        Reason::WrongArity => {
+            let line = format!(in writing.alloc; "refused {worker} {step} wrong-arity")?;
+            writing.line(line.as_str())?;
+            let bad = match said_in(Sentence::Step, &form) {
+                Some(said) => bad_count_in(&said),
+                None => None,
+            };
+            match bad {
+                Some((function, message)) => writing.mark(&function, message)?,
+                None => writing.mark(&form, "a function in it doesn't take so many arguments")?,
+            }
+        }
+        Reason::WrongKind => {
+            let line = format!(in writing.alloc; "refused {worker} {step} wrong-kind")?;
+            writing.line(line.as_str())?;
+            writing.mark(
+                &form,
+                "a function in it doesn't take the value or the arguments: docs/WORKLOADS.md has what each takes",
+            )?;
+        }
+    }
+    writing.note_text("the step", &form)
+}
+
+/// The texts of refused steps, of which there are so many in all.
+pub fn explain_refused(
+    alloc: Global,
+    text: &[u8],
+    refused: &[Refused],
+    all: u64,
+) -> Result<String, AllocError> {
+    let mut writing = Writing::new(alloc, text);
+    let mut shown = 0u64;
+    for step in refused {
+        write_refused(&mut writing, *step)?;
+        shown = shown.saturating_add(1);
+    }
+    let left = all.saturating_sub(shown);
+    if left > 0 {
+        let line = format!(in alloc; "and {left} more")?;
+        writing.line(line.as_str())?;
+    }
+    Ok(writing.into_output())
+}

@@ -1,0 +1,356 @@
+//! What is wrong with the form of a step, an operation or an act.
+use crate::forms::{Form, Members, Sort};
+use crate::functions::{predicate_of, write_no_predicate};
+use crate::nearest::{Nearest, with_hint};
+use crate::words::{MOST_WORDS, Sentence, Slot, TRANSACTION, Word};
+use crate::writing::Writing;
+use ref_fun::MOST_ARGUMENTS;
+use ref_plan::planning::forms::MOST_NESTED;
+use std::alloc::AllocError;
+
+/// A form with its word, and what stands behind that.
+#[derive(Clone, Copy, Debug)]
+pub(crate) struct Said<'a> {
+    pub form: Form<'a>,
+    pub word: Word,
+    pub rest: Members<'a>,
+}
+
+impl Said<'_> {
+    pub fn is_transaction(&self) -> bool {
+        self.word.word == TRANSACTION
+    }
+}
+
+/// The sentence that a form is, if it begins as one.
+pub(crate) fn said_in<'a>(sentence: Sentence, form: &Form<'a>) -> Option<Said<'a>> {
+    if !form.is_vector() {
+        return None;
+    }
+    let mut parts = form.members();
+    if sentence == Sentence::Act {
+        let _actor = parts.next()?;
+    }
+    let head = parts.next()?;
+    Some(Said {
+        form: *form,
+        word: sentence.find(head.keyword()?)?,
+        rest: parts,
+    })
+}
+
+// ---- words
+
+fn nearest_word(
+    writing: &Writing<'_>,
+    sentence: Sentence,
+    name: &[u8],
+) -> Result<Option<&'static str>, AllocError> {
+    let mut nearest = Nearest::to(name);
+    for place in 0..MOST_WORDS {
+        if let Some(word) = sentence.word_at(place) {
+            nearest.offer(writing.alloc, word.word)?;
+        }
+    }
+    Ok(nearest.found())
+}
+
+// What is said of a word that another sentence has.
+fn elsewhere(sentence: Sentence, name: &[u8]) -> Option<&'static str> {
+    match sentence {
+        Sentence::Operation if name == TRANSACTION.as_bytes() => {
+            Some("a transaction can't hold another one")
+        }
+        Sentence::Operation if Sentence::Step.find(name).is_some() => {
+            Some("this is a step, and stands outside of transactions")
+        }
+        Sentence::Step if Sentence::Operation.find(name).is_some() => {
+            Some("this is an operation, and stands in a transaction: [:tx [:alter a + 1]]")
+        }
+        _ => None,
+    }
+}
+
+fn write_unknown_word(
+    writing: &mut Writing<'_>,
+    sentence: Sentence,
+    head: &Form<'_>,
+    name: &[u8],
+) -> Result<(), AllocError> {
+    if let Some(message) = elsewhere(sentence, name) {
+        return writing.mark(head, message);
+    }
+    let called = sentence.called();
+    let unknown = format!(in writing.alloc; "no {called} has this word")?;
+    let found = nearest_word(writing, sentence, name)?;
+    let message = with_hint(writing.alloc, unknown.as_str(), ":", found)?;
+    writing.mark(head, message.as_str())?;
+    writing.note(sentence.words())
+}
+
+// ---- what stands behind a word
+
+/// Says that there is an argument too many or one that is nested too deep, and whether there is.
+pub(crate) fn write_bad_arguments(
+    writing: &mut Writing<'_>,
+    parts: Members<'_>,
+) -> Result<bool, AllocError> {
+    for (i, part) in parts.enumerate() {
+        if i >= MOST_ARGUMENTS {
+            writing.mark(&part, "one too many: at most 8 arguments are allowed")?;
+            return Ok(true);
+        }
+        if is_deep(&part) {
+            writing.mark_start(&part, DEEP)?;
+            return Ok(true);
+        }
+    }
+    Ok(false)
+}
+
+/// What is said of a value that is nested too deep.
+pub(crate) const DEEP: &str = "this value is nested more than 48 deep";
+
+/// Whether a value is nested deeper than a workload allows.
+pub(crate) fn is_deep(form: &Form<'_>) -> bool {
+    form.depth() > usize::from(MOST_NESTED)
+}
+
+/// Says what is wrong with the form of a rule, and whether something is. An unknown predicate is asked for by `is_known`.
+pub(crate) fn write_bad_rule(
+    writing: &mut Writing<'_>,
+    rule: &Form<'_>,
+    is_known: bool,
+) -> Result<bool, AllocError> {
+    if !rule.is_vector() {
+        writing.mark(rule, "a rule is wanted here: a vector, as [>= 0]")?;
+        return Ok(true);
+    }
+    let mut parts = rule.members();
+    let Some(head) = parts.next() else {
+        writing.mark(rule, "a rule begins with the name of its predicate")?;
+        return Ok(true);
+    };
+    if head.symbol().is_none() {
+        writing.mark(
+            &head,
+            "a rule begins with the name of its predicate, a symbol",
+        )?;
+        return Ok(true);
+    }
+    if write_bad_arguments(writing, parts)? {
+        return Ok(true);
+    }
+    if is_known && predicate_of(head.bytes()).is_none() {
+        write_no_predicate(writing, &head)?;
+        return Ok(true);
+    }
+    Ok(false)
+}
+
+fn is_numbered(form: &Form<'_>) -> bool {
+    let mut parts = form.members();
+    match (parts.next(), parts.next(), parts.next()) {
+        (Some(kind), Some(number), None) => {
+            (kind.is_word("ref") || kind.is_word("atom") || kind.is_word("agent"))
+                && number.sort() == Sort::Number
+        }
+        _ => false,
+    }
+}
+
+fn is_mode(form: &Form<'_>) -> bool {
+    form.is_word("fail") || form.is_word("continue")
+}
+
+fn is_point(form: &Form<'_>) -> bool {
+    match form.integer() {
+        Some(n) => n >= 0,
+        None => false,
+    }
+}
+
+// What is wrong with what stands at a place, as far as its own form shows it.
+fn problem_of(sentence: Sentence, slot: Slot, part: &Form<'_>) -> Option<&'static str> {
+    let is_act = sentence == Sentence::Act;
+    match slot {
+        Slot::Name(_) | Slot::AnyName if is_act && part.is_vector() && !is_numbered(part) => {
+            Some("a reference is written by its name, or as [:ref 0], [:atom 0] or [:agent 0]")
+        }
+        Slot::Name(_) | Slot::AnyName if part.symbol().is_none() && !(is_act && part.is_vector()) =>
+            { Some("the name of a reference is wanted here, a symbol") }
+        Slot::Value if !is_act && is_deep(part) => Some(DEEP),
+        Slot::Function if !is_act && part.symbol().is_none() => {
+            Some("the name of a function is wanted here, a symbol")
+        }
+        Slot::Predicate if part.symbol().is_none() => {
+            Some("the name of a predicate is wanted here, a symbol")
+        }
+        Slot::Mode | Slot::MaybeMode if !is_mode(part) => {
+            Some(":fail or :continue is wanted here")
+        }
+        Slot::Point if !is_point(part) => Some("an integer of 0 or more is wanted here"),
+        Slot::MaybeClear if !part.is_word("clear") => Some("only :clear can stand here"),
+        Slot::MaybeTally if !part.is_word("tally") => Some("only :tally can stand here"),
+        _ => None,
+    }
+}
+
+// What is missing where nothing stands; nothing, where that may be left out.
+fn missing(slot: Slot) -> Option<&'static str> {
+    match slot {
+        Slot::Name(_) | Slot::AnyName => Some("the name of a reference is missing here"),
+        Slot::Value => Some("a value is missing here"),
+        Slot::Function => Some("the name of a function is missing here"),
+        Slot::Predicate => Some("the name of a predicate is missing here"),
+        Slot::Rule => Some("a rule or nil is missing here"),
+        Slot::Mode => Some(":fail or :continue is missing here"),
+        Slot::Point => Some("a point is missing here"),
+        _ => None,
+    }
+}
+
+fn write_bad_part(
+    writing: &mut Writing<'_>,
+    sentence: Sentence,
+    slot: Slot,
+    part: &Form<'_>,
+) -> Result<bool, AllocError> {
+    let is_act = sentence == Sentence::Act;
+    match slot {
+        Slot::Rule | Slot::MaybeRule if !part.is_nil() => { write_bad_rule(writing, part, is_act) }
+        Slot::Predicate
+            if is_act && part.symbol().is_some() && predicate_of(part.bytes()).is_none() => {
+            write_no_predicate(writing, part)?;
+            Ok(true)
+        }
+        _ => match problem_of(sentence, slot, part) {
+            Some(message) => {
+                writing.mark(part, message)?;
+                Ok(true)
+            }
+            None => Ok(false),
+        },
+    }
+}
+
+fn write_bad_slot(
+    writing: &mut Writing<'_>,
+    sentence: Sentence,
+    form: &Form<'_>,
+    slot: Slot,
+    part: Option<Form<'_>>,
+) -> Result<bool, AllocError> {
+    match (part, missing(slot)) {
+        (Some(part), _) => write_bad_part(writing, sentence, slot, &part),
+        (None, Some(message)) => {
+            writing.mark_end(form, message)?;
+            Ok(true)
+        }
+        (None, None) => Ok(false),
+    }
+}
+
+// What is wrong behind a word, and whether something is.
+fn write_bad_slots(
+    writing: &mut Writing<'_>,
+    sentence: Sentence,
+    said: &Said<'_>,
+) -> Result<bool, AllocError> {
+    let mut parts = said.rest;
+    for slot in said.word.slots {
+        if *slot == Slot::Arguments {
+            return write_bad_arguments(writing, parts);
+        }
+        if write_bad_slot(writing, sentence, &said.form, *slot, parts.next())? {
+            return Ok(true);
+        }
+    }
+    match parts.next() {
+        Some(part) => {
+            writing.mark(&part, "nothing can stand here")?;
+            Ok(true)
+        }
+        None => Ok(false),
+    }
+}
+
+// ---- sentences
+
+fn is_actor(form: &Form<'_>) -> bool {
+    match form.integer() {
+        Some(n) => 0 <= n && n <= 4_294_967_295,
+        None => false,
+    }
+}
+
+// Says that the actor of an act is missing or wrong, and whether it is.
+fn write_bad_actor(writing: &mut Writing<'_>, form: &Form<'_>) -> Result<bool, AllocError> {
+    match form.members().next() {
+        None => {
+            writing.mark(form, "an event is [ACTOR ACT ARG ..]")?;
+            Ok(true)
+        }
+        Some(actor) if !is_actor(&actor) => {
+            writing.mark(
+                &actor,
+                "an event begins with its actor, an integer from 0 to 4294967295",
+            )?;
+            Ok(true)
+        }
+        Some(_) => Ok(false),
+    }
+}
+
+// Says why the form begins with no word of such a sentence.
+fn write_no_word(
+    writing: &mut Writing<'_>,
+    sentence: Sentence,
+    form: &Form<'_>,
+) -> Result<(), AllocError> {
+    let called = sentence.called();
+    let mut parts = form.members();
+    if sentence == Sentence::Act {
+        let _actor = parts.next();
+    }
+    let Some(head) = parts.next() else {
+        let message = format!(in writing.alloc; "the word of the {called} is missing here")?;
+        return writing.mark_end(form, message.as_str());
+    };
+    match head.keyword() {
+        Some(name) => write_unknown_word(writing, sentence, &head, name),
+        None => {
+            let message = format!(in writing.alloc;
+                "the word of the {called} is wanted here, a keyword"
+            )?;
+            writing.mark(&head, message.as_str())
+        }
+    }
+}
+
+/// Says what is wrong with the form of a sentence, and whether something is. The operations of a transaction aren't looked at.
+pub(crate) fn write_bad_form(
+    writing: &mut Writing<'_>,
+    sentence: Sentence,
+    form: &Form<'_>,
+) -> Result<bool, AllocError> {
+    if !form.is_vector() {
+        let called = sentence.called();
+        let message = format!(in writing.alloc; "this {called} is no vector")?;
+        writing.mark(form, message.as_str())?;
+        return Ok(true);
+    }
+    if sentence == Sentence::Act && write_bad_actor(writing, form)? {
+        return Ok(true);
+    }
+    let Some(said) = said_in(sentence, form) else {
+        write_no_word(writing, sentence, form)?;
+        return Ok(true);
+    };
+    let is_bad = !said.is_transaction() && write_bad_slots(writing, sentence, &said)?;
+    if is_bad {
+        let message = format!(in writing.alloc; "it is written {}", said.word.form)?;
+        writing.note(message.as_str())?;
+    }
+    Ok(is_bad)
+}
