@@ -138,11 +138,18 @@ class Room:
         for (path, at), it in self.functions.items():
             module = [part for part in Path(path).with_suffix("").parts[1:] if part not in ("lib", "main")]
             owner = words[-2] if len(words) > 1 else ""
+            # an impl of a type with some of its arguments has these in its name, each behind a plus; so has a trait's
+            of_type = owner.split("+")[0] == it.type and not set(owner.split("+")[1:2]) & self.traits(it.type)
+            owner = owner.replace("+", "")
             # a trait's method is named by the type, with Ref before it where it is a reference, and the trait
             of_trait = it.trait and owner.startswith((it.type + it.trait, "Ref" + it.type + it.trait))
-            if words[-1] == it.name and (owner == it.type or of_trait if it.type else words[:-1] == module):
+            if words[-1] == it.name and (of_type or of_trait if it.type else words[:-1] == module):
                 found.add((path, at))
         return found
+
+    def traits(self, type):
+        """The traits that this type has in the crate."""
+        return {it.trait for it in self.functions.values() if it.type == type and it.trait}
 
     def located(self, path, line):
         """The function on whose lines this one stands, or on those above it that belong to it."""
@@ -156,7 +163,7 @@ class Room:
     def answered(self, folder, goal):
         """The functions of which this is a goal, in this folder of proofs. That of a cycle of calls has the goals of all its functions,
         each behind the function's name."""
-        words = folder.replace("+", "").split("/")
+        words = folder.split("/")
         for at in (at for at in range(len(goal), 0, -1) if goal[at : at + 1] == "-"):
             found = {it for it in self.named([*words[:-1], goal[:at]]) if self.is_in_cycle(it, words[-1])}
             if found:
@@ -164,7 +171,8 @@ class Room:
         return self.named(words)
 
 
-PROVED = re.compile(r"fn \w+::(\S+): proved$")
+# of one that may wait that is said behind a comma
+PROVED = re.compile(r"fn \w+::(\S+): proved(?:, .*)?$")
 UNCOMPILED = re.compile(r"(?:\./)?(src/\S+?):(\d+):\d+: error\[")
 OPEN_GOAL = re.compile(r"note: (?:\./)?(src/\S+?):(\d+):\d+: it is not proved that ")
 OPEN_ANSWER = re.compile(r"(?:\./)?proofs/(\S+)/(?:Answers|Invariants|Proof)\.antt:\d+:\d+: error: `([^`]*)`")

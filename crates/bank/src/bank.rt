@@ -1,6 +1,6 @@
 //! The bank: its world, its transfers, and the work of its journal.
 ghost use Rattle.std.specs.Prelude.{◌≡◌};
-ghost use Rattle.ref_world.specs.Shares.{all_parts};
+ghost use Rattle.ref_world.specs.Shares.{IsBlank};
 
 use ref_agents::{ErrorMode, FinishFault, Job};
 use ref_edn::{Value, read_one};
@@ -93,8 +93,8 @@ impl<'a, C: Ledger, A: Ledger> Bank<'a, C, A> {
         commits: Blank,
         added: Blank,
     ) -> Result<Bank<'a, C, A>, AllocError>
-        requires commits { (commits.name ≡ C.name) × (commits.parts ≡ C.parts) × (commits.parts ≡ all_parts) }
-        requires added { (added.name ≡ A.name) × (added.parts ≡ A.parts) × (added.parts ≡ all_parts) }
+        requires commits { IsBlank commits C.name C.parts }
+        requires added { IsBlank added A.name A.parts }
     {
         let Ok((world, share)) = World::new(alloc, funs, start(alloc)?, commits, added) else {
             return Err(AllocError);

@@ -5,7 +5,7 @@
 #![tactic(auto)]
 
 ghost use Rattle.std.specs.Prelude.{◌≡◌};
-ghost use Rattle.ref_world.specs.Shares.{all_parts};
+ghost use Rattle.ref_world.specs.Shares.{IsBlank};
 
 mod bank;
 mod table;
@@ -44,8 +44,8 @@ fn business<C: Ledger, A: Ledger, R: AllocGlobal + Print>(
     commits: Blank,
     added: Blank,
 ) -> Result<(), Trouble>
-    requires commits { (commits.name ≡ C.name) × (commits.parts ≡ C.parts) × (commits.parts ≡ all_parts) }
-    requires added { (added.name ≡ A.name) × (added.parts ≡ A.parts) × (added.parts ≡ all_parts) }
+    requires commits { IsBlank commits C.name C.parts }
+    requires added { IsBlank added A.name A.parts }
 {
     let mut bank = Bank::<C, A>::open(rt.alloc(), funs, commits, added)?;
     work(rt, &mut bank)

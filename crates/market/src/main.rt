@@ -9,7 +9,7 @@
 #![tactic(auto)]
 
 ghost use Rattle.std.specs.Prelude.{◌≡◌};
-ghost use Rattle.ref_world.specs.Shares.{all_parts};
+ghost use Rattle.ref_world.specs.Shares.{IsBlank};
 
 mod board;
 mod customers;
@@ -80,8 +80,8 @@ fn day<
     A: Ledger + Send + Sync,
     R: AllocGlobal + Print + Threads + Wait + Sync,
 >(rt: &R, funs: &CoreFunctions, commits: Blank, added: Blank) -> Result<(), Trouble>
-    requires commits { (commits.name ≡ C.name) × (commits.parts ≡ C.parts) × (commits.parts ≡ all_parts) }
-    requires added { (added.name ≡ A.name) × (added.parts ≡ A.parts) × (added.parts ≡ all_parts) }
+    requires commits { IsBlank commits C.name C.parts }
+    requires added { IsBlank added A.name A.parts }
 {
     let (world, share) = begin::<C, A>(rt.alloc(), funs, commits, added)?;
     let market = Market::of(rt.alloc(), funs, world);

@@ -1,6 +1,6 @@
 //! A box office, whose functions are its own: two clerks sell tickets for two evenings.
 ghost use Rattle.std.specs.Prelude.{◌≡◌};
-ghost use Rattle.ref_world.specs.Shares.{all_parts};
+ghost use Rattle.ref_world.specs.Shares.{IsBlank};
 
 mod acts;
 mod office;
@@ -30,8 +30,8 @@ fn open_office<
     A: Ledger + Send + Sync,
     R: AllocGlobal + Print + Threads + Wait + Sync,
 >(rt: &R, commits: Blank, added: Blank) -> Result<(), Trouble>
-    requires commits { (commits.name ≡ C.name) × (commits.parts ≡ C.parts) × (commits.parts ≡ all_parts) }
-    requires added { (added.name ≡ A.name) × (added.parts ≡ A.parts) × (added.parts ≡ all_parts) }
+    requires commits { IsBlank commits C.name C.parts }
+    requires added { IsBlank added A.name A.parts }
 {
     let (world, share) = begin::<C, A>(rt.alloc(), commits, added)?;
     let office = Office::open(rt.alloc(), world);

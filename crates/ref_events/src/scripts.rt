@@ -82,36 +82,6 @@ impl Script {
             forms,
         }
     }
-
-    /// The names of the references, by number.
-    pub fn names(&self) -> &Names
-        ensures { result.now ≡ self.now.names }
-    {
-        &self.names
-    }
-
-    /// The references as they are declared.
-    pub fn start(&self) -> &Start
-        ensures refs { result.now.refs.items ≡ self.now.refs }
-        ensures atoms { result.now.atoms.items ≡ self.now.atoms }
-        ensures agents { result.now.agents.items ≡ self.now.agents }
-    {
-        &self.start
-    }
-
-    /// The events.
-    pub fn events(&self) -> &[Event]
-        ensures { result.now ≡ self.now.events }
-    {
-        self.events.as_slice()
-    }
-
-    /// How each event is written.
-    pub fn forms(&self) -> &Items
-        ensures { result.now ≡ self.now.forms }
-    {
-        &self.forms
-    }
 }
 
 fn is_known(key: &Value) -> bool

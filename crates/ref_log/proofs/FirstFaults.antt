@@ -34,7 +34,7 @@ module _ (knows : ℕ → Bool) where
   pub missing-append : (codes others : List ℕ) → missing knows codes ≡ None → missing knows (codes ++ others) ≡ missing knows others
   missing-append codes others none = find-append (λ c. not (knows c)) codes others ∙ ap (λ o. option_or o (missing knows others)) none
 
-  missing_first : (codes others : List ℕ) (c : ℕ) → missing knows codes ≡ Some c → missing knows (codes ++ others) ≡ Some c
+  pub missing_first : (codes others : List ℕ) (c : ℕ) → missing knows codes ≡ Some c → missing knows (codes ++ others) ≡ Some c
   missing_first codes others c some = find-append (λ c. not (knows c)) codes others ∙ ap (λ o. option_or o (missing knows others)) some
 
   missing_none : (codes others : List ℕ) → missing knows codes ≡ None → others ≡ [] → missing knows (codes ++ others) ≡ None

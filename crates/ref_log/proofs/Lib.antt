@@ -1,3 +1,4 @@
+pub mod EntriesCalled
 pub mod FirstFaults
 pub mod Guarded
 pub mod Kept

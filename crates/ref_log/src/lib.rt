@@ -25,6 +25,7 @@
 //! faster code is held against.
 #![tactic(auto)]
 
+pub mod calling;
 mod counting;
 pub mod entries;
 pub mod faults;
@@ -41,6 +42,7 @@ pub mod sends;
 pub mod states;
 pub mod watches;
 
+pub use calling::lacking_fun;
 pub use entries::{Entry, Stamp, Transaction};
 pub use faults::{AuditFault, MakeFault, RuleFault, WatchFault};
 pub use folding::fold;

@@ -351,7 +351,7 @@ module _ (means : Means) (accepts : Accepts) (knows : Known) (s : SimSeen) (acto
         logs = logs;
       }
 
-  pub not_checkpointed : (v : WorldSeen) (f : CheckpointFault) → TellsFault checkpoints.Memory (checks.no_such_point s.world p) (checks.checkpoint_refusal means knows.funs s.world p) f → v ≡ s.world
+  pub not_checkpointed : (v : WorldSeen) (f : CheckpointFault) → TellsFault checkpoints.Memory (checks.checkpoint_refusal means knows.funs s.world p) (checks.checkpoint_refusal means knows.funs s.world p) f → v ≡ s.world
       → Serves means accepts knows s actor (acts.Checkpoint p) (replies.Checkpoint (Err f)) (record s { world = v })
   not_checkpointed v f tells same = subst (λ (x : WorldSeen). Serves means accepts knows s actor (acts.Checkpoint p) (replies.Checkpoint (Err f)) (record s { world = x })) (sym same)
       (record { added = []; went = []; acts = (Err f, refl, (refl, refl)); folds = (Err f, refl, tells, tt, refl); logs = record { log = append-nil s.world.log; point = omega arith; base = refl } })

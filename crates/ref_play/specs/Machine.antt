@@ -6,7 +6,7 @@ use Rattle.ref_fun.specs.Calls.{Known}
 use Rattle.ref_fun.specs.Meaning.{Means}
 use Rattle.ref_fun.specs.Rule.{Accepts}
 use Rattle.ref_log.specs.Replay.{missing, needed_from, point_after, replay}
-use Rattle.ref_log.specs.Told.{TellsOrMemory}
+use Rattle.ref_log.specs.Told.{TellsThenMemory}
 use Rattle.ref_log.specs.declared.entries.Entry.{Entry}
 use Rattle.ref_log.specs.declared.faults.AuditFault.{AuditFault}
 use Rattle.ref_log.specs.declared.states.Base.{Base}
@@ -62,7 +62,7 @@ abbrev pub Folds : Means → Known → ℕ → ℕ → Result PlainState AuditFa
 Folds means knows present point state log None reply went = went ≡ []
 Folds means knows present point state log (Some p) reply went =
     (told : Result ℕ CheckpointFault) × (reply ≡ replies.Checkpoint told)
-    × TellsOrMemory checkpoints.Memory (no_such_point present point p) (checkpoint_refusal means knows present point state log p) told
+    × TellsThenMemory checkpoints.Memory (checkpoint_refusal means knows present point state log p) told
     × IfOk told (λ n. (n + point ≡ p) × (went ≡ take n log))
     × OnErr told (went ≡ [])
 

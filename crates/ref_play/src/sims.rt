@@ -4,7 +4,7 @@ ghost use Rattle.ref_log.specs.declared.faults.MakeFault.TheVariants as makes;
 ghost use Rattle.ref_play.specs.Machine.{Machine};
 ghost use Rattle.ref_play.specs.Runs.{IsServed, is_out_at};
 ghost use Rattle.ref_play.specs.Sims.{IsPlayed, Stands, all_back, jobs_of, machine_of, present, txs_of};
-ghost use Rattle.ref_world.specs.Shares.{all_parts, whole};
+ghost use Rattle.ref_world.specs.Shares.{IsBlank, all_parts, whole};
 ghost use Rattle.ref_world.specs.Starts as starts;
 ghost use Rattle.ref_world.specs.Starts.{first_refusal, start_refusal};
 ghost use Rattle.ref_world.specs.World.{IsWorld, with_agents};
@@ -53,8 +53,8 @@ impl<M: Meaning, C: Ledger, A: Ledger> Sim<M, C, A> {
         commits: Blank,
         added: Blank,
     ) -> Result<Sim<M, C, A>, (Who, MakeFault)>
-        requires commits { (commits.name ≡ C.name) × (commits.parts ≡ C.parts) × (commits.parts ≡ all_parts) }
-        requires added { (added.name ≡ A.name) × (added.parts ≡ A.parts) × (added.parts ≡ all_parts) }
+        requires commits { IsBlank commits C.name C.parts }
+        requires added { IsBlank added A.name A.parts }
         ensures ok { OnOk result (start_refusal M.accepts (F.knows funs.now).preds start ≡ None) }
         ensures refs { IfOk result (λ s. starts.declared_refs M.accepts (F.knows funs.now).preds start.refs.items
             ≡ Ok s.world.refs) }

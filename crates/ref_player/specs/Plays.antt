@@ -2,6 +2,7 @@
 use Rattle.std.specs.Prelude.{◌≡◌, ◌≢◌, ℕ, List, [], ◌++◌, None, Ok}
 use Rattle.ref_value.specs.Edn.{Edn}
 use Rattle.ref_edn.specs.Grammar.{IsText}
+use Rattle.ref_edn.specs.Reading.{one}
 use Rattle.ref_fun.specs.Calls.{HasCore, Known}
 use Rattle.ref_fun.specs.Core.{core_accepts, core_means}
 use Rattle.ref_start.specs.declared.starts.AgentStart.{AgentStart}
@@ -77,5 +78,5 @@ pub record IsPlay (text output : List ℕ) : Type 0 where
 -- what a fault says of the text that was there to read
 abbrev pub IsAtFault : List ℕ → PlayFault → Type 0
 IsAtFault text (plays.Run (runs.Plan fault)) = ⊥
-IsAtFault text (plays.Run fault) = IsInputAtFault IsText text fault
+IsAtFault text (plays.Run fault) = IsInputAtFault IsText one text fault
 IsAtFault text (plays.Script fault) = (fault ≢ scripts.Memory) × ((value : Edn) × IsText text value × ((script : ScriptSeen) → IsScript value script → ⊥))

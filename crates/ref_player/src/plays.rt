@@ -11,7 +11,7 @@ ghost use Rattle.ref_play.specs.Sims.{Stands, machine_of};
 ghost use Rattle.ref_player.specs.Lines.{event_lines};
 ghost use Rattle.ref_player.specs.Plays.{Begins, IsPlayOf, Plays, PlaysTo};
 ghost use Rattle.ref_workload.specs.Run.{IsOfPlan};
-ghost use Rattle.ref_world.specs.Shares.{all_parts};
+ghost use Rattle.ref_world.specs.Shares.{IsBlank};
 
 use crate::lines::lines_of;
 use ref_audit::{Verdict, report};
@@ -35,8 +35,8 @@ fn begin<F: Functions<Core>, C: Ledger, A: Ledger>(
     commits: Blank,
     added: Blank,
 ) -> Result<Sim<Core, C, A>, RunFault>
-    requires commits { (commits.name ≡ C.name) × (commits.parts ≡ C.parts) × (commits.parts ≡ all_parts) }
-    requires added { (added.name ≡ A.name) × (added.parts ≡ A.parts) × (added.parts ≡ all_parts) }
+    requires commits { IsBlank commits C.name C.parts }
+    requires added { IsBlank added A.name A.parts }
     ensures begins { IfOk result (Begins (F.knows funs.now) start.refs.items start.atoms.items start.agents.items) }
     ensures inner { IfErr result IsOfPlan }
 {
@@ -136,8 +136,8 @@ pub fn output_of<F: Functions<Core>, C: Ledger, A: Ledger>(
     added: Blank,
 ) -> Result<Vec<u8>, RunFault>
     requires core { HasCore (F.knows funs.now) }
-    requires commits { (commits.name ≡ C.name) × (commits.parts ≡ C.parts) × (commits.parts ≡ all_parts) }
-    requires added { (added.name ≡ A.name) × (added.parts ≡ A.parts) × (added.parts ≡ all_parts) }
+    requires commits { IsBlank commits C.name C.parts }
+    requires added { IsBlank added A.name A.parts }
     ensures ok { IfOk result (λ output. IsPlayOf script output.items) }
     ensures inner { IfErr result IsOfPlan }
 {

@@ -1,16 +1,18 @@
 use Rattle.std.proofs.Common.{◌≡◌, ℕ, ◌<◌, List, ◌∷◌, length, arith, refl}
+use Rattle.std.specs.List.{All}
+use Rattle.std.specs.Prelude.{Result}
 use Rattle.ref_refs.specs.declared.faults.CommitFault.{CommitFault}
 use Rattle.ref_refs.specs.declared.faults.CommitFault.TheVariants as commits
 use Rattle.ref_refs.specs.declared.faults.Conflict.{Conflict}
-use Rattle.ref_shared.specs.Bodies.{IsFinal, AllCalls, BodyOf, Call, Called, Calls}
+use Rattle.ref_shared.specs.Bodies.{IsFinal, IsRetried, AllCalls, BodyOf, Call, Called, Calls}
 
 -- one call more, where there were fewer than that
-pub one_more : {B R : Type 0} (g : BodyOf B R) (body before after : B) (earlier : List (Call R)) (i tries : ℕ) (call : Call R)
-    → Called g body earlier before → length earlier ≡ i → i < tries → Calls g before call after → AllCalls g body after (call ∷ earlier) tries
-one_more g body before after earlier i tries call called count room calls =
-    record { called = (before, called, calls); few = omega (arith, count, room) }
+pub one_more : {B T E : Type 0} (g : BodyOf B (Result T E)) (body before after : B) (earlier : List (Call (Result T E))) (i tries : ℕ) (call : Call (Result T E))
+    → Called g body earlier before → length earlier ≡ i → All IsRetried earlier → i < tries → Calls g before call after → AllCalls g body after (call ∷ earlier) tries
+one_more g body before after earlier i tries call called count retried room calls =
+    record { called = (before, called, calls); few = omega (arith, count, room); retried = retried }
 
--- a fault that is neither a conflict nor want of memory
+-- a fault that is neither a conflict nor out of memory
 pub final : (fault : CommitFault) → ((c : Conflict) → fault ≡ commits.Conflict c → ⊥) → (fault ≡ commits.Memory → ⊥) → IsFinal fault
 final (commits.Foreign what) conflict memory = tt
 final (commits.Conflict c) conflict memory = conflict c refl

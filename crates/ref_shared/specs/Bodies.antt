@@ -1,10 +1,12 @@
 -- The calls of a transaction's body.
 use Rattle.std.specs.Prelude.{◌≡◌, ℕ, ◌+◌, ◌≤◌, true, List, [], ◌∷◌, length, Result, Err}
 use Rattle.std.specs.Fn.{Mut, CalledAtMut}
+use Rattle.std.specs.List.{All}
 use Rattle.std.specs.Borrow.{MutBor}
 use Rattle.std.specs.Result.{is_ok}
 use Rattle.ref_log.specs.declared.entries.Stamp.{Stamp}
 use Rattle.ref_refs.specs.Conflicts.{IsConflictOf}
+use Rattle.ref_refs.specs.declared.faults.Conflict.{Conflict}
 use Rattle.ref_refs.specs.declared.faults.CommitFault.{CommitFault}
 use Rattle.ref_refs.specs.declared.faults.CommitFault.TheVariants as commits
 use Rattle.ref_tx.specs.Seen.{TxSeen}
@@ -38,15 +40,27 @@ abbrev pub Called : {B R : Type 0} → BodyOf B R → B → List (Call R) → B 
 Called g first [] last = first ≡ last
 Called {B} g first (call ∷ earlier) last = (between : B) × Called g first earlier between × Calls g between call last
 
--- These are all calls of the body that there were, and at most so many.
-pub record AllCalls {B R : Type 0} (g : BodyOf B R) (body last : B) (calls : List (Call R)) (tries : ℕ) : Type 0 where
+-- A call after which the body is called again: it answered a value, and the commit of what it left was in conflict.
+pub record IsRetried {T E : Type 0} (call : Call (Result T E)) : Type 0 where
+  pub answered : is_ok call.answer ≡ true
+  pub conflict : Conflict
+  pub fits : IsConflictOf call.left conflict
+
+-- all calls but the latest
+abbrev pub earlier_of : {R : Type 0} → List (Call R) → List (Call R)
+earlier_of [] = []
+earlier_of (call ∷ earlier) = earlier
+
+-- These are all calls of the body that there were, and at most so many. Each but the last ended in a conflict.
+pub record AllCalls {B T E : Type 0} (g : BodyOf B (Result T E)) (body last : B) (calls : List (Call (Result T E))) (tries : ℕ) : Type 0 where
   pub called : Called g body calls last
   pub few : length calls ≤ tries
+  pub retried : All IsRetried (earlier_of calls)
 
 -- The last call of the body answered so, and what it left was committed.
-pub record Committed {B R : Type 0} (g : BodyOf B R) (body last : B) (tries : ℕ) (answer : R) (stamp : Stamp) (point : ℕ) (old new : ShareSeen) : Type 0 where
-  pub call : Call R
-  pub earlier : List (Call R)
+pub record Committed {B T E : Type 0} (g : BodyOf B (Result T E)) (body last : B) (tries : ℕ) (answer : Result T E) (stamp : Stamp) (point : ℕ) (old new : ShareSeen) : Type 0 where
+  pub call : Call (Result T E)
+  pub earlier : List (Call (Result T E))
   pub calls : AllCalls g body last (call ∷ earlier) tries
   pub answered : call.answer ≡ answer
   pub landed : HasCommitted stamp call.left point old new

@@ -1,9 +1,18 @@
 -- What a call under the lock leaves in a share. It can't name the world that it found there.
-use Rattle.std.specs.Prelude.{◌≡◌, ℕ, Option}
+use Rattle.std.specs.Prelude.{◌≡◌, ℕ, List, Option, true, slice_get}
+use Rattle.ref_value.specs.Edn.{Edn}
+use Rattle.ref_fun.specs.Meaning.{Means}
+use Rattle.ref_log.specs.Replay.{is_protected}
 use Rattle.ref_log.specs.Tally.{added_by_dones}
+use Rattle.ref_log.specs.Watches.{notices_of}
 use Rattle.ref_log.specs.declared.entries.Entry.{Entry}
 use Rattle.ref_log.specs.declared.entries.Stamp.{Stamp}
+use Rattle.ref_log.specs.declared.guards.Guard.{Guard}
+use Rattle.ref_log.specs.declared.notices.Notice.{Notice}
+use Rattle.ref_log.specs.declared.notices.Who.{Who}
 use Rattle.ref_refs.specs.Commit.{entry_of}
+use Rattle.ref_refs.specs.Watches.{notices as refs_notices, touched_refs}
+use Rattle.ref_tx.specs.Inner.{inner_value}
 use Rattle.ref_tx.specs.Seen.{TxSeen}
 use Rattle.ref_world.specs.Seen.{ShareSeen}
 use Rattle.ref_world.specs.Shares.{with_commit, with_receipt}
@@ -13,6 +22,21 @@ use Rattle.ref_world.specs.Shares.{with_commit, with_receipt}
 pub record HasCommitted (stamp : Stamp) (tx : TxSeen) (point : ℕ) (old new : ShareSeen) : Type 0 where
   pub tally : Option ℕ
   pub share : new ≡ with_commit old point (entry_of stamp tx) (added_by_dones tally tx.dones)
+
+-- The notices of a change of a reference: one for each of its watches, with the values before and after. There is no world to name the
+-- watches by: so there are such keys.
+pub record AreNotices (who : Who) (before after : Edn) (notices : List Notice) : Type 0 where
+  pub keys : List ℕ
+  pub are : notices ≡ notices_of who keys before after
+
+-- The notices of a commit: of each ref that the transaction changed, in order, with the values before and after, for refs with some
+-- guards. After it a ref that the transaction protects has its in-transaction value.
+pub record AreCommitted (means : Means) (tx : TxSeen) (notices : List Notice) : Type 0 where
+  pub guards : List Guard
+  pub before : List Edn
+  pub after : List Edn
+  pub are : notices ≡ refs_notices guards before after (touched_refs tx.dones)
+  pub inner : (r : ℕ) → is_protected tx.dones r ≡ true → slice_get after r ≡ inner_value means tx r
 
 -- One receipt more, of this entry, and nothing else.
 pub record HasReceipt (e : Entry) (old new : ShareSeen) : Type 0 where

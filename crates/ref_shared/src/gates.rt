@@ -1,4 +1,7 @@
 //! What is called between the steps of a transaction and of an action.
+ghost use Rattle.std.specs.Prelude.{◌≡◌};
+ghost use Rattle.ref_shared.specs.Sinks.{TakesAll};
+
 use ref_log::Notice;
 
 /// Where a transaction or an action stands.
@@ -19,7 +22,11 @@ pub trait Gate {
 /// Who gets the notices for watches, with the lock free: of one commit or one action in order. Between two of them
 /// there is none, since two threads deliver side by side.
 pub trait WatchSink {
-    fn told(&mut self, notice: &Notice);
+    // What taking a notice does to the sink, where its implementer says so.
+    ghost takes: { Self → Notice → Self → Type 0 } = { λ _ _ _. Unit {0} };
+
+    fn told(&mut self, notice: &Notice)
+        ensures { takes self.old notice.now self.new };
 }
 
 /// A gate that lets all pass.
@@ -35,11 +42,15 @@ impl Gate for Open {
 pub struct Quiet;
 
 impl WatchSink for Quiet {
+    ghost takes = { λ before _ after. after ≡ before };
+
     fn told(&mut self, _notice: &Notice) {}
 }
 
 // Delivers each notice, in order.
-pub(crate) fn tell<S: WatchSink>(sink: &mut S, notices: &[Notice]) {
+pub(crate) fn tell<S: WatchSink>(sink: &mut S, notices: &[Notice])
+    ensures { TakesAll S.takes sink.old notices.now sink.new }
+{
     for notice in notices {
         sink.told(notice);
     }

@@ -2,11 +2,12 @@
 ghost use Rattle.std.specs.Prelude.{◌≡◌, [], true, false, Ok, IfOk, IfErr, OnErr, OnOk};
 ghost use Rattle.ref_log.specs.Replay.{place};
 ghost use Rattle.ref_log.specs.declared.entries.Entry.TheVariants as entries;
+ghost use Rattle.ref_log.specs.declared.notices.Who.TheVariants as who;
 ghost use Rattle.ref_log.specs.declared.operations.Op.TheVariants.{Alter, Set};
 ghost use Rattle.ref_refs.specs.Conflicts.{ConflictFits};
 ghost use Rattle.ref_world.specs.Shares.{all_parts};
 ghost use Rattle.ref_shared.specs.Bodies.{IsFresh};
-ghost use Rattle.ref_shared.specs.Commits.{HasCommitted, HasReceipt};
+ghost use Rattle.ref_shared.specs.Commits.{AreCommitted, AreNotices, HasCommitted, HasReceipt};
 ghost use Rattle.ref_shared.specs.Gather.{GatherFails, InOrder, ReceiptsMatch};
 
 use crate::faults::GatherFault;
@@ -100,6 +101,7 @@ impl<M: Meaning, C: Ledger, A: Ledger> Shared<M, C, A> {
     ) -> Result<Receipt, (Tx<M>, CommitFault)>
         ensures stamp { IfOk result (λ receipt. receipt.stamp ≡ stamp) }
         ensures share { IfOk result (λ receipt. HasCommitted stamp tx receipt.point share.old share.new) }
+        ensures notices { IfOk result (λ receipt. AreCommitted M.means tx receipt.notices.items) }
         ensures conflict { IfErr result (λ e. ConflictFits tx e.1) }
         ensures back { IfErr result (λ e. e.0 ≡ tx) }
         ensures same { OnErr result (share.new ≡ share.old) }
@@ -214,6 +216,7 @@ impl<M: Meaning, C: Ledger, A: Ledger> Shared<M, C, A> {
         args: Args,
     ) -> Result<Swapped, AtomFault>
         ensures new { IfOk result (λ s. place M.means (Alter code args) s.old ≡ Ok s.new) }
+        ensures notices { IfOk result (λ s. AreNotices (who.Atom a) s.old s.new s.notices.items) }
         ensures share { IfOk result (λ s. HasReceipt (entries.Atom a (Alter code args) s.new) share.old share.new) }
         ensures same { OnErr result (share.new ≡ share.old) }
     {
@@ -232,6 +235,7 @@ impl<M: Meaning, C: Ledger, A: Ledger> Shared<M, C, A> {
         value: Value,
     ) -> Result<Swapped, AtomFault>
         ensures new { IfOk result (λ s. s.new ≡ value) }
+        ensures notices { IfOk result (λ s. AreNotices (who.Atom a) s.old s.new s.notices.items) }
         ensures share { OnOk result (HasReceipt (entries.Atom a (Set value) value) share.old share.new) }
         ensures same { OnErr result (share.new ≡ share.old) }
     {
@@ -254,6 +258,7 @@ impl<M: Meaning, C: Ledger, A: Ledger> Shared<M, C, A> {
             → HasReceipt (entries.Atom a (Set new) new) share.old share.new) }
         ensures unshared { IfOk result (λ c. c.done ≡ false → share.new ≡ share.old) }
         ensures untold { IfOk result (λ c. c.done ≡ false → c.notices.items ≡ []) }
+        ensures notices { IfOk result (λ c. c.done ≡ true → AreNotices (who.Atom a) old.now new c.notices.items) }
         ensures same { OnErr result (share.new ≡ share.old) }
     {
         self.lock(rt)

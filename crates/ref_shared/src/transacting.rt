@@ -1,6 +1,7 @@
 //! Transactions that are tried again.
 ghost use Rattle.std.specs.Prelude.{◌≡◌, ◌<◌, Ok, IfOk, IfErr, OnErr};
 ghost use Rattle.ref_shared.specs.Bodies.{Committed, FaultComes};
+ghost use Rattle.ref_shared.specs.Sinks.{TakesAll};
 
 use crate::faults::TransactFault;
 use crate::gates::{Gate, Spot, WatchSink, tell};
@@ -52,6 +53,8 @@ impl<C: Ledger, A: Ledger> Shared<Core, C, A> {
         ensures stamp { IfOk result (λ r. r.1.stamp ≡ stamp) }
         ensures fault { IfErr result (λ f. (last : B) × FaultComes B.FnMut body last tries f) }
         ensures same { OnErr result (share.new ≡ share.old) }
+        ensures told { IfOk result (λ r. TakesAll S.takes sink.old r.1.notices.items sink.new) }
+        ensures untold { OnErr result (sink.new ≡ sink.old) }
     {
         self.transact_by(rt, alloc, funs, share, stamp, tries, gate, sink, &mut body)
     }
@@ -85,6 +88,8 @@ impl<C: Ledger, A: Ledger> Shared<Core, C, A> {
         ensures stamp { IfOk result (λ r. r.1.stamp ≡ stamp) }
         ensures fault { IfErr result (λ f. FaultComes B.FnMut body.old body.new tries f) }
         ensures same { OnErr result (share.new ≡ share.old) }
+        ensures told { IfOk result (λ r. TakesAll S.takes sink.old r.1.notices.items sink.new) }
+        ensures untold { OnErr result (sink.new ≡ sink.old) }
     {
         for attempt in 0..tries {
             let Ok(mut tx) = self.begin(rt, alloc) else {

@@ -1,4 +1,7 @@
 //! The actions of agents, run by whoever has time.
+ghost use Rattle.std.specs.Prelude.{◌≡◌, IfOk, OnErr};
+ghost use Rattle.ref_shared.specs.Sinks.{Tells};
+
 use crate::faults::WorkFault;
 use crate::gates::{Gate, Spot, WatchSink, tell};
 use crate::shared::Shared;
@@ -32,7 +35,10 @@ impl<M: Meaning, C: Ledger, A: Ledger> Shared<M, C, A> {
         funs: &F,
         gate: &mut G,
         sink: &mut S,
-    ) -> Result<Worked, WorkFault> {
+    ) -> Result<Worked, WorkFault>
+        ensures told { IfOk result (Tells S.takes M.means sink.old sink.new) }
+        ensures untold { OnErr result (sink.new ≡ sink.old) }
+    {
         let Ok(taken) = self.next_job(rt) else {
             return Err(WorkFault::Memory);
         };

@@ -1,4 +1,4 @@
--- To be read and believed: Orderly, Streams, Run, and RunFaults, which has numbers. Marks is for private functions. What a workload and
+-- To be read and believed: Orderly, Reasons, Streams, Run, and RunFaults, which has numbers. Marks is for private functions. What a workload and
 -- its plan are stands in ref_plan.
 pub use Rattle.ref_plan.specs.Plan
 pub use Rattle.ref_plan.specs.PlanFaults
@@ -12,6 +12,7 @@ pub use Rattle.ref_plan.specs.Workload
 pub use Rattle.ref_plan.specs.Kinds
 pub use Rattle.ref_plan.specs.Tables
 pub mod Orderly
+pub mod Reasons
 pub mod RunFaults
 pub mod Streams
 pub mod Run

@@ -3,14 +3,18 @@ use Rattle.std.specs.Prelude.{◌≡◌, ◌≢◌, ℕ, Bool, true, false, List
 use Rattle.ref_value.specs.Edn.{Edn}
 use Rattle.ref_edn.specs.Grammar.{IsText}
 use Rattle.ref_edn.specs.Printed.{printed}
+use Rattle.ref_edn.specs.Reading.{one}
 use Rattle.ref_audit.specs.DumpForm.{dump_of}
 use Rattle.ref_audit.specs.Dumped.{dumped}
 use Rattle.ref_audit.specs.Report.{reported}
 use Rattle.ref_audit.specs.Verdict.{verdict_on}
 use Rattle.ref_audit.specs.declared.reports.Refusal.{Refusal}
 use Rattle.ref_verdict.specs.declared.reports.Verdict.TheVariants as verdicts
+use Rattle.ref_fun.specs.Core.{core_means}
 use Rattle.ref_world.specs.Seen.{WorldSeen}
+use Rattle.ref_world.specs.World.{IsWorld}
 use Rattle.ref_workload.specs.Orderly.{AreInOrder, IsOrderly}
+use Rattle.ref_workload.specs.Reasons.{HaveReasons}
 use Rattle.ref_plan.specs.Plan.{PlanSeen}
 use Rattle.ref_workload.specs.Streams.{IsInputAtFault}
 use Rattle.ref_plan.specs.Workload.{IsWorkload}
@@ -23,13 +27,19 @@ abbrev pub told : Bool → PlanSeen → WorldSeen → List Refusal → List ℕ
 told true plan world refused = printed (dumped world) ++ 10 ∷ []
 told false plan world refused = reported plan.names world refused verdicts.Ok
 
--- The output is the report or dump of a world in which the plan was run, each worker's steps in order, and nothing else was. The audit of
--- that world's dump says ok.
+-- What the type of a world guarantees: its refs and atoms hold what its log gives on its base, and so on.
+abbrev pub IsAlwaysSo : WorldSeen → Type 0
+IsAlwaysSo world = IsWorld core_means world.base world.log world.refs world.atoms world.agents.unreleased
+
+-- The output is the report or dump of a world in which the plan was run, each worker's steps in order, and nothing else was. Each
+-- refused step has a reason that such a step can have. The audit of that world's dump says ok.
 pub record IsPlanRun (dump : Bool) (plan : PlanSeen) (output : List ℕ) : Type 0 where
   pub world : WorldSeen
+  pub always : IsAlwaysSo world
   pub refused : List Refusal
   pub orderly : IsOrderly plan world refused
   pub in_order : AreInOrder refused
+  pub reasons : HaveReasons plan.workers refused
   pub audited : verdict_on (dump_of (dumped world)) ≡ Ok verdicts.Ok
   pub output_is : output ≡ told dump plan world refused
 
@@ -56,4 +66,4 @@ IsOfText fault = Unit {0}
 -- what a fault says of the text that was there to read
 abbrev pub IsAtFault : List ℕ → RunFault → Type 0
 IsAtFault text (faults.Plan fault) = (fault ≢ plans.Memory) × ((value : Edn) × IsText text value × ((plan : PlanSeen) → IsWorkload value plan → ⊥))
-IsAtFault text fault = IsInputAtFault IsText text fault
+IsAtFault text fault = IsInputAtFault IsText one text fault

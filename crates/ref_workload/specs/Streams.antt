@@ -1,7 +1,10 @@
 -- What a command reads and writes, whatever it does between: it reads its input whole, and then writes one output.
 use Rattle.std.specs.Prelude.{◌≡◌, ◌≢◌, ◌<◌, ◌≤◌, ℕ, List, length, Option, IfSome, Result, Ok, Err}
 use Rattle.std.specs.Io.KnownBytes.{Appends, IsAtEnd}
+use Rattle.ref_edn.specs.declared.faults.Fault.{Fault}
+use Rattle.ref_edn.specs.declared.faults.ReadFault.{ReadFault}
 use Rattle.ref_edn.specs.declared.faults.ReadFault.TheVariants as reads
+use Rattle.ref_edn.specs.Faults.{Answers}
 use Rattle.ref_edn.specs.Streams.{AppendsPart, counted}
 use Rattle.ref_workload.specs.declared.faults.RunFault.{RunFault}
 use Rattle.ref_workload.specs.declared.faults.RunFault.TheVariants as faults
@@ -25,11 +28,17 @@ HasWritten Gives before after old new = Wrote Appends Gives before after old new
 abbrev pub HasBrokenOff : (List ℕ → List ℕ → Type 0) → Option (List ℕ) → Option (List ℕ) → Option (List ℕ) → Option (List ℕ) → Type 0
 HasBrokenOff Gives before after old new = Wrote AppendsPart Gives before after old new
 
--- what a fault of reading says of the text that was there to read, where `Belongs` says which texts belong to a value
-abbrev pub IsInputAtFault : {T : Type 0} → (List ℕ → T → Type 0) → List ℕ → RunFault → Type 0
-IsInputAtFault Belongs text faults.InputTooLong = 16777216 < length text
-IsInputAtFault {T = T} Belongs text (faults.NotEdn fault) = (fault ≢ reads.Memory) × ((value : T) → Belongs text value → ⊥)
-IsInputAtFault Belongs text fault = Unit {0}
+-- A text belongs to no value, and the fault is the first from the left, with its place: `Belongs` says which texts belong to a value, and
+-- `reading` what comes of a text.
+abbrev pub IsNotEdn : {T : Type 0} → (List ℕ → T → Type 0) → (List ℕ → Result T Fault) → List ℕ → ReadFault → Type 0
+IsNotEdn {T = T} Belongs reading text fault =
+    (fault ≢ reads.Memory) × ((value : T) → Belongs text value → ⊥) × Answers {X = T} text (λ v. v) (Err fault) (reading text)
+
+-- what a fault of reading says of the text that was there to read
+abbrev pub IsInputAtFault : {T : Type 0} → (List ℕ → T → Type 0) → (List ℕ → Result T Fault) → List ℕ → RunFault → Type 0
+IsInputAtFault Belongs reading text faults.InputTooLong = 16777216 < length text
+IsInputAtFault Belongs reading text (faults.NotEdn fault) = IsNotEdn Belongs reading text fault
+IsInputAtFault Belongs reading text fault = Unit {0}
 
 -- faults that come from the input before anything is asked of its text
 abbrev pub IsOfInput : RunFault → Type 0

@@ -15,7 +15,7 @@ use ref_audit::Refusal;
 use ref_fun::Core;
 use ref_plan::Plan;
 use ref_world::World;
-pub(crate) use refusals::are_in_order;
+pub(crate) use refusals::{are_in_order, have_reasons};
 use start::{are_agents, is_base};
 use std::alloc::{AllocError, Global};
 use std::sync::ledger::Ledger;

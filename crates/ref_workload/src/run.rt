@@ -1,17 +1,20 @@
 //! A plan, run by threads.
-ghost use Rattle.std.specs.Prelude.{◌≡◌, ◌+◌, IfErr, IfOk, OnOk, length, vec_len};
+ghost use Rattle.std.specs.Prelude.{◌≡◌, ◌+◌, [], Ok, IfErr, IfOk, OnOk, length, vec_len};
+ghost use Rattle.ref_fun.specs.Core.{core_accepts};
 ghost use Rattle.ref_workload.specs.Orderly.{AreInOrder, IsOrderly};
-ghost use Rattle.ref_workload.specs.Run.{IsOfPlan};
+ghost use Rattle.ref_workload.specs.Reasons.{HaveReasons};
+ghost use Rattle.ref_workload.specs.Run.{IsAlwaysSo, IsOfPlan};
 ghost use Rattle.ref_shared.specs.Gather.{InOrder};
-ghost use Rattle.ref_world.specs.Shares.{all_parts};
+ghost use Rattle.ref_world.specs.Shares.{IsBlank, whole};
+ghost use Rattle.ref_world.specs.Starts.{declared_agents, declared_atoms, declared_refs};
 
 use crate::faults::{RunFault, Stop};
-use crate::order::{are_in_order, is_orderly};
+use crate::order::{are_in_order, have_reasons, is_orderly};
 use crate::progress::Progress;
 use crate::running::{Run, run_threads, share_start};
 use ref_audit::Refusal;
 use ref_fun::{Core, Functions};
-use ref_log::{MakeFault, SharedVec};
+use ref_log::{MakeFault, SharedVec, Who};
 use ref_plan::{Plan, Step};
 use ref_shared::{Gate, GatherFault, Shared};
 use ref_world::{Share, Totals, World};
@@ -53,10 +56,12 @@ where
     R: Threads + Wait + Sync,
     G: Gate + Send + Drop,
     requires gates { vec_len gates ≡ length plan.now.workers + plan.now.pool }
-    requires commits { (commits.name ≡ C.name) × (commits.parts ≡ C.parts) × (commits.parts ≡ all_parts) }
-    requires added { (added.name ≡ A.name) × (added.parts ≡ A.parts) × (added.parts ≡ all_parts) }
+    requires commits { IsBlank commits C.name C.parts }
+    requires added { IsBlank added A.name A.parts }
     ensures orderly { IfOk result (λ out. IsOrderly plan.now out.world out.refused.items) }
     ensures order { IfOk result (λ out. AreInOrder out.refused.items) }
+    ensures reasons { IfOk result (λ out. HaveReasons plan.now.workers out.refused.items) }
+    ensures world { IfOk result (λ out. IsAlwaysSo out.world) }
     ensures totals { IfOk result (λ out. (out.totals.commits ≡ out.world.books.commits)
         × (out.totals.added ≡ out.world.books.added)) }
     ensures inner { IfErr result IsOfPlan }
@@ -86,10 +91,12 @@ where
     R: Threads + Wait + Sync,
     G: Gate + Send + Drop,
     requires gates { vec_len gates ≡ length plan.now.workers + plan.now.pool }
-    requires commits { (commits.name ≡ C.name) × (commits.parts ≡ C.parts) × (commits.parts ≡ all_parts) }
-    requires added { (added.name ≡ A.name) × (added.parts ≡ A.parts) × (added.parts ≡ all_parts) }
+    requires commits { IsBlank commits C.name C.parts }
+    requires added { IsBlank added A.name A.parts }
     ensures orderly { IfOk result (λ out. IsOrderly plan.now out.world out.refused.items) }
     ensures order { IfOk result (λ out. AreInOrder out.refused.items) }
+    ensures reasons { IfOk result (λ out. HaveReasons plan.now.workers out.refused.items) }
+    ensures world { IfOk result (λ out. IsAlwaysSo out.world) }
     ensures totals { IfOk result (λ out. (out.totals.commits ≡ out.world.books.commits)
         × (out.totals.added ≡ out.world.books.added)) }
     ensures inner { IfErr result IsOfPlan }
@@ -126,8 +133,13 @@ fn open_world<F: Functions<Core>, C: Ledger, A: Ledger>(
     commits: Blank,
     added: Blank,
 ) -> Result<(World<Core, C, A>, Share<C, A>), Stop>
-    requires commits { (commits.name ≡ C.name) × (commits.parts ≡ C.parts) × (commits.parts ≡ all_parts) }
-    requires added { (added.name ≡ A.name) × (added.parts ≡ A.parts) × (added.parts ≡ all_parts) }
+    requires commits { IsBlank commits C.name C.parts }
+    requires added { IsBlank added A.name A.parts }
+    ensures refs { IfOk result (λ r. declared_refs core_accepts (F.knows funs.now).preds plan.now.refs ≡ Ok r.0.refs) }
+    ensures atoms { IfOk result (λ r. declared_atoms core_accepts (F.knows funs.now).preds plan.now.atoms ≡ Ok r.0.atoms) }
+    ensures agents { IfOk result (λ r. declared_agents core_accepts (F.knows funs.now).preds plan.now.agents ≡ Ok r.0.agents) }
+    ensures log { IfOk result (λ r. r.0.log ≡ []) }
+    ensures share { IfOk result (λ r. r.1 ≡ whole) }
 {
     let start = share_start(alloc, plan.start())?;
     match World::new(alloc, funs, start, commits, added) {
@@ -147,6 +159,8 @@ fn take_out<C: Ledger, A: Ledger>(
 ) -> Result<RunOut<C, A>, RunFault>
     ensures orderly { IfOk result (λ out. IsOrderly plan.now out.world out.refused.items) }
     ensures order { IfOk result (λ out. AreInOrder out.refused.items) }
+    ensures reasons { IfOk result (λ out. HaveReasons plan.now.workers out.refused.items) }
+    ensures world { IfOk result (λ out. IsAlwaysSo out.world) }
     ensures totals { IfOk result (λ out. (out.totals.commits ≡ out.world.books.commits)
         × (out.totals.added ≡ out.world.books.added)) }
     ensures inner { IfErr result IsOfPlan }
@@ -167,6 +181,7 @@ fn finished<C: Ledger, A: Ledger>(
     share: Share<C, A>,
 ) -> Result<(World<Core, C, A>, Totals), RunFault>
     ensures order { IfOk result (λ r. InOrder r.0.base.point r.0.log) }
+    ensures world { IfOk result (λ r. IsAlwaysSo r.0) }
     ensures totals { IfOk result (λ r. (r.1.commits ≡ r.0.books.commits) × (r.1.added ≡ r.0.books.added)) }
     ensures inner { IfErr result IsOfPlan }
 {
@@ -174,7 +189,10 @@ fn finished<C: Ledger, A: Ledger>(
         return Err(RunFault::Internal);
     }
     match shared.finish(alloc, share) {
-        Ok(taken) => Ok(taken),
+        Ok(taken) => {
+            ask_always_so(&taken.0);
+            Ok(taken)
+        }
         Err((_, _, GatherFault::Memory)) => Err(RunFault::Memory),
         Err((_, _, _)) => Err(RunFault::Internal),
     }
@@ -190,9 +208,10 @@ fn check<C: Ledger, A: Ledger>(
     requires { InOrder world.now.base.point world.now.log }
     ensures orderly { OnOk result (IsOrderly plan.now world.now refused.now) }
     ensures order { OnOk result (AreInOrder refused.now) }
+    ensures reasons { OnOk result (HaveReasons plan.now.workers refused.now) }
     ensures inner { IfErr result IsOfPlan }
 {
-    if !are_in_order(refused) {
+    if !are_in_order(refused) || !have_reasons(plan.workers(), refused) {
         return Err(RunFault::Internal);
     }
     match is_orderly(alloc, plan, world, refused) {
@@ -200,4 +219,14 @@ fn check<C: Ledger, A: Ledger>(
         Ok(false) => Err(RunFault::Internal),
         Err(_) => Err(RunFault::Memory),
     }
+}
+
+// What is always so of a world. It changes nothing.
+fn ask_always_so<C: Ledger, A: Ledger>(world: &World<Core, C, A>)
+    ensures { IsAlwaysSo world.now }
+{
+    let _ = world.point();
+    let _ = world.base().point;
+    let _ = world.log().len();
+    let _ = world.value_of(Who::Ref(0)).is_some();
 }

@@ -10,7 +10,7 @@ ghost use Rattle.ref_audit.specs.Verdict.{verdict_on};
 ghost use Rattle.ref_verdict.specs.declared.reports.Verdict.TheVariants as verdicts;
 ghost use Rattle.ref_workload.specs.Run.{IsAtFault, IsOfPlan, IsOfText, IsPlanRun, IsRun};
 ghost use Rattle.ref_workload.specs.Streams.{CountsReads, CountsWrites, HasBrokenOff, HasWritten};
-ghost use Rattle.ref_world.specs.Shares.{all_parts};
+ghost use Rattle.ref_world.specs.Shares.{IsBlank};
 
 use crate::faults::RunFault;
 use crate::progress::Progress;
@@ -124,8 +124,8 @@ where
     A: Ledger + Send + Sync,
     R: Threads + Wait + Sync,
     requires core { HasCore (F.knows funs.now) }
-    requires commits { (commits.name ≡ C.name) × (commits.parts ≡ C.parts) × (commits.parts ≡ all_parts) }
-    requires added { (added.name ≡ A.name) × (added.parts ≡ A.parts) × (added.parts ≡ all_parts) }
+    requires commits { IsBlank commits C.name C.parts }
+    requires added { IsBlank added A.name A.parts }
     ensures ok { IfOk result (λ output. IsPlanRun options.dump plan.now output.items) }
     ensures inner { IfErr result IsOfPlan }
 {

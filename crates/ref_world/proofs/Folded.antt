@@ -1,5 +1,5 @@
 -- A world whose first entries are folded into its base.
-use Rattle.std.proofs.Common.{◌≡◌, ℕ, ◌&&◌, ◌+◌, ◌≤◌, ◌^◌, ◌++◌, true, false, Bool, List, length, take, drop, Option, Ok, Err, ap, sym, subst, ◌∙◌, arith, length-append}
+use Rattle.std.proofs.Common.{◌≡◌, ℕ, ◌&&◌, ◌+◌, ◌≤◌, ◌^◌, ◌++◌, true, false, Bool, List, length, take, drop, Option, Result, Ok, Err, refl, ap, sym, subst, ◌∙◌, arith, length-append}
 use Rattle.std.specs.List.{list_all}
 use Rattle.std.specs.Result.{is_ok}
 use Rattle.std.proofs.lemmas.List.{take-append-drop}
@@ -7,10 +7,11 @@ use Rattle.std.proofs.lemmas.List.Folds.{list_all-append}
 use Rattle.std.proofs.lemmas.Bool.{and_parts}
 use Rattle.ref_value.specs.Edn.{Edn}
 use Rattle.ref_fun.specs.Meaning.{Means}
+use Rattle.ref_log.specs.Called.{codes_called, needed_is_called}
 use Rattle.ref_log.specs.Fold.{IsFolded}
 use Rattle.ref_log.specs.FoldLaws.{added_of-both, commits_of-both, last_change-fold, replay-fold, replay_from-both}
 use Rattle.ref_log.specs.Laws.{replay_from-Err}
-use Rattle.ref_log.specs.Replay.{point_after, replay, replay_from, sets_atom, state_of}
+use Rattle.ref_log.specs.Replay.{needed, point_after, replay, replay_from, sets_atom, state_of}
 use Rattle.ref_log.specs.Tally.{added_of, commits_of, fits_entry}
 use Rattle.ref_log.specs.declared.entries.Entry.{Entry}
 use Rattle.ref_log.specs.declared.faults.AuditFault.{AuditFault}
@@ -32,6 +33,14 @@ first_replays means base log n fault ok fails =
     ∙ replay_from-Err means (base.point + length (take n log)) (drop n log) fault)) in
     let no : true ≡ false = sym ok ∙ ap is_ok whole in
     absurd cc
+
+without_fault : {X : Type 0} (r : Result X AuditFault) → ((fault : AuditFault) → r ≡ Err fault → ⊥) → is_ok r ≡ true
+without_fault (Ok x) none = refl
+without_fault (Err fault) none = absurd (none fault refl)
+
+-- The replay of the first entries calls what their operations call.
+pub first_called : (means : Means) (base : Base) (log : List Entry) (n : ℕ) → is_ok (replay means base log) ≡ true → needed means base (take n log) ≡ codes_called (take n log)
+first_called means base log n ok = needed_is_called means base (take n log) (without_fault (replay means base (take n log)) (λ fault. first_replays means base log n fault ok))
 
 -- Of what is counted in all entries, the first have a part.
 pub first_commits : (log : List Entry) (n : ℕ) → commits_of (take n log) ≤ commits_of log

@@ -1,11 +1,16 @@
 -- What a call does to a share.
-use Rattle.std.specs.Prelude.{ℕ, ◌+◌, [], ◌∷◌, ◌++◌}
+use Rattle.std.specs.Prelude.{◌≡◌, ℕ, ◌+◌, [], ◌∷◌, ◌++◌}
+use Rattle.std.specs.declared.sync.ledger.Blank.{Blank}
 use Rattle.ref_log.specs.declared.entries.Entry.{Entry}
 use Rattle.ref_world.specs.Seen.{ShareSeen}
 
 -- how many parts all shares of a world have
 abbrev pub all_parts : ℕ
 all_parts = 4294967296
+
+-- A blank is that of the ledger with this name and so many parts, which are as many as the shares of a world have.
+abbrev pub IsBlank : Blank → ℕ → ℕ → Type 0
+IsBlank blank name parts = (blank.name ≡ name) × (blank.parts ≡ parts) × (blank.parts ≡ all_parts)
 
 -- a whole share of a world in which nothing was done
 abbrev pub whole : ShareSeen

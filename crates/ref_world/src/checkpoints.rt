@@ -1,19 +1,20 @@
 //! Checkpoints: the entries up to a point are folded into the base.
 ghost use Rattle.std.specs.Prelude.{◌≡◌, ◌≢◌, ◌<◌, ◌≤◌, ◌^◌, ◌+◌, ◌-◌, true, None, Some, IfOk, IfErr, OnErr, OnOk, length, take, drop};
 ghost use Rattle.std.specs.Result.{is_ok};
+ghost use Rattle.ref_log.specs.Called.{codes_called};
 ghost use Rattle.ref_log.specs.Fold.{IsFolded};
 ghost use Rattle.ref_log.specs.Replay.{missing, needed, point_after, replay};
 ghost use Rattle.ref_log.specs.Tally.{added_of, commits_of};
-ghost use Rattle.ref_log.specs.Told.{TellsOrMemory};
+ghost use Rattle.ref_log.specs.Told.{TellsThenMemory};
 ghost use Rattle.ref_world.specs.Checkpoint.{checkpoint_refusal, folded_entries, lacks_fun, no_such_point, with_checkpoint};
 ghost use Rattle.ref_world.specs.declared.faults.CheckpointFault.TheVariants as checkpoints;
 
 use crate::faults::CheckpointFault;
 use crate::worlds::World;
 use ref_fun::{Functions, Meaning};
-use ref_log::{AuditFault, Base, Entry, fold};
+use ref_log::{AuditFault, Base, Entry, fold, lacking_fun};
 use ref_pvec::PVec;
-use std::alloc::Global;
+use std::alloc::{AllocError, Global};
 use std::sync::Arc;
 use std::sync::ledger::Ledger;
 
@@ -23,15 +24,17 @@ impl<M: Meaning, C: Ledger, A: Ledger> World<M, C, A> {
     /// values, last changes, rules, agents and books stay, so that no later call answers otherwise. The table has to have the
     /// functions that the folded entries call, for they are replayed. Views stay as they were.
     ///
-    /// It costs a replay of the folded entries, a step for each ref and atom, and a logarithm of the entries that are left. All
-    /// growths come before the first change; a refused call changes nothing.
+    /// It costs a look-up for each operation of the folded entries and their replay, a step for each ref and atom, and a logarithm of
+    /// the entries that are left. A function that the table lacks is reported before any memory is taken. All growths come before the
+    /// first change; a refused call changes nothing.
+    #[tactic(auto, using(crate::proofs::Folded::first_called))]
     pub fn checkpoint<F: Functions<M>>(
         &mut self,
         alloc: Global,
         funs: &F,
         point: u64,
     ) -> Result<u64, CheckpointFault>
-        ensures refused { TellsOrMemory checkpoints.Memory (no_such_point self.old point)
+        ensures refused { TellsThenMemory checkpoints.Memory
             (checkpoint_refusal M.means (F.knows funs.now).funs self.old point) result }
         ensures count { IfOk result (λ n. n + self.old.base.point ≡ point) }
         // The base then has the values, the last changes and the books at the point.
@@ -44,6 +47,9 @@ impl<M: Meaning, C: Ledger, A: Ledger> World<M, C, A> {
             return Err(CheckpointFault::NoSuchPoint);
         }
         let count = point - self.base.point;
+        if let Some(code) = lacking_fun::<M, F>(funs, &self.log, count as usize) {
+            return Err(CheckpointFault::NoSuchFun(code));
+        }
         // What was added in all fits in 64 bits.
         let _ = self.added();
         let (base, log) = parted(alloc, funs, &self.base, &self.log, count as usize)?;
@@ -60,25 +66,23 @@ fn parted<M: Meaning, F: Functions<M>>(
     base: &Base,
     log: &PVec<Entry>,
     count: usize,
-) -> Result<(Arc<Base>, PVec<Entry>), CheckpointFault>
+) -> Result<(Arc<Base>, PVec<Entry>), AllocError>
     requires replayed { is_ok (replay M.means base.now log.now) ≡ true }
+    requires served { missing (F.knows funs.now).funs (codes_called (take count log.now)) ≡ None }
     requires points { point_after base.now log.now < 2 ^ 64 }
     requires commits { base.now.commits + commits_of log.now < 2 ^ 64 }
     requires added { base.now.added + added_of base.now.tally log.now < 2 ^ 64 }
     requires lasts { length base.now.last ≡ length base.now.refs }
     ensures folded { IfOk result (λ p. IsFolded M.means base.now (take count log.now) p.0.value) }
     ensures rest { IfOk result (λ p. p.1 ≡ drop count log.now) }
-    ensures served { OnOk result (missing (F.knows funs.now).funs
-        (needed M.means base.now (take count log.now)) ≡ None) }
-    ensures fault { IfErr result (λ f. f ≢ checkpoints.Memory
-        → lacks_fun (missing (F.knows funs.now).funs (needed M.means base.now (take count log.now))) ≡ Some f) }
 {
     let first = log.first(alloc, count)?;
     let rest = log.rest(alloc, count)?;
     let folded = match fold(alloc, funs, base, &first) {
         Ok(folded) => folded,
-        Err(AuditFault::NoSuchFun(code)) => return Err(CheckpointFault::NoSuchFun(code)),
-        Err(AuditFault::Memory) => return Err(CheckpointFault::Memory),
+        Err(AuditFault::Memory) => return Err(AllocError),
+        // The table has all functions that these entries call.
+        Err(AuditFault::NoSuchFun(_)) => unreachable!(),
         // A world's log has a replay, and so have its first entries.
         Err(AuditFault::Answer(_)) => unreachable!(),
         Err(AuditFault::Refuses(_)) => unreachable!(),

@@ -7,7 +7,7 @@ ghost use Rattle.ref_log.specs.declared.faults.MakeFault.TheVariants as makes;
 ghost use Rattle.ref_refs.specs.Seen.{are_unchanged_since};
 ghost use Rattle.ref_world.specs.Starts as starts;
 ghost use Rattle.ref_world.specs.Starts.{first_refusal, start_refusal};
-ghost use Rattle.ref_world.specs.Shares.{all_parts, whole};
+ghost use Rattle.ref_world.specs.Shares.{IsBlank, all_parts, whole};
 ghost use Rattle.ref_world.specs.World.{HasLastChanges, are_past, point_of};
 
 use crate::books::Books;
@@ -81,8 +81,8 @@ impl<M: Meaning, C: Ledger, A: Ledger> World<M, C, A> {
         commits: Blank,
         added: Blank,
     ) -> Result<(World<M, C, A>, Share<C, A>), (Who, MakeFault)>
-        requires commits { (commits.name ≡ C.name) × (commits.parts ≡ C.parts) × (commits.parts ≡ all_parts) }
-        requires added { (added.name ≡ A.name) × (added.parts ≡ A.parts) × (added.parts ≡ all_parts) }
+        requires commits { IsBlank commits C.name C.parts }
+        requires added { IsBlank added A.name A.parts }
         ensures ok { OnOk result (start_refusal M.accepts (F.knows funs.now).preds start ≡ None) }
         ensures refs { IfOk result (λ r. starts.declared_refs M.accepts (F.knows funs.now).preds start.refs.items
             ≡ Ok r.0.refs) }

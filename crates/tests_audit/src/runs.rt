@@ -1,6 +1,6 @@
 //! Worlds that are declared, and steps that are run on them.
 ghost use Rattle.std.specs.Prelude.{◌≡◌};
-ghost use Rattle.ref_world.specs.Shares.{all_parts};
+ghost use Rattle.ref_world.specs.Shares.{IsBlank};
 
 use crate::values::{action_of, args_of, value_of};
 use ref_agents::ErrorMode;
@@ -110,8 +110,8 @@ fn run_in<C: Ledger, A: Ledger>(
     commits: Blank,
     added: Blank,
 ) -> Result<Seen, Fail>
-    requires commits { (commits.name ≡ C.name) × (commits.parts ≡ C.parts) × (commits.parts ≡ all_parts) }
-    requires added { (added.name ≡ A.name) × (added.parts ≡ A.parts) × (added.parts ≡ all_parts) }
+    requires commits { IsBlank commits C.name C.parts }
+    requires added { IsBlank added A.name A.parts }
 {
     let (mut world, mut share) = World::<Core, C, A>::new(alloc, funs, start, commits, added)?;
     take_steps(alloc, funs, &mut world, &mut share, steps)?;

@@ -1,6 +1,6 @@
 //! What new worlds begin with, made from what the model begins with.
 ghost use Rattle.std.specs.Prelude.{◌≡◌};
-ghost use Rattle.ref_world.specs.Shares.{all_parts};
+ghost use Rattle.ref_world.specs.Shares.{IsBlank};
 
 use ref_fun::Core;
 use ref_log::{MakeFault, Who};
@@ -87,8 +87,8 @@ fn is_refused<C: Ledger, A: Ledger>(
     commits: Blank,
     added: Blank,
 ) -> bool
-    requires commits { (commits.name ≡ C.name) × (commits.parts ≡ C.parts) × (commits.parts ≡ all_parts) }
-    requires added { (added.name ≡ A.name) × (added.parts ≡ A.parts) × (added.parts ≡ all_parts) }
+    requires commits { IsBlank commits C.name C.parts }
+    requires added { IsBlank added A.name A.parts }
 {
     match World::<Core, C, A>::new(alloc, &table, start, commits, added) {
         Ok(_made) => false,

@@ -1,6 +1,6 @@
 //! Lists of calls that are drawn, each call made on a world and on its model.
 ghost use Rattle.std.specs.Prelude.{◌≡◌};
-ghost use Rattle.ref_world.specs.Shares.{all_parts};
+ghost use Rattle.ref_world.specs.Shares.{IsBlank, all_parts};
 
 use crate::sides::{check_end, new_side};
 use crate::stages::{Stage, new_stage, play};
@@ -32,8 +32,8 @@ fn play_worlds<C: Ledger, A: Ledger, D: Ledger, B: Ledger>(
     other_commits: Blank,
     other_added: Blank,
 ) -> Played
-    requires commits { (commits.name ≡ C.name) × (commits.parts ≡ C.parts) × (commits.parts ≡ all_parts) }
-    requires added { (added.name ≡ A.name) × (added.parts ≡ A.parts) × (added.parts ≡ all_parts) }
+    requires commits { IsBlank commits C.name C.parts }
+    requires added { IsBlank added A.name A.parts }
     requires other_commits { (other_commits.name ≡ D.name) × (other_commits.parts ≡ D.parts)
         × (other_commits.parts ≡ all_parts) }
     requires other_added { (other_added.name ≡ B.name) × (other_added.parts ≡ B.parts)

@@ -1,6 +1,6 @@
 //! Worlds next to their models.
 ghost use Rattle.std.specs.Prelude.{◌≡◌};
-ghost use Rattle.ref_world.specs.Shares.{all_parts};
+ghost use Rattle.ref_world.specs.Shares.{IsBlank};
 
 use crate::books::is_whole_share;
 use crate::declared::{Drawn, first_world};
@@ -96,8 +96,8 @@ fn made<C: Ledger, A: Ledger>(
     commits: Blank,
     added: Blank,
 ) -> Result<Side<C, A>, Stop>
-    requires commits { (commits.name ≡ C.name) × (commits.parts ≡ C.parts) × (commits.parts ≡ all_parts) }
-    requires added { (added.name ≡ A.name) × (added.parts ≡ A.parts) × (added.parts ≡ all_parts) }
+    requires commits { IsBlank commits C.name C.parts }
+    requires added { IsBlank added A.name A.parts }
 {
     let Drawn {
         start,
@@ -129,8 +129,8 @@ pub(crate) fn new_side<C: Ledger, A: Ledger>(
     commits: Blank,
     added: Blank,
 ) -> Result<Side<C, A>, Stop>
-    requires commits { (commits.name ≡ C.name) × (commits.parts ≡ C.parts) × (commits.parts ≡ all_parts) }
-    requires added { (added.name ≡ A.name) × (added.parts ≡ A.parts) × (added.parts ≡ all_parts) }
+    requires commits { IsBlank commits C.name C.parts }
+    requires added { IsBlank added A.name A.parts }
 {
     player.calls(Row::New);
     let drawn = first_world(player)?;

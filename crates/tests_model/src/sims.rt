@@ -1,6 +1,6 @@
 //! Lists of events of several actors, played on a world and by its model.
 ghost use Rattle.std.specs.Prelude.{◌≡◌};
-ghost use Rattle.ref_world.specs.Shares.{all_parts};
+ghost use Rattle.ref_world.specs.Shares.{IsBlank};
 
 use crate::books::is_whole_share;
 use crate::casts::{Actor, drawn_act};
@@ -264,8 +264,8 @@ fn play_in<C: Ledger, A: Ledger>(
     commits: Blank,
     added: Blank,
 ) -> Played
-    requires commits { (commits.name ≡ C.name) × (commits.parts ≡ C.parts) × (commits.parts ≡ all_parts) }
-    requires added { (added.name ≡ A.name) × (added.parts ≡ A.parts) × (added.parts ≡ all_parts) }
+    requires commits { IsBlank commits C.name C.parts }
+    requires added { IsBlank added A.name A.parts }
 {
     let Drawn {
         start,

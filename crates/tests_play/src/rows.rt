@@ -29,7 +29,7 @@
 //! share that are left: also `[take [g 0]]` (a job that is lost), `[takes [[g 0] [h 0]]]` (all jobs), `[totals [2 10]]` (of a whole
 //! share) and `[receipts 2]`.
 ghost use Rattle.std.specs.Prelude.{◌≡◌};
-ghost use Rattle.ref_world.specs.Shares.{all_parts};
+ghost use Rattle.ref_world.specs.Shares.{IsBlank};
 
 use crate::acts::act_of;
 use crate::looks::{look, look_at_end};
@@ -370,8 +370,8 @@ fn run_in<C: Ledger, A: Ledger>(
     commits: Blank,
     added: Blank,
 ) -> Checked
-    requires commits { (commits.name ≡ C.name) × (commits.parts ≡ C.parts) × (commits.parts ≡ all_parts) }
-    requires added { (added.name ≡ A.name) × (added.parts ≡ A.parts) × (added.parts ≡ all_parts) }
+    requires commits { IsBlank commits C.name C.parts }
+    requires added { IsBlank added A.name A.parts }
 {
     let (start, end) = (start_of(alloc, row)?, end_of(alloc, row)?);
     match Sim::<Core, C, A>::new(alloc, &Table::FULL, start, commits, added) {

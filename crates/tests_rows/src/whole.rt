@@ -1,6 +1,6 @@
 //! A world as the subject of rows.
 ghost use Rattle.std.specs.Prelude.{◌≡◌};
-ghost use Rattle.ref_world.specs.Shares.{all_parts};
+ghost use Rattle.ref_world.specs.Shares.{IsBlank};
 
 use crate::forms::Start;
 use crate::subjects::{
@@ -55,8 +55,8 @@ fn with_world<C: Ledger, A: Ledger, V: Visit>(
     commits: Blank,
     added: Blank,
 ) -> Result<V::Out, (Who, MakeFault)>
-    requires commits { (commits.name ≡ C.name) × (commits.parts ≡ C.parts) × (commits.parts ≡ all_parts) }
-    requires added { (added.name ≡ A.name) × (added.parts ≡ A.parts) × (added.parts ≡ all_parts) }
+    requires commits { IsBlank commits C.name C.parts }
+    requires added { IsBlank added A.name A.parts }
 {
     let By { alloc, funs } = tables.all;
     let Ok(start) = declared(alloc, starts) else {

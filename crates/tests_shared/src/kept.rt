@@ -1,6 +1,6 @@
 //! What a world has is there when it comes out of a shared one: its watches, what waits, what is held, and error modes.
 ghost use Rattle.std.specs.Prelude.{◌≡◌};
-ghost use Rattle.ref_world.specs.Shares.{all_parts};
+ghost use Rattle.ref_world.specs.Shares.{IsBlank};
 
 use crate::jobs::two_agents;
 use crate::same::same;
@@ -109,8 +109,8 @@ fn two_agents_made<C: Ledger, A: Ledger>(
     commits: Blank,
     added: Blank,
 ) -> Result<(World<Core, C, A>, Share<C, A>), Stop>
-    requires commits { (commits.name ≡ C.name) × (commits.parts ≡ C.parts) × (commits.parts ≡ all_parts) }
-    requires added { (added.name ≡ A.name) × (added.parts ≡ A.parts) × (added.parts ≡ all_parts) }
+    requires commits { IsBlank commits C.name C.parts }
+    requires added { IsBlank added A.name A.parts }
 {
     let start = two_agents(alloc)?;
     done(World::<Core, C, A>::new(alloc, &CoreFunctions, start, commits, added))
@@ -123,8 +123,8 @@ fn shared_and_back<C: Ledger, A: Ledger>(
     commits: Blank,
     added: Blank,
 ) -> Result<(World<Core, C, A>, u64), Stop>
-    requires commits { (commits.name ≡ C.name) × (commits.parts ≡ C.parts) × (commits.parts ≡ all_parts) }
-    requires added { (added.name ≡ A.name) × (added.parts ≡ A.parts) × (added.parts ≡ all_parts) }
+    requires commits { IsBlank commits C.name C.parts }
+    requires added { IsBlank added A.name A.parts }
 {
     let (mut world, mut share) = two_agents_made::<C, A>(alloc, commits, added)?;
     let point = prepare(alloc, &mut world, &mut share)?;
@@ -170,8 +170,8 @@ fn look_at<C: Ledger, A: Ledger>(
 }
 
 fn try_kept<C: Ledger, A: Ledger>(alloc: Global, commits: Blank, added: Blank) -> Result<Kept, Stop>
-    requires commits { (commits.name ≡ C.name) × (commits.parts ≡ C.parts) × (commits.parts ≡ all_parts) }
-    requires added { (added.name ≡ A.name) × (added.parts ≡ A.parts) × (added.parts ≡ all_parts) }
+    requires commits { IsBlank commits C.name C.parts }
+    requires added { IsBlank added A.name A.parts }
 {
     let (mut world, point) = shared_and_back::<C, A>(alloc, commits, added)?;
     look_at(alloc, &mut world, point)

@@ -3,7 +3,7 @@
 //!
 //! | Modules | |
 //! |---|---|
-//! | `calls`, `conflicts`, `finishing` | each call, transactions that are tried again, the end |
+//! | `calls`, `makings`, `conflicts`, `finishing` | each call, what is made, transactions that are tried again, the end |
 //! | `work`, `kept` | agents, and what a world has when it comes out again |
 //! | `strangers` | transactions that were begun in another world |
 //! | `faults` | what faults say |
@@ -24,6 +24,8 @@ mod finishing;
 pub mod jobs;
 #[cfg(test)]
 mod kept;
+#[cfg(test)]
+mod makings;
 pub mod numbers;
 #[cfg(test)]
 mod same;

@@ -1,6 +1,6 @@
 //! Running a scenario on a new shared world. A shared world and its share are dropped in this module alone: a scenario is lent both.
 ghost use Rattle.std.specs.Prelude.{◌≡◌};
-ghost use Rattle.ref_world.specs.Shares.{all_parts};
+ghost use Rattle.ref_world.specs.Shares.{IsBlank};
 
 use crate::worlds::{Stop, all_commits, closed, opened};
 use ref_fun::Core;
@@ -110,8 +110,8 @@ fn run_in<C: Ledger, A: Ledger, R: Wait, S: Scenario<R>>(
     commits: Blank,
     added: Blank,
 ) -> Result<S::Outcome, Stop>
-    requires commits { (commits.name ≡ C.name) × (commits.parts ≡ C.parts) × (commits.parts ≡ all_parts) }
-    requires added { (added.name ≡ A.name) × (added.parts ≡ A.parts) × (added.parts ≡ all_parts) }
+    requires commits { IsBlank commits C.name C.parts }
+    requires added { IsBlank added A.name A.parts }
 {
     let (shared, mut share) = opened::<C, A>(alloc, start, commits, added)?;
     scenario.run(rt, alloc, &shared, &mut share)
@@ -138,8 +138,8 @@ fn run_to_end_in<C: Ledger, A: Ledger, R: Wait, S: Scenario<R>, I: Inspection>(
     commits: Blank,
     added: Blank,
 ) -> Result<(S::Outcome, I::Seen), Stop>
-    requires commits { (commits.name ≡ C.name) × (commits.parts ≡ C.parts) × (commits.parts ≡ all_parts) }
-    requires added { (added.name ≡ A.name) × (added.parts ≡ A.parts) × (added.parts ≡ all_parts) }
+    requires commits { IsBlank commits C.name C.parts }
+    requires added { IsBlank added A.name A.parts }
 {
     let (shared, mut share) = opened::<C, A>(alloc, start, commits, added)?;
     let outcome = scenario.run(rt, alloc, &shared, &mut share)?;
@@ -177,8 +177,8 @@ fn run_and_finish_in<C: Ledger, A: Ledger, R: Wait, S: Scenario<R>>(
     commits: Blank,
     added: Blank,
 ) -> Result<End, Stop>
-    requires commits { (commits.name ≡ C.name) × (commits.parts ≡ C.parts) × (commits.parts ≡ all_parts) }
-    requires added { (added.name ≡ A.name) × (added.parts ≡ A.parts) × (added.parts ≡ all_parts) }
+    requires commits { IsBlank commits C.name C.parts }
+    requires added { IsBlank added A.name A.parts }
 {
     let (shared, mut share) = opened::<C, A>(alloc, start, commits, added)?;
     let _ = scenario.run(rt, alloc, &shared, &mut share)?;

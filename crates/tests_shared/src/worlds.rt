@@ -1,6 +1,6 @@
 //! Making shared worlds and values, and what is read of them.
 ghost use Rattle.std.specs.Prelude.{◌≡◌};
-ghost use Rattle.ref_world.specs.Shares.{all_parts};
+ghost use Rattle.ref_world.specs.Shares.{IsBlank};
 
 use crate::numbers::int_of;
 use ref_agents::ErrorMode;
@@ -16,7 +16,6 @@ use std::alloc::{AllocError, AllocFailed, Global};
 use std::sync::Wait;
 use std::sync::ledger::{Blank, Ledger};
 
-/// The codes of `+`, `-` and `>=`.
 /// The stamp of a commit where nothing hangs on it.
 pub const STAMP: Stamp = Stamp { worker: 0, step: 0 };
 
@@ -115,8 +114,8 @@ pub fn opened<C: Ledger, A: Ledger>(
     commits: Blank,
     added: Blank,
 ) -> Result<(Shared<Core, C, A>, Share<C, A>), Stop>
-    requires commits { (commits.name ≡ C.name) × (commits.parts ≡ C.parts) × (commits.parts ≡ all_parts) }
-    requires added { (added.name ≡ A.name) × (added.parts ≡ A.parts) × (added.parts ≡ all_parts) }
+    requires commits { IsBlank commits C.name C.parts }
+    requires added { IsBlank added A.name A.parts }
 {
     let (world, share) = done(World::<Core, C, A>::new(
         alloc,

@@ -1,6 +1,6 @@
 //! A view and checkpoints by calls of a shared world, the view read by another thread.
 ghost use Rattle.std.specs.Prelude.{◌≡◌};
-ghost use Rattle.ref_world.specs.Shares.{all_parts};
+ghost use Rattle.ref_world.specs.Shares.{IsBlank};
 
 use ref_fun::codes::PLUS;
 use ref_fun::{Core, CoreFunctions};
@@ -71,8 +71,8 @@ fn try_checkpoints<C: Ledger + Send + Sync, A: Ledger + Send + Sync, R: Threads 
     commits: Blank,
     added: Blank,
 ) -> Result<Seen, Stop>
-    requires commits { (commits.name ≡ C.name) × (commits.parts ≡ C.parts) × (commits.parts ≡ all_parts) }
-    requires added { (added.name ≡ A.name) × (added.parts ≡ A.parts) × (added.parts ≡ all_parts) }
+    requires commits { IsBlank commits C.name C.parts }
+    requires added { IsBlank added A.name A.parts }
 {
     let start = plain_start(alloc, "0", "")?;
     let (shared, mut share) = opened::<C, A>(alloc, start, commits, added)?;

@@ -2,7 +2,7 @@
 //! another looks at the shared world.
 ghost use Rattle.std.specs.Prelude.{◌≡◌};
 ghost use Rattle.ref_fun.specs.Names.{is_function, is_predicate};
-ghost use Rattle.ref_world.specs.Shares.{all_parts};
+ghost use Rattle.ref_world.specs.Shares.{IsBlank};
 
 use crate::flags::{Flags, Place};
 use crate::waits::wait_for;
@@ -172,8 +172,8 @@ fn try_transaction<
     A: Ledger + Send + Sync,
     R: AllocGlobal + Threads + Wait + Clock + Sync,
 >(rt: &R, alloc: Global, place: Place, commits: Blank, added: Blank) -> Result<Looked, Stop>
-    requires commits { (commits.name ≡ C.name) × (commits.parts ≡ C.parts) × (commits.parts ≡ all_parts) }
-    requires added { (added.name ≡ A.name) × (added.parts ≡ A.parts) × (added.parts ≡ all_parts) }
+    requires commits { IsBlank commits C.name C.parts }
+    requires added { IsBlank added A.name A.parts }
 {
     let (shared, share) = opened::<C, A>(alloc, two_agents(alloc)?, commits, added)?;
     let _ = done(shared.add_watch(rt, alloc, Who::Ref(0), value(alloc, ":k")?))?;
@@ -253,8 +253,8 @@ fn try_action<
     A: Ledger + Send + Sync,
     R: AllocGlobal + Threads + Wait + Clock + Sync,
 >(rt: &R, alloc: Global, place: Place, commits: Blank, added: Blank) -> Result<Looked, Stop>
-    requires commits { (commits.name ≡ C.name) × (commits.parts ≡ C.parts) × (commits.parts ≡ all_parts) }
-    requires added { (added.name ≡ A.name) × (added.parts ≡ A.parts) × (added.parts ≡ all_parts) }
+    requires commits { IsBlank commits C.name C.parts }
+    requires added { IsBlank added A.name A.parts }
 {
     let (shared, _share) = opened::<C, A>(alloc, two_agents(alloc)?, commits, added)?;
     let _ = done(shared.add_watch(rt, alloc, Who::Agent(1), value(alloc, ":k")?))?;

@@ -1,7 +1,7 @@
 //! Agents and two threads: actions of two agents run side by side, also where one of them is held after it has run; those of one
 //! agent in turn.
 ghost use Rattle.std.specs.Prelude.{◌≡◌};
-ghost use Rattle.ref_world.specs.Shares.{all_parts};
+ghost use Rattle.ref_world.specs.Shares.{IsBlank};
 
 use crate::flags::Flags;
 use crate::waits::wait_for;
@@ -94,8 +94,8 @@ fn try_meeting<
     A: Ledger + Send + Sync,
     R: AllocGlobal + Threads + Wait + Clock + Sync,
 >(rt: &R, alloc: Global, commits: Blank, added: Blank) -> Result<Met, Stop>
-    requires commits { (commits.name ≡ C.name) × (commits.parts ≡ C.parts) × (commits.parts ≡ all_parts) }
-    requires added { (added.name ≡ A.name) × (added.parts ≡ A.parts) × (added.parts ≡ all_parts) }
+    requires commits { IsBlank commits C.name C.parts }
+    requires added { IsBlank added A.name A.parts }
 {
     let (shared, _share) = opened::<C, A>(alloc, two_agents(alloc)?, commits, added)?;
     done(shared.send(rt, alloc, 0, action(alloc, PLUS, "1")?))?;
@@ -189,8 +189,8 @@ fn try_turns<C: Ledger + Send + Sync, A: Ledger + Send + Sync, R: Threads + Wait
     commits: Blank,
     added: Blank,
 ) -> Result<InTurn, Stop>
-    requires commits { (commits.name ≡ C.name) × (commits.parts ≡ C.parts) × (commits.parts ≡ all_parts) }
-    requires added { (added.name ≡ A.name) × (added.parts ≡ A.parts) × (added.parts ≡ all_parts) }
+    requires commits { IsBlank commits C.name C.parts }
+    requires added { IsBlank added A.name A.parts }
 {
     let (shared, _share) = opened::<C, A>(alloc, two_agents(alloc)?, commits, added)?;
     done(shared.send(rt, alloc, 0, action(alloc, PLUS, "1")?))?;
@@ -302,8 +302,8 @@ fn try_holding<
     A: Ledger + Send + Sync,
     R: AllocGlobal + Threads + Wait + Clock + Sync,
 >(rt: &R, alloc: Global, commits: Blank, added: Blank) -> Result<Held, Stop>
-    requires commits { (commits.name ≡ C.name) × (commits.parts ≡ C.parts) × (commits.parts ≡ all_parts) }
-    requires added { (added.name ≡ A.name) × (added.parts ≡ A.parts) × (added.parts ≡ all_parts) }
+    requires commits { IsBlank commits C.name C.parts }
+    requires added { IsBlank added A.name A.parts }
 {
     let (shared, _share) = opened::<C, A>(alloc, two_agents(alloc)?, commits, added)?;
     done(shared.send(rt, alloc, 0, action(alloc, PLUS, "1")?))?;

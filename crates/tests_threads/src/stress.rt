@@ -1,6 +1,6 @@
 //! Four threads that change everything, and two that run actions.
 ghost use Rattle.std.specs.Prelude.{◌≡◌};
-ghost use Rattle.ref_world.specs.Shares.{all_parts};
+ghost use Rattle.ref_world.specs.Shares.{IsBlank};
 
 use ref_fun::codes::PLUS;
 use ref_fun::{Core, CoreFunctions};
@@ -241,8 +241,8 @@ fn try_all<C: Ledger + Send + Sync, A: Ledger + Send + Sync, R: Threads + Wait +
     commits: Blank,
     added: Blank,
 ) -> Result<Sums, Stop>
-    requires commits { (commits.name ≡ C.name) × (commits.parts ≡ C.parts) × (commits.parts ≡ all_parts) }
-    requires added { (added.name ≡ A.name) × (added.parts ≡ A.parts) × (added.parts ≡ all_parts) }
+    requires commits { IsBlank commits C.name C.parts }
+    requires added { IsBlank added A.name A.parts }
 {
     let (shared, share) = opened::<C, A>(alloc, start(alloc, refs)?, commits, added)?;
     let (actions, all) = six(rt, alloc, &shared, share);

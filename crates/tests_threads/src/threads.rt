@@ -1,6 +1,6 @@
 //! Transactions of two threads.
 ghost use Rattle.std.specs.Prelude.{◌≡◌};
-ghost use Rattle.ref_world.specs.Shares.{all_parts};
+ghost use Rattle.ref_world.specs.Shares.{IsBlank};
 
 use crate::flags::Flags;
 use crate::waits::wait_for;
@@ -85,8 +85,8 @@ fn try_sum<C: Ledger + Send + Sync, A: Ledger + Send + Sync, R: Threads + Wait +
     commits: Blank,
     added: Blank,
 ) -> Result<Sum, Stop>
-    requires commits { (commits.name ≡ C.name) × (commits.parts ≡ C.parts) × (commits.parts ≡ all_parts) }
-    requires added { (added.name ≡ A.name) × (added.parts ≡ A.parts) × (added.parts ≡ all_parts) }
+    requires commits { IsBlank commits C.name C.parts }
+    requires added { IsBlank added A.name A.parts }
 {
     let start = plain_start(alloc, "0", "")?;
     let (shared, mut share) = opened::<C, A>(alloc, start, commits, added)?;
@@ -274,8 +274,8 @@ fn try_overtaking<
     A: Ledger + Send + Sync,
     R: AllocGlobal + Threads + Wait + Clock + Sync,
 >(rt: &R, alloc: Global, commits: Blank, added: Blank) -> Result<Overtaken, Stop>
-    requires commits { (commits.name ≡ C.name) × (commits.parts ≡ C.parts) × (commits.parts ≡ all_parts) }
-    requires added { (added.name ≡ A.name) × (added.parts ≡ A.parts) × (added.parts ≡ all_parts) }
+    requires commits { IsBlank commits C.name C.parts }
+    requires added { IsBlank added A.name A.parts }
 {
     let start = plain_start(alloc, "0", "")?;
     let (shared, mut share) = opened::<C, A>(alloc, start, commits, added)?;
@@ -444,8 +444,8 @@ fn try_telling<
     A: Ledger + Send + Sync,
     R: AllocGlobal + Threads + Wait + Clock + Sync,
 >(rt: &R, alloc: Global, commits: Blank, added: Blank) -> Result<Telling, Stop>
-    requires commits { (commits.name ≡ C.name) × (commits.parts ≡ C.parts) × (commits.parts ≡ all_parts) }
-    requires added { (added.name ≡ A.name) × (added.parts ≡ A.parts) × (added.parts ≡ all_parts) }
+    requires commits { IsBlank commits C.name C.parts }
+    requires added { IsBlank added A.name A.parts }
 {
     let start = plain_start(alloc, "0", "")?;
     let (shared, share) = opened::<C, A>(alloc, start, commits, added)?;

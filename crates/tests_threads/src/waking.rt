@@ -1,6 +1,6 @@
 //! Who waits for an agent is woken: by a send, a release, a restart, an action that is put back, and at the end.
 ghost use Rattle.std.specs.Prelude.{◌≡◌};
-ghost use Rattle.ref_world.specs.Shares.{all_parts};
+ghost use Rattle.ref_world.specs.Shares.{IsBlank};
 
 use crate::flags::Flags;
 use crate::side_by_side::{wait_past, work_and_meet, work_first, work_next};
@@ -109,8 +109,8 @@ fn try_waking<C: Ledger + Send + Sync, A: Ledger + Send + Sync, R: Threads + Wai
     commits: Blank,
     added: Blank,
 ) -> Result<Woken, Stop>
-    requires commits { (commits.name ≡ C.name) × (commits.parts ≡ C.parts) × (commits.parts ≡ all_parts) }
-    requires added { (added.name ≡ A.name) × (added.parts ≡ A.parts) × (added.parts ≡ all_parts) }
+    requires commits { IsBlank commits C.name C.parts }
+    requires added { IsBlank added A.name A.parts }
 {
     let (shared, mut share) = opened::<C, A>(alloc, two_agents(alloc)?, commits, added)?;
     let mut tx = shared.begin(rt, alloc)?;
@@ -196,8 +196,8 @@ fn try_restart<C: Ledger + Send + Sync, A: Ledger + Send + Sync, R: Threads + Wa
     commits: Blank,
     added: Blank,
 ) -> Result<(Work, bool, Option<i64>), Stop>
-    requires commits { (commits.name ≡ C.name) × (commits.parts ≡ C.parts) × (commits.parts ≡ all_parts) }
-    requires added { (added.name ≡ A.name) × (added.parts ≡ A.parts) × (added.parts ≡ all_parts) }
+    requires commits { IsBlank commits C.name C.parts }
+    requires added { IsBlank added A.name A.parts }
 {
     let (shared, _share) = opened::<C, A>(alloc, two_agents(alloc)?, commits, added)?;
     done(shared.send(rt, alloc, 0, action(alloc, MINUS, "5")?))?;
@@ -258,8 +258,8 @@ fn try_handing_on<
     A: Ledger + Send + Sync,
     R: Threads + Wait + Clock + Sync,
 >(rt: &R, alloc: Global, commits: Blank, added: Blank) -> Result<HandedOn, Stop>
-    requires commits { (commits.name ≡ C.name) × (commits.parts ≡ C.parts) × (commits.parts ≡ all_parts) }
-    requires added { (added.name ≡ A.name) × (added.parts ≡ A.parts) × (added.parts ≡ all_parts) }
+    requires commits { IsBlank commits C.name C.parts }
+    requires added { IsBlank added A.name A.parts }
 {
     let (shared, _share) = opened::<C, A>(alloc, two_agents(alloc)?, commits, added)?;
     done(shared.send(rt, alloc, 0, action(alloc, PLUS, "1")?))?;
@@ -339,8 +339,8 @@ fn try_end<C: Ledger + Send + Sync, A: Ledger + Send + Sync, R: Threads + Wait +
     commits: Blank,
     added: Blank,
 ) -> Result<((Work, Work), bool), Stop>
-    requires commits { (commits.name ≡ C.name) × (commits.parts ≡ C.parts) × (commits.parts ≡ all_parts) }
-    requires added { (added.name ≡ A.name) × (added.parts ≡ A.parts) × (added.parts ≡ all_parts) }
+    requires commits { IsBlank commits C.name C.parts }
+    requires added { IsBlank added A.name A.parts }
 {
     let (shared, _share) = opened::<C, A>(alloc, two_agents(alloc)?, commits, added)?;
     Ok(two_work_and_close(rt, alloc, &shared))
@@ -431,8 +431,8 @@ fn try_release<
     A: Ledger + Send + Sync,
     R: AllocGlobal + Threads + Wait + Clock + Sync,
 >(rt: &R, alloc: Global, commits: Blank, added: Blank) -> Result<LetOut, Stop>
-    requires commits { (commits.name ≡ C.name) × (commits.parts ≡ C.parts) × (commits.parts ≡ all_parts) }
-    requires added { (added.name ≡ A.name) × (added.parts ≡ A.parts) × (added.parts ≡ all_parts) }
+    requires commits { IsBlank commits C.name C.parts }
+    requires added { IsBlank added A.name A.parts }
 {
     let (shared, mut share) = opened::<C, A>(alloc, two_agents(alloc)?, commits, added)?;
     let mut tx = shared.begin(rt, alloc)?;

@@ -1,6 +1,6 @@
 //! How far a run is, at its end and where it ends early.
 ghost use Rattle.std.specs.Prelude.{◌≡◌};
-ghost use Rattle.ref_world.specs.Shares.{all_parts};
+ghost use Rattle.ref_world.specs.Shares.{IsBlank};
 
 use crate::tables::CoreWithout;
 use ref_edn::read_one;
@@ -73,8 +73,8 @@ where
     C: Ledger + Send + Sync,
     A: Ledger + Send + Sync,
     R: Threads + Wait + Sync,
-    requires commits { (commits.name ≡ C.name) × (commits.parts ≡ C.parts) × (commits.parts ≡ all_parts) }
-    requires added { (added.name ≡ A.name) × (added.parts ≡ A.parts) × (added.parts ≡ all_parts) }
+    requires commits { IsBlank commits C.name C.parts }
+    requires added { IsBlank added A.name A.parts }
 {
     let Some(count) = plan.workers().len().checked_add(plan.pool() as usize) else {
         return Err(Fail::new("too many threads"));

@@ -1,6 +1,6 @@
 //! Running the plan of a text by `run_plan`, with gates, and what is seen of it.
 ghost use Rattle.std.specs.Prelude.{◌≡◌};
-ghost use Rattle.ref_world.specs.Shares.{all_parts};
+ghost use Rattle.ref_world.specs.Shares.{IsBlank};
 
 use crate::gates::{Board, Role, Turn};
 use crate::tables::CoreWithout;
@@ -69,8 +69,8 @@ where
     C: Ledger + Send + Sync,
     A: Ledger + Send + Sync,
     R: Threads + Wait + Clock + Sync,
-    requires commits { (commits.name ≡ C.name) × (commits.parts ≡ C.parts) × (commits.parts ≡ all_parts) }
-    requires added { (added.name ≡ A.name) × (added.parts ≡ A.parts) × (added.parts ≡ all_parts) }
+    requires commits { IsBlank commits C.name C.parts }
+    requires added { IsBlank added A.name A.parts }
 {
     let Some(count) = plan.workers().len().checked_add(plan.pool() as usize) else {
         return Err(Fail::new("too many threads"));

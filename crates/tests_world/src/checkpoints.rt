@@ -1,6 +1,6 @@
 //! Checkpoints, and views that stay as they were.
 ghost use Rattle.std.specs.Prelude.{◌≡◌};
-ghost use Rattle.ref_world.specs.Shares.{all_parts};
+ghost use Rattle.ref_world.specs.Shares.{IsBlank};
 
 use crate::numbers::int_of;
 use ref_fun::{Core, CoreFunctions, FunTable};
@@ -128,8 +128,8 @@ fn opened<P: Play, C: Ledger, A: Ledger>(
     commits: Blank,
     added: Blank,
 ) -> Result<Option<P>, AllocError>
-    requires commits { (commits.name ≡ C.name) × (commits.parts ≡ C.parts) × (commits.parts ≡ all_parts) }
-    requires added { (added.name ≡ A.name) × (added.parts ≡ A.parts) × (added.parts ≡ all_parts) }
+    requires commits { IsBlank commits C.name C.parts }
+    requires added { IsBlank added A.name A.parts }
 {
     match World::<Core, C, A>::new(alloc, &CoreFunctions, start(alloc, tally)?, commits, added) {
         Ok((mut world, mut share)) => Ok(Some(P::play(alloc, &mut world, &mut share)?)),

@@ -1,6 +1,6 @@
 //! Shares of a world, which are split, used and joined.
 ghost use Rattle.std.specs.Prelude.{◌≡◌};
-ghost use Rattle.ref_world.specs.Shares.{all_parts};
+ghost use Rattle.ref_world.specs.Shares.{IsBlank};
 
 use ref_fun::{Core, CoreFunctions};
 use ref_log::{Entry, Who};
@@ -170,8 +170,8 @@ fn tried<C: Ledger, A: Ledger>(
     commits: Blank,
     added: Blank,
 ) -> Result<Option<Seen>, AllocError>
-    requires commits { (commits.name ≡ C.name) × (commits.parts ≡ C.parts) × (commits.parts ≡ all_parts) }
-    requires added { (added.name ≡ A.name) × (added.parts ≡ A.parts) × (added.parts ≡ all_parts) }
+    requires commits { IsBlank commits C.name C.parts }
+    requires added { IsBlank added A.name A.parts }
 {
     match World::<Core, C, A>::new(alloc, &CoreFunctions, start(alloc)?, commits, added) {
         Ok((mut world, mut share)) => used(alloc, &mut world, &mut share),

@@ -1,6 +1,6 @@
 //! A transaction reads the values that it began with, whatever others commit.
 ghost use Rattle.std.specs.Prelude.{◌≡◌};
-ghost use Rattle.ref_world.specs.Shares.{all_parts};
+ghost use Rattle.ref_world.specs.Shares.{IsBlank};
 
 use ref_edn::{Node, Value};
 use ref_fun::{Args, Core, CoreFunctions};
@@ -245,8 +245,8 @@ fn tried<C: Ledger, A: Ledger>(
     commits: Blank,
     added: Blank,
 ) -> Result<Option<Kept>, AllocError>
-    requires commits { (commits.name ≡ C.name) × (commits.parts ≡ C.parts) × (commits.parts ≡ all_parts) }
-    requires added { (added.name ≡ A.name) × (added.parts ≡ A.parts) × (added.parts ≡ all_parts) }
+    requires commits { IsBlank commits C.name C.parts }
+    requires added { IsBlank added A.name A.parts }
 {
     match World::<Core, C, A>::new(alloc, &CoreFunctions, start(alloc)?, commits, added) {
         Ok((mut world, mut share)) => Ok(Some(keep_all(alloc, &mut world, &mut share)?)),

@@ -1,5 +1,8 @@
 //! Which answers of a step are refusals, and for which reason. The others end the run: a reference or a function that isn't
 //! there, which no plan names, and out of memory.
+ghost use Rattle.std.specs.Prelude.{◌≡◌};
+ghost use Rattle.ref_workload.specs.Reasons.{atom_said, body_said, commit_said, mode_said, restart_said, rule_said, said_of, send_said, transaction_said};
+
 use crate::faults::Stop;
 use ref_agents::{ModeFault, RestartFault, SendFault};
 use ref_atoms::AtomFault;
@@ -12,7 +15,9 @@ use ref_tx::TxFault;
 /// Why a step was refused, if it was, or what ends the run.
 pub(crate) type Outcome = Result<Option<Reason>, Stop>;
 
-pub(crate) fn of_transaction<T: Drop>(answer: Result<T, TransactFault<TxFault>>) -> Outcome {
+pub(crate) fn of_transaction<T: Drop>(answer: Result<T, TransactFault<TxFault>>) -> Outcome
+    ensures { result ≡ said_of transaction_said answer }
+{
     match answer {
         Ok(_) => Ok(None),
         Err(TransactFault::GaveUp { .. }) => Ok(Some(Reason::GaveUp)),
@@ -22,7 +27,9 @@ pub(crate) fn of_transaction<T: Drop>(answer: Result<T, TransactFault<TxFault>>)
     }
 }
 
-fn of_body(fault: TxFault) -> Outcome {
+fn of_body(fault: TxFault) -> Outcome
+    ensures { result ≡ body_said fault }
+{
     match fault {
         TxFault::SetAfterCommute => Ok(Some(Reason::SetAfterCommute)),
         TxFault::TallyOnly => Ok(Some(Reason::TallyOnly)),
@@ -33,7 +40,9 @@ fn of_body(fault: TxFault) -> Outcome {
     }
 }
 
-fn of_commit(fault: CommitFault) -> Outcome {
+fn of_commit(fault: CommitFault) -> Outcome
+    ensures { result ≡ commit_said fault }
+{
     match fault {
         CommitFault::Refused(_, cause) => Ok(Some(Reason::Refused(cause))),
         CommitFault::Invalid(_) => Ok(Some(Reason::Invalid)),
@@ -45,7 +54,9 @@ fn of_commit(fault: CommitFault) -> Outcome {
     }
 }
 
-pub(crate) fn of_atom<T: Drop>(answer: Result<T, AtomFault>) -> Outcome {
+pub(crate) fn of_atom<T: Drop>(answer: Result<T, AtomFault>) -> Outcome
+    ensures { result ≡ said_of atom_said answer }
+{
     match answer {
         Ok(_) => Ok(None),
         Err(AtomFault::Refused(cause)) => Ok(Some(Reason::Refused(cause))),
@@ -56,7 +67,9 @@ pub(crate) fn of_atom<T: Drop>(answer: Result<T, AtomFault>) -> Outcome {
     }
 }
 
-pub(crate) fn of_send(answer: Result<(), SendFault>) -> Outcome {
+pub(crate) fn of_send(answer: Result<(), SendFault>) -> Outcome
+    ensures { result ≡ said_of send_said answer }
+{
     match answer {
         Ok(()) => Ok(None),
         Err(SendFault::Failed) => Ok(Some(Reason::AgentFailed)),
@@ -65,7 +78,9 @@ pub(crate) fn of_send(answer: Result<(), SendFault>) -> Outcome {
     }
 }
 
-pub(crate) fn of_restart(answer: Result<(), RestartFault>) -> Outcome {
+pub(crate) fn of_restart(answer: Result<(), RestartFault>) -> Outcome
+    ensures { result ≡ said_of restart_said answer }
+{
     match answer {
         Ok(()) => Ok(None),
         Err(RestartFault::NotFailed) => Ok(Some(Reason::NotFailed)),
@@ -75,14 +90,18 @@ pub(crate) fn of_restart(answer: Result<(), RestartFault>) -> Outcome {
     }
 }
 
-pub(crate) fn of_mode(answer: Result<(), ModeFault>) -> Outcome {
+pub(crate) fn of_mode(answer: Result<(), ModeFault>) -> Outcome
+    ensures { result ≡ said_of mode_said answer }
+{
     match answer {
         Ok(()) => Ok(None),
         Err(ModeFault::NoSuchAgent) => Err(Stop::Internal),
     }
 }
 
-pub(crate) fn of_rule(answer: Result<(), RuleFault>) -> Outcome {
+pub(crate) fn of_rule(answer: Result<(), RuleFault>) -> Outcome
+    ensures { result ≡ said_of rule_said answer }
+{
     match answer {
         Ok(()) => Ok(None),
         Err(RuleFault::Invalid) => Ok(Some(Reason::Invalid)),

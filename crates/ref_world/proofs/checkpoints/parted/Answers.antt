@@ -1,5 +1,6 @@
-use Rattle.std.proofs.Common.{◌≡◌, take, arith}
-use Rattle.ref_world.proofs.Folded.{first_added, first_commits, first_replays}
+use Rattle.std.proofs.Common.{◌≡◌, None, Some, ap, sym, ◌∙◌, take, arith}
+use Rattle.ref_log.specs.Replay.{missing}
+use Rattle.ref_world.proofs.Folded.{first_added, first_called, first_commits, first_replays}
 use Rattle.ref_world.proofs.checkpoints.parted.Goals as goal
 
 pub fold-requires-clause-commits : goal.fold-requires-clause-commits
@@ -18,6 +19,15 @@ fold-requires-clause-added g c =
 
 pub unreachable-requires : goal.unreachable-requires
 unreachable-requires g c =
+    let is : c.in_ok-first.first ≡ take c.args.count c.args.log.now = c.in_ok-first.ensures in
+    let lacks = rw (is, c.in-Err-NoSuchFun.field-0-is) at c.in-Err-NoSuchFun.ensures.err in
+    let called = first_called g.M.Meaning.means c.args.base.now c.args.log.now c.args.count c.requires.replayed in
+    let none = ap (missing (g.F.Functions.knows c.args.funs.now).funs) called ∙ c.requires.served in
+    let no : None ≡ Some _ = sym none ∙ lacks in
+    absurd cc
+
+pub unreachable-requires-in-Err-Answer : goal.unreachable-requires-in-Err-Answer
+unreachable-requires-in-Err-Answer g c =
     let is : c.in_ok-first.first ≡ take c.args.count c.args.log.now = c.in_ok-first.ensures in
     let fails = rw (is, c.in-Err-Answer.field-0-is) at c.in-Err-Answer.ensures.err in
     first_replays g.M.Meaning.means c.args.base.now c.args.log.now c.args.count _ c.requires.replayed fails.1

@@ -8,7 +8,7 @@ returns-in-Err-clause-fault g c =
     let call = rw c.in-Err.is at c.body.ensures in (
       record { began = _; answer = Err c.in-Err.e; left = _ },
       so_far.0,
-      one_more _ _ _ _ _ _ _ _ so_far.1 so_far.2 c.loop-attempt.invariant.room
+      one_more _ _ _ _ _ _ _ _ so_far.1 so_far.2 so_far.3 c.loop-attempt.invariant.room
           (record { fresh = c.in-Ok.ensures; called = record { shown = _; shows = refl; left = _; called = call; leaves = refl } }),
       refl,
     )
@@ -20,7 +20,7 @@ returns-in-Ok-commit-clause-ok g c =
     record {
       call = record { began = _; answer = Ok c.in-Ok-body.answer; left = _ };
       earlier = so_far.0;
-      calls = one_more _ _ _ _ _ _ _ _ so_far.1 so_far.2 c.loop-attempt.invariant.room
+      calls = one_more _ _ _ _ _ _ _ _ so_far.1 so_far.2 so_far.3 c.loop-attempt.invariant.room
           (record { fresh = c.in-Ok.ensures; called = record { shown = _; shows = refl; left = _; called = call; leaves = refl } });
       answered = refl;
       landed = search rules;
@@ -32,7 +32,7 @@ returns-then-attempt-tries-clause-fault g c =
     let call = rw c.in-Ok-body.is at c.body.ensures in (
       record { began = _; answer = Ok c.in-Ok-body.answer; left = _ },
       so_far.0,
-      one_more _ _ _ _ _ _ _ _ so_far.1 so_far.2 c.loop-attempt.invariant.room
+      one_more _ _ _ _ _ _ _ _ so_far.1 so_far.2 so_far.3 c.loop-attempt.invariant.room
           (record { fresh = c.in-Ok.ensures; called = record { shown = _; shows = refl; left = _; called = call; leaves = refl } }),
       refl,
       refl,
@@ -47,10 +47,12 @@ loop-attempt-preserved g c =
     record {
       body = search (of_calls, rules);
       share = search rules;
+      sink = search rules;
       called = (
         (record { began = _; answer = Ok c.in-Ok-body.answer; left = _ }) ∷ so_far.0,
         (_, so_far.1, record { fresh = c.in-Ok.ensures; called = record { shown = _; shows = refl; left = _; called = call; leaves = refl } }),
         omega (arith, so_far.2),
+        (record { answered = refl; conflict = c.in-Conflict.conflict; fits = search rules }, so_far.3),
       );
       room = omega (arith, c.loop-attempt.invariant.room, c.if-attempt-tries.false);
     }
@@ -60,7 +62,7 @@ returns-in-Memory-clause-fault g c =
     let so_far = c.loop-attempt.invariant.called in
     let call = rw c.in-Ok-body.is at c.body.ensures in (
       (record { began = _; answer = Ok c.in-Ok-body.answer; left = _ }) ∷ so_far.0,
-      one_more _ _ _ _ _ _ _ _ so_far.1 so_far.2 c.loop-attempt.invariant.room
+      one_more _ _ _ _ _ _ _ _ so_far.1 so_far.2 so_far.3 c.loop-attempt.invariant.room
           (record { fresh = c.in-Ok.ensures; called = record { shown = _; shows = refl; left = _; called = call; leaves = refl } }),
     )
 
@@ -70,7 +72,7 @@ returns-in_default-fault-clause-fault g c =
     let call = rw c.in-Ok-body.is at c.body.ensures in (
       record { began = _; answer = Ok c.in-Ok-body.answer; left = _ },
       so_far.0,
-      one_more _ _ _ _ _ _ _ _ so_far.1 so_far.2 c.loop-attempt.invariant.room
+      one_more _ _ _ _ _ _ _ _ so_far.1 so_far.2 so_far.3 c.loop-attempt.invariant.room
           (record { fresh = c.in-Ok.ensures; called = record { shown = _; shows = refl; left = _; called = call; leaves = refl } }),
       refl,
       final _ c.in_default-fault.not-Conflict c.in_default-fault.not-Memory,

@@ -1,12 +1,14 @@
 use Rattle.std.proofs.Common.{◌≡◌, ◌<◌, length, List}
 use denote.Param.Always.{always_mut}
-use Rattle.ref_shared.specs.Bodies.{Call, Called}
+use Rattle.std.specs.List.{All}
+use Rattle.ref_shared.specs.Bodies.{Call, Called, IsRetried}
 use Rattle.ref_shared.proofs.transacting.Shared+Core+C+A.transact_by.Given as goal
 
 abbrev pub invariant-loop-attempt : goal.invariant-loop-attempt
 invariant-loop-attempt g l = record {
   body : always_mut g.B.FnMut l.initial.body → always_mut g.B.FnMut l.body;
   share : l.share ≡ l.fn.share;
-  called : (calls : List (Call _)) × Called g.B.FnMut l.fn.body calls l.body × (length calls ≡ l.attempt);
+  sink : l.sink ≡ l.fn.sink;
+  called : (calls : List (Call _)) × Called g.B.FnMut l.fn.body calls l.body × (length calls ≡ l.attempt) × All IsRetried calls;
   room : l.attempt < l.tries;
 }
