@@ -50,8 +50,8 @@ fn begin<C: Ledger, A: Ledger>(
     commits: Blank,
     added: Blank,
 ) -> Result<(World<BoxOffice, C, A>, Share<C, A>), Trouble>
-    requires commits { (commits.name ≡ C.name) × (commits.parts ≡ C.parts) × (commits.parts ≡ all_parts) }
-    requires added { (added.name ≡ A.name) × (added.parts ≡ A.parts) × (added.parts ≡ all_parts) }
+    requires commits { IsBlank commits C.name C.parts }
+    requires added { IsBlank added A.name A.parts }
 {
     match World::<BoxOffice, C, A>::new(alloc, &Acts, start(alloc)?, commits, added) {
         Ok(begun) => Ok(begun),

@@ -3,7 +3,7 @@
 //! A world, a share and a shared world have many fields. A `?` that drops one writes its drop out at that place, while `drop(x)` and
 //! `ok()` are calls. So what owns one here has no `?` that drops it, and lends it to functions that have.
 ghost use Rattle.std.specs.Prelude.{◌≡◌};
-ghost use Rattle.ref_world.specs.Shares.{all_parts};
+ghost use Rattle.ref_world.specs.Shares.{IsBlank};
 
 use crate::values::Trouble;
 use crate::{report, start, work};
@@ -33,8 +33,8 @@ fn run_world<
     A: Ledger + Send + Sync,
     R: AllocGlobal + Print + Threads + Wait + Sync,
 >(rt: &R, commits: Blank, added: Blank) -> Result<(), Trouble>
-    requires commits { (commits.name ≡ C.name) × (commits.parts ≡ C.parts) × (commits.parts ≡ all_parts) }
-    requires added { (added.name ≡ A.name) × (added.parts ≡ A.parts) × (added.parts ≡ all_parts) }
+    requires commits { IsBlank commits C.name C.parts }
+    requires added { IsBlank added A.name A.parts }
 {
     let (shared, mut share) = open::<C, A>(rt.alloc(), commits, added)?;
     match work_all(rt, &shared, &mut share) {
@@ -52,8 +52,8 @@ fn open<C: Ledger, A: Ledger>(
     commits: Blank,
     added: Blank,
 ) -> Result<(Shared<Core, C, A>, Share<C, A>), Trouble>
-    requires commits { (commits.name ≡ C.name) × (commits.parts ≡ C.parts) × (commits.parts ≡ all_parts) }
-    requires added { (added.name ≡ A.name) × (added.parts ≡ A.parts) × (added.parts ≡ all_parts) }
+    requires commits { IsBlank commits C.name C.parts }
+    requires added { IsBlank added A.name A.parts }
 {
     match World::new(alloc, &CoreFunctions, start(alloc)?, commits, added) {
         Ok((world, share)) => Ok((Shared::new(world), share)),
