@@ -1,6 +1,5 @@
 //! The calls that take no memory, each made while every request for memory is refused.
-ghost use Rattle.std.specs.Prelude.{◌≡◌};
-ghost use Rattle.ref_world.specs.Shares.{all_parts};
+ghost use Rattle.ref_world.specs.Shares.{IsBlank};
 
 mod agents;
 mod data;
@@ -79,8 +78,8 @@ fn call_in<R: AllocGlobal + Input + Print + Wait, C: Ledger, A: Ledger>(
     commits: Blank,
     added: Blank,
 ) -> Result<(), Trouble>
-    requires commits { (commits.name ≡ C.name) × (commits.parts ≡ C.parts) × (commits.parts ≡ all_parts) }
-    requires added { (added.name ≡ A.name) × (added.parts ≡ A.parts) × (added.parts ≡ all_parts) }
+    requires commits { IsBlank commits C.name C.parts }
+    requires added { IsBlank added A.name A.parts }
 {
     let mut stage = opened::<R, C, A>(free.rt, tables, commits, added)?;
     call_all(free, tables, &mut stage)?;

@@ -1,6 +1,5 @@
 //! A call in a new world, with one of its requests for memory refused or none.
-ghost use Rattle.std.specs.Prelude.{◌≡◌};
-ghost use Rattle.ref_world.specs.Shares.{all_parts};
+ghost use Rattle.ref_world.specs.Shares.{IsBlank};
 
 use crate::Trouble;
 use crate::calls::make;
@@ -104,8 +103,8 @@ pub(crate) fn opened<'a, R: AllocGlobal + Input, C: Ledger, A: Ledger>(
     commits: Blank,
     added: Blank,
 ) -> Result<Stage<'a, R, C, A>, Trouble>
-    requires commits { (commits.name ≡ C.name) × (commits.parts ≡ C.parts) × (commits.parts ≡ all_parts) }
-    requires added { (added.name ≡ A.name) × (added.parts ≡ A.parts) × (added.parts ≡ all_parts) }
+    requires commits { IsBlank commits C.name C.parts }
+    requires added { IsBlank added A.name A.parts }
 {
     let alloc = rt.alloc();
     let start = declared(alloc, starts_of(alloc, &read(alloc, STARTS)?)?)?;
@@ -216,8 +215,8 @@ fn tried_in<R: AllocGlobal + Input + Wait, C: Ledger, A: Ledger>(
     commits: Blank,
     added: Blank,
 ) -> Result<Trial, Trouble>
-    requires commits { (commits.name ≡ C.name) × (commits.parts ≡ C.parts) × (commits.parts ≡ all_parts) }
-    requires added { (added.name ≡ A.name) × (added.parts ≡ A.parts) × (added.parts ≡ all_parts) }
+    requires commits { IsBlank commits C.name C.parts }
+    requires added { IsBlank added A.name A.parts }
 {
     let mut stage = opened::<R, C, A>(rt, tables, commits, added)?;
     fill(tables, &mut stage, case, state)?;
