@@ -144,8 +144,8 @@ pub(crate) const CASES: &[Case] = &[
     },
     Case {
         name: "swap, a set that grows",
-        before: "[swap z conj n0 n1 n2 n3 n4 n5 n6 n7]",
-        call: Call::Row("[swap z conj n8 n9]"),
+        before: "[swap z conj n0 n1]",
+        call: Call::Row("[swap z conj n2 n3 n4 n5 n6 n7 n8 n9]"),
     },
     Case {
         name: "reset",

@@ -1,5 +1,4 @@
 //! The calls that take no memory, each made while every request for memory is refused.
-ghost use Rattle.std.specs.Prelude.{◌≡◌};
 ghost use Rattle.ref_world.specs.Shares.{IsBlank};
 
 mod agents;
@@ -82,9 +81,10 @@ fn call_in<R: AllocGlobal + Input + Print + Wait, C: Ledger, A: Ledger>(
     requires commits { IsBlank commits C.name C.parts }
     requires added { IsBlank added A.name A.parts }
 {
-    let mut stage = opened::<R, C, A>(free.rt, tables, commits, added)?;
+    let rt = free.rt;
+    let mut stage = opened::<R, C, A>(rt, tables, commits, added)?;
     call_all(free, tables, &mut stage)?;
-    shares::share_world(free, free.rt, tables.all.alloc, stage);
+    shares::share_world(free, rt, tables.all.alloc, stage);
     Ok(())
 }
 

@@ -1,5 +1,4 @@
 //! A call in a new world, with one of its requests for memory refused or none.
-ghost use Rattle.std.specs.Prelude.{◌≡◌};
 ghost use Rattle.ref_world.specs.Shares.{IsBlank};
 
 use crate::Trouble;
