@@ -11,7 +11,7 @@ pub(crate) const STARTS: &str =
 pub(crate) const FULL: &str = "
     [watch a :k] [watch a :l] [watch t :k] [watch x :k] [watch g :k] [watch h :k] [watch i :k]
     [send g + 1] [act] [send i conj 1] [act] [send i + 1] [act] [send h - 9] [send h + 1] [act]
-    [begin 1] [1 alter a + 1] [1 commute t + 1] [1 send g + 1] [1 send i conj 2] [commit 1] [release 1] [act] [act]
+    [begin 1] [1 alter a + 1] [1 commute t + 1] [1 send g + 1] [1 send i conj 2] [commit 1] [release p] [act] [act]
     [begin 1] [1 set b 5] [1 send g + 2] [1 send h + 2] [commit 1] [send g + 3] [send g + 4]
     [swap x + 1] [reset y 3] [cas x 2 3] [make-ref 5] [make-atom 5] [make-agent 5]
     [reset y 1] [reset y 2] [reset y 3] [reset y 4] [reset y 5] [reset y 6] [reset y 7] [reset y 8] [reset y 9] [reset y 10]
@@ -103,9 +103,14 @@ pub(crate) const DRAWN: &[&str] = &[
 ];
 
 // The only agent that is ready is i, which had the last turn.
-const ONE_READY: &str = "[finish] [reset y n] [acts] [send i conj n] [act] [send i conj n]";
+const ONE_READY: &str = "[finish] [acts] [send i conj n] [act] [send i conj n]";
 
 impl Case {
+    /// Whether the call is one on a world that threads share.
+    pub(crate) fn is_shared(&self) -> bool {
+        matches!(self.call, Call::Shared(_, _))
+    }
+
     /// The row that makes the call; of a call on a shared world, the one that is made in the rounds before it.
     pub(crate) fn row(&self) -> &'static str {
         match self.call {
@@ -119,7 +124,7 @@ const TRANSACTION: &str =
     "[begin 1] [1 alter a + 5] [1 set b 3] [1 commute t + 2] [1 ensure c] [1 deref c]";
 
 const SENDING: &str =
-    "[finish] [begin 1] [1 alter a + 5] [1 commute t + 2] [1 send g + 1] [1 send i conj 1] [1 send g + 2] [1 send h + 1] [reset y n]";
+    "[finish] [begin 1] [1 alter a + 5] [1 commute t + 2] [1 send g + 1] [1 send i conj 1] [1 send g + 2] [1 send h + 1]";
 
 pub(crate) const CASES: &[Case] = &[
     Case {
@@ -154,7 +159,7 @@ pub(crate) const CASES: &[Case] = &[
     },
     Case {
         name: "compare_and_set",
-        before: "[reset x 7]",
+        before: "[reset x 7] [reset x 7]",
         call: Call::Row("[cas x 7 8]"),
     },
     Case {
@@ -224,7 +229,7 @@ pub(crate) const CASES: &[Case] = &[
     },
     Case {
         name: "Shared::transact",
-        before: "[finish] [reset y n]",
+        before: "[finish]",
         call: Call::Shared(
             SharedCall::Transact,
             "[begin 1] [1 alter a + 5] [1 send g + 1] [1 send i conj 1] [commit 1]",
@@ -247,7 +252,7 @@ pub(crate) const CASES: &[Case] = &[
     },
     Case {
         name: "Shared::finish",
-        before: "[finish] [reset y n] [begin 1] [1 alter a + 1] [commit 1]",
+        before: "[finish] [begin 1] [1 alter a + 1] [commit 1]",
         call: Call::Shared(SharedCall::Finish, "[reset y 5]"),
     },
 ];

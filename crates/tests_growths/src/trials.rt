@@ -155,6 +155,10 @@ fn fill<R: Input, C: Ledger, A: Ledger>(
     case: &Case,
     state: State,
 ) -> Result<(), AllocError> {
+    if case.is_shared() {
+        // An entry, without which the end of a shared world makes no request.
+        let _ = make(tables, stage, "[reset y 1]", 0)?;
+    }
     match state {
         State::New => {}
         State::Full(rounds) => make_rounds(tables, stage, case, rounds)?,
