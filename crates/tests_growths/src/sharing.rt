@@ -211,15 +211,15 @@ fn taken_out<R: Input, C: Ledger, A: Ledger>(
 // ---- Trials
 
 // What a call answered, whether a request was refused, and the world again.
-struct Called<'a, R: Input, C: Ledger, A: Ledger> {
+struct Returned<'a, R: Input, C: Ledger, A: Ledger> {
     answer: Value,
     was_hit: bool,
     stage: Stage<'a, R, C, A>,
 }
 
-impl<'a, R: Input, C: Ledger, A: Ledger> Drop for Called<'a, R, C, A> {
+impl<'a, R: Input, C: Ledger, A: Ledger> Drop for Returned<'a, R, C, A> {
     fn drop(self) {
-        let Called {
+        let Returned {
             answer: _answer,
             was_hit: _,
             stage: _stage,
@@ -227,9 +227,9 @@ impl<'a, R: Input, C: Ledger, A: Ledger> Drop for Called<'a, R, C, A> {
     }
 }
 
-impl<'a, R: Input, C: Ledger, A: Ledger> Called<'a, R, C, A> {
+impl<'a, R: Input, C: Ledger, A: Ledger> Returned<'a, R, C, A> {
     fn parted(self) -> (Value, bool, Stage<'a, R, C, A>) {
-        let Called {
+        let Returned {
             answer,
             was_hit,
             stage,
@@ -244,7 +244,7 @@ fn called_on<'a, R: AllocGlobal + Input + Wait, C: Ledger, A: Ledger>(
     stage: Stage<'a, R, C, A>,
     call: SharedCall,
     request: usize,
-) -> Result<Called<'a, R, C, A>, Trouble> {
+) -> Result<Returned<'a, R, C, A>, Trouble> {
     let stamp = stamp_after(stage.point());
     let (mut refuser, whole, mut opens) = stage.parted();
     let (world, mut share) = whole.parted();
@@ -262,7 +262,7 @@ fn called_on<'a, R: AllocGlobal + Input + Wait, C: Ledger, A: Ledger>(
     )?;
     let was_hit = refuser.was_refused();
     let whole = taken_out(by.alloc, shared, share, &mut refuser)?;
-    Ok(Called {
+    Ok(Returned {
         answer,
         was_hit,
         stage: Stage::of(refuser, whole, opens),
