@@ -25,22 +25,22 @@ use tests_rows::tables::Tables;
 use tests_rows::whole::Whole;
 use tests_rows::words::{form, told_form, variant_form, vector};
 
-// A gate at which what is counted of a call begins and ends, and a sink that counts what it gets.
-struct Counting<'a, 'b, R: Input> {
-    refuser: &'a mut Refuser<'b, R>,
+// A gate at which what is counted of a call begins and ends.
+struct Counting<'a, R: Input> {
+    refuser: Refuser<'a, R>,
     from: Spot,
 }
 
-impl<'a, 'b, R: Input> Drop for Counting<'a, 'b, R> {
+impl<'a, R: Input> Drop for Counting<'a, R> {
     fn drop(self) {
         let Counting {
-            refuser: _,
+            refuser: _refuser,
             from: _,
         } = self;
     }
 }
 
-impl<'a, 'b, R: Input> Gate for Counting<'a, 'b, R> {
+impl<'a, R: Input> Gate for Counting<'a, R> {
     fn pass(&mut self, spot: Spot) {
         if spot == self.from {
             self.refuser.begin();
@@ -48,6 +48,13 @@ impl<'a, 'b, R: Input> Gate for Counting<'a, 'b, R> {
             self.refuser.end();
         }
     }
+}
+
+// A gate at which a request of what follows a spot is refused.
+fn gate_from<R: Input>(rt: &R, from: Spot, request: usize) -> Counting<'_, R> {
+    let mut refuser = Refuser::new(rt);
+    refuser.arm(request);
+    Counting { refuser, from }
 }
 
 // What the sink of a call got: so many notices.
@@ -72,31 +79,32 @@ fn body(alloc: Global, funs: &FunTable, tx: &mut Tx<Core>) -> Result<(), TxFault
     tx.send(alloc, funs, 0, PLUS, args_from(alloc, &text, 1)?)
 }
 
+// What a call answered, and whether a request was refused.
+type Answer = Result<(Value, bool), AllocError>;
+
 // `transact`, of which what follows the body is counted.
-fn transact<R: AllocGlobal + Input + Wait, C: Ledger, A: Ledger>(
+fn transact<R: Input + Wait, C: Ledger, A: Ledger>(
     rt: &R,
     by: By,
     shared: &Shared<Core, C, A>,
     share: &mut Share<C, A>,
     stamp: Stamp,
-    refuser: &mut Refuser<'_, R>,
-) -> Result<Value, AllocError> {
+    request: usize,
+) -> Answer {
     let By { alloc, funs } = by;
     let mut told = Told { count: 0 };
-    let mut gate = Counting {
-        refuser,
-        from: Spot::AfterBody,
-    };
+    let mut gate = gate_from(rt, Spot::AfterBody, request);
     let work = |tx: &mut Tx<Core>| body(alloc, funs, tx);
     let answer = shared.transact(rt, alloc, funs, share, stamp, 3, &mut gate, &mut told, work);
     gate.refuser.end();
-    match answer {
+    let said = match answer {
         Ok(((), receipt)) => {
             let point = vec![in alloc; number(receipt.point)?, number(told.count)?]?;
-            told_form(alloc, point, &receipt.notices)
+            told_form(alloc, point, &receipt.notices)?
         }
-        Err(fault) => variant_form(alloc, &fault),
-    }
+        Err(fault) => variant_form(alloc, &fault)?,
+    };
+    Ok((said, gate.refuser.was_refused()))
 }
 
 // A commit of transaction 1. A refused one is open still.
@@ -107,25 +115,46 @@ fn commit<R: Input + Wait, C: Ledger, A: Ledger>(
     share: &mut Share<C, A>,
     stamp: Stamp,
     opens: &mut Vec<Option<Open>>,
-    refuser: &mut Refuser<'_, R>,
-) -> Result<Value, AllocError> {
+    request: usize,
+) -> Answer {
     let By { alloc, funs } = by;
     let Some(open) = taken(opens, 1) else {
-        return form(alloc, "not-open");
+        return Ok((form(alloc, ":not-open")?, false));
     };
+    let mut refuser = Refuser::new(rt);
+    refuser.arm(request);
     refuser.begin();
     let answer = shared.commit(rt, alloc, funs, share, stamp, open);
     refuser.end();
-    match answer {
-        Ok(receipt) => told_form(
-            alloc,
-            vec![in alloc; number(receipt.point)?]?,
-            &receipt.notices,
-        ),
+    let said = match answer {
+        Ok(receipt) => {
+            let point = vec![in alloc; number(receipt.point)?]?;
+            told_form(alloc, point, &receipt.notices)?
+        }
         Err((open, fault)) => {
             put_back(opens, 1, open);
-            variant_form(alloc, &fault)
+            variant_form(alloc, &fault)?
         }
+    };
+    Ok((said, refuser.was_refused()))
+}
+
+// What `work_once` answers.
+fn work_form(
+    alloc: Global,
+    answer: Result<Worked, WorkFault>,
+    told: u64,
+) -> Result<Value, AllocError> {
+    match answer {
+        Ok(Worked::Did(agent)) => {
+            vector(
+                alloc,
+                vec![in alloc; number(u64::from(agent))?, number(told)?]?,
+            )
+        }
+        Ok(Worked::Closed) => form(alloc, ":closed"),
+        Err(WorkFault::Memory) => form(alloc, ":memory"),
+        Err(_) => form(alloc, ":another-fault"),
     }
 }
 
@@ -135,39 +164,33 @@ fn work<R: Input + Wait, C: Ledger, A: Ledger>(
     by: By,
     shared: &Shared<Core, C, A>,
     from: Spot,
-    refuser: &mut Refuser<'_, R>,
-) -> Result<Value, AllocError> {
+    request: usize,
+) -> Answer {
+    let By { alloc, funs } = by;
     let mut told = Told { count: 0 };
-    let mut gate = Counting { refuser, from };
+    let mut gate = gate_from(rt, from, request);
     shared.close(rt);
-    let answer = shared.work_once(rt, by.alloc, by.funs, &mut gate, &mut told);
+    let answer = shared.work_once(rt, alloc, funs, &mut gate, &mut told);
     gate.refuser.end();
-    match answer {
-        Ok(Worked::Did(agent)) => {
-            let did = vec![in by.alloc; number(u64::from(agent))?, number(told.count)?]?;
-            vector(by.alloc, did)
-        }
-        Ok(Worked::Closed) => form(by.alloc, "closed"),
-        Err(WorkFault::Memory) => form(by.alloc, ":memory"),
-        Err(_) => form(by.alloc, "another-fault"),
-    }
+    let said = work_form(alloc, answer, told.count)?;
+    Ok((said, gate.refuser.was_refused()))
 }
 
-fn called<R: AllocGlobal + Input + Wait, C: Ledger, A: Ledger>(
+fn called<R: Input + Wait, C: Ledger, A: Ledger>(
     rt: &R,
     by: By,
     shared: &Shared<Core, C, A>,
     share: &mut Share<C, A>,
     stamp: Stamp,
     opens: &mut Vec<Option<Open>>,
-    refuser: &mut Refuser<'_, R>,
     call: SharedCall,
-) -> Result<Value, AllocError> {
+    request: usize,
+) -> Answer {
     match call {
-        SharedCall::Transact => transact(rt, by, shared, share, stamp, refuser),
-        SharedCall::Commit => commit(rt, by, shared, share, stamp, opens, refuser),
-        SharedCall::Run => work(rt, by, shared, Spot::BeforeAction, refuser),
-        _ => work(rt, by, shared, Spot::AfterAction, refuser),
+        SharedCall::Transact => transact(rt, by, shared, share, stamp, request),
+        SharedCall::Commit => commit(rt, by, shared, share, stamp, opens, request),
+        SharedCall::Run => work(rt, by, shared, Spot::BeforeAction, request),
+        _ => work(rt, by, shared, Spot::AfterAction, request),
     }
 }
 
@@ -249,18 +272,9 @@ fn called_on<'a, R: AllocGlobal + Input + Wait, C: Ledger, A: Ledger>(
     let (mut refuser, whole, mut opens) = stage.parted();
     let (world, mut share) = whole.parted();
     let shared = Shared::new(world);
-    refuser.arm(request);
-    let answer = called(
-        rt,
-        by,
-        &shared,
-        &mut share,
-        stamp,
-        &mut opens,
-        &mut refuser,
-        call,
+    let (answer, was_hit) = called(
+        rt, by, &shared, &mut share, stamp, &mut opens, call, request,
     )?;
-    let was_hit = refuser.was_refused();
     let whole = taken_out(by.alloc, shared, share, &mut refuser)?;
     Ok(Returned {
         answer,
