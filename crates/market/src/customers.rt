@@ -13,6 +13,9 @@ use std::thread::Threads;
 
 const THREADS: u32 = 4;
 
+// How many parts of the share each thread gets. The others, half of them, stay with the thread that started them.
+const PARTS: u64 = ALL_PARTS / 8;
+
 // How many customers come in each thread. Each of them wants one piece of a good.
 const CUSTOMERS: u32 = 60;
 
@@ -60,7 +63,7 @@ pub(crate) struct Custom<C: Ledger, A: Ledger> {
 }
 
 impl<C: Ledger, A: Ledger> Custom<C, A> {
-    fn of(share: Share<C, A>) -> Custom<C, A> {
+    pub(crate) fn of(share: Share<C, A>) -> Custom<C, A> {
         Custom {
             share,
             wishes: Wishes::default(),
@@ -69,61 +72,59 @@ impl<C: Ledger, A: Ledger> Custom<C, A> {
     }
 
     fn join(&mut self, other: Custom<C, A>) -> Result<(), Trouble> {
-        if self.share.join(other.share).is_err() {
+        let Custom {
+            share,
+            wishes,
+            board,
+        } = other;
+        if let Err(share) = self.share.join(share) {
+            drop(share);
             return Err(Trouble);
         }
-        self.wishes = self.wishes.with(other.wishes);
-        self.board = self.board.with(other.board);
+        self.wishes = self.wishes.with(wishes);
+        self.board = self.board.with(board);
         Ok(())
     }
 }
 
-/// Splits the share, serves all customers, in threads, and joins what came of them.
+/// Serves all customers, each thread with a part of the share, and joins what came of them.
 pub(crate) fn serve_all<
     C: Ledger + Send + Sync,
     A: Ledger + Send + Sync,
     R: Threads + Wait + Sync,
     F: Functions<Core> + Sync,
->(rt: &R, market: &Market<F, C, A>, share: Share<C, A>) -> Result<Custom<C, A>, Trouble> {
-    let visits = visits(market.alloc, share)?;
-    joined(thread::map_vec(rt, visits, &|visit| serve(rt, market, visit))?)
+>(rt: &R, market: &Market<F, C, A>, all: &mut Custom<C, A>) -> Result<(), Trouble> {
+    let visits = visits(market.alloc, &mut all.share)?;
+    let customs = thread::map_vec(rt, visits, &|visit| serve(rt, market, visit))?;
+    join_all(all, customs)
 }
 
-// A visit for each thread, and for each a share.
+// A visit for each thread, and for each a part of the share.
 fn visits<C: Ledger, A: Ledger>(
     alloc: Global,
-    share: Share<C, A>,
+    share: &mut Share<C, A>,
 ) -> Result<Vec<Visit<C, A>>, Trouble> {
-    let mut rest = share;
     let mut visits = Vec::new(alloc);
-    for worker in 1..THREADS {
-        let Some(share) = rest.split(ALL_PARTS / THREADS as u64) else {
+    for worker in 0..THREADS {
+        let Some(share) = share.split(PARTS) else {
             return Err(Trouble);
         };
         visits.push(Visit { worker, share })?;
     }
-    visits.push(Visit {
-        worker: 0,
-        share: rest,
-    })?;
     Ok(visits)
 }
 
-// All customs as one.
-fn joined<C: Ledger, A: Ledger>(
+fn join_all<C: Ledger, A: Ledger>(
+    all: &mut Custom<C, A>,
     customs: Vec<Result<Custom<C, A>, Trouble>>,
-) -> Result<Custom<C, A>, Trouble> {
-    let mut all = None;
+) -> Result<(), Trouble> {
     for custom in customs {
-        match &mut all {
-            None => all = Some(custom?),
-            Some(all) => all.join(custom?)?,
-        }
+        all.join(custom?)?;
     }
-    all.ok_or(Trouble)
+    Ok(())
 }
 
-// Serves the customers of one thread.
+// What a thread does.
 fn serve<C: Ledger, A: Ledger, R: Wait, F: Functions<Core>>(
     rt: &R,
     market: &Market<F, C, A>,
@@ -131,6 +132,22 @@ fn serve<C: Ledger, A: Ledger, R: Wait, F: Functions<Core>>(
 ) -> Result<Custom<C, A>, Trouble> {
     let Visit { worker, share } = visit;
     let mut custom = Custom::of(share);
+    match serve_each(rt, market, worker, &mut custom) {
+        Ok(()) => Ok(custom),
+        Err(Trouble) => {
+            drop(custom);
+            Err(Trouble)
+        }
+    }
+}
+
+// Serves the customers of one thread.
+fn serve_each<C: Ledger, A: Ledger, R: Wait, F: Functions<Core>>(
+    rt: &R,
+    market: &Market<F, C, A>,
+    worker: u32,
+    custom: &mut Custom<C, A>,
+) -> Result<(), Trouble> {
     for step in 0..CUSTOMERS {
         let good = match step % 3 {
             0 => Good::Apple,
@@ -142,5 +159,5 @@ fn serve<C: Ledger, A: Ledger, R: Wait, F: Functions<Core>>(
         let outcome = market.sell(rt, &mut custom.share, stamp, good, &mut custom.board)?;
         custom.wishes.count(outcome);
     }
-    Ok(custom)
+    Ok(())
 }

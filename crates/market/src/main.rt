@@ -26,7 +26,7 @@ use ref_fun::{Core, CoreFunctions, Functions};
 use ref_log::Who;
 use ref_world::{ALL_PARTS, Share, Totals, World};
 use stalls::{CAME, Good, JOURNAL, Market, TAKINGS, TILL, start};
-use std::alloc::{AllocError, AllocFailed};
+use std::alloc::{AllocError, AllocFailed, Global};
 use std::marker::Brand;
 use std::process::ExitCode;
 use std::sync::Wait;
@@ -83,29 +83,54 @@ fn day<
     requires commits { IsBlank commits C.name C.parts }
     requires added { IsBlank added A.name A.parts }
 {
-    let alloc = rt.alloc();
-    let made = World::<Core, C, A>::new(alloc, funs, start(alloc)?, commits, added);
-    let Ok((world, share)) = made else {
-        return Err(Trouble);
-    };
-    let market = Market::open(rt, alloc, funs, world)?;
-    let (custom, told) = open_hours(rt, &market, share)?;
-    close_up(rt, market, custom, told)
+    let (world, share) = begin::<C, A>(rt.alloc(), funs, commits, added)?;
+    let market = Market::of(rt.alloc(), funs, world);
+    match open_hours(rt, &market, share) {
+        Ok((custom, told)) => close_up(rt, market, custom, told),
+        Err(Trouble) => {
+            drop(market);
+            Err(Trouble)
+        }
+    }
 }
 
-// Lets the customers come while the helpers help. Once the last customer has gone the helpers do what is left, and go too.
+// The world of the market, and the share with all its parts.
+fn begin<C: Ledger, A: Ledger>(
+    alloc: Global,
+    funs: &CoreFunctions,
+    commits: Blank,
+    added: Blank,
+) -> Result<(World<Core, C, A>, Share<C, A>), Trouble>
+    requires commits { IsBlank commits C.name C.parts }
+    requires added { IsBlank added A.name A.parts }
+{
+    match World::<Core, C, A>::new(alloc, funs, start(alloc)?, commits, added) {
+        Ok(begun) => Ok(begun),
+        Err(_) => Err(Trouble),
+    }
+}
+
+// Has the board watch, and lets the customers come while the helpers help. Once the last customer has gone the helpers do what is
+// left, and go too.
 fn open_hours<
     C: Ledger + Send + Sync,
     A: Ledger + Send + Sync,
     R: Threads + Wait + Sync,
     F: Functions<Core> + Sync,
 >(rt: &R, market: &Market<F, C, A>, share: Share<C, A>) -> Result<(Custom<C, A>, Board), Trouble> {
+    let watched = market.watch_all(rt);
     let (told, custom) = thread::join(
         rt,
         move || help_both(rt, market),
         move || serve_until_close(rt, market, share),
     );
-    Ok((custom?, told?))
+    match watched.and(told) {
+        Ok(told) => Ok((custom?, told)),
+        Err(Trouble) => {
+            drop(custom);
+            Err(Trouble)
+        }
+    }
 }
 
 // Serves all customers, and closes the market, also where serving them failed.
@@ -115,9 +140,16 @@ fn serve_until_close<
     R: Threads + Wait + Sync,
     F: Functions<Core> + Sync,
 >(rt: &R, market: &Market<F, C, A>, share: Share<C, A>) -> Result<Custom<C, A>, Trouble> {
-    let custom = serve_all(rt, market, share);
+    let mut custom = Custom::of(share);
+    let served = serve_all(rt, market, &mut custom);
     market.shared.close(rt);
-    custom
+    match served {
+        Ok(()) => Ok(custom),
+        Err(Trouble) => {
+            drop(custom);
+            Err(Trouble)
+        }
+    }
 }
 
 // Takes the world out, and says what is in it.
@@ -133,8 +165,11 @@ fn close_up<C: Ledger, A: Ledger, R: AllocGlobal + Print, F: Functions<Core>>(
         board,
     } = custom;
     let (world, totals) = take_out(market, share)?;
-    say_values(rt, &world)?;
-    say_counts(rt, wishes, board.with(helped), totals)
+    let said = say_values(rt, &world);
+    drop(world);
+    said?;
+    say_counts(rt, wishes, board.with(helped))?;
+    say_totals(rt, totals)
 }
 
 // Takes the world out, with its totals.
@@ -143,13 +178,12 @@ fn take_out<C: Ledger, A: Ledger, F: Functions<Core>>(
     share: Share<C, A>,
 ) -> Result<(World<Core, C, A>, Totals), Trouble> {
     let Market { alloc, shared, .. } = market;
-    if !share.is_whole() {
-        return Err(Trouble);
+    if share.is_whole() {
+        shared.finish(alloc, share).ok().ok_or(Trouble)
+    } else {
+        drop((shared, share));
+        Err(Trouble)
     }
-    let Ok((world, totals)) = shared.finish(alloc, share) else {
-        return Err(Trouble);
-    };
-    Ok((world, totals))
 }
 
 fn say_values<C: Ledger, A: Ledger, R: AllocGlobal + Print>(
@@ -163,32 +197,35 @@ fn say_values<C: Ledger, A: Ledger, R: AllocGlobal + Print>(
     say(rt, "takings", world.value_of(Who::Ref(TAKINGS)))?;
     say(rt, "till", world.value_of(Who::Agent(TILL)))?;
     let lines = length(world.value_of(Who::Agent(JOURNAL)).ok_or(Trouble)?);
-    println!(rt; "lines of the journal {lines}").map_err(|_| Trouble)
+    println!(rt; "lines of the journal {lines}")
+        .ok()
+        .ok_or(Trouble)
 }
 
-fn say_counts<R: AllocGlobal + Print>(
-    rt: &R,
-    wishes: Wishes,
-    told: Board,
-    totals: Totals,
-) -> Result<(), Trouble> {
+fn say_counts<R: AllocGlobal + Print>(rt: &R, wishes: Wishes, told: Board) -> Result<(), Trouble> {
     let Wishes {
         sold,
         sold_out,
         without_bread,
     } = wishes;
-    println!(rt; "sold {sold}, sold out {sold_out}, without bread {without_bread}").map_err(
-        |_| Trouble,
-    )?;
+    println!(rt; "sold {sold}, sold out {sold_out}, without bread {without_bread}")
+        .ok()
+        .ok_or(Trouble)?;
     println!(rt;
         "told of refs {}, of atoms {}, of agents {}",
         told.refs, told.atoms, told.agents
     )
-    .map_err(|_| Trouble)?;
-    println!(rt; "commits {}, which added {}", totals.commits, totals.added).map_err(|_| Trouble)
+    .ok()
+    .ok_or(Trouble)
+}
+
+fn say_totals<R: AllocGlobal + Print>(rt: &R, totals: Totals) -> Result<(), Trouble> {
+    println!(rt; "commits {}, which added {}", totals.commits, totals.added)
+        .ok()
+        .ok_or(Trouble)
 }
 
 fn say<R: AllocGlobal + Print>(rt: &R, words: &str, value: Option<&Value>) -> Result<(), Trouble> {
     let value = text(rt.alloc(), value.ok_or(Trouble)?)?;
-    println!(rt; "{words} {value}").map_err(|_| Trouble)
+    println!(rt; "{words} {value}").ok().ok_or(Trouble)
 }

@@ -143,23 +143,17 @@ pub(crate) fn start(alloc: Global) -> Result<Start, AllocError> {
 }
 
 impl<'a, F: Functions<Core>, C: Ledger, A: Ledger> Market<'a, F, C, A> {
-    /// Shares a world, and has the board watch the stocks, the count of customers and both agents.
-    pub(crate) fn open<R: Wait>(
-        rt: &R,
-        alloc: Global,
-        funs: &'a F,
-        world: World<Core, C, A>,
-    ) -> Result<Market<'a, F, C, A>, Trouble> {
-        let market = Market {
+    /// Shares a world.
+    pub(crate) fn of(alloc: Global, funs: &'a F, world: World<Core, C, A>) -> Market<'a, F, C, A> {
+        Market {
             alloc,
             funs,
             shared: Shared::new(world),
-        };
-        market.watch_all(rt)?;
-        Ok(market)
+        }
     }
 
-    fn watch_all<R: Wait>(&self, rt: &R) -> Result<(), Trouble> {
+    /// Has the board watch the stocks, the count of customers and both agents.
+    pub(crate) fn watch_all<R: Wait>(&self, rt: &R) -> Result<(), Trouble> {
         for r in 0..TAKINGS {
             self.watch(rt, Who::Ref(r))?;
         }
@@ -191,6 +185,7 @@ impl<'a, F: Functions<Core>, C: Ledger, A: Ledger> Market<'a, F, C, A> {
         for notice in &swapped.notices {
             board.told(notice);
         }
+        drop(swapped);
         Ok(())
     }
 
@@ -209,7 +204,10 @@ impl<'a, F: Functions<Core>, C: Ledger, A: Ledger> Market<'a, F, C, A> {
             rt, alloc, funs, share, stamp, TRIES, &mut Open, board, body,
         );
         match sale {
-            Ok(((), _receipt)) => Ok(Outcome::Sold),
+            Ok(sold) => {
+                drop(sold);
+                Ok(Outcome::Sold)
+            }
             Err(TransactFault::Commit(CommitFault::Invalid(_))) => Ok(Outcome::SoldOut),
             Err(TransactFault::Body(TxFault::NotMet)) => Ok(Outcome::WithoutBread),
             Err(_) => Err(Trouble),
@@ -220,14 +218,19 @@ impl<'a, F: Functions<Core>, C: Ledger, A: Ledger> Market<'a, F, C, A> {
     fn body(&self, tx: &mut Tx<Core>, good: Good) -> Result<(), TxFault> {
         let (alloc, funs) = (self.alloc, self.funs);
         if good == Good::Cheese {
-            // Cheese is bought only as long as there is bread, also at the moment of the commit.
-            tx.ensure(alloc, Good::Bread.stock())?;
-            tx.require(funs, Good::Bread.stock(), &at_least(alloc, "1")?)?;
+            self.require_bread(tx)?;
         }
         tx.alter(alloc, funs, good.stock(), MINUS, args(alloc, "1")?)?;
         tx.commute(alloc, funs, TAKINGS, PLUS, args(alloc, good.price())?)?;
         tx.send(alloc, funs, JOURNAL, CONJ, args(alloc, good.name())?)?;
         tx.send(alloc, funs, TILL, PLUS, args(alloc, good.price())?)?;
         Ok(())
+    }
+
+    // Cheese is bought only as long as there is bread, also at the moment of the commit.
+    fn require_bread(&self, tx: &mut Tx<Core>) -> Result<(), TxFault> {
+        tx.ensure(self.alloc, Good::Bread.stock())?;
+        let some = at_least(self.alloc, "1")?;
+        tx.require(self.funs, Good::Bread.stock(), &some)
     }
 }

@@ -5,11 +5,12 @@ ghost use Rattle.ref_world.specs.Shares.{IsBlank};
 mod acts;
 mod office;
 
-use crate::{Trouble, say};
+use crate::{Trouble, say, say_totals};
 use acts::{Acts, BoxOffice};
 use office::{FIRST, Office, SECOND, SOLD, Sale, start};
 use ref_log::{Stamp, Who};
 use ref_world::{ALL_PARTS, Share, Totals, World};
+use std::alloc::Global;
 use std::marker::Brand;
 use std::sync::Wait;
 use std::sync::ledger::{Blank, Ledger};
@@ -32,15 +33,45 @@ fn open_office<
     requires commits { IsBlank commits C.name C.parts }
     requires added { IsBlank added A.name A.parts }
 {
-    let alloc = rt.alloc();
-    let made = World::<BoxOffice, C, A>::new(alloc, &Acts, start(alloc)?, commits, added);
-    let Ok((world, share)) = made else {
-        return Err(Trouble);
-    };
-    let office = Office::open(alloc, world);
-    let sold = sell_both(rt, &office, share)?;
-    say_left(rt, &office)?;
-    close_up(rt, office, sold)
+    let (world, share) = begin::<C, A>(rt.alloc(), commits, added)?;
+    let office = Office::open(rt.alloc(), world);
+    match sell_and_say(rt, &office, share) {
+        Ok(sold) => close_up(rt, office, sold),
+        Err(Trouble) => {
+            drop(office);
+            Err(Trouble)
+        }
+    }
+}
+
+// The world of the box office, and the share with all its parts.
+fn begin<C: Ledger, A: Ledger>(
+    alloc: Global,
+    commits: Blank,
+    added: Blank,
+) -> Result<(World<BoxOffice, C, A>, Share<C, A>), Trouble>
+    requires commits { IsBlank commits C.name C.parts }
+    requires added { IsBlank added A.name A.parts }
+{
+    match World::<BoxOffice, C, A>::new(alloc, &Acts, start(alloc)?, commits, added) {
+        Ok(begun) => Ok(begun),
+        Err(_) => Err(Trouble),
+    }
+}
+
+fn sell_and_say<
+    C: Ledger + Send + Sync,
+    A: Ledger + Send + Sync,
+    R: AllocGlobal + Print + Threads + Wait + Sync,
+>(rt: &R, office: &Office<C, A>, share: Share<C, A>) -> Result<Sold<C, A>, Trouble> {
+    let sold = sell_both(rt, office, share)?;
+    match say_left(rt, office) {
+        Ok(()) => Ok(sold),
+        Err(Trouble) => {
+            drop(sold);
+            Err(Trouble)
+        }
+    }
 }
 
 // How many groups were served, and how many weren't.
@@ -78,6 +109,18 @@ struct Sold<C: Ledger, A: Ledger> {
     groups: Groups,
 }
 
+impl<C: Ledger, A: Ledger> Sold<C, A> {
+    fn join(&mut self, other: Result<Sold<C, A>, Trouble>) -> Result<(), Trouble> {
+        let Sold { share, groups } = other?;
+        if let Err(share) = self.share.join(share) {
+            drop(share);
+            return Err(Trouble);
+        }
+        self.groups = self.groups.with(groups);
+        Ok(())
+    }
+}
+
 fn sell_both<C: Ledger + Send + Sync, A: Ledger + Send + Sync, R: Threads + Wait + Sync>(
     rt: &R,
     office: &Office<C, A>,
@@ -85,6 +128,7 @@ fn sell_both<C: Ledger + Send + Sync, A: Ledger + Send + Sync, R: Threads + Wait
 ) -> Result<Sold<C, A>, Trouble> {
     let mut first = share;
     let Some(second) = first.split(ALL_PARTS / 2) else {
+        drop(first);
         return Err(Trouble);
     };
     let (one, other) = thread::join(
@@ -92,16 +136,30 @@ fn sell_both<C: Ledger + Send + Sync, A: Ledger + Send + Sync, R: Threads + Wait
         move || sell_all(rt, office, 0, first),
         move || sell_all(rt, office, 1, second),
     );
-    let mut sold = one?;
-    let other = other?;
-    if sold.share.join(other.share).is_err() {
-        return Err(Trouble);
-    }
-    sold.groups = sold.groups.with(other.groups);
-    Ok(sold)
+    both(one, other)
 }
 
-// Twenty groups of two come to a clerk, half of them for each evening, and then one of five.
+// What two clerks did, as one.
+fn both<C: Ledger, A: Ledger>(
+    one: Result<Sold<C, A>, Trouble>,
+    other: Result<Sold<C, A>, Trouble>,
+) -> Result<Sold<C, A>, Trouble> {
+    match one {
+        Ok(mut sold) => match sold.join(other) {
+            Ok(()) => Ok(sold),
+            Err(Trouble) => {
+                drop(sold);
+                Err(Trouble)
+            }
+        },
+        Err(Trouble) => {
+            drop(other);
+            Err(Trouble)
+        }
+    }
+}
+
+// What a clerk does.
 fn sell_all<C: Ledger, A: Ledger, R: Wait>(
     rt: &R,
     office: &Office<C, A>,
@@ -112,6 +170,22 @@ fn sell_all<C: Ledger, A: Ledger, R: Wait>(
         share,
         groups: Groups::default(),
     };
+    match sell_each(rt, office, worker, &mut sold) {
+        Ok(()) => Ok(sold),
+        Err(Trouble) => {
+            drop(sold);
+            Err(Trouble)
+        }
+    }
+}
+
+// Twenty groups of two come to a clerk, half of them for each evening, and then one of five.
+fn sell_each<C: Ledger, A: Ledger, R: Wait>(
+    rt: &R,
+    office: &Office<C, A>,
+    worker: u32,
+    sold: &mut Sold<C, A>,
+) -> Result<(), Trouble> {
     for step in 0..21u32 {
         let evening = if step % 2 == 0 { FIRST } else { SECOND };
         let group = if step < 20 { "2" } else { "5" };
@@ -119,7 +193,7 @@ fn sell_all<C: Ledger, A: Ledger, R: Wait>(
         let sale = office.sell(rt, &mut sold.share, stamp, evening, group)?;
         sold.groups.count(sale);
     }
-    Ok(sold)
+    Ok(())
 }
 
 fn say_left<C: Ledger, A: Ledger, R: AllocGlobal + Print + Wait>(
@@ -140,11 +214,21 @@ fn close_up<C: Ledger, A: Ledger, R: AllocGlobal + Print + Wait>(
     sold: Sold<C, A>,
 ) -> Result<(), Trouble> {
     let Sold { mut share, groups } = sold;
-    office.close(rt, &mut share, Stamp { worker: 2, step: 0 }, SECOND)?;
+    let closed = office.close(rt, &mut share, Stamp { worker: 2, step: 0 }, SECOND);
     let (world, totals) = take_out(office, share)?;
+    let said = say_world(rt, &world);
+    drop(world);
+    closed.and(said)?;
+    say_counts(rt, groups)?;
+    say_totals(rt, totals)
+}
+
+fn say_world<C: Ledger, A: Ledger, R: AllocGlobal + Print>(
+    rt: &R,
+    world: &World<BoxOffice, C, A>,
+) -> Result<(), Trouble> {
     say(rt, "closed, it has", world.value_of(Who::Ref(SECOND)))?;
-    say(rt, "tickets sold", world.value_of(Who::Ref(SOLD)))?;
-    say_counts(rt, groups, totals)
+    say(rt, "tickets sold", world.value_of(Who::Ref(SOLD)))
 }
 
 fn take_out<C: Ledger, A: Ledger>(
@@ -152,27 +236,21 @@ fn take_out<C: Ledger, A: Ledger>(
     share: Share<C, A>,
 ) -> Result<(World<BoxOffice, C, A>, Totals), Trouble> {
     let Office { alloc, shared } = office;
-    if !share.is_whole() {
-        return Err(Trouble);
+    if share.is_whole() {
+        shared.finish(alloc, share).ok().ok_or(Trouble)
+    } else {
+        drop((shared, share));
+        Err(Trouble)
     }
-    let Ok((world, totals)) = shared.finish(alloc, share) else {
-        return Err(Trouble);
-    };
-    Ok((world, totals))
 }
 
-fn say_counts<R: AllocGlobal + Print>(
-    rt: &R,
-    groups: Groups,
-    totals: Totals,
-) -> Result<(), Trouble> {
+fn say_counts<R: AllocGlobal + Print>(rt: &R, groups: Groups) -> Result<(), Trouble> {
     let Groups {
         made,
         too_late,
         too_large,
     } = groups;
-    println!(rt; "groups served {made}, too late {too_late}, too large {too_large}").map_err(
-        |_| Trouble,
-    )?;
-    println!(rt; "commits {}, which added {}", totals.commits, totals.added).map_err(|_| Trouble)
+    println!(rt; "groups served {made}, too late {too_late}, too large {too_large}")
+        .ok()
+        .ok_or(Trouble)
 }

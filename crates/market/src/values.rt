@@ -34,5 +34,5 @@ pub(crate) fn length(value: &Value) -> usize {
 pub(crate) fn text(alloc: Global, value: &Value) -> Result<String, Trouble> {
     let mut bytes = Vec::new(alloc);
     print(alloc, value, &mut bytes)?;
-    String::from_utf8(bytes).map_err(|_| Trouble)
+    String::from_utf8(bytes).ok().ok_or(Trouble)
 }

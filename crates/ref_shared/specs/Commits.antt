@@ -26,7 +26,7 @@ pub record HasCommitted (stamp : Stamp) (tx : TxSeen) (point : ℕ) (old new : S
 -- The notices of a change of a reference: one for each of its watches, with the values before and after. There is no world to name the
 -- watches by: so there are such keys.
 pub record AreNotices (who : Who) (before after : Edn) (notices : List Notice) : Type 0 where
-  pub keys : List ℕ
+  pub keys : List Edn
   pub are : notices ≡ notices_of who keys before after
 
 -- The notices of a commit: of each ref that the transaction changed, in order, with the values before and after, for refs with some

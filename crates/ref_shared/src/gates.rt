@@ -1,5 +1,6 @@
 //! What is called between the steps of a transaction and of an action.
 ghost use Rattle.std.specs.Prelude.{◌≡◌};
+ghost use Rattle.ref_log.specs.declared.notices.Notice.{Notice};
 ghost use Rattle.ref_shared.specs.Sinks.{TakesAll};
 
 use ref_log::Notice;

@@ -12,7 +12,8 @@ use ref_fun::Core;
 use ref_log::Who;
 use std::alloc::Global;
 
-fn finished_form(alloc: Global, finished: &Finished) -> Form {
+/// `:changed`, `[:failed :invalid]`: how an action ended, with the notices behind it.
+pub fn finished_form(alloc: Global, finished: &Finished) -> Form {
     let (how, error) = match finished {
         Finished::Changed(notices) => {
             return told_form(alloc, vec![in alloc; word(alloc, "changed")?]?, notices);

@@ -19,9 +19,9 @@ use std::marker::Brand;
 use std::sync::ledger::{Blank, Ledger};
 
 /// A world, and its whole share.
-struct Whole<C: Ledger, A: Ledger> {
-    world: World<Core, C, A>,
-    share: Share<C, A>,
+pub struct Whole<C: Ledger, A: Ledger> {
+    pub world: World<Core, C, A>,
+    pub share: Share<C, A>,
 }
 
 // A function of its own, which whoever drops one calls; a derived one would be written out there.
@@ -31,6 +31,14 @@ impl<C: Ledger, A: Ledger> Drop for Whole<C, A> {
             world: _world,
             share: _share,
         } = self;
+    }
+}
+
+impl<C: Ledger, A: Ledger> Whole<C, A> {
+    /// The world and the share.
+    pub fn parted(self) -> (World<Core, C, A>, Share<C, A>) {
+        let Whole { world, share } = self;
+        (world, share)
     }
 }
 
@@ -66,7 +74,8 @@ fn with_world<C: Ledger, A: Ledger, V: Visit>(
     Ok(visit.visit(tables, Whole { world, share }))
 }
 
-fn declared(alloc: Global, starts: Starts) -> Result<ref_world::Start, AllocError> {
+/// What a world begins with that has these references.
+pub fn declared(alloc: Global, starts: Starts) -> Result<ref_world::Start, AllocError> {
     let mut refs = Vec::new(alloc);
     for start in starts.refs {
         let Start {

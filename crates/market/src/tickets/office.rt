@@ -50,15 +50,27 @@ fn evening(alloc: Global, tickets: &str) -> Result<RefStart, AllocError> {
 
 /// What the world begins with: two evenings, and how many tickets are sold.
 pub(crate) fn start(alloc: Global) -> Result<Start, AllocError> {
-    let sold = RefStart {
+    Ok(Start {
+        refs: refs(alloc)?,
+        atoms: Vec::new(alloc),
+        agents: Vec::new(alloc),
+    })
+}
+
+fn refs(alloc: Global) -> Result<Vec<RefStart>, AllocError> {
+    let mut refs = Vec::new(alloc);
+    for tickets in ["30", "50"] {
+        refs.push(evening(alloc, tickets)?)?;
+    }
+    refs.push(sold(alloc)?)?;
+    Ok(refs)
+}
+
+fn sold(alloc: Global) -> Result<RefStart, AllocError> {
+    Ok(RefStart {
         value: value(alloc, "0")?,
         rule: None,
         tally: true,
-    };
-    Ok(Start {
-        refs: vec![in alloc; evening(alloc, "30")?, evening(alloc, "50")?, sold]?,
-        atoms: Vec::new(alloc),
-        agents: Vec::new(alloc),
     })
 }
 
@@ -82,22 +94,47 @@ impl<C: Ledger, A: Ledger> Office<C, A> {
         for _ in 0..TRIES {
             let mut tx = self.shared.begin(rt, self.alloc)?;
             match self.body(&mut tx, evening, group) {
-                Ok(()) => {}
-                Err(TxFault::Refused(_)) => return Ok(Sale::TooLarge),
-                Err(_) => return Err(Trouble),
-            }
-            match self.shared.commit(rt, self.alloc, &Acts, share, stamp, tx) {
-                Ok(receipt) => {
-                    // Here the watches would be called, and then what was sent is released. This world has neither.
-                    self.shared.release(rt, receipt.point);
-                    return Ok(Sale::Made);
+                Ok(()) => {
+                    if let Some(sale) = self.commit(rt, share, stamp, tx)? {
+                        return Ok(sale);
+                    }
                 }
-                Err((_tx, CommitFault::Conflict(_))) => {}
-                Err((_tx, CommitFault::Invalid(_))) => return Ok(Sale::TooLate),
-                Err(_) => return Err(Trouble),
+                Err(fault) => {
+                    drop(tx);
+                    return match fault {
+                        TxFault::Refused(_) => Ok(Sale::TooLarge),
+                        _ => Err(Trouble),
+                    };
+                }
             }
         }
         Err(Trouble)
+    }
+
+    // Commits a sale; None where it is in conflict.
+    fn commit<R: Wait>(
+        &self,
+        rt: &R,
+        share: &mut Share<C, A>,
+        stamp: Stamp,
+        tx: Tx<BoxOffice>,
+    ) -> Result<Option<Sale>, Trouble> {
+        match self.shared.commit(rt, self.alloc, &Acts, share, stamp, tx) {
+            Ok(receipt) => {
+                // Here the watches would be called, and then what was sent is released. This world has neither.
+                self.shared.release(rt, receipt.point);
+                drop(receipt);
+                Ok(Some(Sale::Made))
+            }
+            Err((tx, fault)) => {
+                drop(tx);
+                match fault {
+                    CommitFault::Conflict(_) => Ok(None),
+                    CommitFault::Invalid(_) => Ok(Some(Sale::TooLate)),
+                    _ => Err(Trouble),
+                }
+            }
+        }
     }
 
     fn body(&self, tx: &mut Tx<BoxOffice>, evening: u32, group: &str) -> Result<(), TxFault> {
@@ -115,12 +152,20 @@ impl<C: Ledger, A: Ledger> Office<C, A> {
         evening: u32,
     ) -> Result<(), Trouble> {
         let mut tx = self.shared.begin(rt, self.alloc)?;
-        let Ok(_) = tx.alter(self.alloc, &Acts, evening, CLOSE, no_args(self.alloc)?) else {
-            return Err(Trouble);
-        };
-        match self.shared.commit(rt, self.alloc, &Acts, share, stamp, tx) {
-            Ok(_receipt) => Ok(()),
-            Err(_) => Err(Trouble),
+        match self.close_body(&mut tx, evening) {
+            Ok(()) => match self.commit(rt, share, stamp, tx)? {
+                Some(Sale::Made) => Ok(()),
+                _ => Err(Trouble),
+            },
+            Err(_) => {
+                drop(tx);
+                Err(Trouble)
+            }
         }
+    }
+
+    fn close_body(&self, tx: &mut Tx<BoxOffice>, evening: u32) -> Result<(), TxFault> {
+        tx.alter(self.alloc, &Acts, evening, CLOSE, no_args(self.alloc)?)?;
+        Ok(())
     }
 }

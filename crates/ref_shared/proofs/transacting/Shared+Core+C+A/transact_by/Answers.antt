@@ -1,5 +1,6 @@
 use Rattle.std.proofs.Common.{rules, of_calls, refl, arith, ◌∷◌, Ok, Err}
-use Rattle.ref_shared.proofs.Chains.{final, one_more}
+use Rattle.ref_shared.specs.Bodies.{IsRetried}
+use Rattle.ref_shared.proofs.Chains.{all_earlier, all_more, final, one_more}
 use Rattle.ref_shared.proofs.transacting.Shared+Core+C+A.transact_by.Goals as goal
 
 pub returns-in-Err-clause-fault : goal.returns-in-Err-clause-fault
@@ -52,7 +53,7 @@ loop-attempt-preserved g c =
         (record { began = _; answer = Ok c.in-Ok-body.answer; left = _ }) ∷ so_far.0,
         (_, so_far.1, record { fresh = c.in-Ok.ensures; called = record { shown = _; shows = refl; left = _; called = call; leaves = refl } }),
         omega (arith, so_far.2),
-        (record { answered = refl; conflict = c.in-Conflict.conflict; fits = search rules }, so_far.3),
+        all_more IsRetried _ so_far.0 (record { answered = refl; conflict = c.in-Conflict.conflict; fits = search rules }) so_far.3,
       );
       room = omega (arith, c.loop-attempt.invariant.room, c.if-attempt-tries.false);
     }
@@ -76,4 +77,11 @@ returns-in_default-fault-clause-fault g c =
           (record { fresh = c.in-Ok.ensures; called = record { shown = _; shows = refl; left = _; called = call; leaves = refl } }),
       refl,
       final _ c.in_default-fault.not-Conflict c.in_default-fault.not-Memory,
+    )
+
+pub returns-in_default-clause-fault : goal.returns-in_default-clause-fault
+returns-in_default-clause-fault g c =
+    let so_far = c.loop-attempt.invariant.called in (
+      so_far.0,
+      record { called = so_far.1; few = omega (arith, so_far.2, c.loop-attempt.invariant.room); retried = all_earlier so_far.0 so_far.3 },
     )
