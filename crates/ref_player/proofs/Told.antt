@@ -2,10 +2,9 @@
 use Rattle.std.proofs.Common.{◌≡◌, ℕ, List, [], ◌++◌, subst}
 use Rattle.std.specs.Prelude.{◌≢◌, Result, Ok, Err, IfErr, IfOk, IsErrAnd, OnOk}
 use Rattle.ref_value.specs.Edn.{Edn}
-use Rattle.ref_edn.specs.Faults.{Answers}
 use Rattle.ref_edn.specs.Grammar.{IsText}
-use Rattle.ref_edn.specs.Reading.{one}
 use Rattle.ref_edn.specs.declared.faults.ReadFault.{ReadFault}
+use Rattle.ref_workload.specs.Streams.{IsFaultOfOne}
 use Rattle.ref_edn.specs.declared.faults.ReadFault.TheVariants as reads
 use Rattle.ref_fun.specs.Calls.{HasCore, Known}
 use Rattle.ref_start.specs.Names.{NamesSeen}
@@ -68,7 +67,7 @@ module _ (script : ScriptSeen) (knows : Known) (core : HasCore knows) (first : S
 
 -- ---- faults
 
-not_edn : (text : List ℕ) (f : ReadFault) → (f ≢ reads.Memory → (v : Edn) → IsText text v → ⊥) → Answers {X = Edn} text (λ v. v) (Err f) (one text) → IsAtFault text (text_fault_of f)
+not_edn : (text : List ℕ) (f : ReadFault) → (f ≢ reads.Memory → (v : Edn) → IsText text v → ⊥) → IsFaultOfOne text f → IsAtFault text (text_fault_of f)
 not_edn text reads.Memory none is = tt
 not_edn text f none is = (λ e. cc, none (λ e. cc), is)
 
@@ -77,7 +76,7 @@ no_script text v scripts.Memory is none = tt
 no_script text v f is none = (λ e. cc, (v, is, none (λ e. cc)))
 
 -- what a call that hands on such a fault answers
-pub edn_told : {T : Type 0} (r : Result T PlayFault) (text : List ℕ) (f : ReadFault) → IsErrAnd r (λ g. g ≡ text_fault_of f) → (f ≢ reads.Memory → (v : Edn) → IsText text v → ⊥) → Answers {X = Edn} text (λ v. v) (Err f) (one text) → IfErr r (λ g. IsAtFault text g)
+pub edn_told : {T : Type 0} (r : Result T PlayFault) (text : List ℕ) (f : ReadFault) → IsErrAnd r (λ g. g ≡ text_fault_of f) → (f ≢ reads.Memory → (v : Edn) → IsText text v → ⊥) → IsFaultOfOne text f → IfErr r (λ g. IsAtFault text g)
 edn_told (Ok x) text f told none is = tt
 edn_told (Err g) text f told none is = rw told (not_edn text f none is)
 

@@ -2,7 +2,6 @@
 use Rattle.std.specs.Prelude.{◌≡◌, ◌≢◌, ℕ, List, [], ◌++◌, None, Ok}
 use Rattle.ref_value.specs.Edn.{Edn}
 use Rattle.ref_edn.specs.Grammar.{IsText}
-use Rattle.ref_edn.specs.Reading.{one}
 use Rattle.ref_fun.specs.Calls.{HasCore, Known}
 use Rattle.ref_fun.specs.Core.{core_accepts, core_means}
 use Rattle.ref_start.specs.declared.starts.AgentStart.{AgentStart}
@@ -17,7 +16,7 @@ use Rattle.ref_world.specs.Seen.{WorldSeen}
 use Rattle.ref_world.specs.Shares.{whole}
 use Rattle.ref_world.specs.Starts.{base_of, books_of, declared_agents, declared_atoms, declared_refs}
 use Rattle.ref_world.specs.World.{with_agents}
-use Rattle.ref_workload.specs.Streams.{IsInputAtFault}
+use Rattle.ref_workload.specs.Streams.{IsFaultOfOne, IsInputAtFault}
 use Rattle.ref_workload.specs.declared.faults.RunFault.TheVariants as runs
 use Rattle.ref_play.specs.Sims.{IsPlayed, SimSeen, Stands, all_back, jobs_of, machine_of, txs_of}
 use Rattle.ref_play.specs.declared.events.Event.{Event}
@@ -78,5 +77,5 @@ pub record IsPlay (text output : List ℕ) : Type 0 where
 -- what a fault says of the text that was there to read
 abbrev pub IsAtFault : List ℕ → PlayFault → Type 0
 IsAtFault text (plays.Run (runs.Plan fault)) = ⊥
-IsAtFault text (plays.Run fault) = IsInputAtFault IsText one text fault
+IsAtFault text (plays.Run fault) = IsInputAtFault IsText IsFaultOfOne text fault
 IsAtFault text (plays.Script fault) = (fault ≢ scripts.Memory) × ((value : Edn) × IsText text value × ((script : ScriptSeen) → IsScript value script → ⊥))

@@ -141,5 +141,5 @@ can_refuse (steps.Validator who rule) reason = can_refuse_rule reason
 abbrev pub HasReason : List (List Step) → Refusal → Type 0
 HasReason workers r = (step : Step) × (at_stamp workers r.stamp ≡ Some step) × (can_refuse step r.reason ≡ true)
 
-abbrev pub HaveReasons : List (List Step) → List Refusal → Type 0
-HaveReasons workers refusals = All (HasReason workers) refusals
+pub record HaveReasons (workers : List (List Step)) (refusals : List Refusal) : Type 0 where
+  pub each : All (HasReason workers) refusals

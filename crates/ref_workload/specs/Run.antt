@@ -3,7 +3,6 @@ use Rattle.std.specs.Prelude.{◌≡◌, ◌≢◌, ℕ, Bool, true, false, List
 use Rattle.ref_value.specs.Edn.{Edn}
 use Rattle.ref_edn.specs.Grammar.{IsText}
 use Rattle.ref_edn.specs.Printed.{printed}
-use Rattle.ref_edn.specs.Reading.{one}
 use Rattle.ref_audit.specs.DumpForm.{dump_of}
 use Rattle.ref_audit.specs.Dumped.{dumped}
 use Rattle.ref_audit.specs.Report.{reported}
@@ -16,7 +15,7 @@ use Rattle.ref_world.specs.World.{IsWorld}
 use Rattle.ref_workload.specs.Orderly.{AreInOrder, IsOrderly}
 use Rattle.ref_workload.specs.Reasons.{HaveReasons}
 use Rattle.ref_plan.specs.Plan.{PlanSeen}
-use Rattle.ref_workload.specs.Streams.{IsInputAtFault}
+use Rattle.ref_workload.specs.Streams.{IsFaultOfOne, IsInputAtFault}
 use Rattle.ref_plan.specs.Workload.{IsWorkload}
 use Rattle.ref_workload.specs.declared.faults.RunFault.{RunFault}
 use Rattle.ref_workload.specs.declared.faults.RunFault.TheVariants as faults
@@ -66,4 +65,4 @@ IsOfText fault = Unit {0}
 -- what a fault says of the text that was there to read
 abbrev pub IsAtFault : List ℕ → RunFault → Type 0
 IsAtFault text (faults.Plan fault) = (fault ≢ plans.Memory) × ((value : Edn) × IsText text value × ((plan : PlanSeen) → IsWorkload value plan → ⊥))
-IsAtFault text fault = IsInputAtFault IsText one text fault
+IsAtFault text fault = IsInputAtFault IsText IsFaultOfOne text fault

@@ -1,10 +1,11 @@
 -- What a command reads and writes, whatever it does between: it reads its input whole, and then writes one output.
 use Rattle.std.specs.Prelude.{◌≡◌, ◌≢◌, ◌<◌, ◌≤◌, ℕ, List, length, Option, IfSome, Result, Ok, Err}
 use Rattle.std.specs.Io.KnownBytes.{Appends, IsAtEnd}
-use Rattle.ref_edn.specs.declared.faults.Fault.{Fault}
+use Rattle.ref_value.specs.Edn.{Edn}
 use Rattle.ref_edn.specs.declared.faults.ReadFault.{ReadFault}
 use Rattle.ref_edn.specs.declared.faults.ReadFault.TheVariants as reads
 use Rattle.ref_edn.specs.Faults.{Answers}
+use Rattle.ref_edn.specs.Reading.{all, one}
 use Rattle.ref_edn.specs.Streams.{AppendsPart, counted}
 use Rattle.ref_workload.specs.declared.faults.RunFault.{RunFault}
 use Rattle.ref_workload.specs.declared.faults.RunFault.TheVariants as faults
@@ -28,17 +29,22 @@ HasWritten Gives before after old new = Wrote Appends Gives before after old new
 abbrev pub HasBrokenOff : (List ℕ → List ℕ → Type 0) → Option (List ℕ) → Option (List ℕ) → Option (List ℕ) → Option (List ℕ) → Type 0
 HasBrokenOff Gives before after old new = Wrote AppendsPart Gives before after old new
 
--- A text belongs to no value, and the fault is the first from the left, with its place: `Belongs` says which texts belong to a value, and
--- `reading` what comes of a text.
-abbrev pub IsNotEdn : {T : Type 0} → (List ℕ → T → Type 0) → (List ℕ → Result T Fault) → List ℕ → ReadFault → Type 0
-IsNotEdn {T = T} Belongs reading text fault =
-    (fault ≢ reads.Memory) × ((value : T) → Belongs text value → ⊥) × Answers {X = T} text (λ v. v) (Err fault) (reading text)
+-- The fault of a text that is to be one element, and of one of any number: the first from the left, with its place.
+abbrev pub IsFaultOfOne : List ℕ → ReadFault → Type 0
+IsFaultOfOne text fault = Answers {X = Edn} text (λ v. v) (Err fault) (one text)
+
+abbrev pub IsFaultOfAll : List ℕ → ReadFault → Type 0
+IsFaultOfAll text fault = Answers {X = List Edn} text (λ v. v) (Err fault) (all text)
+
+-- A text belongs to no value, and this is its fault: `Belongs` says which texts belong to a value, and `IsFault` which fault a text has.
+abbrev pub IsNotEdn : {T : Type 0} → (List ℕ → T → Type 0) → (List ℕ → ReadFault → Type 0) → List ℕ → ReadFault → Type 0
+IsNotEdn {T = T} Belongs IsFault text fault = (fault ≢ reads.Memory) × ((value : T) → Belongs text value → ⊥) × IsFault text fault
 
 -- what a fault of reading says of the text that was there to read
-abbrev pub IsInputAtFault : {T : Type 0} → (List ℕ → T → Type 0) → (List ℕ → Result T Fault) → List ℕ → RunFault → Type 0
-IsInputAtFault Belongs reading text faults.InputTooLong = 16777216 < length text
-IsInputAtFault Belongs reading text (faults.NotEdn fault) = IsNotEdn Belongs reading text fault
-IsInputAtFault Belongs reading text fault = Unit {0}
+abbrev pub IsInputAtFault : {T : Type 0} → (List ℕ → T → Type 0) → (List ℕ → ReadFault → Type 0) → List ℕ → RunFault → Type 0
+IsInputAtFault Belongs IsFault text faults.InputTooLong = 16777216 < length text
+IsInputAtFault Belongs IsFault text (faults.NotEdn fault) = IsNotEdn Belongs IsFault text fault
+IsInputAtFault Belongs IsFault text fault = Unit {0}
 
 -- faults that come from the input before anything is asked of its text
 abbrev pub IsOfInput : RunFault → Type 0

@@ -2,10 +2,9 @@
 use Rattle.std.proofs.Common.{◌≡◌, ℕ, List, sym, ap, arith}
 use Rattle.std.specs.Prelude.{◌≢◌, Result, Ok, Err, IfErr, IsErrAnd}
 use Rattle.ref_value.specs.Edn.{Edn}
-use Rattle.ref_edn.specs.Faults.{Answers}
 use Rattle.ref_edn.specs.Grammar.{IsText}
-use Rattle.ref_edn.specs.Reading.{one}
 use Rattle.ref_edn.specs.declared.faults.ReadFault.{ReadFault}
+use Rattle.ref_workload.specs.Streams.{IsFaultOfOne}
 use Rattle.ref_edn.specs.declared.faults.ReadFault.TheVariants as reads
 use Rattle.ref_audit.specs.DumpForm.{dump_of}
 use Rattle.ref_audit.specs.Report.{verdict_line}
@@ -29,7 +28,7 @@ audit_told text v line w (Ok dump) is e belongs line_is =
     record { value = v; dump = dump; belongs = belongs; says = sym is; verdict_is = sym same; output_is = line_is }
 audit_told text v line w (Err f) is e belongs line_is = absurd (grind (arith, e))
 
-not_edn : (text : List ℕ) (f : ReadFault) → (f ≢ reads.Memory → (v : Edn) → IsText text v → ⊥) → Answers {X = Edn} text (λ v. v) (Err f) (one text) → IsAtFault text (edn_fault_of f)
+not_edn : (text : List ℕ) (f : ReadFault) → (f ≢ reads.Memory → (v : Edn) → IsText text v → ⊥) → IsFaultOfOne text f → IsAtFault text (edn_fault_of f)
 not_edn text reads.Memory none is = tt
 not_edn text f none is = (λ e. cc, none (λ e. cc), is)
 
@@ -38,7 +37,7 @@ not_dump text v dumps.Memory is none = tt
 not_dump text v f is none = (λ e. cc, (v, is, no_dump (dump_of v) f (none (λ e. cc))))
 
 -- what a call that hands on such a fault answers
-pub edn_told : {T : Type 0} (r : Result T AuditRunFault) (text : List ℕ) (f : ReadFault) → IsErrAnd r (λ g. g ≡ edn_fault_of f) → (f ≢ reads.Memory → (v : Edn) → IsText text v → ⊥) → Answers {X = Edn} text (λ v. v) (Err f) (one text) → IfErr r (λ g. IsAtFault text g)
+pub edn_told : {T : Type 0} (r : Result T AuditRunFault) (text : List ℕ) (f : ReadFault) → IsErrAnd r (λ g. g ≡ edn_fault_of f) → (f ≢ reads.Memory → (v : Edn) → IsText text v → ⊥) → IsFaultOfOne text f → IfErr r (λ g. IsAtFault text g)
 edn_told (Ok x) text f told none is = tt
 edn_told (Err g) text f told none is = rw told (not_edn text f none is)
 

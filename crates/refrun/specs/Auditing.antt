@@ -2,7 +2,6 @@
 use Rattle.std.specs.Prelude.{◌≡◌, ◌≢◌, ◌<◌, ℕ, List, length, Result, Ok, Err}
 use Rattle.ref_value.specs.Edn.{Edn}
 use Rattle.ref_edn.specs.Grammar.{IsText}
-use Rattle.ref_edn.specs.Reading.{one}
 use Rattle.ref_edn.specs.Streams.{counted}
 use Rattle.ref_edn.specs.declared.faults.ReadFault.{ReadFault}
 use Rattle.ref_edn.specs.declared.faults.ReadFault.TheVariants as reads
@@ -13,7 +12,7 @@ use Rattle.ref_verdict.specs.declared.reading.dumps.Dump.{Dump}
 use Rattle.ref_verdict.specs.declared.reading.faults.DumpFault.{DumpFault}
 use Rattle.ref_verdict.specs.declared.reading.faults.DumpFault.TheVariants as dumps
 use Rattle.ref_verdict.specs.declared.reports.Verdict.{Verdict}
-use Rattle.ref_workload.specs.Streams.{IsNotEdn}
+use Rattle.ref_workload.specs.Streams.{IsFaultOfOne, IsNotEdn}
 use Rattle.refrun.specs.declared.faults.AuditRunFault.{AuditRunFault}
 use Rattle.refrun.specs.declared.faults.AuditRunFault.TheVariants as faults
 
@@ -33,7 +32,7 @@ IsAudit text output = (verdict : Verdict) × IsAuditOf verdict text output
 -- what a fault says of the text that was there to read
 abbrev pub IsAtFault : List ℕ → AuditRunFault → Type 0
 IsAtFault text faults.InputTooLong = 16777216 < length text
-IsAtFault text (faults.NotEdn fault) = IsNotEdn IsText one text fault
+IsAtFault text (faults.NotEdn fault) = IsNotEdn IsText IsFaultOfOne text fault
 IsAtFault text (faults.Dump fault) = (fault ≢ dumps.Memory) × ((value : Edn) × IsText text value × (dump_of value ≡ Err fault))
 IsAtFault text fault = Unit {0}
 

@@ -1,10 +1,9 @@
 //! The elements of a text, each on a line.
 ghost use Rattle.std.specs.Prelude.{◌≡◌, ◌≢◌, IfOk, IfErr, IfSome, OnOk};
 ghost use Rattle.ref_edn.specs.Grammar.{AreTexts};
-ghost use Rattle.ref_edn.specs.Reading.{all};
 ghost use Rattle.ref_edn.specs.Streams.{ConsumesUpTo};
 ghost use Rattle.refrun.specs.Printing.{IsOfElements, IsOfPrinting, IsPrintOf, printed_lines};
-ghost use Rattle.ref_workload.specs.Streams.{CountsReads, CountsWrites, HasBrokenOff, HasWritten, IsInputAtFault};
+ghost use Rattle.ref_workload.specs.Streams.{CountsReads, CountsWrites, HasBrokenOff, HasWritten, IsFaultOfAll, IsInputAtFault};
 
 use ref_edn::{Sink, Source, print, read_all};
 use ref_value::Value;
@@ -27,7 +26,7 @@ pub fn print_text<R: Source, W: Sink>(
     ensures ok { OnOk result (HasWritten IsPrintOf (R.left reader.old) (R.left reader.new) (W.written writer.old)
         (W.written writer.new)) }
     // The text or its length is at fault, where the fault says so.
-    ensures fault { IfErr result (λ f. IfSome (R.left reader.old) (λ text. IsInputAtFault AreTexts all text f)) }
+    ensures fault { IfErr result (λ f. IfSome (R.left reader.old) (λ text. IsInputAtFault AreTexts IsFaultOfAll text f)) }
     ensures kinds { IfErr result IsOfPrinting }
     ensures write { IfErr result (λ f. f ≡ RunFault.Write
         → HasBrokenOff IsPrintOf (R.left reader.old) (R.left reader.new) (W.written writer.old)
@@ -45,7 +44,7 @@ pub fn print_text<R: Source, W: Sink>(
 // What is printed of a text.
 fn lines_of_text(alloc: Global, text: &[u8]) -> Result<Vec<u8>, RunFault>
     ensures ok { IfOk result (λ output. IsPrintOf text.now output.items) }
-    ensures fault { IfErr result (λ f. IsInputAtFault AreTexts all text.now f) }
+    ensures fault { IfErr result (λ f. IsInputAtFault AreTexts IsFaultOfAll text.now f) }
     ensures kinds { IfErr result IsOfElements }
 {
     let values = read_all(alloc, text)?;
