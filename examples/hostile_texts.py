@@ -13,7 +13,9 @@ from typing import Callable
 HERE = Path(__file__).resolve().parent
 # The longest text, the references of a kind, the workers, and the steps of each.
 FULL, REFERENCES, WORKERS, STEPS = 16 * 1024 * 1024, 4_096, 64, 10_000
-EVERY = ("run", "check", "audit", "print")
+EVERY = ("run", "check", "audit", "play", "print")
+# The most events of a list.
+EVENTS = 640_000
 # No transaction is to give up.
 RUN = "run --tries 1000000"
 
@@ -642,7 +644,40 @@ def growing():
     yield Case(f"{WORKERS * n:,} transactions on {refs:,} refs", text, {RUN: shown}, 64)
 
 
+def events(*pieces):
+    return ["{:version 1 :refs [[a 0]] :atoms [[x 0]] :agents [[g 0]] :events [", *pieces, "]}"]
+
+
+def played(*pieces, a=0, x=0, g=0, commits=0):
+    return {"play": printed(*pieces, f"ref a {a}\natom x {x}\nagent g {g} ready\ncommits {commits}\naudit ok\n")}
+
+
+def replies(act, reply, count):
+    """So many lines of an actor that does the same again and again."""
+    return each(lambda i: f"{i} 0 {act} -> {reply(i)}\n", count)
+
+
+def plays():
+    """Lists of events with as many actors, events and operations as there may be, and some that are at fault."""
+    n = scaled(EVENTS)
+    begun = each(lambda i: f"{i} {i} :begin -> point 0\n", n)
+    yield Case("as many actors as events, each with a transaction", events(each(lambda i: f"[{i} :begin]", n)), played(begun), 64)
+    takers = each(lambda i: f"{i} {4294967295 - i} :take -> none\n", n)
+    yield Case("as many actors as events, without a job", events(each(lambda i: f"[{4294967295 - i} :take]", n)), played(takers), 64)
+    added = replies(":swap x inc", lambda i: f"swapped {i} {i + 1}", n)
+    yield Case("as many changes of an atom as events", events(repeat("[0 :swap x inc]", n)), played(added, x=n), 64)
+    sent = replies(":send g inc", lambda i: "ok", n)
+    yield Case("as many sends as events", events(repeat("[0 :send g inc]", n)), played(sent), 64)
+    many = fitting("[0 :take]", 100)
+    if many > EVENTS:
+        yield Case("millions of events", events(repeat("[0 :take]", many)), {"play": refused("TooMany")}, 64)
+    deep = fitting("[]", 100)
+    yield Case("a deep event", events("[0 :reset x ", "[" * 49, "]" * 49, "]"), {"play": refused("BadEvent 0")})
+    yield Case("a long event", events("[0 :send g + ", repeat("0 ", deep), "]"), {"play": refused("BadEvent 0")})
+    yield Case("an actor past 32 bits", events("[4294967296 :begin]"), {"play": refused("BadEvent 0")})
+
+
 GROUPS = (
     nesting, strings, names, integers, vectors, maps, blanks, brackets, values, long_names, too_many, steps, operations, dumps,
-    long_values, growing,
+    long_values, growing, plays,
 )  # fmt: skip
