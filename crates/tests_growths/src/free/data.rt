@@ -49,9 +49,9 @@ fn has_functions(funs: &FunTable) -> bool {
 
 // Whether 7 is at least 7, by the table.
 fn tests_seven(funs: &FunTable, seven: &[Value]) -> bool {
-    match seven.first() {
-        Some(state) => Functions::<Core>::test(funs, AT_LEAST, state, seven) == Some(true),
-        None => false,
+    match seven {
+        [state] => Functions::<Core>::test(funs, AT_LEAST, state, seven) == Some(true),
+        _ => false,
     }
 }
 
@@ -71,7 +71,7 @@ fn call_on_functions<R: Input + Print>(
     let has = has_functions(funs);
     free.end("has_fun and has_pred", has);
     free.begin();
-    let is_seven = seven.len() == 1 && tests_seven(funs, &seven);
+    let is_seven = tests_seven(funs, &seven);
     free.end("test", is_seven);
     free.begin();
     let _table = FunTable::empty(alloc);
