@@ -12,6 +12,7 @@ use crate::stages::Stage;
 use ref_edn::Value;
 use std::alloc::{AllocError, Global};
 use std::sync::ledger::Ledger;
+use tests_plain::memory::Memory;
 use tests_rows::answers::{number, truth};
 use tests_rows::calls::{answer, put_back, taken};
 use tests_rows::forms::{members, number_at, read, word_at};

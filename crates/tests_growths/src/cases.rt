@@ -123,6 +123,12 @@ impl Case {
 const TRANSACTION: &str =
     "[begin 1] [1 alter a + 5] [1 set b 3] [1 commute t + 2] [1 ensure c] [1 deref c]";
 
+// A vector whose tree turns when one more member comes: its parts have 32, 32 and 32 members, the last of them added one by one.
+const BEFORE_TURN: &str = "
+    [reset y [1 2 3 4 5 6 7 8 1 2 3 4 5 6 7 8 1 2 3 4 5 6 7 8 1 2 3 4 5 6 7 8
+              1 2 3 4 5 6 7 8 1 2 3 4 5 6 7 8 1 2 3 4 5 6 7 8 1 2 3 4 5 6 7 8]]
+    [swap y conj 1 2 3 4 5 6 7 8] [swap y conj 1 2 3 4 5 6 7 8] [swap y conj 1 2 3 4 5 6 7 8] [swap y conj 1 2 3 4 5 6 7 8]";
+
 const SENDING: &str =
     "[finish] [begin 1] [1 alter a + 5] [1 commute t + 2] [1 send g + 1] [1 send i conj 1] [1 send g + 2] [1 send h + 1]";
 
@@ -151,6 +157,11 @@ pub(crate) const CASES: &[Case] = &[
         name: "swap, a set that grows",
         before: "[swap z conj n0 n1]",
         call: Call::Row("[swap z conj n2 n3 n4 n5 n6 n7 n8 n9]"),
+    },
+    Case {
+        name: "swap, a vector whose tree turns",
+        before: BEFORE_TURN,
+        call: Call::Row("[swap y conj n]"),
     },
     Case {
         name: "reset",

@@ -3,6 +3,7 @@ ghost use Rattle.ref_world.specs.Shares.{IsBlank};
 
 mod agents;
 mod data;
+mod plays;
 mod shares;
 mod transactions;
 mod worlds;
@@ -18,6 +19,7 @@ use ref_world::ALL_PARTS;
 use std::marker::Brand;
 use std::sync::Wait;
 use std::sync::ledger::{Blank, Ledger};
+use tests_plain::memory::Memory;
 use tests_rows::tables::{ByTables, Tables, with_tables};
 
 /// Counts the calls that answered as they have to, without a request for memory, and prints the others.
@@ -118,6 +120,7 @@ impl<'a, R: AllocGlobal + Input + Print + Wait> ByTables for Calls<'a, R> {
             others: 0,
         };
         call_new(&mut free, tables)?;
+        plays::call_all(&mut free, tables)?;
         let (calls, others) = (free.calls, free.others);
         println!(self.rt;
             "calls with every request refused: {calls}, of which {others} take memory"

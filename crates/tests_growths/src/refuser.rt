@@ -1,10 +1,10 @@
 //! What refuses a request for memory. The C library that stands before `malloc` counts requests from a read of standard input on:
-//! by a read of n + 1 bytes the nth request from then on is refused, by a read of [`ALL`] bytes each one, until a read of one byte,
-//! which gives `h` if one was refused.
+//! by a read of n + 1 bytes the nth request from then on is refused, by a read of [`ALL`] bytes each one, until a read of one byte.
+//! It gives 0 if none was refused, and else one more than there are blocks that were granted before and are held still.
 use std::io::Read;
+use tests_plain::memory::{MOST_REQUESTS, Memory};
 
-/// The most requests of one call that can be counted.
-pub(crate) const MOST: usize = 250;
+const _: () = prove!(MOST_REQUESTS + 1 < ALL);
 
 const ALL: usize = 256;
 
@@ -17,10 +17,13 @@ fn count<R: Input>(rt: &R, length: usize) -> bool {
     matches!(rt.reader().read(part), Ok(1))
 }
 
-// Ends the count, and answers whether a request was refused.
-fn end_count<R: Input>(rt: &R) -> bool {
+// Ends the count. If a request was refused, answers how many blocks were granted before and are held still.
+fn end_count<R: Input>(rt: &R) -> Option<usize> {
     let mut room = [0u8; 1];
-    matches!(rt.reader().read(&mut room), Ok(1)) && room[0] == b'h'
+    match rt.reader().read(&mut room) {
+        Ok(1) => usize::from(room[0]).checked_sub(1),
+        _ => None,
+    }
 }
 
 /// Whether requests for memory can be refused here.
@@ -29,7 +32,7 @@ pub(crate) fn refuses<R: AllocGlobal + Input>(rt: &R) -> bool {
         return false;
     }
     let made = Box::new(rt.alloc(), 0u8);
-    let was_refused = end_count(rt);
+    let was_refused = end_count(rt).is_some();
     made.is_err() && was_refused
 }
 
@@ -40,6 +43,9 @@ pub(crate) struct Refuser<'a, R: Input> {
     length: Option<usize>,
     is_counting: bool,
     was_refused: bool,
+    // How many blocks the last call holds still, and how many those before it, since request 1 was to be refused.
+    held: usize,
+    held_before: usize,
 }
 
 impl<'a, R: Input> Drop for Refuser<'a, R> {
@@ -49,6 +55,8 @@ impl<'a, R: Input> Drop for Refuser<'a, R> {
             length: _,
             is_counting: _,
             was_refused: _,
+            held: _,
+            held_before: _,
         } = self;
     }
 }
@@ -60,17 +68,9 @@ impl<'a, R: Input> Refuser<'a, R> {
             length: None,
             is_counting: false,
             was_refused: false,
+            held: 0,
+            held_before: 0,
         }
-    }
-
-    /// The request of this number, from 1 on, is to be refused in the next call; for 0 none is.
-    pub(crate) fn arm(&mut self, number: usize) {
-        self.was_refused = false;
-        self.length = if number == 0 {
-            None
-        } else {
-            Some(number.saturating_add(1))
-        };
     }
 
     /// Each request is to be refused in the next call.
@@ -78,24 +78,42 @@ impl<'a, R: Input> Refuser<'a, R> {
         self.was_refused = false;
         self.length = Some(ALL);
     }
+}
 
-    /// A call begins, which is the next one if nothing was counted since a request was to be refused.
-    pub(crate) fn begin(&mut self) {
+impl<'a, R: Input> Memory for Refuser<'a, R> {
+    // A refused call may leave room where it grew before, and doesn't request that again. So if a call is made without its request 1, 2,
+    // and so on in the same world, as many numbers are left out.
+    fn arm(&mut self, number: usize) {
+        self.was_refused = false;
+        self.held_before = if number > 1 {
+            self.held_before.saturating_add(self.held)
+        } else {
+            0
+        };
+        self.held = 0;
+        self.length = if number == 0 {
+            None
+        } else {
+            Some(number.saturating_sub(self.held_before).saturating_add(1))
+        };
+    }
+
+    fn begin(&mut self) {
         if let Some(length) = self.length.take() {
             self.is_counting = count(self.rt, length);
         }
     }
 
-    /// A call has ended, or the part of it that is counted.
-    pub(crate) fn end(&mut self) {
+    fn end(&mut self) {
         if self.is_counting {
             self.is_counting = false;
-            self.was_refused = end_count(self.rt);
+            let held = end_count(self.rt);
+            self.was_refused = held.is_some();
+            self.held = held.unwrap_or(0);
         }
     }
 
-    /// Whether a request was refused since one was to be.
-    pub(crate) fn was_refused(&self) -> bool {
+    fn was_refused(&self) -> bool {
         self.was_refused
     }
 }

@@ -8,6 +8,7 @@ use ref_log::{Base, Entry, MakeFault, RuleFault, Stamp, WatchFault, Who};
 use ref_pvec::PVec;
 use std::alloc::{AllocError, Global};
 use std::sync::ledger::Ledger;
+use tests_plain::memory::Memory;
 use tests_rows::forms::Start;
 use tests_rows::subjects::{By, Committed, Extent, Kind, Look, Open, Receipt, Subject};
 use tests_rows::whole::Whole;
@@ -26,7 +27,7 @@ pub(crate) struct Refusing<'a, R: Input, C: Ledger, A: Ledger> {
     pub(crate) whole: Whole<C, A>,
 }
 
-// A function of its own, which whoever drops one calls; a derived one would be written out there.
+// A function of its own, which each place that drops one calls; a derived one would be written out there.
 impl<'a, R: Input, C: Ledger, A: Ledger> Drop for Refusing<'a, R, C, A> {
     fn drop(self) {
         let Refusing {

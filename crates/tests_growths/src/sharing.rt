@@ -17,6 +17,7 @@ use ref_world::{Share, Totals, World};
 use std::alloc::{AllocError, Global};
 use std::sync::Wait;
 use std::sync::ledger::Ledger;
+use tests_plain::memory::Memory;
 use tests_rows::answers::number;
 use tests_rows::calls::{put_back, taken};
 use tests_rows::forms::{args_from, read};

@@ -1,9 +1,9 @@
 //! The table of all calls.
 use crate::Trouble;
 use crate::cases::{CASES, Case};
-use crate::refuser::MOST;
 use crate::trials::{Plan, State, Trial, tried};
 use std::sync::Wait;
+use tests_plain::memory::MOST_REQUESTS;
 use tests_rows::tables::{ByTables, Tables, with_tables};
 
 // Each call is made in a new world; in a full one after 0 to 8 rounds, so that each list is full in one of these states; and in so many
@@ -94,7 +94,7 @@ fn try_state<R: AllocGlobal + Input + Print + Wait>(
     if wanted.shown != never.shown {
         counts.changes = counts.changes.saturating_add(1);
     }
-    for number in 1..MOST {
+    for number in 1..MOST_REQUESTS {
         if !try_request(rt, tables, case, state, number, (&never, &wanted), counts)? {
             return Ok(());
         }

@@ -16,6 +16,7 @@ use std::marker::Brand;
 use std::sync::Wait;
 use std::sync::ledger::{Blank, Ledger};
 use tests_plain::drawing::Draws;
+use tests_plain::memory::Memory;
 use tests_rows::forms::read;
 use tests_rows::rows::starts_of;
 use tests_rows::tables::Tables;
@@ -83,7 +84,7 @@ pub(crate) struct Trial {
     pub(crate) shown: Value,
 }
 
-// A function of its own, which whoever drops one calls; a derived one would be written out there.
+// A function of its own, which each place that drops one calls; a derived one would be written out there.
 impl Drop for Trial {
     fn drop(self) {
         let Trial {

@@ -1,11 +1,12 @@
 //! Actors of the model, and the acts that are drawn for them.
-use crate::checkpoints::{answer, fold};
 use crate::wanted::Wanted;
 use ref_fun::Action;
 use ref_play::Act;
 use std::alloc::{AllocError, Global};
+use tests_drawn::checkpoints::{answer, fold};
 use tests_plain::agents::{Ended, PlainJob, plain_run};
 use tests_plain::making::{any_rule_from, args_from, rule_from, value_and_rule_from, value_from};
+use tests_plain::memory::Ample;
 use tests_plain::model::{Kind, Model, PlainStart};
 use tests_plain::outcomes::Stop;
 use tests_plain::plain::PlainOp;
@@ -60,7 +61,7 @@ fn deref(actor: &Actor, r: u32) -> Told {
     Ok((Act::Deref(r), wanted))
 }
 
-fn require(player: &mut Player, actor: &Actor, table: Table, r: u32) -> Told {
+fn require(player: &mut Player<Ample>, actor: &Actor, table: Table, r: u32) -> Told {
     let rule = player.draws.rule();
     let wanted = match &actor.tx {
         Some(tx) => Wanted::Require(tx.require(table, r, rule)),
@@ -69,7 +70,7 @@ fn require(player: &mut Player, actor: &Actor, table: Table, r: u32) -> Told {
     Ok((Act::Require(r, rule_from(player.alloc, rule)?), wanted))
 }
 
-fn drawn_op(player: &mut Player) -> PlainOp {
+fn drawn_op(player: &mut Player<Ample>) -> PlainOp {
     match player.draws.below(12) {
         0..=2 => PlainOp::Set(player.draws.value()),
         3..=5 => PlainOp::Alter(player.draws.function()),
@@ -87,7 +88,7 @@ fn act_of(alloc: Global, r: u32, op: PlainOp) -> Result<Act, AllocError> {
     }
 }
 
-fn operate(player: &mut Player, actor: &mut Actor, table: Table, r: u32) -> Told {
+fn operate(player: &mut Player<Ample>, actor: &mut Actor, table: Table, r: u32) -> Told {
     let op = drawn_op(player);
     let act = act_of(player.alloc, r, op)?;
     let wanted = match &mut actor.tx {
@@ -97,7 +98,7 @@ fn operate(player: &mut Player, actor: &mut Actor, table: Table, r: u32) -> Told
     Ok((act, wanted))
 }
 
-fn send_in_tx(player: &mut Player, model: &Model, actor: &mut Actor, table: Table) -> Told {
+fn send_in_tx(player: &mut Player<Ample>, model: &Model, actor: &mut Actor, table: Table) -> Told {
     let g = player.draws.number(model, Kind::Agent);
     let call = player.draws.action();
     let act = Act::SendInTx(g, call.code, args_from(player.alloc, call.given)?);
@@ -108,7 +109,7 @@ fn send_in_tx(player: &mut Player, model: &Model, actor: &mut Actor, table: Tabl
     Ok((act, wanted))
 }
 
-fn commit(player: &mut Player, model: &mut Model, actor: &mut Actor, table: Table) -> Told {
+fn commit(player: &mut Player<Ample>, model: &mut Model, actor: &mut Actor, table: Table) -> Told {
     let stamp = player.stamp();
     let Some(tx) = actor.tx.take() else {
         return Ok((Act::Commit(stamp), Wanted::NoTx));
@@ -121,7 +122,12 @@ fn commit(player: &mut Player, model: &mut Model, actor: &mut Actor, table: Tabl
 }
 
 // An act of a transaction, mostly after its begin. A commit comes mostly after some others.
-fn in_transaction(player: &mut Player, model: &mut Model, actor: &mut Actor, table: Table) -> Told {
+fn in_transaction(
+    player: &mut Player<Ample>,
+    model: &mut Model,
+    actor: &mut Actor,
+    table: Table,
+) -> Told {
     let r = player.draws.number(model, Kind::Ref);
     match player.draws.below(20) {
         0 => begin(model, actor),
@@ -189,7 +195,7 @@ fn finish(model: &mut Model, actor: &mut Actor, table: Table) -> Told {
 
 // An act with a job, mostly the one that comes next.
 fn with_job(
-    player: &mut Player,
+    player: &mut Player<Ample>,
     model: &mut Model,
     actor: &mut Actor,
     (table, place): (Table, usize),
@@ -208,7 +214,7 @@ fn with_job(
 
 // ---- Agents
 
-fn send(player: &mut Player, model: &mut Model) -> Told {
+fn send(player: &mut Player<Ample>, model: &mut Model) -> Told {
     let g = player.draws.number(model, Kind::Agent);
     let call = player.draws.action();
     let args = args_from(player.alloc, call.given)?;
@@ -217,13 +223,13 @@ fn send(player: &mut Player, model: &mut Model) -> Told {
     Ok((Act::Send(g, Action { code, args }), wanted))
 }
 
-fn release(player: &mut Player, model: &mut Model) -> Told {
+fn release(player: &mut Player<Ample>, model: &mut Model) -> Told {
     let point = player.draws.held_point(model);
     let wanted = Wanted::Release(model.release(point));
     Ok((Act::Release(point), wanted))
 }
 
-fn restart(player: &mut Player, model: &mut Model, table: Table) -> Told {
+fn restart(player: &mut Player<Ample>, model: &mut Model, table: Table) -> Told {
     let g = player.draws.failed(model);
     let clears = player.draws.once_in(3);
     let state = player.draws.value();
@@ -232,14 +238,14 @@ fn restart(player: &mut Player, model: &mut Model, table: Table) -> Told {
     Ok((act, wanted))
 }
 
-fn set_mode(player: &mut Player, model: &mut Model) -> Told {
+fn set_mode(player: &mut Player<Ample>, model: &mut Model) -> Told {
     let g = player.draws.number(model, Kind::Agent);
     let mode = player.draws.mode();
     let wanted = Wanted::Mode(model.set_error_mode(g, mode));
     Ok((Act::SetErrorMode(g, mode), wanted))
 }
 
-fn error_of(player: &mut Player, model: &Model) -> Told {
+fn error_of(player: &mut Player<Ample>, model: &Model) -> Told {
     let g = player.draws.failed(model);
     let error = match model.accounts.get(g as usize) {
         Some(account) => account.error,
@@ -248,7 +254,7 @@ fn error_of(player: &mut Player, model: &Model) -> Told {
     Ok((Act::ErrorOf(g), Wanted::Error(error)))
 }
 
-fn on_agents(player: &mut Player, model: &mut Model, table: Table) -> Told {
+fn on_agents(player: &mut Player<Ample>, model: &mut Model, table: Table) -> Told {
     match player.draws.below(12) {
         0..=3 if !model.held.is_empty() => release(player, model),
         4 | 5 if model.first_failed().is_some() => restart(player, model, table),
@@ -262,7 +268,7 @@ fn on_agents(player: &mut Player, model: &mut Model, table: Table) -> Told {
 
 // ---- Atoms and references
 
-fn change(player: &mut Player, model: &mut Model, table: Table) -> Told {
+fn change(player: &mut Player<Ample>, model: &mut Model, table: Table) -> Told {
     let a = player.draws.number(model, Kind::Atom);
     let (act, op) = if player.draws.once_in(2) {
         let value = player.draws.value();
@@ -276,7 +282,7 @@ fn change(player: &mut Player, model: &mut Model, table: Table) -> Told {
     Ok((act, wanted))
 }
 
-fn compare_and_set(player: &mut Player, model: &mut Model, table: Table) -> Told {
+fn compare_and_set(player: &mut Player<Ample>, model: &mut Model, table: Table) -> Told {
     let a = player.draws.number(model, Kind::Atom);
     let new = player.draws.value();
     let old = match model.atoms.get(a as usize) {
@@ -297,14 +303,14 @@ fn making(alloc: Global, kind: Kind, start: PlainStart) -> Result<Act, AllocErro
     }
 }
 
-fn make(player: &mut Player, model: &mut Model, table: Table) -> Told {
+fn make(player: &mut Player<Ample>, model: &mut Model, table: Table) -> Told {
     let (kind, start) = (player.draws.kind(), player.draws.start());
     let act = making(player.alloc, kind, start)?;
     let wanted = Wanted::Make(kind, model.make(table, kind, start)?);
     Ok((act, wanted))
 }
 
-fn set_validator(player: &mut Player, model: &mut Model, table: Table) -> Told {
+fn set_validator(player: &mut Player<Ample>, model: &mut Model, table: Table) -> Told {
     let who = player.draws.who(model);
     let rule = player.draws.rule_or_none();
     let act = Act::SetValidator(who, any_rule_from(player.alloc, rule)?);
@@ -312,7 +318,7 @@ fn set_validator(player: &mut Player, model: &mut Model, table: Table) -> Told {
     Ok((act, wanted))
 }
 
-fn watch(player: &mut Player, model: &mut Model) -> Told {
+fn watch(player: &mut Player<Ample>, model: &mut Model) -> Told {
     let who = player.draws.who(model);
     let key = player.draws.key();
     let value = value_from(key)?;
@@ -325,14 +331,14 @@ fn watch(player: &mut Player, model: &mut Model) -> Told {
     }
 }
 
-fn checkpoint(player: &mut Player, model: &mut Model, table: Table) -> Told {
+fn checkpoint(player: &mut Player<Ample>, model: &mut Model, table: Table) -> Told {
     let point = player.draws.log_point(model);
     let count = answer(model, table, point);
     fold(model, count)?;
     Ok((Act::Checkpoint(point), Wanted::Checkpoint(count)))
 }
 
-fn value_of(player: &mut Player, model: &Model) -> Told {
+fn value_of(player: &mut Player<Ample>, model: &Model) -> Told {
     let who = player.draws.who(model);
     let value = match model.find(who) {
         Some(reference) => Some(reference.value),
@@ -341,7 +347,7 @@ fn value_of(player: &mut Player, model: &Model) -> Told {
     Ok((Act::ValueOf(who), Wanted::Value(value)))
 }
 
-fn on_references(player: &mut Player, model: &mut Model, table: Table) -> Told {
+fn on_references(player: &mut Player<Ample>, model: &mut Model, table: Table) -> Told {
     match player.draws.below(16) {
         0..=4 => change(player, model, table),
         5 | 6 => compare_and_set(player, model, table),
@@ -355,7 +361,7 @@ fn on_references(player: &mut Player, model: &mut Model, table: Table) -> Told {
 
 /// An act of an actor, which has a place.
 pub(crate) fn drawn_act(
-    player: &mut Player,
+    player: &mut Player<Ample>,
     model: &mut Model,
     actor: &mut Actor,
     (table, place): (Table, usize),

@@ -1,69 +1,15 @@
 //! Lists of calls that are drawn, each call made on a world and on its model.
-ghost use Rattle.std.specs.Prelude.{◌≡◌};
-ghost use Rattle.ref_world.specs.Shares.{IsBlank, all_parts};
-
-use crate::sides::{check_end, new_side};
-use crate::stages::{Stage, new_stage, play};
-use ref_world::ALL_PARTS;
-use std::marker::Brand;
 use std::process::Abort;
-use std::sync::ledger::{Blank, Ledger};
 use std::test::Fail;
-use tests_plain::outcomes::{Outcomes, Played};
+use tests_drawn::playing::play_list;
+use tests_plain::memory::Ample;
+use tests_plain::outcomes::Outcomes;
 use tests_plain::player::Player;
-
-fn play_stage<C: Ledger, A: Ledger, D: Ledger, B: Ledger>(
-    player: &mut Player,
-    stage: &mut Stage<C, A, D, B>,
-) -> Played {
-    for place in 0..player.draws.length() {
-        player.place = place;
-        play(player, stage)?;
-    }
-    check_end(player, &mut stage.first)?;
-    check_end(player, &mut stage.second)
-}
-
-// Now and then the second world begins as the first. Each has its own blanks.
-fn play_worlds<C: Ledger, A: Ledger, D: Ledger, B: Ledger>(
-    player: &mut Player,
-    commits: Blank,
-    added: Blank,
-    other_commits: Blank,
-    other_added: Blank,
-) -> Played
-    requires commits { IsBlank commits C.name C.parts }
-    requires added { IsBlank added A.name A.parts }
-    requires other_commits { (other_commits.name ≡ D.name) × (other_commits.parts ≡ D.parts)
-        × (other_commits.parts ≡ all_parts) }
-    requires other_added { (other_added.name ≡ B.name) × (other_added.parts ≡ B.parts)
-        × (other_added.parts ≡ all_parts) }
-{
-    let draws = player.draws;
-    let first = new_side::<C, A>(player, 0, commits, added)?;
-    if player.draws.once_in(2) {
-        player.draws = draws;
-    }
-    let second = new_side::<D, B>(player, 1, other_commits, other_added)?;
-    let mut stage = new_stage(player, first, second)?;
-    play_stage(player, &mut stage)
-}
-
-fn play_list(player: &mut Player, list: u64) -> Played {
-    player.begins(list);
-    play_worlds::<Brand, Brand, Brand, Brand>(
-        player,
-        Blank::new(ALL_PARTS),
-        Blank::new(ALL_PARTS),
-        Blank::new(ALL_PARTS),
-        Blank::new(ALL_PARTS),
-    )
-}
 
 // Plays 2,500 lists, and looks whether each outcome came in them.
 fn play_lists(rt: &(impl Abort + AllocGlobal), first: u64) -> Result<(), Fail> {
     let alloc = rt.alloc();
-    let mut player = Player::new(alloc)?;
+    let mut player = Player::new(alloc, Ample)?;
     for list in first..first.saturating_add(2500) {
         let played = play_list(&mut player, list);
         let (place, call) = (player.place, Outcomes::name(player.call));

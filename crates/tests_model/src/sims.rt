@@ -2,10 +2,7 @@
 ghost use Rattle.std.specs.Prelude.{◌≡◌};
 ghost use Rattle.ref_world.specs.Shares.{IsBlank};
 
-use crate::books::is_whole_share;
 use crate::casts::{Actor, drawn_act};
-use crate::declared::{Drawn, first_world};
-use crate::seen::{difference, is_whole_log};
 use crate::wanted::{Came, Wanted, is_told};
 use ref_fun::Core;
 use ref_play::{Event, Reply, Sim};
@@ -15,6 +12,10 @@ use std::marker::Brand;
 use std::process::Abort;
 use std::sync::ledger::{Blank, Ledger};
 use std::test::Fail;
+use tests_drawn::books::is_whole_share;
+use tests_drawn::declared::{Drawn, first_world};
+use tests_drawn::seen::{difference, is_whole_log};
+use tests_plain::memory::Ample;
 use tests_plain::model::Model;
 use tests_plain::outcomes::{Played, Stop};
 use tests_plain::plain::PlainOp;
@@ -28,7 +29,7 @@ struct Cast {
     actors: Vec<Actor>,
 }
 
-// A function of its own, which whoever lets one go calls; a derived one would be written out there.
+// A function of its own, which each place that drops one calls; a derived one would be written out there.
 impl Drop for Cast {
     fn drop(self) {
         let Cast {
@@ -39,7 +40,7 @@ impl Drop for Cast {
 }
 
 // From one actor to eight, each with any number.
-fn drawn_actors(player: &mut Player) -> Result<Vec<Actor>, AllocError> {
+fn drawn_actors(player: &mut Player<Ample>) -> Result<Vec<Actor>, AllocError> {
     let mut actors = Vec::new(player.alloc);
     let mut least = 0u32;
     for _ in 0..player.draws.below(8).saturating_add(1) {
@@ -65,7 +66,12 @@ struct List {
 }
 
 // Adds one more event, and says whether the list may go on.
-fn draw(player: &mut Player, cast: &mut Cast, list: &mut List, table: Table) -> Result<bool, Stop> {
+fn draw(
+    player: &mut Player<Ample>,
+    cast: &mut Cast,
+    list: &mut List,
+    table: Table,
+) -> Result<bool, Stop> {
     let place = player.draws.below(cast.actors.len());
     let Some(actor) = cast.actors.get_mut(place) else {
         return Ok(false);
@@ -78,7 +84,7 @@ fn draw(player: &mut Player, cast: &mut Cast, list: &mut List, table: Table) -> 
     Ok(goes_on)
 }
 
-fn drawn_list(player: &mut Player, cast: &mut Cast, table: Table) -> Result<List, Stop> {
+fn drawn_list(player: &mut Player<Ample>, cast: &mut Cast, table: Table) -> Result<List, Stop> {
     let mut list = List {
         events: Vec::new(player.alloc),
         wanted: Vec::new(player.alloc),
@@ -156,7 +162,7 @@ fn serves(cast: &Cast, table: Table) -> bool {
 
 // A table that serves what there is.
 fn drawn_table<C: Ledger, A: Ledger>(
-    player: &mut Player,
+    player: &mut Player<Ample>,
     sim: &Sim<Core, C, A>,
     cast: &Cast,
 ) -> Result<Table, Stop> {
@@ -174,7 +180,7 @@ fn drawn_table<C: Ledger, A: Ledger>(
 // ---- Sims
 
 fn play_list<C: Ledger, A: Ledger>(
-    player: &mut Player,
+    player: &mut Player<Ample>,
     sim: &mut Sim<Core, C, A>,
     cast: &mut Cast,
     came: &mut Came,
@@ -193,7 +199,7 @@ fn play_list<C: Ledger, A: Ledger>(
 }
 
 fn play_lists<C: Ledger, A: Ledger>(
-    player: &mut Player,
+    player: &mut Player<Ample>,
     sim: &mut Sim<Core, C, A>,
     cast: &mut Cast,
     came: &mut Came,
@@ -246,7 +252,7 @@ fn check_jobs<C: Ledger, A: Ledger>(world: &mut World<Core, C, A>, cast: &mut Ca
 
 // Plays lists, and ends what they were played on, whatever came of them.
 fn play_to_end<C: Ledger, A: Ledger>(
-    player: &mut Player,
+    player: &mut Player<Ample>,
     mut sim: Sim<Core, C, A>,
     cast: &mut Cast,
     came: &mut Came,
@@ -259,7 +265,7 @@ fn play_to_end<C: Ledger, A: Ledger>(
 }
 
 fn play_in<C: Ledger, A: Ledger>(
-    player: &mut Player,
+    player: &mut Player<Ample>,
     came: &mut Came,
     commits: Blank,
     added: Blank,
@@ -280,7 +286,7 @@ fn play_in<C: Ledger, A: Ledger>(
     }
 }
 
-fn play(player: &mut Player, came: &mut Came, list: u64) -> Played {
+fn play(player: &mut Player<Ample>, came: &mut Came, list: u64) -> Played {
     player.begins(list);
     let (commits, added) = (Blank::new(ALL_PARTS), Blank::new(ALL_PARTS));
     play_in::<Brand, Brand>(player, came, commits, added)
@@ -289,7 +295,7 @@ fn play(player: &mut Player, came: &mut Came, list: u64) -> Played {
 // Plays 2,500 times, and looks whether each kind of reply came.
 fn play_all(rt: &(impl Abort + AllocGlobal), first: u64) -> Result<(), Fail> {
     let alloc = rt.alloc();
-    let mut player = Player::new(alloc)?;
+    let mut player = Player::new(alloc, Ample)?;
     let mut came = Came::none(alloc)?;
     for list in first..first.saturating_add(2500) {
         let played = play(&mut player, &mut came, list);

@@ -1,5 +1,4 @@
 //! The reply that an actor is to get, by the model.
-use crate::receipts::is_receipt;
 use ref_agents::{AgentError, FinishFault, JobFault, ModeFault, RestartFault, SendFault};
 use ref_atoms::AtomFault;
 use ref_log::{MakeFault, RuleFault, WatchFault};
@@ -9,6 +8,7 @@ use ref_tx::TxFault;
 use ref_value::Value;
 use ref_world::{CheckpointFault, Receipt};
 use std::alloc::{AllocError, Global};
+use tests_drawn::receipts::is_receipt;
 use tests_plain::agents::PlainFinished;
 use tests_plain::model::{Kind, PlainChange};
 use tests_plain::plain::{Plain, PlainOp};
@@ -48,7 +48,7 @@ pub(crate) enum Wanted {
     Error(Option<AgentError>),
 }
 
-// A function of its own, which whoever lets one go calls; a derived one would be written out there.
+// A function of its own, which each place that drops one calls; a derived one would be written out there.
 impl Drop for Wanted {
     fn drop(self) {
         match self {

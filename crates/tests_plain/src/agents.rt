@@ -29,7 +29,7 @@ pub struct PlainAccount {
     pub out: Option<PlainJob>,
 }
 
-// A function of its own, which whoever lets one go calls; a derived one would be written out there.
+// A function of its own, which each place that drops one calls; a derived one would be written out there.
 impl Drop for PlainAccount {
     fn drop(self) {
         let PlainAccount {
@@ -50,7 +50,7 @@ pub enum PlainFinished {
     Continued(AgentError),
 }
 
-// A function of its own, which whoever lets one go calls; a derived one would be written out there.
+// A function of its own, which each place that drops one calls; a derived one would be written out there.
 impl Drop for PlainFinished {
     fn drop(self) {
         match self {

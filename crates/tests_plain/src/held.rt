@@ -1,5 +1,6 @@
 //! Jobs that are held: the calls of them, each on one and on its model, and what came of them.
 use crate::agents::{Ended, PlainFinished, PlainJob, plain_run};
+use crate::memory::Memory;
 use crate::model::Model;
 use crate::outcomes::{Played, Row, Stop};
 use crate::player::Player;
@@ -77,13 +78,19 @@ fn run_cause(wanted: Result<Ended, JobFault>) -> Option<Cause> {
 }
 
 /// Runs a job. Where the table lacks its function it comes back.
-pub fn run(player: &mut Player, job: Job, mut slip: Slip) -> Result<Held, Stop> {
+pub fn run<M: Memory>(player: &mut Player<M>, job: Job, mut slip: Slip) -> Result<Held, Stop> {
     player.calls(Row::Run);
     let table = player.draws.table();
-    let (hand, fault) = match job.run(player.alloc, &table) {
+    player.memory.begin();
+    let seen = job.run(player.alloc, &table);
+    player.memory.end();
+    let (hand, fault) = match seen {
         Ok(ran) => (Hand::Ran(ran), None),
         Err((job, fault)) => (Hand::Waits(job), Some(fault)),
     };
+    if player.refuses(fault == Some(JobFault::Memory)) {
+        return Ok(Held { hand, slip });
+    }
     let wanted = plain_run(table, slip.job);
     slip.ended = wanted.ok();
     player.count_cause(Row::CauseOfJob, run_cause(wanted));
@@ -95,24 +102,33 @@ pub fn run(player: &mut Player, job: Job, mut slip: Slip) -> Result<Held, Stop> 
 }
 
 /// Makes a job of one that ran.
-pub fn into_job(player: &mut Player, ran: Ran<Core>, mut slip: Slip) -> Result<Held, Stop> {
+pub fn into_job<M: Memory>(
+    player: &mut Player<M>,
+    ran: Ran<Core>,
+    mut slip: Slip,
+) -> Result<Held, Stop> {
     player.calls(Row::IntoJob);
-    let hand = Hand::Waits(ran.into_job());
+    player.memory.begin();
+    let job = ran.into_job();
+    player.memory.end();
+    let hand = Hand::Waits(job);
     slip.ended = None;
     player.told(hand.shows(&slip), 0)?;
     Ok(Held { hand, slip })
 }
 
-pub fn forsake(player: &mut Player, job: Job) -> Played {
+pub fn forsake<M: Memory>(player: &mut Player<M>, job: Job) -> Played {
     player.calls(Row::Forsake);
+    player.memory.begin();
     job.forsake();
+    player.memory.end();
     player.told(true, 0)
 }
 
 // ---- Its end
 
 /// Counts why a job isn't out, where only one thing is another.
-pub fn count_foreign(player: &mut Player, model: &Model, job: PlainJob) {
+pub fn count_foreign<M: Memory>(player: &mut Player<M>, model: &Model, job: PlainJob) {
     if let Some(number) = model.foreign_number(job) {
         player.count(Row::ForeignJob, number);
     }
@@ -129,7 +145,7 @@ pub fn finish_number(wanted: &Result<PlainFinished, FinishFault>) -> u8 {
 }
 
 /// Counts what else there is to say of a job that ended.
-pub fn count_finished(player: &mut Player, finished: &PlainFinished, is_near: bool) {
+pub fn count_finished<M: Memory>(player: &mut Player<M>, finished: &PlainFinished, is_near: bool) {
     let number = match finished {
         PlainFinished::Changed(told) if told.is_empty() => 0,
         PlainFinished::Changed(_) => 1,

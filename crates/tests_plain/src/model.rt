@@ -50,7 +50,7 @@ pub enum PlainEntry {
     MadeAtom(Plain),
 }
 
-// A function of its own, which whoever lets one go calls; a derived one would be written out there.
+// A function of its own, which each place that drops one calls; a derived one would be written out there.
 impl Drop for PlainEntry {
     fn drop(self) {
         match self {
@@ -82,7 +82,7 @@ pub struct Model {
     pub held: Vec<u64>,
 }
 
-// A function of its own, which whoever lets one go calls; a derived one would be written out there.
+// A function of its own, which each place that drops one calls; a derived one would be written out there.
 impl Drop for Model {
     fn drop(self) {
         let Model {

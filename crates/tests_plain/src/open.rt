@@ -1,5 +1,6 @@
 //! Open transactions: the calls of them, each on one and on its model, and what came of their commits.
 use crate::making::{args_from, rule_from, value_from};
+use crate::memory::Memory;
 use crate::model::Model;
 use crate::outcomes::{Played, Row};
 use crate::plain::{Plain, PlainCall, PlainOp};
@@ -11,7 +12,6 @@ use ref_fun::{Cause, Core};
 use ref_refs::{Alien, CommitFault};
 use ref_tx::{Tx, TxFault};
 use ref_value::Value;
-use std::alloc::Global;
 
 /// An open transaction, its model, and the number of the world that it was begun in.
 pub struct Open {
@@ -20,7 +20,7 @@ pub struct Open {
     pub home: usize,
 }
 
-// A function of its own, which whoever lets one go calls; a derived one would be written out there.
+// A function of its own, which each place that drops one calls; a derived one would be written out there.
 impl Drop for Open {
     fn drop(self) {
         let Open {
@@ -41,7 +41,7 @@ impl Open {
 
 // ---- While it is open
 
-fn drawn_op(player: &mut Player) -> PlainOp {
+fn drawn_op<M: Memory>(player: &mut Player<M>) -> PlainOp {
     match player.draws.below(12) {
         0..=2 => {
             player.calls(Row::RefSet);
@@ -62,45 +62,66 @@ fn drawn_op(player: &mut Player) -> PlainOp {
     }
 }
 
-fn set(alloc: Global, tx: &mut Tx<Core>, r: u32, value: Plain) -> Result<Value, TxFault> {
+fn set<M: Memory>(
+    player: &mut Player<M>,
+    tx: &mut Tx<Core>,
+    r: u32,
+    value: Plain,
+) -> Result<Value, TxFault> {
     let value = value_from(value)?;
-    tx.ref_set(alloc, r, value)
+    player.memory.begin();
+    let seen = tx.ref_set(player.alloc, r, value);
+    player.memory.end();
+    seen
 }
 
-fn alter(
-    alloc: Global,
+fn alter<M: Memory>(
+    player: &mut Player<M>,
     table: Table,
     tx: &mut Tx<Core>,
     r: u32,
     call: PlainCall,
 ) -> Result<Value, TxFault> {
-    let args = args_from(alloc, call.given)?;
-    tx.alter(alloc, &table, r, call.code, args)
+    let args = args_from(player.alloc, call.given)?;
+    player.memory.begin();
+    let seen = tx.alter(player.alloc, &table, r, call.code, args);
+    player.memory.end();
+    seen
 }
 
-fn commute(
-    alloc: Global,
+fn commute<M: Memory>(
+    player: &mut Player<M>,
     table: Table,
     tx: &mut Tx<Core>,
     r: u32,
     call: PlainCall,
 ) -> Result<Value, TxFault> {
-    let args = args_from(alloc, call.given)?;
-    tx.commute(alloc, &table, r, call.code, args)
+    let args = args_from(player.alloc, call.given)?;
+    player.memory.begin();
+    let seen = tx.commute(player.alloc, &table, r, call.code, args);
+    player.memory.end();
+    seen
 }
 
-fn operated(
-    alloc: Global,
+fn ensure<M: Memory>(player: &mut Player<M>, tx: &mut Tx<Core>, r: u32) -> Result<Value, TxFault> {
+    player.memory.begin();
+    let seen = tx.ensure(player.alloc, r);
+    player.memory.end();
+    seen
+}
+
+fn operated<M: Memory>(
+    player: &mut Player<M>,
     table: Table,
     tx: &mut Tx<Core>,
     r: u32,
     op: PlainOp,
 ) -> Result<Value, TxFault> {
     match op {
-        PlainOp::Set(value) => set(alloc, tx, r, value),
-        PlainOp::Alter(call) => alter(alloc, table, tx, r, call),
-        PlainOp::Commute(call) => commute(alloc, table, tx, r, call),
-        PlainOp::Ensure => tx.ensure(alloc, r),
+        PlainOp::Set(value) => set(player, tx, r, value),
+        PlainOp::Alter(call) => alter(player, table, tx, r, call),
+        PlainOp::Commute(call) => commute(player, table, tx, r, call),
+        PlainOp::Ensure => ensure(player, tx, r),
     }
 }
 
@@ -112,7 +133,12 @@ fn cause_of(fault: Option<TxFault>) -> Option<Cause> {
 }
 
 // Ends a call of an open transaction, which shows what the model has.
-fn told(player: &mut Player, open: &Open, is_same: bool, fault: Option<TxFault>) -> Played {
+fn told<M: Memory>(
+    player: &mut Player<M>,
+    open: &Open,
+    is_same: bool,
+    fault: Option<TxFault>,
+) -> Played {
     let number = match fault {
         Some(fault) => fault.number(),
         None => 0,
@@ -121,8 +147,8 @@ fn told(player: &mut Player, open: &Open, is_same: bool, fault: Option<TxFault>)
 }
 
 // Whether an operation was answered as in the model.
-fn compare(
-    player: &mut Player,
+fn compare<M: Memory>(
+    player: &mut Player<M>,
     open: &mut Open,
     seen: &Result<Value, TxFault>,
     (table, r, op): (Table, u32, PlainOp),
@@ -132,63 +158,82 @@ fn compare(
     told(player, open, agree(seen, &wanted), wanted.err())
 }
 
-fn operate(player: &mut Player, open: &mut Open, r: u32) -> Played {
+fn operate<M: Memory>(player: &mut Player<M>, open: &mut Open, r: u32) -> Played {
     let op = drawn_op(player);
     let table = player.draws.table();
-    let seen = operated(player.alloc, table, &mut open.tx, r, op);
-    compare(player, open, &seen, (table, r, op))
+    let seen = operated(player, table, &mut open.tx, r, op);
+    if player.refuses(matches!(&seen, Err(TxFault::Memory))) {
+        Ok(())
+    } else {
+        compare(player, open, &seen, (table, r, op))
+    }
 }
 
-fn deref(player: &mut Player, open: &Open, r: u32) -> Played {
+fn deref<M: Memory>(player: &mut Player<M>, open: &Open, r: u32) -> Played {
     player.calls(Row::Deref);
-    match (open.tx.deref(r), open.plain.inner(r)) {
+    player.memory.begin();
+    let seen = open.tx.deref(r);
+    player.memory.end();
+    match (seen, open.plain.inner(r)) {
         (Ok(value), Some(plain)) => player.told(value.shows(&plain), 0),
         (Err(fault), None) => player.told(fault == TxFault::NoSuchRef, 1),
         _ => player.told(false, 0),
     }
 }
 
-fn required(
-    alloc: Global,
+fn required<M: Memory>(
+    player: &mut Player<M>,
     table: Table,
     tx: &Tx<Core>,
     r: u32,
     rule: PlainCall,
 ) -> Result<(), TxFault> {
-    let rule = rule_from(alloc, rule)?;
-    tx.require(&table, r, &rule)
+    let rule = rule_from(player.alloc, rule)?;
+    player.memory.begin();
+    let seen = tx.require(&table, r, &rule);
+    player.memory.end();
+    seen
 }
 
-fn require(player: &mut Player, open: &Open, r: u32) -> Played {
+fn require<M: Memory>(player: &mut Player<M>, open: &Open, r: u32) -> Played {
     player.calls(Row::Require);
     let (table, rule) = (player.draws.table(), player.draws.rule());
-    let seen = required(player.alloc, table, &open.tx, r, rule);
+    let seen = required(player, table, &open.tx, r, rule);
+    if player.refuses(seen == Err(TxFault::Memory)) {
+        return Ok(());
+    }
     let wanted = open.plain.require(table, r, rule);
     told(player, open, seen == wanted, wanted.err())
 }
 
-fn sent(
-    alloc: Global,
+fn sent<M: Memory>(
+    player: &mut Player<M>,
     table: Table,
     tx: &mut Tx<Core>,
     g: u32,
     call: PlainCall,
 ) -> Result<(), TxFault> {
-    let args = args_from(alloc, call.given)?;
-    tx.send(alloc, &table, g, call.code, args)
+    let args = args_from(player.alloc, call.given)?;
+    player.memory.begin();
+    let seen = tx.send(player.alloc, &table, g, call.code, args);
+    player.memory.end();
+    seen
 }
 
-fn send(player: &mut Player, open: &mut Open) -> Played {
+fn send<M: Memory>(player: &mut Player<M>, open: &mut Open) -> Played {
     player.calls(Row::SendInside);
     let g = player.draws.near(open.plain.agents);
     let (table, call) = (player.draws.table(), player.draws.action());
-    let seen = sent(player.alloc, table, &mut open.tx, g, call);
+    let seen = sent(player, table, &mut open.tx, g, call);
+    if player.refuses(seen == Err(TxFault::Memory)) {
+        return Ok(());
+    }
     let wanted = open.plain.send(table, g, call)?;
     told(player, open, seen == wanted, wanted.err())
 }
 
 /// Makes a call of an open transaction.
-pub fn call_on_open(player: &mut Player, open: &mut Open) -> Played {
+pub fn call_on_open<M: Memory>(player: &mut Player<M>, open: &mut Open) -> Played {
     if player.of_agents && player.draws.once_in(2) {
         return send(player, open);
     }
@@ -203,7 +248,7 @@ pub fn call_on_open(player: &mut Player, open: &mut Open) -> Played {
 
 // ---- Its commit
 
-fn count_fault(player: &mut Player, fault: CommitFault) {
+fn count_fault<M: Memory>(player: &mut Player<M>, fault: CommitFault) {
     let (call, number) = match fault {
         CommitFault::Foreign(Alien::Ref(_)) => (Row::Alien, 0),
         CommitFault::Foreign(Alien::Agent(_)) => (Row::Alien, 1),
@@ -219,7 +264,12 @@ fn count_fault(player: &mut Player, fault: CommitFault) {
 }
 
 // What else there is to say of a commit that was made.
-fn count_commit(player: &mut Player, model: &Model, receipt: &PlainReceipt, plain: &PlainTx) {
+fn count_commit<M: Memory>(
+    player: &mut Player<M>,
+    model: &Model,
+    receipt: &PlainReceipt,
+    plain: &PlainTx,
+) {
     if plain.dones.is_empty() && plain.sends.is_empty() {
         player.count(Row::Committed, 0);
     }
@@ -233,8 +283,8 @@ fn count_commit(player: &mut Player, model: &Model, receipt: &PlainReceipt, plai
 }
 
 /// Counts what came of a commit.
-pub fn count_outcome(
-    player: &mut Player,
+pub fn count_outcome<M: Memory>(
+    player: &mut Player<M>,
     model: &Model,
     wanted: &Result<PlainReceipt, CommitFault>,
     plain: &PlainTx,

@@ -1,4 +1,5 @@
 //! What came of the calls.
+use crate::memory::Tries;
 use std::alloc::{AllocError, AllocFailed, Global};
 
 /// Why a list of calls ends early.
@@ -143,19 +144,21 @@ const ROWS: &[(&str, &str)] = &[
     ("replay_plain", "ok - - - - - - - - NoSuchFun"),
 ];
 
-/// How often each outcome came.
+/// How often each outcome came, and how often each call was tried.
 #[derive(Drop)]
 pub struct Outcomes {
     counts: Vec<[u64; 10]>,
+    tries: Vec<Tries>,
 }
 
 impl Outcomes {
     pub fn none(alloc: Global) -> Result<Outcomes, AllocError> {
-        let mut counts = Vec::new(alloc);
+        let (mut counts, mut tries) = (Vec::new(alloc), Vec::new(alloc));
         for _ in ROWS {
             counts.push([0; 10])?;
+            tries.push(Tries::default())?;
         }
-        Ok(Outcomes { counts })
+        Ok(Outcomes { counts, tries })
     }
 
     /// Counts one more outcome.
@@ -164,6 +167,35 @@ impl Outcomes {
             if let Some(count) = counts.get_mut(number as usize) {
                 *count = count.saturating_add(1);
             }
+        }
+    }
+
+    /// Counts one more call, which was refused but for the last of so many times. Then a request was refused or not.
+    pub fn count_tries(&mut self, row: Row, times: usize, passed: bool) {
+        if let Some(tries) = self.tries.get_mut(row as usize) {
+            tries.calls = tries.calls.saturating_add(1);
+            tries.refused = tries.refused.saturating_add(times.saturating_sub(1) as u64);
+            tries.passed = tries.passed.saturating_add(if passed { 1 } else { 0 });
+        }
+    }
+
+    /// Counts a call after which something wasn't as in the model.
+    pub fn count_difference(&mut self, row: Row) {
+        if let Some(tries) = self.tries.get_mut(row as usize) {
+            tries.differences = tries.differences.saturating_add(1);
+        }
+    }
+
+    /// How many rows there are.
+    pub fn rows() -> usize {
+        ROWS.len()
+    }
+
+    /// The name of the row at a place, and how often its call was tried.
+    pub fn tries_of(&self, row: usize) -> Option<(&'static str, Tries)> {
+        match (ROWS.get(row), self.tries.get(row)) {
+            (Some((name, _)), Some(tries)) => Some((name, *tries)),
+            _ => None,
         }
     }
 

@@ -1,33 +1,54 @@
 //! What makes the calls.
 use crate::drawing::Draws;
+use crate::memory::{Memory, Tries};
 use crate::outcomes::{Outcomes, Played, Row, Stop};
 use ref_fun::Cause;
 use ref_log::Stamp;
 use std::alloc::{AllocError, Global};
 
-/// It draws the calls, and counts what comes of them.
-#[derive(Drop)]
-pub struct Player {
+/// It draws the calls, and counts what comes of them. One of their requests for memory may be refused.
+pub struct Player<M: Memory> {
     pub alloc: Global,
     pub draws: Draws,
+    pub memory: M,
     outcomes: Outcomes,
     /// Whether the list is mostly about agents, and else about transactions.
     pub of_agents: bool,
     /// The call that is made, and its place in the list.
     pub call: Row,
     pub place: u32,
+    /// Whether the call was refused for a request that was. It's made again then, and its model not at all.
+    pub is_refused: bool,
 }
 
-impl Player {
+// A function of its own, which each place that drops one calls; a derived one would be written out there.
+impl<M: Memory> Drop for Player<M> {
+    fn drop(self) {
+        let Player {
+            alloc: _,
+            draws: _,
+            memory: _memory,
+            outcomes: _outcomes,
+            of_agents: _,
+            call: _,
+            place: _,
+            is_refused: _,
+        } = self;
+    }
+}
+
+impl<M: Memory> Player<M> {
     /// One that has counted nothing. It has no list yet.
-    pub fn new(alloc: Global) -> Result<Player, AllocError> {
+    pub fn new(alloc: Global, memory: M) -> Result<Player<M>, AllocError> {
         Ok(Player {
             alloc,
             draws: Draws::of(0),
+            memory,
             outcomes: Outcomes::none(alloc)?,
             of_agents: false,
             call: Row::New,
             place: 0,
+            is_refused: false,
         })
     }
 
@@ -73,5 +94,36 @@ impl Player {
     /// The first call and outcome that never came, or that came and shouldn't.
     pub fn wrong(&self) -> Option<(&'static str, &'static str)> {
         self.outcomes.wrong()
+    }
+
+    // ---- Calls without one of their requests for memory
+
+    /// Draws a call from here on, whose request of this number, from 1 on, is to be refused.
+    pub fn tries(&mut self, draws: Draws, number: usize) {
+        self.draws = draws;
+        self.is_refused = false;
+        self.memory.arm(number);
+    }
+
+    /// Whether a call, which was out of memory or not, was refused for a request that was.
+    pub fn refuses(&mut self, is_memory: bool) -> bool {
+        self.is_refused = is_memory && self.memory.was_refused();
+        self.is_refused
+    }
+
+    /// Ends a call that was tried so many times, the last time with an answer as in the model.
+    pub fn ends(&mut self, tries: usize) {
+        let passed = self.memory.was_refused();
+        self.outcomes.count_tries(self.call, tries, passed);
+    }
+
+    /// Ends a call after which something isn't as in the model.
+    pub fn differs(&mut self) {
+        self.outcomes.count_difference(self.call);
+    }
+
+    /// How often the calls of a row were made, and how often requests of theirs were refused.
+    pub fn tries_of(&self, row: usize) -> Option<(&'static str, Tries)> {
+        self.outcomes.tries_of(row)
     }
 }

@@ -1,4 +1,5 @@
 //! What new worlds begin with.
+use crate::memory::Memory;
 use crate::model::{Answer, Kind, Model, PlainStart};
 use crate::outcomes::Row;
 use crate::player::Player;
@@ -13,7 +14,7 @@ pub struct Starts {
     pub agents: Vec<PlainStart>,
 }
 
-// A function of its own, which whoever lets one go calls; a derived one would be written out there.
+// A function of its own, which each place that drops one calls; a derived one would be written out there.
 impl Drop for Starts {
     fn drop(self) {
         let Starts {
@@ -24,7 +25,7 @@ impl Drop for Starts {
     }
 }
 
-fn drawn(player: &mut Player, most: usize) -> Result<Vec<PlainStart>, AllocError> {
+fn drawn<M: Memory>(player: &mut Player<M>, most: usize) -> Result<Vec<PlainStart>, AllocError> {
     let mut starts = Vec::new(player.alloc);
     for _ in 0..player.draws.count(most) {
         starts.push(player.draws.start())?;
@@ -32,7 +33,7 @@ fn drawn(player: &mut Player, most: usize) -> Result<Vec<PlainStart>, AllocError
     Ok(starts)
 }
 
-pub fn drawn_starts(player: &mut Player) -> Result<Starts, AllocError> {
+pub fn drawn_starts<M: Memory>(player: &mut Player<M>) -> Result<Starts, AllocError> {
     Ok(Starts {
         refs: drawn(player, 3)?,
         atoms: drawn(player, 2)?,
@@ -74,7 +75,7 @@ pub fn declare_all(
 }
 
 /// Counts that a world couldn't be made.
-pub fn count_refused(player: &mut Player, who: Who, fault: MakeFault) {
+pub fn count_refused<M: Memory>(player: &mut Player<M>, who: Who, fault: MakeFault) {
     player.count(Row::New, fault.number());
     let number = match who {
         Who::Ref(_) => 0,

@@ -33,7 +33,7 @@ pub struct PlainTx {
     pub sends: Vec<PlainSent>,
 }
 
-// A function of its own, which whoever lets one go calls; a derived one would be written out there.
+// A function of its own, which each place that drops one calls; a derived one would be written out there.
 impl Drop for PlainTx {
     fn drop(self) {
         let PlainTx {
@@ -54,7 +54,7 @@ pub struct PlainReceipt {
     pub told: Vec<Told>,
 }
 
-// A function of its own, which whoever lets one go calls; a derived one would be written out there.
+// A function of its own, which each place that drops one calls; a derived one would be written out there.
 impl Drop for PlainReceipt {
     fn drop(self) {
         let PlainReceipt {

@@ -12,6 +12,9 @@ const KEPT_AFTER: usize = 1_000;
 
 const MOST: usize = 5_000;
 
+// More members than a tree of chunks could hold without balance: its height ends at 255, and a chunk at 32 members.
+const MANY: usize = 20_000;
+
 // A vector, a map and a set, and what they are to hold. A number below 0 stands for a vector of it.
 #[derive(Drop)]
 struct Version {
@@ -310,5 +313,25 @@ fn old_versions_stay(rt: HostRuntime) -> Result<(), Fail> {
         longest = longest.max(version.map.len()).max(version.set.len());
     }
     assert!(rt; longest > 4_000, "{longest} members");
+    Ok(())
+}
+
+// In ascending order, which is the worst one for balance.
+#[test]
+fn many_members_come_one_by_one(rt: HostRuntime) -> Result<(), Fail> {
+    let alloc = rt.alloc();
+    let mut items = Items::of(alloc, Vec::new(alloc))?;
+    let mut elements = Elements::of(alloc, Vec::new(alloc))?;
+    let mut entries = Entries::of(alloc, Vec::new(alloc))?;
+    for n in 0..MANY {
+        let n = n as i64;
+        items.push(alloc, member(alloc, n)?)?;
+        elements.insert(alloc, member(alloc, n)?)?;
+        entries.insert(alloc, member(alloc, n)?, member(alloc, n)?)?;
+    }
+    assert_eq!(rt;
+        (items.len(), elements.len(), entries.len()),
+        (MANY, MANY, MANY)
+    );
     Ok(())
 }

@@ -9,6 +9,7 @@ use std::alloc::{AllocError, Global};
 use std::marker::Brand;
 use std::sync::ledger::{Blank, Ledger};
 use tests_plain::making::value_and_rule_from;
+use tests_plain::memory::{MOST_REQUESTS, Memory};
 use tests_plain::model::{Model, PlainStart};
 use tests_plain::outcomes::{Played, Stop};
 use tests_plain::player::Player;
@@ -72,62 +73,79 @@ fn start_of(alloc: Global, starts: &Starts) -> Result<Start, AllocError> {
 
 /// What a new world begins with, its model, and by which table it is made.
 #[derive(Drop)]
-pub(crate) struct Drawn {
-    pub(crate) start: Start,
-    pub(crate) model: Model,
-    pub(crate) table: Table,
+pub struct Drawn {
+    pub start: Start,
+    pub model: Model,
+    pub table: Table,
 }
 
-// Whether a world that can't be made is refused so.
-fn is_refused<C: Ledger, A: Ledger>(
-    alloc: Global,
+// Why a new world can't be made, if so.
+fn refusal<C: Ledger, A: Ledger, M: Memory>(
+    player: &mut Player<M>,
     table: Table,
     start: Start,
-    wanted: (Who, MakeFault),
     commits: Blank,
     added: Blank,
-) -> bool
+) -> Option<(Who, MakeFault)>
     requires commits { IsBlank commits C.name C.parts }
     requires added { IsBlank added A.name A.parts }
 {
-    match World::<Core, C, A>::new(alloc, &table, start, commits, added) {
-        Ok(_made) => false,
-        Err(refused) => refused == wanted,
+    player.memory.begin();
+    let made = World::<Core, C, A>::new(player.alloc, &table, start, commits, added);
+    player.memory.end();
+    match made {
+        Ok(_made) => None,
+        Err(refused) => Some(refused),
     }
 }
 
-// A world that can't be made.
-fn refuse(player: &mut Player, table: Table, start: Start, wanted: (Who, MakeFault)) -> Played {
-    let (commits, added) = (Blank::new(ALL_PARTS), Blank::new(ALL_PARTS));
-    if !is_refused::<Brand, Brand>(player.alloc, table, start, wanted, commits, added) {
-        return Err(Stop::Differs("the answer"));
+// Makes a new world without its first request for memory, without its second, and so on, until it isn't refused for that. Then it is
+// refused as in the model or not at all.
+fn try_new<M: Memory>(
+    player: &mut Player<M>,
+    table: Table,
+    starts: &Starts,
+    wanted: Option<(Who, MakeFault)>,
+) -> Played {
+    let draws = player.draws;
+    for number in 1..MOST_REQUESTS {
+        player.tries(draws, number);
+        let start = start_of(player.alloc, starts)?;
+        let (commits, added) = (Blank::new(ALL_PARTS), Blank::new(ALL_PARTS));
+        let seen = refusal::<Brand, Brand, M>(player, table, start, commits, added);
+        if !player.refuses(matches!(seen, Some((_, MakeFault::Memory)))) {
+            player.ends(number);
+            return if seen == wanted {
+                Ok(())
+            } else {
+                Err(Stop::Differs("the answer"))
+            };
+        }
     }
-    count_refused(player, wanted.0, wanted.1);
-    Ok(())
+    Err(Stop::Differs("the number of requests"))
 }
 
 // References that are drawn, or none, where a world with them is refused.
-fn drawn_world(player: &mut Player) -> Result<Option<Drawn>, Stop> {
+fn drawn_world<M: Memory>(player: &mut Player<M>) -> Result<Option<Drawn>, Stop> {
     let starts = drawn_starts(player)?;
     let (alloc, table) = (player.alloc, player.draws.table());
     let mut model = Model::empty(alloc);
     let wanted = declare_all(&mut model, table, &starts)?;
-    let start = start_of(alloc, &starts)?;
-    match wanted {
-        Ok(()) => Ok(Some(Drawn {
-            start,
-            model,
-            table,
-        })),
-        Err(wanted) => {
-            refuse(player, table, start, wanted)?;
-            Ok(None)
-        }
+    try_new(player, table, &starts, wanted.err())?;
+    if let Err((who, fault)) = wanted {
+        count_refused(player, who, fault);
+        return Ok(None);
     }
+    let start = start_of(alloc, &starts)?;
+    Ok(Some(Drawn {
+        start,
+        model,
+        table,
+    }))
 }
 
 /// The first of drawn worlds that can be made.
-pub(crate) fn first_world(player: &mut Player) -> Result<Drawn, Stop> {
+pub fn first_world<M: Memory>(player: &mut Player<M>) -> Result<Drawn, Stop> {
     for _ in 0..100 {
         if let Some(drawn) = drawn_world(player)? {
             return Ok(drawn);

@@ -65,7 +65,7 @@ fn are_accounts<C: Ledger, A: Ledger>(world: &World<Core, C, A>, model: &Model) 
 // ---- The log
 
 /// Whether all entries are the same.
-pub(crate) fn is_whole_log<C: Ledger, A: Ledger>(world: &World<Core, C, A>, model: &Model) -> bool {
+pub fn is_whole_log<C: Ledger, A: Ledger>(world: &World<Core, C, A>, model: &Model) -> bool {
     shows::is_whole_log(world.log(), model.left())
 }
 
@@ -84,7 +84,7 @@ pub(crate) fn is_replayed<C: Ledger, A: Ledger>(
 }
 
 /// What isn't as in the model, of all that a world shows but the entries before the last.
-pub(crate) fn difference<C: Ledger, A: Ledger>(
+pub fn difference<C: Ledger, A: Ledger>(
     world: &World<Core, C, A>,
     model: &Model,
 ) -> Option<&'static str> {

@@ -9,6 +9,7 @@ use crate::seen::{difference, is_replayed, is_whole_log};
 use ref_fun::Core;
 use ref_world::{Share, World};
 use std::sync::ledger::{Blank, Ledger};
+use tests_plain::memory::Memory;
 use tests_plain::model::Model;
 use tests_plain::outcomes::{Played, Row, Stop};
 use tests_plain::player::Player;
@@ -22,7 +23,7 @@ pub(crate) struct Side<C: Ledger, A: Ledger> {
     pub(crate) model: Model,
 }
 
-// A function of its own, which whoever lets one go calls; a derived one would be written out there.
+// A function of its own, which each place that drops one calls; a derived one would be written out there.
 impl<C: Ledger, A: Ledger> Drop for Side<C, A> {
     fn drop(self) {
         let Side {
@@ -35,8 +36,8 @@ impl<C: Ledger, A: Ledger> Drop for Side<C, A> {
 }
 
 // Whether a table serves the world as it does the model, and what of that is counted.
-fn check_served<C: Ledger, A: Ledger>(
-    player: &mut Player,
+fn check_served<C: Ledger, A: Ledger, M: Memory>(
+    player: &mut Player<M>,
     side: &Side<C, A>,
     table: Table,
     (yes, no): (u8, u8),
@@ -50,7 +51,10 @@ fn check_served<C: Ledger, A: Ledger>(
 }
 
 /// Whether all that a world shows is as in the model.
-pub(crate) fn check<C: Ledger, A: Ledger>(player: &mut Player, side: &Side<C, A>) -> Played {
+pub(crate) fn check<C: Ledger, A: Ledger, M: Memory>(
+    player: &mut Player<M>,
+    side: &Side<C, A>,
+) -> Played {
     if let Some(what) = difference(&side.world, &side.model) {
         return Err(Stop::Differs(what));
     }
@@ -59,8 +63,8 @@ pub(crate) fn check<C: Ledger, A: Ledger>(player: &mut Player, side: &Side<C, A>
 }
 
 // Whether the log's replay by a table gives the values.
-fn check_replay<C: Ledger, A: Ledger>(
-    player: &mut Player,
+fn check_replay<C: Ledger, A: Ledger, M: Memory>(
+    player: &mut Player<M>,
     side: &Side<C, A>,
     table: Table,
 ) -> Played {
@@ -70,18 +74,24 @@ fn check_replay<C: Ledger, A: Ledger>(
     player.told(is_same, if is_lacking { 9 } else { 0 })
 }
 
-/// Whether the whole log and the share are as in the model, and whether the log's replay gives the values.
-pub(crate) fn check_end<C: Ledger, A: Ledger>(
-    player: &mut Player,
-    side: &mut Side<C, A>,
-) -> Played {
-    player.calls(Row::ReplayPlain);
+/// Whether the whole log and the share are as in the model.
+pub(crate) fn check_whole<C: Ledger, A: Ledger>(side: &mut Side<C, A>) -> Played {
     if !is_whole_log(&side.world, &side.model) {
         return Err(Stop::Differs("the whole log"));
     }
     if !is_whole_share(&mut side.world, &mut side.share, &side.model) {
         return Err(Stop::Differs("the share"));
     }
+    Ok(())
+}
+
+/// Whether the whole log and the share are as in the model, and whether the log's replay gives the values.
+pub(crate) fn check_end<C: Ledger, A: Ledger, M: Memory>(
+    player: &mut Player<M>,
+    side: &mut Side<C, A>,
+) -> Played {
+    player.calls(Row::ReplayPlain);
+    check_whole(side)?;
     check_replay(player, side, Table::FULL)?;
     check_replay(player, side, Table::FEWER)
 }
@@ -89,8 +99,8 @@ pub(crate) fn check_end<C: Ledger, A: Ledger>(
 // ---- New worlds
 
 // A new world and its model.
-fn made<C: Ledger, A: Ledger>(
-    player: &Player,
+fn made<C: Ledger, A: Ledger, M: Memory>(
+    player: &Player<M>,
     number: usize,
     drawn: Drawn,
     commits: Blank,
@@ -115,7 +125,10 @@ fn made<C: Ledger, A: Ledger>(
     }
 }
 
-fn add_watches<C: Ledger, A: Ledger>(player: &mut Player, side: &mut Side<C, A>) -> Played {
+fn add_watches<C: Ledger, A: Ledger, M: Memory>(
+    player: &mut Player<M>,
+    side: &mut Side<C, A>,
+) -> Played {
     for _ in 0..player.draws.below(6) {
         add_watch(player, side)?;
     }
@@ -123,8 +136,8 @@ fn add_watches<C: Ledger, A: Ledger>(player: &mut Player, side: &mut Side<C, A>)
 }
 
 /// A new world and its model, with some watches.
-pub(crate) fn new_side<C: Ledger, A: Ledger>(
-    player: &mut Player,
+pub(crate) fn new_side<C: Ledger, A: Ledger, M: Memory>(
+    player: &mut Player<M>,
     number: usize,
     commits: Blank,
     added: Blank,

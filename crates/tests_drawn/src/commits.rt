@@ -7,6 +7,7 @@ use ref_refs::CommitFault;
 use ref_tx::Tx;
 use ref_world::Receipt;
 use std::sync::ledger::Ledger;
+use tests_plain::memory::Memory;
 use tests_plain::open::{Open, count_outcome};
 use tests_plain::outcomes::{Row, Stop};
 use tests_plain::player::Player;
@@ -14,18 +15,27 @@ use tests_plain::shows::Shows;
 use tests_plain::tables::Table;
 use tests_plain::transactions::{PlainReceipt, PlainTx};
 
-pub(crate) fn begin<C: Ledger, A: Ledger>(
-    player: &mut Player,
+/// Begins a transaction, unless that is refused.
+pub(crate) fn begin<C: Ledger, A: Ledger, M: Memory>(
+    player: &mut Player<M>,
     side: &Side<C, A>,
-) -> Result<Open, Stop> {
+) -> Result<Option<Open>, Stop> {
     player.calls(Row::Begin);
+    player.memory.begin();
+    let begun = side.world.begin(player.alloc);
+    player.memory.end();
+    let tx = match begun {
+        Ok(tx) => tx,
+        Err(_) if player.refuses(true) => return Ok(None),
+        Err(wrong) => return Err(Stop::from(wrong)),
+    };
     let open = Open {
-        tx: side.world.begin(player.alloc)?,
+        tx,
         plain: side.model.begin()?,
         home: side.number,
     };
     player.told(open.tx.shows(&open.plain), 0)?;
-    Ok(open)
+    Ok(Some(open))
 }
 
 // Whether a commit is answered as in the model, and the transaction that comes back is the same.
@@ -49,8 +59,8 @@ fn commit_number(wanted: &Result<PlainReceipt, CommitFault>) -> u8 {
 }
 
 // Whether a commit of this was answered as in the model. What came of it is counted.
-fn compare<C: Ledger, A: Ledger>(
-    player: &mut Player,
+fn compare<C: Ledger, A: Ledger, M: Memory>(
+    player: &mut Player<M>,
     side: &mut Side<C, A>,
     seen: &Result<Receipt, (Tx<Core>, CommitFault)>,
     with: (Table, Stamp),
@@ -63,20 +73,24 @@ fn compare<C: Ledger, A: Ledger>(
 }
 
 /// Commits a transaction. Where that is refused it comes back.
-pub(crate) fn commit<C: Ledger, A: Ledger>(
-    player: &mut Player,
+pub(crate) fn commit<C: Ledger, A: Ledger, M: Memory>(
+    player: &mut Player<M>,
     side: &mut Side<C, A>,
     open: Open,
 ) -> Result<Option<Open>, Stop> {
     player.calls(Row::CommitWith);
     let (tx, plain, home) = open.parts();
     let (table, stamp) = (player.draws.table(), player.stamp());
+    player.memory.begin();
     let seen = side
         .world
         .commit_with(player.alloc, &table, &mut side.share, stamp, tx);
-    let is_made = compare(player, side, &seen, (table, stamp), &plain)?;
-    if is_made && side.number != home {
-        player.count(Row::Committed, 4);
+    player.memory.end();
+    if !player.refuses(matches!(&seen, Err((_, CommitFault::Memory)))) {
+        let is_made = compare(player, side, &seen, (table, stamp), &plain)?;
+        if is_made && side.number != home {
+            player.count(Row::Committed, 4);
+        }
     }
     match seen {
         Ok(_receipt) => Ok(None),

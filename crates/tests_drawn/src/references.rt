@@ -6,6 +6,7 @@ use ref_fun::Cause;
 use ref_log::{MakeFault, RuleFault, WatchFault};
 use std::sync::ledger::Ledger;
 use tests_plain::making::{any_rule_from, args_from, value_and_rule_from, value_from};
+use tests_plain::memory::Memory;
 use tests_plain::model::{Kind, Model, PlainChange, PlainStart};
 use tests_plain::outcomes::{Played, Row};
 use tests_plain::plain::{Plain, PlainCall, PlainOp};
@@ -15,7 +16,7 @@ use tests_plain::tables::Table;
 
 // ---- Atoms
 
-fn drawn_op(player: &mut Player) -> PlainOp {
+fn drawn_op<M: Memory>(player: &mut Player<M>) -> PlainOp {
     if player.draws.once_in(2) {
         player.calls(Row::Reset);
         PlainOp::Set(player.draws.value())
@@ -25,8 +26,8 @@ fn drawn_op(player: &mut Player) -> PlainOp {
     }
 }
 
-fn reset<C: Ledger, A: Ledger>(
-    player: &Player,
+fn reset<C: Ledger, A: Ledger, M: Memory>(
+    player: &mut Player<M>,
     side: &mut Side<C, A>,
     table: Table,
     a: u32,
@@ -34,11 +35,14 @@ fn reset<C: Ledger, A: Ledger>(
 ) -> Result<Swapped, AtomFault> {
     let alloc = player.alloc;
     let value = value_from(value)?;
-    side.world.reset(alloc, &table, &mut side.share, a, value)
+    player.memory.begin();
+    let seen = side.world.reset(alloc, &table, &mut side.share, a, value);
+    player.memory.end();
+    seen
 }
 
-fn swap<C: Ledger, A: Ledger>(
-    player: &Player,
+fn swap<C: Ledger, A: Ledger, M: Memory>(
+    player: &mut Player<M>,
     side: &mut Side<C, A>,
     table: Table,
     a: u32,
@@ -46,12 +50,16 @@ fn swap<C: Ledger, A: Ledger>(
 ) -> Result<Swapped, AtomFault> {
     let alloc = player.alloc;
     let args = args_from(alloc, call.given)?;
-    side.world
-        .swap(alloc, &table, &mut side.share, a, call.code, args)
+    player.memory.begin();
+    let seen = side
+        .world
+        .swap(alloc, &table, &mut side.share, a, call.code, args);
+    player.memory.end();
+    seen
 }
 
-fn changed<C: Ledger, A: Ledger>(
-    player: &Player,
+fn changed<C: Ledger, A: Ledger, M: Memory>(
+    player: &mut Player<M>,
     side: &mut Side<C, A>,
     table: Table,
     a: u32,
@@ -87,8 +95,8 @@ fn number_of(fault: Option<AtomFault>) -> u8 {
 }
 
 // Whether an atom was changed as in the model.
-fn compare(
-    player: &mut Player,
+fn compare<M: Memory>(
+    player: &mut Player<M>,
     model: &mut Model,
     seen: &Result<Swapped, AtomFault>,
     (table, a, op): (Table, u32, PlainOp),
@@ -99,24 +107,31 @@ fn compare(
     player.told(agree(seen, &wanted), number_of(fault))
 }
 
-fn swap_or_reset<C: Ledger, A: Ledger>(player: &mut Player, side: &mut Side<C, A>) -> Played {
+fn swap_or_reset<C: Ledger, A: Ledger, M: Memory>(
+    player: &mut Player<M>,
+    side: &mut Side<C, A>,
+) -> Played {
     let op = drawn_op(player);
     let table = player.draws.table();
     let a = player.draws.number(&side.model, Kind::Atom);
     let seen = changed(player, side, table, a, op);
-    compare(player, &mut side.model, &seen, (table, a, op))
+    if player.refuses(matches!(&seen, Err(AtomFault::Memory))) {
+        Ok(())
+    } else {
+        compare(player, &mut side.model, &seen, (table, a, op))
+    }
 }
 
 // Now and then the value that the atom has.
-fn drawn_old(player: &mut Player, model: &Model, a: u32) -> Plain {
+fn drawn_old<M: Memory>(player: &mut Player<M>, model: &Model, a: u32) -> Plain {
     match model.atoms.get(a as usize) {
         Some(atom) if player.draws.once_in(2) => atom.value,
         _ => player.draws.value(),
     }
 }
 
-fn compared<C: Ledger, A: Ledger>(
-    player: &Player,
+fn compared<C: Ledger, A: Ledger, M: Memory>(
+    player: &mut Player<M>,
     side: &mut Side<C, A>,
     (table, a): (Table, u32),
     old: Plain,
@@ -125,8 +140,12 @@ fn compared<C: Ledger, A: Ledger>(
     let alloc = player.alloc;
     let old = value_from(old)?;
     let new = value_from(new)?;
-    side.world
-        .compare_and_set(alloc, &table, &mut side.share, a, &old, new)
+    player.memory.begin();
+    let seen = side
+        .world
+        .compare_and_set(alloc, &table, &mut side.share, a, &old, new);
+    player.memory.end();
+    seen
 }
 
 fn compared_number(wanted: &Result<Option<PlainChange>, AtomFault>) -> u8 {
@@ -137,21 +156,27 @@ fn compared_number(wanted: &Result<Option<PlainChange>, AtomFault>) -> u8 {
     }
 }
 
-fn compare_and_set<C: Ledger, A: Ledger>(player: &mut Player, side: &mut Side<C, A>) -> Played {
+fn compare_and_set<C: Ledger, A: Ledger, M: Memory>(
+    player: &mut Player<M>,
+    side: &mut Side<C, A>,
+) -> Played {
     player.calls(Row::CompareAndSet);
     let table = player.draws.table();
     let a = player.draws.number(&side.model, Kind::Atom);
     let old = drawn_old(player, &side.model, a);
     let new = player.draws.value();
     let seen = compared(player, side, (table, a), old, new);
+    if player.refuses(matches!(&seen, Err(AtomFault::Memory))) {
+        return Ok(());
+    }
     let wanted = side.model.compare_and_set(table, a, old, new)?;
     player.told(agree(&seen, &wanted), compared_number(&wanted))
 }
 
 // ---- Makings
 
-fn made<C: Ledger, A: Ledger>(
-    player: &Player,
+fn made<C: Ledger, A: Ledger, M: Memory>(
+    player: &mut Player<M>,
     side: &mut Side<C, A>,
     table: Table,
     kind: Kind,
@@ -159,13 +184,16 @@ fn made<C: Ledger, A: Ledger>(
 ) -> Result<u32, MakeFault> {
     let alloc = player.alloc;
     let (value, rule) = value_and_rule_from(alloc, start)?;
-    match kind {
+    player.memory.begin();
+    let seen = match kind {
         Kind::Ref => side.world.make_ref(alloc, &table, value, rule, start.tally),
         Kind::Atom => side.world.make_atom(alloc, &table, value, rule),
         Kind::Agent => side
             .world
             .make_agent(alloc, &table, value, rule, start.mode),
-    }
+    };
+    player.memory.end();
+    seen
 }
 
 fn make_row(kind: Kind) -> Row {
@@ -183,19 +211,22 @@ fn make_number(wanted: Result<u32, MakeFault>) -> u8 {
     }
 }
 
-fn make<C: Ledger, A: Ledger>(player: &mut Player, side: &mut Side<C, A>) -> Played {
+fn make<C: Ledger, A: Ledger, M: Memory>(player: &mut Player<M>, side: &mut Side<C, A>) -> Played {
     let kind = player.draws.kind();
     player.calls(make_row(kind));
     let table = player.draws.table();
     let start = player.draws.start();
     let seen = made(player, side, table, kind, start);
+    if player.refuses(seen == Err(MakeFault::Memory)) {
+        return Ok(());
+    }
     let wanted = side.model.make(table, kind, start)?;
     player.told(seen == wanted, make_number(wanted))
 }
 
 // ---- Rules and watches
 
-fn drawn_rule(player: &mut Player) -> Option<PlainCall> {
+fn drawn_rule<M: Memory>(player: &mut Player<M>) -> Option<PlainCall> {
     if player.draws.once_in(4) {
         None
     } else {
@@ -210,13 +241,21 @@ fn rule_number(wanted: Result<(), RuleFault>) -> u8 {
     }
 }
 
-fn set_validator<C: Ledger, A: Ledger>(player: &mut Player, side: &mut Side<C, A>) -> Played {
+fn set_validator<C: Ledger, A: Ledger, M: Memory>(
+    player: &mut Player<M>,
+    side: &mut Side<C, A>,
+) -> Played {
     player.calls(Row::SetValidator);
     let table = player.draws.table();
     let who = player.draws.who(&side.model);
     let rule = drawn_rule(player);
     let given = any_rule_from(player.alloc, rule)?;
+    player.memory.begin();
     let seen = side.world.set_validator(&table, who, given);
+    player.memory.end();
+    if player.refuses(seen == Err(RuleFault::Memory)) {
+        return Ok(());
+    }
     let wanted = side.model.set_validator(table, who, rule);
     player.told(seen == wanted, rule_number(wanted))
 }
@@ -229,15 +268,20 @@ fn watch_number(wanted: Result<bool, WatchFault>) -> u8 {
     }
 }
 
-pub(crate) fn add_watch<C: Ledger, A: Ledger>(
-    player: &mut Player,
+pub(crate) fn add_watch<C: Ledger, A: Ledger, M: Memory>(
+    player: &mut Player<M>,
     side: &mut Side<C, A>,
 ) -> Played {
     player.calls(Row::AddWatch);
     let who = player.draws.who(&side.model);
     let key = player.draws.key();
     let value = value_from(key)?;
+    player.memory.begin();
     let seen = side.world.add_watch(player.alloc, who, value);
+    player.memory.end();
+    if player.refuses(seen == Err(WatchFault::Memory)) {
+        return Ok(());
+    }
     let wanted = side.model.add_watch(who, key)?;
     player.told(seen == wanted, watch_number(wanted))
 }
@@ -250,20 +294,25 @@ fn remove_number(was: bool, is_here: bool) -> u8 {
     }
 }
 
-fn remove_watch<C: Ledger, A: Ledger>(player: &mut Player, side: &mut Side<C, A>) -> Played {
+fn remove_watch<C: Ledger, A: Ledger, M: Memory>(
+    player: &mut Player<M>,
+    side: &mut Side<C, A>,
+) -> Played {
     player.calls(Row::RemoveWatch);
     let who = player.draws.who(&side.model);
     let key = player.draws.key();
     let is_here = side.model.find(who).is_some();
     let value = value_from(key)?;
+    player.memory.begin();
     let seen = side.world.remove_watch(who, &value);
+    player.memory.end();
     let wanted = side.model.remove_watch(who, key);
     player.told(seen == wanted, remove_number(wanted, is_here))
 }
 
 /// Makes one of these calls.
-pub(crate) fn call_on_references<C: Ledger, A: Ledger>(
-    player: &mut Player,
+pub(crate) fn call_on_references<C: Ledger, A: Ledger, M: Memory>(
+    player: &mut Player<M>,
     side: &mut Side<C, A>,
 ) -> Played {
     match player.draws.below(18) {

@@ -9,6 +9,7 @@ use tests_plain::held::{
     run,
 };
 use tests_plain::making::{args_from, value_from};
+use tests_plain::memory::Memory;
 use tests_plain::model::{Kind, Model};
 use tests_plain::outcomes::{Played, Row, Stop};
 use tests_plain::plain::{Plain, PlainCall};
@@ -19,8 +20,8 @@ use tests_plain::tables::Table;
 // ---- Jobs
 
 // Whether this job is that of an agent that is ready.
-fn taken<C: Ledger, A: Ledger>(
-    player: &mut Player,
+fn taken<C: Ledger, A: Ledger, M: Memory>(
+    player: &mut Player<M>,
     side: &mut Side<C, A>,
     agent: u32,
     hand: &Hand,
@@ -39,14 +40,22 @@ fn taken<C: Ledger, A: Ledger>(
 }
 
 /// Takes a job, which is that of some agent that is ready.
-pub(crate) fn take<C: Ledger, A: Ledger>(
-    player: &mut Player,
+pub(crate) fn take<C: Ledger, A: Ledger, M: Memory>(
+    player: &mut Player<M>,
     side: &mut Side<C, A>,
 ) -> Result<Option<Held>, Stop> {
     player.calls(Row::Take);
-    let Some(job) = side.world.take()? else {
-        player.told(!side.model.is_one_ready(), 1)?;
-        return Ok(None);
+    player.memory.begin();
+    let seen = side.world.take();
+    player.memory.end();
+    let job = match seen {
+        Ok(Some(job)) => job,
+        Ok(None) => {
+            player.told(!side.model.is_one_ready(), 1)?;
+            return Ok(None);
+        }
+        Err(_) if player.refuses(true) => return Ok(None),
+        Err(wrong) => return Err(Stop::from(wrong)),
     };
     let (agent, hand) = (job.agent(), Hand::Waits(job));
     let slip = taken(player, side, agent, &hand)?;
@@ -62,8 +71,8 @@ fn put_back_number(is_done: bool, is_near: bool) -> u8 {
 }
 
 // Whether a job was put back as in the model.
-fn compare_put_back<C: Ledger, A: Ledger>(
-    player: &mut Player,
+fn compare_put_back<C: Ledger, A: Ledger, M: Memory>(
+    player: &mut Player<M>,
     side: &mut Side<C, A>,
     left: Option<&Hand>,
     slip: Slip,
@@ -76,15 +85,18 @@ fn compare_put_back<C: Ledger, A: Ledger>(
     player.told(is_same, put_back_number(is_done, side.number == slip.home))
 }
 
-fn put_back<C: Ledger, A: Ledger>(
-    player: &mut Player,
+fn put_back<C: Ledger, A: Ledger, M: Memory>(
+    player: &mut Player<M>,
     side: &mut Side<C, A>,
     job: Job,
     slip: Slip,
 ) -> Result<Option<Held>, Stop> {
     player.calls(Row::PutBack);
     count_foreign(player, &side.model, slip.job);
-    match side.world.put_back(job) {
+    player.memory.begin();
+    let seen = side.world.put_back(job);
+    player.memory.end();
+    match seen {
         Ok(()) => {
             compare_put_back(player, side, None, slip)?;
             Ok(None)
@@ -98,8 +110,8 @@ fn put_back<C: Ledger, A: Ledger>(
 }
 
 // Whether a job ended as in the model.
-fn compare_finish<C: Ledger, A: Ledger>(
-    player: &mut Player,
+fn compare_finish<C: Ledger, A: Ledger, M: Memory>(
+    player: &mut Player<M>,
     side: &mut Side<C, A>,
     seen: Result<&Finished, (&Hand, FinishFault)>,
     (table, slip, ended): (Table, Slip, Ended),
@@ -111,8 +123,8 @@ fn compare_finish<C: Ledger, A: Ledger>(
     player.told(is_same_end(seen, &wanted, slip), finish_number(&wanted))
 }
 
-fn finish<C: Ledger, A: Ledger>(
-    player: &mut Player,
+fn finish<C: Ledger, A: Ledger, M: Memory>(
+    player: &mut Player<M>,
     side: &mut Side<C, A>,
     ran: Ran<Core>,
     slip: Slip,
@@ -121,22 +133,27 @@ fn finish<C: Ledger, A: Ledger>(
     player.calls(Row::Finish);
     count_foreign(player, &side.model, slip.job);
     let table = player.draws.table();
-    match side.world.finish(player.alloc, &table, ran) {
+    player.memory.begin();
+    let seen = side.world.finish(player.alloc, &table, ran);
+    player.memory.end();
+    match seen {
         Ok(finished) => {
             compare_finish(player, side, Ok(&finished), (table, slip, ended))?;
             Ok(None)
         }
         Err((ran, fault)) => {
             let hand = Hand::Ran(ran);
-            compare_finish(player, side, Err((&hand, fault)), (table, slip, ended))?;
+            if !player.refuses(fault == FinishFault::Memory) {
+                compare_finish(player, side, Err((&hand, fault)), (table, slip, ended))?;
+            }
             Ok(Some(Held { hand, slip }))
         }
     }
 }
 
 // A call with a job that hasn't run.
-fn go_on<C: Ledger, A: Ledger>(
-    player: &mut Player,
+fn go_on<C: Ledger, A: Ledger, M: Memory>(
+    player: &mut Player<M>,
     side: &mut Side<C, A>,
     job: Job,
     slip: Slip,
@@ -152,8 +169,8 @@ fn go_on<C: Ledger, A: Ledger>(
 }
 
 /// A call with a job that is held, which is held afterwards if it comes back.
-pub(crate) fn call_on_job<C: Ledger, A: Ledger>(
-    player: &mut Player,
+pub(crate) fn call_on_job<C: Ledger, A: Ledger, M: Memory>(
+    player: &mut Player<M>,
     side: &mut Side<C, A>,
     held: Held,
 ) -> Result<Option<Held>, Stop> {
@@ -168,21 +185,27 @@ pub(crate) fn call_on_job<C: Ledger, A: Ledger>(
 
 // ---- Sends, releases, restarts
 
-fn sent<C: Ledger, A: Ledger>(
-    player: &Player,
+fn sent<C: Ledger, A: Ledger, M: Memory>(
+    player: &mut Player<M>,
     side: &mut Side<C, A>,
     g: u32,
     call: PlainCall,
 ) -> Result<(), SendFault> {
     let (code, args) = (call.code, args_from(player.alloc, call.given)?);
-    side.world.send(player.alloc, g, Action { code, args })
+    player.memory.begin();
+    let seen = side.world.send(player.alloc, g, Action { code, args });
+    player.memory.end();
+    seen
 }
 
-fn send<C: Ledger, A: Ledger>(player: &mut Player, side: &mut Side<C, A>) -> Played {
+fn send<C: Ledger, A: Ledger, M: Memory>(player: &mut Player<M>, side: &mut Side<C, A>) -> Played {
     player.calls(Row::Send);
     let g = player.draws.number(&side.model, Kind::Agent);
     let call = player.draws.action();
     let seen = sent(player, side, g, call);
+    if player.refuses(seen == Err(SendFault::Memory)) {
+        return Ok(());
+    }
     let wanted = side.model.send(g, call)?;
     let number = match wanted {
         Ok(()) => 0,
@@ -199,24 +222,32 @@ fn release_number(is_released: bool, waits: bool) -> u8 {
     }
 }
 
-fn release<C: Ledger, A: Ledger>(player: &mut Player, side: &mut Side<C, A>) -> Played {
+fn release<C: Ledger, A: Ledger, M: Memory>(
+    player: &mut Player<M>,
+    side: &mut Side<C, A>,
+) -> Played {
     player.calls(Row::Release);
     let point = player.draws.held_point(&side.model);
+    player.memory.begin();
     let seen = side.world.release(point);
+    player.memory.end();
     let waits = side.model.has_queued(point);
     let wanted = side.model.release(point);
     player.told(seen == wanted, release_number(wanted, waits))
 }
 
-fn restarted<C: Ledger, A: Ledger>(
-    player: &Player,
+fn restarted<C: Ledger, A: Ledger, M: Memory>(
+    player: &mut Player<M>,
     side: &mut Side<C, A>,
     table: Table,
     g: u32,
     (state, clear): (Plain, bool),
 ) -> Result<(), RestartFault> {
     let value = value_from(state)?;
-    side.world.restart(player.alloc, &table, g, value, clear)
+    player.memory.begin();
+    let seen = side.world.restart(player.alloc, &table, g, value, clear);
+    player.memory.end();
+    seen
 }
 
 fn restart_number(wanted: Result<(), RestartFault>, waits: bool, clear: bool) -> u8 {
@@ -228,7 +259,10 @@ fn restart_number(wanted: Result<(), RestartFault>, waits: bool, clear: bool) ->
     }
 }
 
-fn restart<C: Ledger, A: Ledger>(player: &mut Player, side: &mut Side<C, A>) -> Played {
+fn restart<C: Ledger, A: Ledger, M: Memory>(
+    player: &mut Player<M>,
+    side: &mut Side<C, A>,
+) -> Played {
     player.calls(Row::Restart);
     let g = player.draws.failed(&side.model);
     let clear = !player.draws.once_in(3);
@@ -236,6 +270,9 @@ fn restart<C: Ledger, A: Ledger>(player: &mut Player, side: &mut Side<C, A>) -> 
     let state = player.draws.value();
     let waits = side.model.waits(g);
     let seen = restarted(player, side, table, g, (state, clear));
+    if player.refuses(seen == Err(RestartFault::Memory)) {
+        return Ok(());
+    }
     let wanted = side.model.restart(table, g, state, clear);
     player.told(seen == wanted, restart_number(wanted, waits, clear))
 }
@@ -248,26 +285,31 @@ fn mode_number(wanted: Result<(), ModeFault>, is_failed: bool) -> u8 {
     }
 }
 
-fn set_error_mode<C: Ledger, A: Ledger>(player: &mut Player, side: &mut Side<C, A>) -> Played {
+fn set_error_mode<C: Ledger, A: Ledger, M: Memory>(
+    player: &mut Player<M>,
+    side: &mut Side<C, A>,
+) -> Played {
     player.calls(Row::SetErrorMode);
     let g = player.draws.number(&side.model, Kind::Agent);
     let mode = player.draws.mode();
+    player.memory.begin();
     let seen = side.world.set_error_mode(g, mode);
+    player.memory.end();
     let wanted = side.model.set_error_mode(g, mode);
     player.told(seen == wanted, mode_number(wanted, side.model.is_failed(g)))
 }
 
-fn wants_release(player: &mut Player, model: &Model) -> bool {
+fn wants_release<M: Memory>(player: &mut Player<M>, model: &Model) -> bool {
     model.first_dropped().is_some() || player.draws.once_in(4)
 }
 
-fn wants_restart(player: &mut Player, model: &Model) -> bool {
+fn wants_restart<M: Memory>(player: &mut Player<M>, model: &Model) -> bool {
     model.first_failed().is_some() || player.draws.once_in(6)
 }
 
 /// Makes one of these calls: mostly a send, unless there is something to release or to restart.
-pub(crate) fn call_on_agents<C: Ledger, A: Ledger>(
-    player: &mut Player,
+pub(crate) fn call_on_agents<C: Ledger, A: Ledger, M: Memory>(
+    player: &mut Player<M>,
     side: &mut Side<C, A>,
 ) -> Played {
     let releases = wants_release(player, &side.model);

@@ -39,7 +39,7 @@ fn totals_of(model: &Model) -> Totals {
 }
 
 /// Whether a whole share has what the books have, and each receipt.
-pub(crate) fn is_whole_share<C: Ledger, A: Ledger>(
+pub fn is_whole_share<C: Ledger, A: Ledger>(
     world: &mut World<Core, C, A>,
     share: &mut Share<C, A>,
     model: &Model,

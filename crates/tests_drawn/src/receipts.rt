@@ -1,4 +1,4 @@
-//! Whether a receipt is that of the model. It stands outside of the tests, since wrong bodies are tried without them.
+//! Whether a receipt is that of the model.
 ghost use Rattle.std.specs.Bool.{OnTrue};
 ghost use Rattle.std.specs.Prelude.{◌≡◌};
 

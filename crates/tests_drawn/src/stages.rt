@@ -2,13 +2,15 @@
 use crate::commits::{begin, commit};
 use crate::jobs::{call_on_agents, call_on_job, take};
 use crate::references::call_on_references;
-use crate::sides::{Side, check};
+use crate::sides::{Side, check, check_whole};
 use std::alloc::Global;
 use std::sync::ledger::Ledger;
 use tests_plain::held::Held;
+use tests_plain::memory::{MOST_REQUESTS, Memory};
 use tests_plain::open::{Open, call_on_open};
 use tests_plain::outcomes::{Played, Stop};
 use tests_plain::player::Player;
+use tests_plain::shows::Shows;
 
 /// Two worlds, and the open transactions and jobs that may be passed to either.
 pub(crate) struct Stage<C: Ledger, A: Ledger, D: Ledger, B: Ledger> {
@@ -18,7 +20,7 @@ pub(crate) struct Stage<C: Ledger, A: Ledger, D: Ledger, B: Ledger> {
     jobs: Vec<Option<Held>>,
 }
 
-// A function of its own, which whoever lets one go calls; a derived one would be written out there.
+// A function of its own, which each place that drops one calls; a derived one would be written out there.
 impl<C: Ledger, A: Ledger, D: Ledger, B: Ledger> Drop for Stage<C, A, D, B> {
     fn drop(self) {
         let Stage {
@@ -40,8 +42,8 @@ fn places<T: Drop>(alloc: Global) -> Result<Vec<Option<T>>, Stop> {
 }
 
 /// Nothing is open on it, and no job is held.
-pub(crate) fn new_stage<C: Ledger, A: Ledger, D: Ledger, B: Ledger>(
-    player: &Player,
+pub(crate) fn new_stage<C: Ledger, A: Ledger, D: Ledger, B: Ledger, M: Memory>(
+    player: &Player<M>,
     first: Side<C, A>,
     second: Side<D, B>,
 ) -> Result<Stage<C, A, D, B>, Stop> {
@@ -67,7 +69,7 @@ fn put<T: Drop>(places: &mut Vec<Option<T>>, i: usize, item: Option<T>) {
 }
 
 // Mostly this one of the two worlds.
-fn near(player: &mut Player, home: usize) -> usize {
+fn near<M: Memory>(player: &mut Player<M>, home: usize) -> usize {
     if player.draws.once_in(3) {
         player.draws.below(2)
     } else {
@@ -75,8 +77,8 @@ fn near(player: &mut Player, home: usize) -> usize {
     }
 }
 
-fn call_on_world<C: Ledger, A: Ledger>(
-    player: &mut Player,
+fn call_on_world<C: Ledger, A: Ledger, M: Memory>(
+    player: &mut Player<M>,
     side: &mut Side<C, A>,
     of_agents: bool,
 ) -> Played {
@@ -88,8 +90,8 @@ fn call_on_world<C: Ledger, A: Ledger>(
     check(player, side)
 }
 
-fn play_on_world<C: Ledger, A: Ledger, D: Ledger, B: Ledger>(
-    player: &mut Player,
+fn play_on_world<C: Ledger, A: Ledger, D: Ledger, B: Ledger, M: Memory>(
+    player: &mut Player<M>,
     stage: &mut Stage<C, A, D, B>,
     of_agents: bool,
 ) -> Played {
@@ -99,10 +101,10 @@ fn play_on_world<C: Ledger, A: Ledger, D: Ledger, B: Ledger>(
     }
 }
 
-fn begun<C: Ledger, A: Ledger, D: Ledger, B: Ledger>(
-    player: &mut Player,
+fn begun<C: Ledger, A: Ledger, D: Ledger, B: Ledger, M: Memory>(
+    player: &mut Player<M>,
     stage: &Stage<C, A, D, B>,
-) -> Result<Open, Stop> {
+) -> Result<Option<Open>, Stop> {
     match player.draws.below(2) {
         0 => begin(player, &stage.first),
         _ => begin(player, &stage.second),
@@ -110,14 +112,14 @@ fn begun<C: Ledger, A: Ledger, D: Ledger, B: Ledger>(
 }
 
 // A refused one is dropped or tried again.
-fn commit_on<C: Ledger, A: Ledger>(
-    player: &mut Player,
+fn commit_on<C: Ledger, A: Ledger, M: Memory>(
+    player: &mut Player<M>,
     side: &mut Side<C, A>,
     open: Open,
 ) -> Result<Option<Open>, Stop> {
     let left = commit(player, side, open)?;
     check(player, side)?;
-    if player.draws.once_in(2) {
+    if !player.is_refused && player.draws.once_in(2) {
         Ok(None)
     } else {
         Ok(left)
@@ -125,8 +127,8 @@ fn commit_on<C: Ledger, A: Ledger>(
 }
 
 // A commit comes mostly after some operations.
-fn go_on<C: Ledger, A: Ledger, D: Ledger, B: Ledger>(
-    player: &mut Player,
+fn go_on<C: Ledger, A: Ledger, D: Ledger, B: Ledger, M: Memory>(
+    player: &mut Player<M>,
     stage: &mut Stage<C, A, D, B>,
     mut open: Open,
 ) -> Result<Option<Open>, Stop> {
@@ -145,21 +147,21 @@ fn go_on<C: Ledger, A: Ledger, D: Ledger, B: Ledger>(
     }
 }
 
-fn play_transaction<C: Ledger, A: Ledger, D: Ledger, B: Ledger>(
-    player: &mut Player,
+fn play_transaction<C: Ledger, A: Ledger, D: Ledger, B: Ledger, M: Memory>(
+    player: &mut Player<M>,
     stage: &mut Stage<C, A, D, B>,
 ) -> Played {
     let i = player.draws.below(stage.open.len());
     let left = match taken(&mut stage.open, i) {
-        None => Some(begun(player, stage)?),
+        None => begun(player, stage)?,
         Some(open) => go_on(player, stage, open)?,
     };
     put(&mut stage.open, i, left);
     Ok(())
 }
 
-fn take_on<C: Ledger, A: Ledger>(
-    player: &mut Player,
+fn take_on<C: Ledger, A: Ledger, M: Memory>(
+    player: &mut Player<M>,
     side: &mut Side<C, A>,
 ) -> Result<Option<Held>, Stop> {
     let held = take(player, side)?;
@@ -168,8 +170,8 @@ fn take_on<C: Ledger, A: Ledger>(
 }
 
 // Mostly from a world that has an agent that is ready.
-fn taken_job<C: Ledger, A: Ledger, D: Ledger, B: Ledger>(
-    player: &mut Player,
+fn taken_job<C: Ledger, A: Ledger, D: Ledger, B: Ledger, M: Memory>(
+    player: &mut Player<M>,
     stage: &mut Stage<C, A, D, B>,
 ) -> Result<Option<Held>, Stop> {
     let is_first = if player.draws.once_in(2) {
@@ -184,8 +186,8 @@ fn taken_job<C: Ledger, A: Ledger, D: Ledger, B: Ledger>(
     }
 }
 
-fn work_on<C: Ledger, A: Ledger>(
-    player: &mut Player,
+fn work_on<C: Ledger, A: Ledger, M: Memory>(
+    player: &mut Player<M>,
     side: &mut Side<C, A>,
     held: Held,
 ) -> Result<Option<Held>, Stop> {
@@ -194,8 +196,8 @@ fn work_on<C: Ledger, A: Ledger>(
     Ok(left)
 }
 
-fn work<C: Ledger, A: Ledger, D: Ledger, B: Ledger>(
-    player: &mut Player,
+fn work<C: Ledger, A: Ledger, D: Ledger, B: Ledger, M: Memory>(
+    player: &mut Player<M>,
     stage: &mut Stage<C, A, D, B>,
     held: Held,
 ) -> Result<Option<Held>, Stop> {
@@ -209,8 +211,8 @@ fn is_one_ready<C: Ledger, A: Ledger, D: Ledger, B: Ledger>(stage: &Stage<C, A, 
     stage.first.model.is_one_ready() || stage.second.model.is_one_ready()
 }
 
-fn play_job<C: Ledger, A: Ledger, D: Ledger, B: Ledger>(
-    player: &mut Player,
+fn play_job<C: Ledger, A: Ledger, D: Ledger, B: Ledger, M: Memory>(
+    player: &mut Player<M>,
     stage: &mut Stage<C, A, D, B>,
 ) -> Played {
     let i = player.draws.below(stage.jobs.len());
@@ -225,9 +227,9 @@ fn play_job<C: Ledger, A: Ledger, D: Ledger, B: Ledger>(
     Ok(())
 }
 
-/// One call.
-pub(crate) fn play<C: Ledger, A: Ledger, D: Ledger, B: Ledger>(
-    player: &mut Player,
+// A call that is drawn. Where it's refused for a request that was, both worlds and all that is open are as before.
+fn make<C: Ledger, A: Ledger, D: Ledger, B: Ledger, M: Memory>(
+    player: &mut Player<M>,
     stage: &mut Stage<C, A, D, B>,
 ) -> Played {
     let (transactions, jobs) = if player.of_agents { (3, 7) } else { (6, 7) };
@@ -238,4 +240,62 @@ pub(crate) fn play<C: Ledger, A: Ledger, D: Ledger, B: Ledger>(
         8 => play_on_world(player, stage, player.of_agents),
         _ => play_on_world(player, stage, false),
     }
+}
+
+// ---- Each call without each of its requests for memory
+
+fn are_open(open: &[Option<Open>]) -> bool {
+    for place in open {
+        if let Some(open) = place {
+            if !open.tx.shows(&open.plain) {
+                return false;
+            }
+        }
+    }
+    true
+}
+
+fn are_held(jobs: &[Option<Held>]) -> bool {
+    for place in jobs {
+        if let Some(held) = place {
+            if !held.hand.shows(&held.slip) {
+                return false;
+            }
+        }
+    }
+    true
+}
+
+// Whether all is as in the model, which a refused call doesn't change.
+fn check_refused<C: Ledger, A: Ledger, D: Ledger, B: Ledger, M: Memory>(
+    player: &mut Player<M>,
+    stage: &mut Stage<C, A, D, B>,
+) -> Played {
+    check(player, &stage.first)?;
+    check(player, &stage.second)?;
+    check_whole(&mut stage.first)?;
+    check_whole(&mut stage.second)?;
+    if are_open(&stage.open) && are_held(&stage.jobs) {
+        Ok(())
+    } else {
+        Err(Stop::Differs("what is open"))
+    }
+}
+
+/// Makes a call that is drawn, without its first request for memory, without its second, and so on, until it isn't refused for that.
+pub(crate) fn play<C: Ledger, A: Ledger, D: Ledger, B: Ledger, M: Memory>(
+    player: &mut Player<M>,
+    stage: &mut Stage<C, A, D, B>,
+) -> Played {
+    let draws = player.draws;
+    for number in 1..MOST_REQUESTS {
+        player.tries(draws, number);
+        make(player, stage)?;
+        if !player.is_refused {
+            player.ends(number);
+            return Ok(());
+        }
+        check_refused(player, stage)?;
+    }
+    Err(Stop::Differs("the number of requests"))
 }

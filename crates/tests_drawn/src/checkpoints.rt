@@ -4,6 +4,7 @@ use ref_fun::Core;
 use ref_world::{CheckpointFault, View};
 use std::alloc::AllocError;
 use std::sync::ledger::Ledger;
+use tests_plain::memory::Memory;
 use tests_plain::model::Model;
 use tests_plain::outcomes::{Played, Row, Stop};
 use tests_plain::player::Player;
@@ -11,7 +12,7 @@ use tests_plain::shows::is_whole_log;
 use tests_plain::tables::Table;
 
 /// What a checkpoint answers by the model, which is not changed.
-pub(crate) fn answer(model: &Model, table: Table, point: u64) -> Result<u64, CheckpointFault> {
+pub fn answer(model: &Model, table: Table, point: u64) -> Result<u64, CheckpointFault> {
     let base = model.base.point();
     if point < base || point > model.point() {
         return Err(CheckpointFault::NoSuchPoint);
@@ -24,10 +25,7 @@ pub(crate) fn answer(model: &Model, table: Table, point: u64) -> Result<u64, Che
 }
 
 /// Folds as many entries as a checkpoint answers, if it isn't refused.
-pub(crate) fn fold(
-    model: &mut Model,
-    wanted: Result<u64, CheckpointFault>,
-) -> Result<(), AllocError> {
+pub fn fold(model: &mut Model, wanted: Result<u64, CheckpointFault>) -> Result<(), AllocError> {
     match wanted {
         Ok(count) => model.fold(count as usize),
         Err(_) => Ok(()),
@@ -48,8 +46,8 @@ fn is_view(view: &View<Core>, model: &Model, first: usize) -> bool {
 }
 
 /// A checkpoint, with a view from before it, which stays as it was.
-pub(crate) fn checkpoint<C: Ledger, A: Ledger>(
-    player: &mut Player,
+pub(crate) fn checkpoint<C: Ledger, A: Ledger, M: Memory>(
+    player: &mut Player<M>,
     side: &mut Side<C, A>,
 ) -> Played {
     player.calls(Row::Checkpoint);
@@ -57,7 +55,12 @@ pub(crate) fn checkpoint<C: Ledger, A: Ledger>(
     let point = player.draws.log_point(&side.model);
     let first = side.model.base.entries;
     let view = side.world.view()?;
+    player.memory.begin();
     let seen = side.world.checkpoint(player.alloc, &table, point);
+    player.memory.end();
+    if player.refuses(seen == Err(CheckpointFault::Memory)) {
+        return Ok(());
+    }
     let wanted = answer(&side.model, table, point);
     fold(&mut side.model, wanted)?;
     if !is_view(&view, &side.model, first) {
