@@ -20,10 +20,12 @@ use Rattle.ref_agents.specs.declared.accounts.Queued.{Queued}
 use Rattle.ref_value.specs.OrderLaws.{edn_eq}
 use Rattle.ref_log.specs.Replay.{is_set}
 use Rattle.ref_audit.specs.Dumped.{atom_form, done_form, entry_form, handled_form, op_form, queued_form, sent_form}
-use Rattle.ref_verdict.specs.DumpForm.{action_of, all_said, args_said, code_of, done_of, elements_of, entries_from, entry_of, handled_of, list_said, only_if, queued_of, reference_of, rule_of, sent_of, stamp_number}
+use Rattle.ref_forms.specs.Calls.{action_of, any, args_said, code_of, rule_of}
+use Rattle.ref_forms.specs.Plain.{all_said, elements_of, list_said, only_if, stamp_number}
+use Rattle.ref_verdict.specs.DumpForm.{done_of, entries_from, entry_of, handled_of, queued_of, reference_of, sent_of}
 use Rattle.ref_audit.specs.OwnDump.{is_typed_action, is_typed_args, is_typed_entry, is_typed_handled, is_typed_number, is_typed_op, is_typed_queued, is_typed_sent, is_typed_done, is_typed_rule, is_typed_stamp, is_reset}
 use Rattle.ref_verdict.specs.Words.{name_form, number_form, rule_form, vector_form}
-use Rattle.ref_verdict.specs.FormLaws.{args_said_few, elements_of_vector, rule_of_vector}
+use Rattle.ref_forms.specs.Laws.{args_said_few, elements_of_vector, rule_of_vector}
 
 split : (a b : Bool) → (a && b) ≡ true → (a ≡ true) × (b ≡ true)
 split true b e = (refl, e)
@@ -100,22 +102,22 @@ predicate_back code is =
 
 -- ---- actions and rules
 
-args_back : (args : List Edn) → is_typed_args args ≡ true → option_and_then args_said (elements_of (vector_form args)) ≡ Some args
+args_back : (args : List Edn) → is_typed_args args ≡ true → option_and_then (args_said any) (elements_of (vector_form args)) ≡ Some args
 args_back args typed =
     let few : length args ≤ 8 = grind (arith, nat_tests) in
-    ap (option_and_then args_said) (elements_of_vector args) ∙ args_said_few args few
+    ap (option_and_then (args_said any)) (elements_of_vector args) ∙ args_said_few args few
 
 pub action_back : (action : Action) → is_typed_action action ≡ true → action_of (name_form action.code) (vector_form action.args) ≡ Some action
 action_back action typed =
     let p = split (is_function action.code) (is_typed_args action.args) typed in
     rw (function_back action.code p.0, args_back action.args p.1) refl
 
-pub rule_back : (rule : Option Rule) → is_typed_rule rule ≡ true → rule_of (rule_form rule) ≡ Some rule
+pub rule_back : (rule : Option Rule) → is_typed_rule rule ≡ true → rule_of any (rule_form rule) ≡ Some rule
 rule_back None typed = refl
 rule_back (Some rule) typed =
     let p = split (is_predicate rule.code) (is_typed_args rule.args) typed in
     let few : length rule.args ≤ 8 = grind (arith, nat_tests, p.1) in
-    rule_of_vector (name_form rule.code ∷ rule.args) ∙ rw (predicate_back rule.code p.0, args_said_few rule.args few) refl
+    rule_of_vector any (name_form rule.code ∷ rule.args) ∙ rw (predicate_back rule.code p.0, args_said_few rule.args few) refl
 
 -- ---- lists
 

@@ -13,12 +13,13 @@ use Rattle.ref_agents.specs.declared.accounts.Queued.{Queued}
 use Rattle.ref_agents.specs.declared.agents.Agent.{Agent}
 use Rattle.ref_world.specs.Seen.{WorldSeen}
 use Rattle.ref_audit.specs.Dumped.{agent_form, agents_form, base_ref_form, base_refs_form, dumped, entry_form, handled_form, queued_form, status_word, tally_form, value_form, values_form}
-use Rattle.ref_verdict.specs.DumpForm.{agent_of, changed_of, dump_of, elements_within, handled_of, kept_of, list_said, only_if, queued_of, status_of, tally_of, values_said, all_said}
+use Rattle.ref_forms.specs.Plain.{all_said, are_known, elements_within, list_said, only_if}
+use Rattle.ref_verdict.specs.DumpForm.{agent_of, changed_of, dump_of, handled_of, has_keys, kept_of, queued_of, status_of, tally_of, values_said}
 use Rattle.ref_audit.specs.OwnDump.{IsTyped, agent_seen, agents_seen, dump_seen, is_typed_agent, is_typed_handled, is_typed_queued, is_typed_rule, is_typed_tally, kept_seen, kepts_seen}
 use Rattle.ref_verdict.specs.Words.{vector_form}
 use Rattle.ref_verdict.specs.declared.reading.dumps.Changed.{Changed}
 use Rattle.ref_audit.proofs.FormsBack.{all_back, entries_back, handled_back, list_back, queued_back, clamp_back, rule_back, same_list}
-use Rattle.ref_verdict.specs.FormLaws.{elements_of_vector}
+use Rattle.ref_forms.specs.Laws.{elements_of_vector}
 
 split : (a b : Bool) → (a && b) ≡ true → (a ≡ true) × (b ≡ true)
 split true b e = (refl, e)
@@ -148,6 +149,7 @@ forms_back es few =
 -- ---- all of it
 
 pub world_back : (w : WorldSeen) → IsTyped w → dump_of (dumped w) ≡ Ok (dump_seen w)
+unfolding has_keys are_known
 world_back w t =
     rw (
       agents_back w.agents.guards w.agents.agents t.agent_rules t.agents,

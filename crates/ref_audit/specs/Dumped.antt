@@ -1,4 +1,4 @@
--- The dump of a world: one map, by which whoever has it can replay the world's log on its base and compare the values.
+-- The dump of a world: one map, with which a program can replay the world's log on its base and compare the values.
 -- docs/DUMPS.md shows each form with an example.
 use Rattle.std.specs.Prelude.{ℕ, Bool, true, false, min, nat_lt, if◌then◌else◌, is_some, List, [], ◌∷◌, map, Option, None, Some}
 use Rattle.std.specs.List.{enumerate_from, zip}

@@ -12,10 +12,9 @@
 --   :make-ref V, :make-atom V, :make-agent V  then RULE or nil, then, for a ref, :tally, or, for an agent, :fail or :continue
 --
 -- RULE is `[P ARG ..]`. What a form doesn't say is None here.
-use Rattle.std.specs.Prelude.{ℕ, ◌+◌, Bool, true, false, if◌then◌else◌, nat_le, List, [], ◌∷◌, Option, None, Some, option_map, option_and_then, suc}
+use Rattle.std.specs.Prelude.{ℕ, ◌+◌, Bool, true, false, if◌then◌else◌, nat_le, List, [], ◌∷◌, Option, None, Some, option_map, option_and_then}
 use Rattle.ref_value.specs.Edn.{Edn, symbol, vector, list_of, nesting}
 use Rattle.ref_value.specs.Names.{bytes_eq}
-use Rattle.ref_fun.specs.Names.{is_function}
 use Rattle.ref_fun.specs.declared.actions.Action.{Action}
 use Rattle.ref_fun.specs.declared.rules.Rule.{Rule}
 use Rattle.ref_log.specs.declared.entries.Stamp.{Stamp}
@@ -24,13 +23,17 @@ use Rattle.ref_log.specs.declared.notices.Who.TheVariants.{Ref, Atom, Agent}
 use Rattle.ref_agents.specs.declared.agents.ErrorMode.{ErrorMode}
 use Rattle.ref_agents.specs.declared.agents.ErrorMode.TheVariants as modes
 use Rattle.ref_start.specs.Names.{NamesSeen}
-use Rattle.ref_plan.specs.declared.planning.kinds.Kind.{Kind}
-use Rattle.ref_plan.specs.declared.planning.kinds.Kind.TheVariants as kinds
-use Rattle.ref_verdict.specs.DumpForm.{and_said, args_said, both, code_of, elements_of, is_word, keyword_of, number_of, only_if, rule_of, rule_said, stamp_number}
+use Rattle.ref_forms.specs.Calls.{action_said, any, mode_said, rule_of, rule_said, value_said}
+use Rattle.ref_forms.specs.Plain.{alone_said, and_said, elements_of, keyword_of, mark_said, number_of, one_said, only_if, stamp_number, then_said, two_said}
+use Rattle.ref_forms.specs.References.{number_said, state_said}
+use Rattle.ref_forms.specs.declared.kinds.Kind.{Kind}
+use Rattle.ref_forms.specs.declared.kinds.Kind.TheVariants as kinds
+use Rattle.ref_plan.specs.Named.{who_named}
+use Rattle.ref_plan.specs.Words.{tally_word}
 use Rattle.ref_play.specs.declared.events.Act.{Act}
 use Rattle.ref_play.specs.declared.events.Act.TheVariants as acts
 use Rattle.ref_play.specs.declared.events.Event.{Event}
-use Rattle.ref_events.specs.Words.{act_words, agent_word, atom_word, clear_word, continue_word, fail_word, ref_word, tally_word, word_named}
+use Rattle.ref_events.specs.Words.{act_words, agent_word, atom_word, ref_word, word_named}
 use Rattle.ref_events.specs.declared.words.ActWord.{ActWord}
 use Rattle.ref_events.specs.declared.words.ActWord.TheVariants as words
 use Rattle.ref_events.specs.declared.words.AgentWord.{AgentWord}
@@ -50,23 +53,9 @@ use Rattle.ref_events.specs.declared.words.WorldWord.TheVariants as worlds
 
 -- ---- references
 
--- the place of a name in a list
-abbrev pub place_of : List ℕ → List (List ℕ) → Option ℕ
-place_of name [] = None
-place_of name (other ∷ names) = if bytes_eq other name then Some 0 else option_map suc (place_of name names)
-
--- the first that is there
-abbrev pub or_else : {A : Type 0} → Option A → Option A → Option A
-or_else (Some x) other = Some x
-or_else None other = other
-
--- the reference of a name
-abbrev pub who_named : NamesSeen → List ℕ → Option Who
-who_named names name = or_else (option_map Ref (place_of name names.refs)) (or_else (option_map Atom (place_of name names.atoms)) (option_map Agent (place_of name names.agents)))
-
 -- the reference of a kind that has this number
-abbrev pub who_of : List ℕ → ℕ → Option Who
-who_of kind n =
+abbrev pub who_at : List ℕ → ℕ → Option Who
+who_at kind n =
     if bytes_eq kind ref_word then Some (Ref n) else
     if bytes_eq kind atom_word then Some (Atom n) else
     if bytes_eq kind agent_word then Some (Agent n) else
@@ -74,7 +63,7 @@ who_of kind n =
 
 -- `KIND N`
 abbrev pub numbered_said : List Edn → Option Who
-numbered_said (kind ∷ n ∷ []) = option_and_then (λ word. option_and_then (who_of word) (stamp_number n)) (keyword_of kind)
+numbered_said (kind ∷ n ∷ []) = option_and_then (λ word. option_and_then (who_at word) (stamp_number n)) (keyword_of kind)
 numbered_said parts = None
 
 -- a name, or a kind and a number
@@ -83,66 +72,39 @@ who_said names (symbol name) = who_named names name
 who_said names (vector xs) = numbered_said (list_of xs)
 who_said names x = None
 
--- the number of a reference, if it is of this kind
-abbrev pub number_at : Kind → Who → Option ℕ
-number_at kinds.Ref (Ref n) = Some n
-number_at kinds.Atom (Atom n) = Some n
-number_at kinds.Agent (Agent n) = Some n
-number_at kind who = None
-
-abbrev pub number_said : NamesSeen → Kind → Edn → Option ℕ
-number_said names kind x = option_and_then (number_at kind) (who_said names x)
+-- the number of a reference of a kind
+abbrev pub place_said : NamesSeen → Kind → Edn → Option ℕ
+place_said names kind x = number_said (who_said names) kind x
 
 -- ---- what stands behind the word
 
--- nothing
-abbrev pub alone_said : Act → List Edn → Option Act
-alone_said act [] = Some act
-alone_said act parts = None
-
--- one form, and two of them
-abbrev pub one_said : {A : Type 0} → (Edn → Option A) → List Edn → Option A
-one_said said (x ∷ []) = said x
-one_said said parts = None
-
-abbrev pub two_said : {A B : Type 0} → (Edn → Option A) → (Edn → Option B) → List Edn → Option (A × B)
-two_said said other (x ∷ y ∷ []) = both (λ a b. (a, b)) (said x) (other y)
-two_said said other parts = None
+-- a point
+abbrev pub point_said : List Edn → Option ℕ
+point_said xs = one_said number_of xs
 
 -- a reference of a kind, a function and its arguments
 abbrev pub call_said : NamesSeen → Kind → List Edn → Option (ℕ × Action)
-call_said names kind (x ∷ f ∷ args) = both (λ n action. (n, action)) (number_said names kind x) (both (λ code xs. record { code = code; args = xs }) (code_of is_function f) (args_said args))
-call_said names kind parts = None
+call_said names kind xs = then_said (place_said names kind) (action_said any) xs
 
 -- a ref, a predicate and its arguments
 abbrev pub required_said : NamesSeen → List Edn → Option (ℕ × Rule)
-required_said names [] = None
-required_said names (x ∷ rule) = both (λ r said. (r, said)) (number_said names kinds.Ref x) (rule_said rule)
+required_said names xs = then_said (place_said names kinds.Ref) (rule_said any) xs
+
+-- a reference of a kind and a value
+abbrev pub setting_said : NamesSeen → Kind → List Edn → Option (ℕ × Edn)
+setting_said names kind xs = two_said (place_said names kind) (value_said any) xs
 
 -- an atom and two values
-abbrev pub swaps_said : NamesSeen → List Edn → Option (ℕ × Edn × Edn)
-swaps_said names (x ∷ old ∷ new ∷ []) = option_map (λ n. (n, old, new)) (number_said names kinds.Atom x)
-swaps_said names parts = None
-
--- whether a mark stands there that may be left out
-abbrev pub mark_said : List ℕ → List Edn → Option Bool
-mark_said word [] = Some false
-mark_said word (x ∷ []) = only_if (is_word word x) true
-mark_said word parts = None
+abbrev pub swaps_said : NamesSeen → List Edn → Option (ℕ × (Edn × Edn))
+swaps_said names xs = then_said (place_said names kinds.Atom) (two_said (value_said any) (value_said any)) xs
 
 -- an agent and a state, and whether what waits is dropped
-abbrev pub restart_said : NamesSeen → List Edn → Option (ℕ × Edn × Bool)
-restart_said names (g ∷ v ∷ mark) = both (λ n clear. (n, v, clear)) (number_said names kinds.Agent g) (mark_said clear_word mark)
-restart_said names parts = None
+abbrev pub restart_said : NamesSeen → List Edn → Option (ℕ × (Edn × Bool))
+restart_said names xs = then_said (place_said names kinds.Agent) (state_said any) xs
 
-abbrev pub mode_named : List ℕ → Option ErrorMode
-mode_named word =
-    if bytes_eq word fail_word then Some modes.Fail else
-    if bytes_eq word continue_word then Some modes.Continue else
-    None
-
-abbrev pub mode_said : Edn → Option ErrorMode
-mode_said x = option_and_then mode_named (keyword_of x)
+-- any reference and the key of a watch
+abbrev pub watch_said : NamesSeen → List Edn → Option (Who × Edn)
+watch_said names xs = two_said (who_said names) (value_said any) xs
 
 -- ---- makings
 
@@ -150,7 +112,7 @@ mode_said x = option_and_then mode_named (keyword_of x)
 abbrev pub made_said : List Edn → Option (Edn × Option Rule × List Edn)
 made_said [] = None
 made_said (v ∷ []) = Some (v, None, [])
-made_said (v ∷ rule ∷ rest) = option_map (λ r. (v, r, rest)) (rule_of rule)
+made_said (v ∷ rule ∷ rest) = option_map (λ r. (v, r, rest)) (rule_of any rule)
 
 -- the mode that a mark says, `:fail` where it is left out
 abbrev pub mode_mark_said : List Edn → Option ErrorMode
@@ -161,11 +123,11 @@ mode_mark_said parts = one_said mode_said parts
 
 abbrev pub tx_said : NamesSeen → Stamp → TxWord → List Edn → Option Act
 tx_said names stamp txs.Begin parts = alone_said acts.Begin parts
-tx_said names stamp txs.Deref parts = option_map acts.Deref (one_said (number_said names kinds.Ref) parts)
-tx_said names stamp txs.RefSet parts = option_map (λ p. acts.RefSet p.0 p.1) (two_said (number_said names kinds.Ref) Some parts)
+tx_said names stamp txs.Deref parts = option_map acts.Deref (one_said (place_said names kinds.Ref) parts)
+tx_said names stamp txs.RefSet parts = option_map (λ p. acts.RefSet p.0 p.1) (setting_said names kinds.Ref parts)
 tx_said names stamp txs.Alter parts = option_map (λ c. acts.Alter c.0 c.1.code c.1.args) (call_said names kinds.Ref parts)
 tx_said names stamp txs.Commute parts = option_map (λ c. acts.Commute c.0 c.1.code c.1.args) (call_said names kinds.Ref parts)
-tx_said names stamp txs.Ensure parts = option_map acts.Ensure (one_said (number_said names kinds.Ref) parts)
+tx_said names stamp txs.Ensure parts = option_map acts.Ensure (one_said (place_said names kinds.Ref) parts)
 tx_said names stamp txs.SendInTx parts = option_map (λ c. acts.SendInTx c.0 c.1.code c.1.args) (call_said names kinds.Agent parts)
 tx_said names stamp txs.Require parts = option_map (λ p. acts.Require p.0 p.1) (required_said names parts)
 tx_said names stamp txs.ReadPoint parts = alone_said acts.ReadPoint parts
@@ -180,24 +142,24 @@ job_said jobs.Finish parts = alone_said acts.Finish parts
 
 abbrev pub atom_said : NamesSeen → AtomWord → List Edn → Option Act
 atom_said names atoms.Swap parts = option_map (λ c. acts.Swap c.0 c.1.code c.1.args) (call_said names kinds.Atom parts)
-atom_said names atoms.Reset parts = option_map (λ p. acts.Reset p.0 p.1) (two_said (number_said names kinds.Atom) Some parts)
-atom_said names atoms.CompareAndSet parts = option_map (λ p. acts.CompareAndSet p.0 p.1 p.2) (swaps_said names parts)
+atom_said names atoms.Reset parts = option_map (λ p. acts.Reset p.0 p.1) (setting_said names kinds.Atom parts)
+atom_said names atoms.CompareAndSet parts = option_map (λ p. acts.CompareAndSet p.0 p.1.0 p.1.1) (swaps_said names parts)
 
 abbrev pub agent_said : NamesSeen → AgentWord → List Edn → Option Act
 agent_said names agents.Send parts = option_map (λ c. acts.Send c.0 c.1) (call_said names kinds.Agent parts)
-agent_said names agents.Restart parts = option_map (λ p. acts.Restart p.0 p.1 p.2) (restart_said names parts)
-agent_said names agents.SetErrorMode parts = option_map (λ p. acts.SetErrorMode p.0 p.1) (two_said (number_said names kinds.Agent) mode_said parts)
-agent_said names agents.ErrorOf parts = option_map acts.ErrorOf (one_said (number_said names kinds.Agent) parts)
+agent_said names agents.Restart parts = option_map (λ p. acts.Restart p.0 p.1.0 p.1.1) (restart_said names parts)
+agent_said names agents.SetErrorMode parts = option_map (λ p. acts.SetErrorMode p.0 p.1) (two_said (place_said names kinds.Agent) mode_said parts)
+agent_said names agents.ErrorOf parts = option_map acts.ErrorOf (one_said (place_said names kinds.Agent) parts)
 
 abbrev pub reference_said : NamesSeen → ReferenceWord → List Edn → Option Act
-reference_said names references.SetValidator parts = option_map (λ p. acts.SetValidator p.0 p.1) (two_said (who_said names) rule_of parts)
-reference_said names references.AddWatch parts = option_map (λ p. acts.AddWatch p.0 p.1) (two_said (who_said names) Some parts)
-reference_said names references.RemoveWatch parts = option_map (λ p. acts.RemoveWatch p.0 p.1) (two_said (who_said names) Some parts)
+reference_said names references.SetValidator parts = option_map (λ p. acts.SetValidator p.0 p.1) (two_said (who_said names) (rule_of any) parts)
+reference_said names references.AddWatch parts = option_map (λ p. acts.AddWatch p.0 p.1) (watch_said names parts)
+reference_said names references.RemoveWatch parts = option_map (λ p. acts.RemoveWatch p.0 p.1) (watch_said names parts)
 reference_said names references.ValueOf parts = option_map acts.ValueOf (one_said (who_said names) parts)
 
 abbrev pub world_said : WorldWord → List Edn → Option Act
-world_said worlds.Release parts = option_map acts.Release (one_said number_of parts)
-world_said worlds.Checkpoint parts = option_map acts.Checkpoint (one_said number_of parts)
+world_said worlds.Release parts = option_map acts.Release (point_said parts)
+world_said worlds.Checkpoint parts = option_map acts.Checkpoint (point_said parts)
 
 abbrev pub marked_said : MakingWord → Edn → Option Rule → List Edn → Option Act
 marked_said makings.MakeRef v rule rest = option_map (acts.MakeRef v rule) (mark_said tally_word rest)

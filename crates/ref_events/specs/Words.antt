@@ -1,6 +1,7 @@
--- The words that stand in lists of events, each a keyword.
+-- The words that stand in lists of events, each a keyword. Those of marks stand in ref_forms and ref_plan.
 use Rattle.std.specs.Prelude.{ℕ, if◌then◌else◌, List, [], ◌∷◌, Option, None, Some, codes}
 use Rattle.ref_value.specs.Names.{bytes_eq}
+use Rattle.ref_plan.specs.Words.{agents_word, atoms_word, refs_word, version_word}
 use Rattle.ref_events.specs.declared.words.ActWord.{ActWord}
 use Rattle.ref_events.specs.declared.words.ActWord.TheVariants.{Tx, Job, Atom, Agent, Reference, World, Making}
 use Rattle.ref_events.specs.declared.words.TxWord.TheVariants as txs
@@ -40,19 +41,9 @@ atom_word = codes "atom"
 abbrev pub agent_word : List ℕ
 agent_word = codes "agent"
 
--- the marks behind a value: what waits for an agent is dropped; the ref is the tally; the error mode of an agent
-abbrev pub clear_word : List ℕ
-clear_word = codes "clear"
-
-abbrev pub tally_word : List ℕ
-tally_word = codes "tally"
-
-abbrev pub fail_word : List ℕ
-fail_word = codes "fail"
-
-abbrev pub continue_word : List ℕ
-continue_word = codes "continue"
-
 -- the key of the map under which the events stand; the others are those of a workload
 abbrev pub events_word : List ℕ
 events_word = codes "events"
+
+abbrev pub known_words : List (List ℕ)
+known_words = version_word ∷ refs_word ∷ atoms_word ∷ agents_word ∷ events_word ∷ []

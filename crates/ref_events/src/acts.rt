@@ -1,55 +1,79 @@
 //! The acts of events.
 ghost use Rattle.std.specs.Prelude.{◌≡◌};
-ghost use Rattle.ref_events.specs.Acts.{act_said, agent_said, atom_said, job_said, making_said, reference_said, tx_said, world_said};
-ghost use Rattle.ref_events.specs.Reading.{Reads};
+ghost use Rattle.ref_events.specs.Acts.{act_said, agent_said, atom_said, job_said, making_said, point_said, reference_said, tx_said, world_said};
+ghost use Rattle.ref_forms.specs.Plain.{alone_said};
+ghost use Rattle.ref_forms.specs.Reading.{Reads};
 
 use crate::makings::{made_in, making_of};
-use crate::parts::{
-    alone, call_in, number_alone, number_and_mode, number_and_value, point_alone, requirement_in,
-    restart_in, swap_in, who_alone, who_and_rule, who_and_value,
-};
+use crate::references::Numbered;
 use crate::words::{
     ActWord, AgentWord, AtomWord, JobWord, MakingWord, ReferenceWord, TxWord, WorldWord,
 };
-use crate::wrongs::Wrong;
+use ref_forms::plain::number_in;
+use ref_forms::references::{
+    call_on, mode_on, number_alone, requirement_on, setting_on, state_on, two_values_on, value_on,
+    who_alone, who_and_value,
+};
+use ref_forms::{Kind, Wrong};
 use ref_log::Stamp;
-use ref_plan::planning::kinds::Kind;
-use ref_plan::planning::names::Declared;
 use ref_play::Act;
 use ref_value::vectors::Iter;
 use std::alloc::Global;
 
+/// An act with nothing behind its word.
+pub(crate) fn alone(act: Act, mut parts: Iter<'_>) -> Result<Act, Wrong>
+    ensures { Reads (alone_said act parts.entry) result }
+{
+    match parts.next() {
+        None => Ok(act),
+        Some(_) => Err(Wrong::Form),
+    }
+}
+
+// A point alone.
+fn point_alone(mut parts: Iter<'_>) -> Result<u64, Wrong>
+    ensures { Reads (point_said parts.entry) result }
+{
+    let (Some(form), None) = (parts.next(), parts.next()) else {
+        return Err(Wrong::Form);
+    };
+    match number_in(form) {
+        Some(point) => Ok(point),
+        None => Err(Wrong::Form),
+    }
+}
+
 fn tx_act_in(
     alloc: Global,
-    declared: &Declared,
+    names: &Numbered<'_>,
     stamp: Stamp,
     word: TxWord,
     parts: Iter<'_>,
 ) -> Result<Act, Wrong>
-    ensures { Reads (tx_said declared.now stamp word parts.entry) result }
+    ensures { Reads (tx_said names.now stamp word parts.entry) result }
 {
     match word {
         TxWord::Begin => alone(Act::Begin, parts),
-        TxWord::Deref => Ok(Act::Deref(number_alone(declared, Kind::Ref, parts)?)),
+        TxWord::Deref => Ok(Act::Deref(number_alone(names, Kind::Ref, parts)?)),
         TxWord::RefSet => {
-            let (r, value) = number_and_value(declared, Kind::Ref, parts)?;
+            let (r, value) = value_on(names, Kind::Ref, parts)?;
             Ok(Act::RefSet(r, value))
         }
         TxWord::Alter => {
-            let (r, action) = call_in(alloc, declared, Kind::Ref, parts)?;
+            let (r, action) = call_on(alloc, names, Kind::Ref, parts)?;
             Ok(Act::Alter(r, action.code, action.args))
         }
         TxWord::Commute => {
-            let (r, action) = call_in(alloc, declared, Kind::Ref, parts)?;
+            let (r, action) = call_on(alloc, names, Kind::Ref, parts)?;
             Ok(Act::Commute(r, action.code, action.args))
         }
-        TxWord::Ensure => Ok(Act::Ensure(number_alone(declared, Kind::Ref, parts)?)),
+        TxWord::Ensure => Ok(Act::Ensure(number_alone(names, Kind::Ref, parts)?)),
         TxWord::SendInTx => {
-            let (g, action) = call_in(alloc, declared, Kind::Agent, parts)?;
+            let (g, action) = call_on(alloc, names, Kind::Agent, parts)?;
             Ok(Act::SendInTx(g, action.code, action.args))
         }
         TxWord::Require => {
-            let (r, rule) = requirement_in(alloc, declared, parts)?;
+            let (r, rule) = requirement_on(alloc, names, parts)?;
             Ok(Act::Require(r, rule))
         }
         TxWord::ReadPoint => alone(Act::ReadPoint, parts),
@@ -71,23 +95,23 @@ fn job_act_in(word: JobWord, parts: Iter<'_>) -> Result<Act, Wrong>
 
 fn atom_act_in(
     alloc: Global,
-    declared: &Declared,
+    names: &Numbered<'_>,
     word: AtomWord,
     parts: Iter<'_>,
 ) -> Result<Act, Wrong>
-    ensures { Reads (atom_said declared.now word parts.entry) result }
+    ensures { Reads (atom_said names.now word parts.entry) result }
 {
     match word {
         AtomWord::Swap => {
-            let (n, action) = call_in(alloc, declared, Kind::Atom, parts)?;
+            let (n, action) = call_on(alloc, names, Kind::Atom, parts)?;
             Ok(Act::Swap(n, action.code, action.args))
         }
         AtomWord::Reset => {
-            let (n, value) = number_and_value(declared, Kind::Atom, parts)?;
+            let (n, value) = value_on(names, Kind::Atom, parts)?;
             Ok(Act::Reset(n, value))
         }
         AtomWord::CompareAndSet => {
-            let (n, old, new) = swap_in(declared, parts)?;
+            let (n, (old, new)) = two_values_on(names, parts)?;
             Ok(Act::CompareAndSet(n, old, new))
         }
     }
@@ -95,51 +119,51 @@ fn atom_act_in(
 
 fn agent_act_in(
     alloc: Global,
-    declared: &Declared,
+    names: &Numbered<'_>,
     word: AgentWord,
     parts: Iter<'_>,
 ) -> Result<Act, Wrong>
-    ensures { Reads (agent_said declared.now word parts.entry) result }
+    ensures { Reads (agent_said names.now word parts.entry) result }
 {
     match word {
         AgentWord::Send => {
-            let (g, action) = call_in(alloc, declared, Kind::Agent, parts)?;
+            let (g, action) = call_on(alloc, names, Kind::Agent, parts)?;
             Ok(Act::Send(g, action))
         }
         AgentWord::Restart => {
-            let (g, state, clear) = restart_in(declared, parts)?;
+            let (g, (state, clear)) = state_on(names, parts)?;
             Ok(Act::Restart(g, state, clear))
         }
         AgentWord::SetErrorMode => {
-            let (g, mode) = number_and_mode(declared, parts)?;
+            let (g, mode) = mode_on(names, parts)?;
             Ok(Act::SetErrorMode(g, mode))
         }
-        AgentWord::ErrorOf => Ok(Act::ErrorOf(number_alone(declared, Kind::Agent, parts)?)),
+        AgentWord::ErrorOf => Ok(Act::ErrorOf(number_alone(names, Kind::Agent, parts)?)),
     }
 }
 
 fn reference_act_in(
     alloc: Global,
-    declared: &Declared,
+    names: &Numbered<'_>,
     word: ReferenceWord,
     parts: Iter<'_>,
 ) -> Result<Act, Wrong>
-    ensures { Reads (reference_said declared.now word parts.entry) result }
+    ensures { Reads (reference_said names.now word parts.entry) result }
 {
     match word {
         ReferenceWord::SetValidator => {
-            let (who, rule) = who_and_rule(alloc, declared, parts)?;
+            let (who, rule) = setting_on(alloc, names, parts)?;
             Ok(Act::SetValidator(who, rule))
         }
         ReferenceWord::AddWatch => {
-            let (who, key) = who_and_value(declared, parts)?;
+            let (who, key) = who_and_value(names, parts)?;
             Ok(Act::AddWatch(who, key))
         }
         ReferenceWord::RemoveWatch => {
-            let (who, key) = who_and_value(declared, parts)?;
+            let (who, key) = who_and_value(names, parts)?;
             Ok(Act::RemoveWatch(who, key))
         }
-        ReferenceWord::ValueOf => Ok(Act::ValueOf(who_alone(declared, parts)?)),
+        ReferenceWord::ValueOf => Ok(Act::ValueOf(who_alone(names, parts)?)),
     }
 }
 
@@ -164,19 +188,19 @@ fn making_act_in(alloc: Global, word: MakingWord, parts: Iter<'_>) -> Result<Act
 /// The act that a word and what stands behind it say.
 pub(crate) fn act_in(
     alloc: Global,
-    declared: &Declared,
+    names: &Numbered<'_>,
     stamp: Stamp,
     word: ActWord,
     parts: Iter<'_>,
 ) -> Result<Act, Wrong>
-    ensures { Reads (act_said declared.now stamp word parts.entry) result }
+    ensures { Reads (act_said names.now stamp word parts.entry) result }
 {
     match word {
-        ActWord::Tx(word) => tx_act_in(alloc, declared, stamp, word, parts),
+        ActWord::Tx(word) => tx_act_in(alloc, names, stamp, word, parts),
         ActWord::Job(word) => job_act_in(word, parts),
-        ActWord::Atom(word) => atom_act_in(alloc, declared, word, parts),
-        ActWord::Agent(word) => agent_act_in(alloc, declared, word, parts),
-        ActWord::Reference(word) => reference_act_in(alloc, declared, word, parts),
+        ActWord::Atom(word) => atom_act_in(alloc, names, word, parts),
+        ActWord::Agent(word) => agent_act_in(alloc, names, word, parts),
+        ActWord::Reference(word) => reference_act_in(alloc, names, word, parts),
         ActWord::World(word) => world_act_in(word, parts),
         ActWord::Making(word) => making_act_in(alloc, word, parts),
     }

@@ -29,7 +29,7 @@ pub enum ScriptFault {
     /// The event names a reference that isn't declared, or is of another kind than the act needs.
     #[error("event {0} names an unknown reference")]
     UnknownName(u32),
-    /// The event names a function that isn't there.
+    /// The event names a function, or a predicate, that isn't there.
     #[error("event {0} names an unknown function")]
     UnknownFun(u32),
     #[error("out of memory")]

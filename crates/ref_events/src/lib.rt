@@ -15,11 +15,9 @@ mod acts;
 mod events;
 pub mod faults;
 mod makings;
-mod parts;
 mod references;
 pub mod scripts;
 pub mod words;
-mod wrongs;
 
 pub use faults::ScriptFault;
 pub use scripts::{Script, ScriptParts, script_of};

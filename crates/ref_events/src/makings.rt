@@ -1,17 +1,18 @@
 //! What a new reference is made of.
 ghost use Rattle.std.specs.Prelude.{◌≡◌, ◌≢◌, Some, None, IfErr, IfOk};
 ghost use Rattle.ref_events.specs.Acts.{made_said, marked_said, mode_mark_said};
-ghost use Rattle.ref_events.specs.Reading.{Reads};
+ghost use Rattle.ref_forms.specs.Reading.{Reads};
 
-use crate::parts::{alone, is_marked, mode_in};
+use crate::acts::alone;
 use crate::words::MakingWord;
-use crate::wrongs::Wrong;
 use ref_agents::ErrorMode;
+use ref_forms::calls::rule_in;
+use ref_forms::marks::{is_marked, mode_in};
+use ref_forms::{AnyValue, Wrong};
 use ref_fun::Rule;
 use ref_play::Act;
 use ref_value::Value;
 use ref_value::vectors::Iter;
-use ref_verdict::reading::actions::rule_in;
 use std::alloc::Global;
 
 /// A value, a rule, and what stands behind them.
@@ -32,7 +33,7 @@ pub(crate) fn made_in(alloc: Global, mut parts: Iter<'_>) -> Result<Made<'_>, Wr
     };
     let rule = match parts.next() {
         None => None,
-        Some(rule) => rule_in(alloc, rule)?,
+        Some(rule) => rule_in::<AnyValue>(alloc, rule)?,
     };
     Ok(Made {
         value: value.share()?,

@@ -1,18 +1,32 @@
-//! How references are named.
-ghost use Rattle.std.specs.Prelude.{◌≡◌};
-ghost use Rattle.ref_events.specs.Acts.{number_at, number_said, numbered_said, who_named, who_of, who_said};
-ghost use Rattle.ref_events.specs.Reading.{Reads};
+//! How references are named: by their names, or by their numbers.
+ghost use Rattle.std.specs.Prelude.{◌≡◌, None, Some};
+ghost use Rattle.ref_forms.specs.Calls.{any};
+ghost use Rattle.ref_events.specs.Acts.{numbered_said, who_at, who_said};
 
-use crate::wrongs::Wrong;
+use ref_forms::plain::{is_same, keyword_in, stamp_number_in};
+use ref_forms::{Naming, Values, Wrong};
 use ref_log::Who;
-use ref_plan::planning::kinds::Kind;
 use ref_plan::planning::names::Declared;
 use ref_value::vectors::Iter;
-use ref_value::{Node, Text, Value};
-use ref_verdict::reading::plain::{is_same, keyword_in, stamp_number_in};
+use ref_value::{Node, Value};
+use std::marker::Model;
 
-fn who_of(kind: &[u8], number: u32) -> Option<Who>
-    ensures { result ≡ who_of kind.now number }
+/// The references that a list of events declares, and those that it makes. Contracts see the names of the first.
+#[derive(Drop)]
+pub(crate) struct Numbered<'a> {
+    pub declared: &'a Declared,
+}
+
+impl<'a> Model for Numbered<'a> {
+    ghost use Rattle.ref_start.specs.Names.{NamesSeen};
+
+    ghost Value = { NamesSeen };
+
+    ghost view = { λ a. a.declared.now };
+}
+
+fn who_at(kind: &[u8], number: u32) -> Option<Who>
+    ensures { result ≡ who_at kind.now number }
 {
     if is_same(kind, b"ref") {
         Some(Who::Ref(number))
@@ -34,53 +48,32 @@ fn numbered_in(mut parts: Iter<'_>) -> Option<Who>
     };
     let word = keyword_in(kind)?;
     let number = stamp_number_in(number)?;
-    who_of(word.as_bytes(), number)
+    who_at(word.as_bytes(), number)
 }
 
-#[tactic(auto, using(crate::proofs::Named::found_is_named))]
-fn named(declared: &Declared, name: &Text) -> Result<Who, Wrong>
-    ensures { Reads (who_named declared.now name.now) result }
-{
-    match declared.find(name)? {
-        Some(who) => Ok(who),
-        None => Err(Wrong::Name),
+impl<'a> Naming for Numbered<'a> {
+    ghost named = { who_said };
+
+    fn who_in(&self, form: &Value) -> Result<Who, Wrong> {
+        match form.node() {
+            Node::Symbol(_) => self.declared.who_in(form),
+            Node::Vector(parts) => match numbered_in(parts.iter()) {
+                Some(who) => Ok(who),
+                None => Err(Wrong::Form),
+            },
+            _ => Err(Wrong::Form),
+        }
     }
 }
 
-/// The reference that a form names, by its name or by its number.
-pub(crate) fn who_in(declared: &Declared, form: &Value) -> Result<Who, Wrong>
-    ensures { Reads (who_said declared.now form.now) result }
-{
-    match form.node() {
-        Node::Symbol(name) => named(declared, name),
-        Node::Vector(parts) => match numbered_in(parts.iter()) {
-            Some(who) => Ok(who),
-            None => Err(Wrong::Form),
-        },
-        _ => Err(Wrong::Form),
-    }
-}
+// How deep a value may be nested is asked of the whole event.
+impl<'a> Values for Numbered<'a> {
+    ghost is_value = { any };
 
-fn number_at(kind: Kind, who: Who) -> Option<u32>
-    ensures { result ≡ number_at kind who }
-{
-    match (kind, who) {
-        (Kind::Ref, Who::Ref(n)) => Some(n),
-        (Kind::Atom, Who::Atom(n)) => Some(n),
-        (Kind::Agent, Who::Agent(n)) => Some(n),
-        _ => None,
-    }
-}
-
-/// The number of the reference of a kind that a form names.
-pub(crate) fn number_in(declared: &Declared, kind: Kind, form: &Value) -> Result<u32, Wrong>
-    ensures { Reads (number_said declared.now kind form.now) result }
-{
-    match who_in(declared, form) {
-        Ok(who) => match number_at(kind, who) {
-            Some(number) => Ok(number),
-            None => Err(Wrong::Name),
-        },
-        Err(wrong) => Err(wrong),
+    // The toolchain asks for the clause of the trait here.
+    fn takes(_form: &Value) -> bool
+        ensures { result ≡ any _form.now }
+    {
+        true
     }
 }

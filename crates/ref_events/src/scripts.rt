@@ -1,17 +1,19 @@
 //! Lists of events.
 ghost use Rattle.std.specs.Bool.{OnFalse, OnTrue};
-ghost use Rattle.std.specs.List.{list_all};
 ghost use Rattle.std.specs.Option.{option_copied};
-ghost use Rattle.std.specs.Prelude.{◌≡◌, ◌≢◌, List, IfErr, IfOk, IfNone, IfSome};
-ghost use Rattle.ref_value.specs.Edn.{Edn};
-ghost use Rattle.ref_plan.specs.Workload.{elements};
-ghost use Rattle.ref_events.specs.Documents.{AreFew, HasParts, HasVectors, IsScript, ScriptSeen, is_known};
+ghost use Rattle.std.specs.Prelude.{◌≡◌, ◌≢◌, ◌≤◌, IfErr, IfOk, IfNone, IfSome, length};
+ghost use Rattle.ref_forms.specs.Plain.{elements, forms_under};
+ghost use Rattle.ref_plan.specs.Limits.{most_references};
+ghost use Rattle.ref_plan.specs.Words.{agents_word, atoms_word, refs_word};
+ghost use Rattle.ref_events.specs.Documents.{HasParts, HasVectors, IsScript, ScriptSeen, most_events};
+ghost use Rattle.ref_events.specs.Words.{events_word};
 
 use crate::events::events_in;
 use crate::faults::ScriptFault;
+use crate::references::Numbered;
+use ref_forms::maps::{are_known, count, forms_of, map_in, vector_under};
 use ref_plan::planning::declarations::{MOST_REFERENCES, declarations};
-use ref_plan::planning::forms::{is_word, map_in};
-use ref_plan::planning::parts::{count, forms_of, vector_part, version_of};
+use ref_plan::planning::parts::version_of;
 use ref_play::Event;
 use ref_start::{Names, Start};
 use ref_value::{Entries, Items, Value};
@@ -84,26 +86,7 @@ impl Script {
     }
 }
 
-fn is_known(key: &Value) -> bool
-    ensures { result ≡ is_known key.now }
-{
-    is_word(key, b"version")
-        || is_word(key, b"refs")
-        || is_word(key, b"atoms")
-        || is_word(key, b"agents")
-        || is_word(key, b"events")
-}
-
-fn are_known(entries: &Entries) -> bool
-    ensures { result ≡ list_all (λ e. is_known e.0) entries.now }
-{
-    for (key, _) in entries {
-        if !is_known(key) {
-            return false;
-        }
-    }
-    true
-}
+const WORDS: [&str; 5] = ["version", "refs", "atoms", "agents", "events"];
 
 // The parts that are vectors, where they aren't left out.
 #[derive(Drop)]
@@ -115,24 +98,30 @@ struct Parts<'a> {
 }
 
 fn vectors_in<'a>(entries: &'a Entries) -> Option<Parts<'a>>
-    ensures vectors { IfSome result (λ p. HasVectors entries.now (elements (option_copied p.refs))
-        (elements (option_copied p.atoms)) (elements (option_copied p.agents)) (elements (option_copied p.events))) }
-    ensures none { IfNone result ((refs atoms agents events : List Edn)
-        → HasVectors entries.now refs atoms agents events → ⊥) }
+    ensures refs { IfSome result (λ p. elements (option_copied p.refs) ≡ forms_under entries.now refs_word) }
+    ensures atoms { IfSome result (λ p. elements (option_copied p.atoms) ≡ forms_under entries.now atoms_word) }
+    ensures agents { IfSome result (λ p. elements (option_copied p.agents) ≡ forms_under entries.now agents_word) }
+    ensures events { IfSome result (λ p. elements (option_copied p.events) ≡ forms_under entries.now events_word) }
+    ensures vectors { IfSome result (λ _. HasVectors entries.now) }
+    ensures none { IfNone result (HasVectors entries.now → ⊥) }
 {
     Some(Parts {
-        refs: vector_part(entries, b"refs")?,
-        atoms: vector_part(entries, b"atoms")?,
-        agents: vector_part(entries, b"agents")?,
-        events: vector_part(entries, b"events")?,
+        refs: vector_under(entries, b"refs")?,
+        atoms: vector_under(entries, b"atoms")?,
+        agents: vector_under(entries, b"agents")?,
+        events: vector_under(entries, b"events")?,
     })
 }
 
 fn are_few(parts: &Parts<'_>) -> bool
-    ensures yes { OnTrue result (AreFew (elements (option_copied parts.now.refs)) (elements (option_copied parts.now.atoms))
-        (elements (option_copied parts.now.agents)) (elements (option_copied parts.now.events))) }
-    ensures no { OnFalse result (AreFew (elements (option_copied parts.now.refs)) (elements (option_copied parts.now.atoms))
-        (elements (option_copied parts.now.agents)) (elements (option_copied parts.now.events)) → ⊥) }
+    ensures refs { OnTrue result (length (elements (option_copied parts.now.refs)) ≤ most_references) }
+    ensures atoms { OnTrue result (length (elements (option_copied parts.now.atoms)) ≤ most_references) }
+    ensures agents { OnTrue result (length (elements (option_copied parts.now.agents)) ≤ most_references) }
+    ensures events { OnTrue result (length (elements (option_copied parts.now.events)) ≤ most_events) }
+    ensures no { OnFalse result (length (elements (option_copied parts.now.refs)) ≤ most_references
+        → length (elements (option_copied parts.now.atoms)) ≤ most_references
+        → length (elements (option_copied parts.now.agents)) ≤ most_references
+        → length (elements (option_copied parts.now.events)) ≤ most_events → ⊥) }
 {
     count(parts.refs) <= MOST_REFERENCES
         && count(parts.atoms) <= MOST_REFERENCES
@@ -142,11 +131,13 @@ fn are_few(parts: &Parts<'_>) -> bool
 
 // The parts, where the entries are those of a list of events. It takes no memory.
 fn parts_of<'a>(entries: &'a Entries) -> Result<Parts<'a>, ScriptFault>
-    ensures ok { IfOk result (λ p. HasParts entries.now (elements (option_copied p.refs)) (elements (option_copied p.atoms))
-        (elements (option_copied p.agents)) (elements (option_copied p.events))) }
+    ensures refs { IfOk result (λ p. elements (option_copied p.refs) ≡ forms_under entries.now refs_word) }
+    ensures atoms { IfOk result (λ p. elements (option_copied p.atoms) ≡ forms_under entries.now atoms_word) }
+    ensures agents { IfOk result (λ p. elements (option_copied p.agents) ≡ forms_under entries.now agents_word) }
+    ensures events { IfOk result (λ p. elements (option_copied p.events) ≡ forms_under entries.now events_word) }
+    ensures ok { IfOk result (λ _. HasParts entries.now) }
     ensures told { IfErr result (λ f. f ≢ ScriptFault.Memory) }
-    ensures none { IfErr result (λ _. (refs atoms agents events : List Edn)
-        → HasParts entries.now refs atoms agents events → ⊥) }
+    ensures none { IfErr result (λ _. HasParts entries.now → ⊥) }
 {
     let Some(parts) = vectors_in(entries) else {
         return Err(ScriptFault::NotEvents);
@@ -154,7 +145,7 @@ fn parts_of<'a>(entries: &'a Entries) -> Result<Parts<'a>, ScriptFault>
     let Some(version) = version_of(entries) else {
         return Err(ScriptFault::NotEvents);
     };
-    if !are_known(entries) {
+    if !are_known(entries, &WORDS) {
         return Err(ScriptFault::NotEvents);
     }
     if version != 1 {
@@ -186,7 +177,13 @@ pub fn script_of(alloc: Global, value: &Value) -> Result<Script, ScriptFault>
     let agents = forms_of(parts.agents, &empty);
     let forms = forms_of(parts.events, &empty);
     let (declared, start) = declarations(alloc, refs, atoms, agents)?;
-    let events = events_in(alloc, &declared, forms)?;
+    let events = events_in(
+        alloc,
+        &Numbered {
+            declared: &declared,
+        },
+        forms,
+    )?;
     Ok(Script {
         names: declared.into_names(),
         start,

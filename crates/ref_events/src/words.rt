@@ -3,8 +3,8 @@ ghost use Rattle.std.specs.Prelude.{◌≡◌, map};
 ghost use Rattle.ref_events.specs.Acts.{word_said};
 ghost use Rattle.ref_events.specs.Words.{act_words, word_named};
 
+use ref_forms::plain::{is_same, keyword_in};
 use ref_value::Value;
-use ref_verdict::reading::plain::{is_same, keyword_in};
 
 /// The word of an act, by what the act is about.
 #[derive(Clone, Copy, Debug, Drop, PartialEq, Eq)]

@@ -1,7 +1,7 @@
 //! The map that a text is, and what stands under its keys.
 use crate::forms::{Form, Sort, first_form};
+use ref_forms::Kind;
 use ref_log::Who;
-use ref_plan::planning::kinds::Kind;
 use std::alloc::{AllocError, Global};
 
 // No more names are looked at: a workload has no more references.

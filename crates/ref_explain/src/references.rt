@@ -5,8 +5,8 @@ use crate::documents::{
 use crate::forms::{Form, Sort};
 use crate::sentences::{DEEP, is_deep, write_bad_rule};
 use crate::writing::Writing;
+use ref_forms::Kind;
 use ref_log::Who;
-use ref_plan::planning::kinds::Kind;
 use std::alloc::AllocError;
 
 fn written(kind: Kind) -> &'static str {

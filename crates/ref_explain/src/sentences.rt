@@ -5,7 +5,7 @@ use crate::nearest::{Nearest, with_hint};
 use crate::words::{MOST_WORDS, Sentence, Slot, TRANSACTION, Word};
 use crate::writing::Writing;
 use ref_fun::MOST_ARGUMENTS;
-use ref_plan::planning::forms::MOST_NESTED;
+use ref_plan::planning::names::MOST_NESTED;
 use std::alloc::AllocError;
 
 /// A form with its word, and what stands behind that.
@@ -180,7 +180,7 @@ fn problem_of(sentence: Sentence, slot: Slot, part: &Form<'_>) -> Option<&'stati
         Slot::Name(_) | Slot::AnyName if part.symbol().is_none() && !(is_act && part.is_vector()) =>
             { Some("the name of a reference is wanted here, a symbol") }
         Slot::Value if !is_act && is_deep(part) => Some(DEEP),
-        Slot::Function if !is_act && part.symbol().is_none() => {
+        Slot::Function if part.symbol().is_none() => {
             Some("the name of a function is wanted here, a symbol")
         }
         Slot::Predicate if part.symbol().is_none() => {
@@ -216,14 +216,8 @@ fn write_bad_part(
     slot: Slot,
     part: &Form<'_>,
 ) -> Result<bool, AllocError> {
-    let is_act = sentence == Sentence::Act;
     match slot {
-        Slot::Rule | Slot::MaybeRule if !part.is_nil() => { write_bad_rule(writing, part, is_act) }
-        Slot::Predicate
-            if is_act && part.symbol().is_some() && predicate_of(part.bytes()).is_none() => {
-            write_no_predicate(writing, part)?;
-            Ok(true)
-        }
+        Slot::Rule | Slot::MaybeRule if !part.is_nil() => write_bad_rule(writing, part, false),
         _ => match problem_of(sentence, slot, part) {
             Some(message) => {
                 writing.mark(part, message)?;

@@ -6,7 +6,7 @@ use crate::nearest::{Nearest, with_hint};
 use crate::sentences::{Said, said_in, write_bad_form};
 use crate::words::{Sentence, Slot};
 use crate::writing::Writing;
-use ref_plan::planning::kinds::Kind;
+use ref_forms::Kind;
 use ref_plan::planning::operations::MOST_OPERATIONS;
 use std::alloc::AllocError;
 
@@ -124,7 +124,7 @@ fn write_bad_call(
             write_no_predicate(writing, part)?;
             Ok(true)
         }
-        Slot::Rule => match member_at(part, 0) {
+        Slot::Rule | Slot::MaybeRule => match member_at(part, 0) {
             Some(head) if predicate_of(head.bytes()).is_none() => {
                 write_no_predicate(writing, &head)?;
                 Ok(true)

@@ -1,5 +1,5 @@
 //! The words of steps, operations and acts, and what stands behind each.
-use ref_plan::planning::kinds::Kind;
+use ref_forms::Kind;
 
 /// What stands at one place behind a word.
 #[derive(Clone, Copy, Debug, PartialEq, Eq)]

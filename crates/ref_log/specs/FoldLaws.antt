@@ -1,4 +1,4 @@
--- Laws of folding the first entries of a log into its base, for whoever holds one.
+-- Laws of folding the first entries of a log into its base, for the owner of one.
 use Rattle.std.specs.Prelude.{◌≡◌, ℕ, zero, suc, ◌+◌, ◌<◌, ◌≤◌, ◌==◌, ◌&&◌, ◌||◌, not, false, Bool, Result, Ok, Option, Some, List, [], ◌∷◌, ◌++◌, length, slice_get, slice_index_or, if◌then◌else◌, refl}
 use Rattle.std.proofs.Common.{◌∙◌, ap, sym, arith}
 use Rattle.std.proofs.Common.{◌⊎◌, inl, inr}

@@ -1,4 +1,4 @@
--- Laws of the replay, for whoever adds to a log.
+-- Laws of the replay, for a caller that adds to a log.
 use Rattle.std.specs.Prelude.{◌≡◌, ℕ, zero, suc, ◌+◌, ◌<◌, ◌==◌, ◌&&◌, ◌||◌, not, true, false, Bool, Result, Ok, Err, Option, None, Some, List, [], ◌∷◌, ◌++◌, length, slice_get, slice_index_or, slice_set, if◌then◌else◌, refl}
 use Rattle.std.proofs.Common.{◌∙◌, ap, sym, arith}
 use Rattle.std.specs.Ordering.{eq_by_cmp, is_eq}

@@ -1,5 +1,5 @@
 -- To be read and believed: Told (what a refused call returns), Replay, Tally, Fold, Watches, Guards, Make, Faults.
--- Laws, TallyLaws, FoldLaws and Called are proved, for whoever holds a log.
+-- Laws, TallyLaws, FoldLaws and Called are proved, for the owner of a log.
 pub mod Told
 pub mod Faults
 pub mod Replay

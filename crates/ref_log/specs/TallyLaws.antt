@@ -1,4 +1,4 @@
--- Laws of the tally and of the books, for whoever adds to a log.
+-- Laws of the tally and of the books, for a caller that adds to a log.
 use Rattle.std.specs.Prelude.{◌≡◌, ℕ, ℤ, pos, negsuc, zero, suc, ◌+◌, ◌<◌, ◌≤◌, ◌==◌, ◌||◌, not, true, false, Bool, Ok, Err, Option, None, Some, List, [], ◌∷◌, ◌++◌, length, slice_get, slice_set, if◌then◌else◌, refl}
 use Rattle.std.specs.List.{list_all}
 use Rattle.std.proofs.Common.{◌∙◌, ap, sym, arith}

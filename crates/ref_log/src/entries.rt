@@ -23,7 +23,7 @@ pub enum Entry {
     MadeAtom(Value),
 }
 
-// A function of its own, which whoever lets an entry go calls; a derived one would be written out there.
+// A function of its own, which each place that drops one calls; a derived one would be written out there.
 impl Drop for Entry {
     fn drop(self) {
         match self {

@@ -26,7 +26,7 @@ pub enum Op {
     Ensure,
 }
 
-// A function of its own, which whoever lets an operation go calls; a derived one would be written out there.
+// A function of its own, which each place that drops one calls; a derived one would be written out there.
 impl Drop for Op {
     fn drop(self) {
         match self {

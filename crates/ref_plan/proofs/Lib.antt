@@ -1,13 +1,7 @@
-pub mod SameTexts
-pub mod Elements
-pub mod Turns
-pub mod Words
-pub mod Weaker
-pub mod Operations
-pub mod Steps
 pub mod Collected
-pub mod References
-pub mod Tables
 pub mod Loops
+pub mod Named
+pub mod Operations
 pub mod Parts
-pub mod Workloads
+pub mod Tables
+pub mod Whole

@@ -1,5 +1,5 @@
 -- The loops over forms of refs, atoms and agents, as far as they have come.
-use Rattle.std.proofs.Common.{◌≡◌, ℕ, Bool, true, false, ◌+◌, ◌<◌, ◌≤◌, ◌||◌, List, [], ◌∷◌, ◌++◌, None, cond, count_by, drop, length, get_or, refl, ◌∙◌, ap, subst, arith, length-append, zero-add, slice_get}
+use Rattle.std.proofs.Common.{◌≡◌, ℕ, Bool, true, false, ◌+◌, ◌<◌, ◌≤◌, ◌||◌, List, [], ◌∷◌, ◌++◌, None, Some, cond, count_by, drop, length, get_or, refl, ◌∙◌, ap, subst, arith, length-append, zero-add, slice_get}
 use Rattle.std.specs.List.{sum_by}
 use Rattle.std.proofs.lemmas.List.Sums.{sum_by-append}
 use Rattle.ref_start.specs.Names.{NamesSeen}
@@ -9,11 +9,10 @@ use Rattle.ref_log.specs.declared.notices.Who.TheVariants.{Ref, Atom, Agent}
 use Rattle.ref_start.specs.declared.starts.AgentStart.{AgentStart}
 use Rattle.ref_start.specs.declared.starts.AtomStart.{AtomStart}
 use Rattle.ref_start.specs.declared.starts.RefStart.{RefStart}
-use Rattle.ref_plan.specs.Declarations.{AreDeclared, IsAgent, IsAtom, IsRef}
+use Rattle.ref_plan.specs.Declarations.{AreDeclared, agent_of, atom_of, ref_of}
 use Rattle.ref_plan.specs.Named.{AreApart, IsNamed}
 use Rattle.ref_plan.specs.Tables.{Adds, Knows, Table, found, refs_alone, refs_and_atoms}
 use Rattle.ref_plan.proofs.Collected.{Collects, collects_more, next}
-use Rattle.ref_plan.proofs.References.{one_agent, one_atom, one_ref}
 use Rattle.ref_plan.proofs.Tables.{all_names, free, get_end, get_longer, get_seam, grows_agent, grows_atom, grows_ref, knows_more}
 
 -- ---- tallies
@@ -48,26 +47,26 @@ at_most_one n false e = omega arith
 -- ---- refs
 
 pub record RefsSoFar (all : List Edn) (i : ℕ) (names : List (List ℕ)) (starts : List RefStart) (table : Table) (has_tally : Bool) : Type 0 where
-  pub collects : Collects IsRef all (drop i all) names starts
+  pub collects : Collects ref_of all (drop i all) names starts
   pub known : Knows table (refs_alone names)
   pub count : length names ≡ i
   pub tally : count_by (λ s. s.tally) starts ≡ as_count has_tally
 
 module _ (all : List Edn) (i : ℕ) (names : List (List ℕ)) (starts : List RefStart) (table : Table) (has_tally : Bool) (so_far : RefsSoFar all i names starts table has_tally)
     (x : Edn) (within : i < length all) (is : x ≡ get_or all i x) where
-  pub refs_more : (name : List ℕ) (start : RefStart) (new : Table) → IsRef x name start → Adds table name (Ref i) new → (has_tally ≡ true → start.tally ≡ false)
+  pub refs_more : (name : List ℕ) (start : RefStart) (new : Table) → ref_of x ≡ Some (name, start) → Adds table name (Ref i) new → (has_tally ≡ true → start.tally ≡ false)
       → RefsSoFar all (i + 1) (names ++ name ∷ []) (starts ++ start ∷ []) new (has_tally || start.tally)
   refs_more name start new says adds only = record {
-    collects = collects_more IsRef all i x names starts so_far.collects within is (one_ref x) name start says;
+    collects = collects_more ref_of all i x names starts so_far.collects within is name start says;
     known = knows_more table new (refs_alone names) (refs_alone (names ++ name ∷ [])) name (Ref (length names)) so_far.known (rw so_far.count adds) (grows_ref names name);
     count = length-append names (name ∷ []) ∙ ap (λ n. n + 1) so_far.count;
     tally = two_parts starts [] start ∙ one_more_tally (count_by (λ s. s.tally) starts) has_tally start.tally so_far.tally only;
   }
 
-  pub refs_fail : ((name : List ℕ) (start : RefStart) → IsRef x name start → found table name ≡ None → (has_tally ≡ true → start.tally ≡ false) → ⊥)
-      → (whole : NamesSeen) (whole_starts : List RefStart) → AreDeclared IsRef all whole.refs whole_starts → AreApart whole → count_by (λ s. s.tally) whole_starts ≤ 1 → ⊥
+  pub refs_fail : ((name : List ℕ) (start : RefStart) → ref_of x ≡ Some (name, start) → found table name ≡ None → (has_tally ≡ true → start.tally ≡ false) → ⊥)
+      → (whole : NamesSeen) (whole_starts : List RefStart) → AreDeclared ref_of all whole.refs whole_starts → AreApart whole → count_by (λ s. s.tally) whole_starts ≤ 1 → ⊥
   refs_fail none whole whole_starts declared apart one =
-      let (b, n) = next IsRef all i x names starts so_far.collects within is whole.refs whole_starts declared in
+      let (b, n) = next ref_of all i x names starts so_far.collects within is whole.refs whole_starts declared in
       let names_are : whole.refs ≡ names ++ n.name ∷ n.more_names = b.names_are ∙ ap (λ l. names ++ l) n.names_are in
       let starts_are : whole_starts ≡ starts ++ n.start ∷ n.more_starts = b.starts_are ∙ ap (λ l. starts ++ l) n.starts_are in
       let counted = ap (count_by (λ s. s.tally)) starts_are ∙ two_parts starts n.more_starts n.start in
@@ -84,24 +83,24 @@ module _ (all : List Edn) (i : ℕ) (names : List (List ℕ)) (starts : List Ref
 -- ---- atoms
 
 pub record AtomsSoFar (all : List Edn) (i : ℕ) (names : List (List ℕ)) (starts : List AtomStart) (before table : Table) : Type 0 where
-  pub collects : Collects IsAtom all (drop i all) names starts
+  pub collects : Collects atom_of all (drop i all) names starts
   pub known : (refs : List (List ℕ)) → Knows before (refs_alone refs) → Knows table (refs_and_atoms refs names)
   pub count : length names ≡ i
 
 module _ (all : List Edn) (i : ℕ) (names : List (List ℕ)) (starts : List AtomStart) (before table : Table) (so_far : AtomsSoFar all i names starts before table)
     (x : Edn) (within : i < length all) (is : x ≡ get_or all i x) where
-  pub atoms_more : (name : List ℕ) (start : AtomStart) (new : Table) → IsAtom x name start → Adds table name (Atom i) new
+  pub atoms_more : (name : List ℕ) (start : AtomStart) (new : Table) → atom_of x ≡ Some (name, start) → Adds table name (Atom i) new
       → AtomsSoFar all (i + 1) (names ++ name ∷ []) (starts ++ start ∷ []) before new
   atoms_more name start new says adds = record {
-    collects = collects_more IsAtom all i x names starts so_far.collects within is (one_atom x) name start says;
+    collects = collects_more atom_of all i x names starts so_far.collects within is name start says;
     known = λ refs k. knows_more table new (refs_and_atoms refs names) (refs_and_atoms refs (names ++ name ∷ [])) name (Atom (length names)) (so_far.known refs k) (rw so_far.count adds) (grows_atom refs names name);
     count = length-append names (name ∷ []) ∙ ap (λ n. n + 1) so_far.count;
   }
 
-  pub atoms_fail : ((name : List ℕ) (start : AtomStart) → IsAtom x name start → found table name ≡ None → ⊥)
-      → (whole : NamesSeen) (whole_starts : List AtomStart) → Knows before (refs_alone whole.refs) → AreDeclared IsAtom all whole.atoms whole_starts → AreApart whole → ⊥
+  pub atoms_fail : ((name : List ℕ) (start : AtomStart) → atom_of x ≡ Some (name, start) → found table name ≡ None → ⊥)
+      → (whole : NamesSeen) (whole_starts : List AtomStart) → Knows before (refs_alone whole.refs) → AreDeclared atom_of all whole.atoms whole_starts → AreApart whole → ⊥
   atoms_fail none whole whole_starts k declared apart =
-      let (b, n) = next IsAtom all i x names starts so_far.collects within is whole.atoms whole_starts declared in
+      let (b, n) = next atom_of all i x names starts so_far.collects within is whole.atoms whole_starts declared in
       let names_are : whole.atoms ≡ names ++ n.name ∷ n.more_names = b.names_are ∙ ap (λ l. names ++ l) n.names_are in
       none n.name n.start n.says
       (free table (refs_and_atoms whole.refs names) whole (Atom (length names)) n.name (so_far.known whole.refs k) (extends n.name n.more_names names_are) (get_end names) (ap (λ l. slice_get l (length names)) names_are ∙ get_seam names n.name n.more_names) apart)
@@ -114,24 +113,24 @@ module _ (all : List Edn) (i : ℕ) (names : List (List ℕ)) (starts : List Ato
 -- ---- agents
 
 pub record AgentsSoFar (all : List Edn) (i : ℕ) (names : List (List ℕ)) (starts : List AgentStart) (before table : Table) : Type 0 where
-  pub collects : Collects IsAgent all (drop i all) names starts
+  pub collects : Collects agent_of all (drop i all) names starts
   pub known : (refs atoms : List (List ℕ)) → Knows before (refs_and_atoms refs atoms) → Knows table (all_names refs atoms names)
   pub count : length names ≡ i
 
 module _ (all : List Edn) (i : ℕ) (names : List (List ℕ)) (starts : List AgentStart) (before table : Table) (so_far : AgentsSoFar all i names starts before table)
     (x : Edn) (within : i < length all) (is : x ≡ get_or all i x) where
-  pub agents_more : (name : List ℕ) (start : AgentStart) (new : Table) → IsAgent x name start → Adds table name (Agent i) new
+  pub agents_more : (name : List ℕ) (start : AgentStart) (new : Table) → agent_of x ≡ Some (name, start) → Adds table name (Agent i) new
       → AgentsSoFar all (i + 1) (names ++ name ∷ []) (starts ++ start ∷ []) before new
   agents_more name start new says adds = record {
-    collects = collects_more IsAgent all i x names starts so_far.collects within is (one_agent x) name start says;
+    collects = collects_more agent_of all i x names starts so_far.collects within is name start says;
     known = λ refs atoms k. knows_more table new (all_names refs atoms names) (all_names refs atoms (names ++ name ∷ [])) name (Agent (length names)) (so_far.known refs atoms k) (rw so_far.count adds) (grows_agent refs atoms names name);
     count = length-append names (name ∷ []) ∙ ap (λ n. n + 1) so_far.count;
   }
 
-  pub agents_fail : ((name : List ℕ) (start : AgentStart) → IsAgent x name start → found table name ≡ None → ⊥)
-      → (whole : NamesSeen) (whole_starts : List AgentStart) → Knows before (refs_and_atoms whole.refs whole.atoms) → AreDeclared IsAgent all whole.agents whole_starts → AreApart whole → ⊥
+  pub agents_fail : ((name : List ℕ) (start : AgentStart) → agent_of x ≡ Some (name, start) → found table name ≡ None → ⊥)
+      → (whole : NamesSeen) (whole_starts : List AgentStart) → Knows before (refs_and_atoms whole.refs whole.atoms) → AreDeclared agent_of all whole.agents whole_starts → AreApart whole → ⊥
   agents_fail none whole whole_starts k declared apart =
-      let (b, n) = next IsAgent all i x names starts so_far.collects within is whole.agents whole_starts declared in
+      let (b, n) = next agent_of all i x names starts so_far.collects within is whole.agents whole_starts declared in
       let names_are : whole.agents ≡ names ++ n.name ∷ n.more_names = b.names_are ∙ ap (λ l. names ++ l) n.names_are in
       none n.name n.start n.says
       (free table (all_names whole.refs whole.atoms names) whole (Agent (length names)) n.name (so_far.known whole.refs whole.atoms k) (extends n.name n.more_names names_are) (get_end names) (ap (λ l. slice_get l (length names)) names_are ∙ get_seam names n.name n.more_names) apart)

@@ -1,55 +1,25 @@
--- An operation that a word can't say.
-use Rattle.std.proofs.Common.{◌≡◌, ℕ, List, [], ◌∷◌, subst}
-use Rattle.ref_value.specs.Edn.{Edn, keyword, vector, items_of}
+-- A loop over the operations of a transaction: what is known of them as far as it has come.
+use Rattle.std.proofs.Common.{◌≡◌, ◌≢◌, List, [], ◌∷◌, ◌++◌, Option, None, Some, refl, sym, ◌∙◌, ap}
+use Rattle.ref_value.specs.Edn.{Edn}
 use Rattle.ref_start.specs.Names.{NamesSeen}
-use Rattle.ref_fun.specs.declared.actions.Action.{Action}
-use Rattle.ref_fun.specs.declared.rules.Rule.{Rule}
-use Rattle.ref_log.specs.declared.notices.Who.TheVariants.{Ref, Agent}
-use Rattle.ref_log.specs.declared.operations.Op.TheVariants.{Set, Alter, Commute, Ensure}
-use Rattle.ref_plan.specs.declared.planning.words.OpWord.{OpWord}
-use Rattle.ref_plan.specs.declared.planning.words.OpWord.TheVariants as words
+use Rattle.ref_forms.specs.Laws.{in_front, in_front_and_said}
+use Rattle.ref_forms.specs.Plain.{all_said, and_said}
+use Rattle.ref_forms.specs.declared.wrong.Wrong.{Wrong}
+use Rattle.ref_forms.specs.declared.wrong.Wrong.TheVariants.{Memory}
+use Rattle.ref_plan.specs.Operations.{op_of}
 use Rattle.ref_plan.specs.declared.plans.PlannedOp.{PlannedOp}
-use Rattle.ref_plan.specs.declared.plans.PlannedOp.TheVariants.{On, Require, Send}
-use Rattle.ref_plan.specs.Calls.{IsCall, IsFunction, IsPredicate, IsOn, IsValue}
-use Rattle.ref_plan.specs.Operations.{IsOp, SaysOp}
-use Rattle.ref_plan.specs.Words.{op_text}
-use Rattle.ref_plan.proofs.Elements.{same_parts}
-use Rattle.ref_plan.proofs.Words.{same_op}
 
-module _ (names : NamesSeen) (parts : List Edn) where
-  pub no_set : ((r : ℕ) (v : Edn) → IsOn names (Ref r) parts (IsValue v) → ⊥) → (op : PlannedOp) → SaysOp names words.Set parts op → ⊥
-  no_set none (On r (Set v)) h = none r v h
-  no_set none op h = h
+-- What was read, with what is left, is what all forms say; or one of them was wrong, and they say nothing.
+abbrev pub Known : NamesSeen → List Edn → List Edn → List PlannedOp → Option Wrong → Type 0
+Known names all rest ops None = in_front ops (all_said (op_of names) rest) ≡ all_said (op_of names) all
+Known names all rest ops (Some wrong) = (wrong ≢ Memory) × (all_said (op_of names) all ≡ None)
 
-  pub no_alter : ((r : ℕ) (a : Action) → IsOn names (Ref r) parts (λ rest. IsCall IsFunction rest a.code a.args) → ⊥) → (op : PlannedOp) → SaysOp names words.Alter parts op → ⊥
-  no_alter none (On r (Alter code args)) h = none r (record { code = code; args = args }) h
-  no_alter none op h = h
+module _ (names : NamesSeen) (all : List Edn) (x : Edn) (rest : List Edn) (ops : List PlannedOp) where
+  pub known_more : (op : PlannedOp) (worst : Option Wrong) → Known names all (x ∷ rest) ops worst → op_of names x ≡ Some op → Known names all rest (ops ++ op ∷ []) worst
+  known_more op None k says =
+      sym (ap (λ o. in_front ops (and_said o (all_said (op_of names) rest))) says ∙ in_front_and_said ops op (all_said (op_of names) rest)) ∙ k
+  known_more op (Some wrong) k says = k
 
-  pub no_commute : ((r : ℕ) (a : Action) → IsOn names (Ref r) parts (λ rest. IsCall IsFunction rest a.code a.args) → ⊥) → (op : PlannedOp) → SaysOp names words.Commute parts op → ⊥
-  no_commute none (On r (Commute code args)) h = none r (record { code = code; args = args }) h
-  no_commute none op h = h
-
-  pub no_ensure : ((r : ℕ) → IsOn names (Ref r) parts (λ rest. rest ≡ []) → ⊥) → (op : PlannedOp) → SaysOp names words.Ensure parts op → ⊥
-  no_ensure none (On r Ensure) h = none r h
-  no_ensure none op h = h
-
-  pub no_require : ((r : ℕ) (a : Rule) → IsOn names (Ref r) parts (λ rest. IsCall IsPredicate rest a.code a.args) → ⊥) → (op : PlannedOp) → SaysOp names words.Require parts op → ⊥
-  no_require none (Require r rule) h = none r rule h
-  no_require none op h = h
-
-  pub no_send : ((g : ℕ) (a : Action) → IsOn names (Agent g) parts (λ rest. IsCall IsFunction rest a.code a.args) → ⊥) → (op : PlannedOp) → SaysOp names words.Send parts op → ⊥
-  no_send none (Send sent) h = none sent.agent sent.action h
-  no_send none op h = h
-
-module _ (names : NamesSeen) (x : Edn) (op : PlannedOp) (h : IsOp names x op) where
-  module _ (text : List ℕ) (parts : List Edn) (form : x ≡ vector (items_of (keyword text ∷ parts))) where
-    same : keyword (op_text h.word) ∷ h.parts ≡ keyword text ∷ parts
-    same = same_parts x (keyword (op_text h.word) ∷ h.parts) (keyword text ∷ parts) h.form form
-
-    pub its_saying : (word : OpWord) → text ≡ op_text word → SaysOp names word parts op
-    its_saying word is =
-        let e = same in
-        let texts : op_text h.word ≡ op_text word = cc in
-        let words_are : h.word ≡ word = same_op h.word word texts in
-        let parts_are : h.parts ≡ parts = cc in
-        subst (λ w. SaysOp names w parts op) words_are (subst (λ p. SaysOp names h.word p op) parts_are h.says)
+  pub known_wrong : (worst : Option Wrong) → Known names all (x ∷ rest) ops worst → op_of names x ≡ None → all_said (op_of names) all ≡ None
+  known_wrong None k says = sym k ∙ ap (λ o. in_front ops (and_said o (all_said (op_of names) rest))) says
+  known_wrong (Some wrong) k says = k.1

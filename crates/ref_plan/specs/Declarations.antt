@@ -1,7 +1,8 @@
 -- How references are declared: `[NAME VALUE]`, then RULE where there is one, and then, for a ref, `:tally` where it is the tally, or,
 -- for an agent, `:fail` or `:continue`, its error mode. A rule accepts the value.
-use Rattle.std.specs.Prelude.{◌≡◌, ◌≤◌, ℕ, Bool, true, false, List, [], ◌∷◌, ◌++◌, Option, None, Some, count_by}
-use Rattle.ref_value.specs.Edn.{Edn, keyword, symbol, vector, items_of}
+use Rattle.std.specs.Prelude.{◌≡◌, ◌≤◌, ◌&&◌, ℕ, Bool, true, false, not, ◌||◌, if◌then◌else◌, List, [], ◌∷◌, Option, None, Some, count_by, option_and_then, option_map}
+use Rattle.ref_value.specs.Edn.{Edn, keyword}
+use Rattle.ref_value.specs.Names.{bytes_eq}
 use Rattle.ref_agents.specs.declared.agents.ErrorMode.{ErrorMode}
 use Rattle.ref_agents.specs.declared.agents.ErrorMode.TheVariants.{Fail}
 use Rattle.ref_fun.specs.Core.{core_accepts}
@@ -12,70 +13,102 @@ use Rattle.ref_start.specs.declared.starts.AgentStart.{AgentStart}
 use Rattle.ref_start.specs.declared.starts.AtomStart.{AtomStart}
 use Rattle.ref_start.specs.declared.starts.RefStart.{RefStart}
 use Rattle.ref_start.specs.Names.{NamesSeen}
+use Rattle.ref_forms.specs.Calls.{mode_named, rule_said, value_said}
+use Rattle.ref_forms.specs.Plain.{both, elements_of, keyword_of, only_if, symbol_of}
+use Rattle.ref_plan.specs.Limits.{is_shallow}
 use Rattle.ref_plan.specs.Named.{AreApart}
-use Rattle.ref_plan.specs.Calls.{IsCall, IsPredicate, IsShallow}
-use Rattle.ref_plan.specs.Words.{mode_text, tally_word}
+use Rattle.ref_plan.specs.Words.{tally_word}
 
--- a part that may be left out
-abbrev pub optional : {A : Type 0} → (A → Edn) → Option A → List Edn
-optional write None = []
-optional write (Some a) = write a ∷ []
+-- What a form declares: the mark is the keyword behind the rule.
+pub record Declaration : Type 0 where
+  pub name : List ℕ
+  pub value : Edn
+  pub rule : Option Rule
+  pub mark : Option (List ℕ)
 
-abbrev pub vector_of : List Edn → Edn
-vector_of xs = vector (items_of xs)
+abbrev pub declaration : List ℕ → Edn → Option Rule → Option (List ℕ) → Declaration
+declaration name value rule mark = record { name = name; value = value; rule = rule; mark = mark }
 
-abbrev pub tail_of : Option (List Edn) → Option (List ℕ) → List Edn
-tail_of rule_parts mark = optional vector_of rule_parts ++ optional keyword mark
+-- [P ARG ..]
+abbrev pub rule_in : Edn → Option Rule
+rule_in x = option_and_then (rule_said is_shallow) (elements_of x)
 
--- `P ARG ..`, or no rule
-abbrev pub IsRuleOf : Option (List Edn) → Option Rule → Type 0
-IsRuleOf None None = Unit {0}
-IsRuleOf None (Some rule) = ⊥
-IsRuleOf (Some parts) None = ⊥
-IsRuleOf (Some parts) (Some rule) = IsCall IsPredicate parts rule.code rule.args
+-- a rule and a mark, either of which may be left out
+abbrev pub tail_said : List Edn → Option (Option Rule × Option (List ℕ))
+tail_said [] = Some (None, None)
+tail_said (keyword mark ∷ []) = Some (None, Some mark)
+tail_said (x ∷ []) = option_map (λ rule. (Some rule, None)) (rule_in x)
+tail_said (x ∷ y ∷ []) = both (λ rule mark. (Some rule, Some mark)) (rule_in x) (keyword_of y)
+tail_said xs = None
 
--- `[NAME VALUE RULE MARK]`, where the rule and the mark, a keyword, may be left out
-pub record IsReference (x : Edn) (name : List ℕ) (value : Edn) (rule : Option Rule) (mark : Option (List ℕ)) : Type 0 where
-  pub rule_parts : Option (List Edn)
-  pub form : x ≡ vector (items_of (symbol name ∷ value ∷ tail_of rule_parts mark))
-  pub rule_is : IsRuleOf rule_parts rule
-  pub shallow : IsShallow value
+abbrev pub declared_as : Option (List ℕ) → Option Edn → Option (Option Rule × Option (List ℕ)) → Option Declaration
+declared_as (Some name) (Some value) (Some tail) = Some (declaration name value tail.0 tail.1)
+declared_as name value tail = None
 
--- the mark of a ref
-abbrev pub tally_mark : Bool → Option (List ℕ)
-tally_mark true = Some tally_word
-tally_mark false = None
+-- [NAME VALUE RULE MARK]
+abbrev pub parts_declare : List Edn → Option Declaration
+parts_declare (name ∷ value ∷ tail) = declared_as (symbol_of name) (value_said is_shallow value) (tail_said tail)
+parts_declare xs = None
 
-pub record IsRef (x : Edn) (name : List ℕ) (start : RefStart) : Type 0 where
-  pub reference : IsReference x name start.value start.rule (tally_mark start.tally)
-  pub counts : start.tally ≡ true → is_count (start.value ∷ []) ≡ true
-  pub accepted : passes core_accepts start.rule start.value ≡ true
+abbrev pub declaration_of : Edn → Option Declaration
+declaration_of x = option_and_then parts_declare (elements_of x)
 
-pub record IsAtom (x : Edn) (name : List ℕ) (start : AtomStart) : Type 0 where
-  pub reference : IsReference x name start.value start.rule None
-  pub accepted : passes core_accepts start.rule start.value ≡ true
+-- The rule accepts the value.
+abbrev pub is_accepted : Declaration → Bool
+is_accepted d = passes core_accepts d.rule d.value
+
+-- ---- refs
+
+-- whether the mark says that it is the tally
+abbrev pub tally_said : Option (List ℕ) → Option Bool
+tally_said None = Some false
+tally_said (Some word) = only_if (bytes_eq word tally_word) true
+
+abbrev pub ref_with : Declaration → Bool → Option (List ℕ × RefStart)
+ref_with d tally =
+    only_if ((not tally || is_count (d.value ∷ [])) && is_accepted d)
+    (d.name, record { value = d.value; rule = d.rule; tally = tally })
+
+abbrev pub ref_of : Edn → Option (List ℕ × RefStart)
+ref_of x = option_and_then (λ d. option_and_then (ref_with d) (tally_said d.mark)) (declaration_of x)
+
+-- ---- atoms
+
+abbrev pub no_mark : Option (List ℕ) → Bool
+no_mark None = true
+no_mark (Some word) = false
+
+abbrev pub atom_with : Declaration → Option (List ℕ × AtomStart)
+atom_with d = only_if (no_mark d.mark && is_accepted d) (d.name, record { value = d.value; rule = d.rule })
+
+abbrev pub atom_of : Edn → Option (List ℕ × AtomStart)
+atom_of x = option_and_then atom_with (declaration_of x)
+
+-- ---- agents
 
 -- the mode that a mark says, `:fail` where it is left out
-abbrev pub IsMode : Option (List ℕ) → ErrorMode → Type 0
-IsMode None mode = mode ≡ Fail
-IsMode (Some word) mode = word ≡ mode_text mode
+abbrev pub mode_marked : Option (List ℕ) → Option ErrorMode
+mode_marked None = Some Fail
+mode_marked (Some word) = mode_named word
 
-pub record IsAgent (x : Edn) (name : List ℕ) (start : AgentStart) : Type 0 where
-  pub mark : Option (List ℕ)
-  pub reference : IsReference x name start.value start.rule mark
-  pub mode : IsMode mark start.mode
-  pub accepted : passes core_accepts start.rule start.value ≡ true
+abbrev pub agent_with : Declaration → ErrorMode → Option (List ℕ × AgentStart)
+agent_with d mode = only_if (is_accepted d) (d.name, record { value = d.value; rule = d.rule; mode = mode })
+
+abbrev pub agent_of : Edn → Option (List ℕ × AgentStart)
+agent_of x = option_and_then (λ d. option_and_then (agent_with d) (mode_marked d.mark)) (declaration_of x)
+
+-- ---- all
 
 -- Each of these forms declares a reference of this name, which begins so.
-abbrev pub AreDeclared : {Start : Type 0} → (Edn → List ℕ → Start → Type 0) → List Edn → List (List ℕ) → List Start → Type 0
-AreDeclared Says [] [] [] = Unit {0}
-AreDeclared Says (x ∷ xs) (name ∷ names) (start ∷ starts) = Says x name start × AreDeclared Says xs names starts
-AreDeclared Says xs names starts = ⊥
+abbrev pub AreDeclared : {Start : Type 0} → (Edn → Option (List ℕ × Start)) → List Edn → List (List ℕ) → List Start → Type 0
+AreDeclared said [] [] [] = Unit {0}
+AreDeclared said (x ∷ xs) (name ∷ names) (start ∷ starts) = (said x ≡ Some (name, start)) × AreDeclared said xs names starts
+AreDeclared said xs names starts = ⊥
 
 -- The references of a workload, with their names: no two have one name, and at most one ref is the tally.
 pub record AreReferences (ref_forms atom_forms agent_forms : List Edn) (names : NamesSeen) (refs : List RefStart) (atoms : List AtomStart) (agents : List AgentStart) : Type 0 where
-  pub refs_are : AreDeclared IsRef ref_forms names.refs refs
-  pub atoms_are : AreDeclared IsAtom atom_forms names.atoms atoms
-  pub agents_are : AreDeclared IsAgent agent_forms names.agents agents
+  pub refs_are : AreDeclared ref_of ref_forms names.refs refs
+  pub atoms_are : AreDeclared atom_of atom_forms names.atoms atoms
+  pub agents_are : AreDeclared agent_of agent_forms names.agents agents
   pub apart : AreApart names
   pub one_tally : count_by (λ s. s.tally) refs ≤ 1

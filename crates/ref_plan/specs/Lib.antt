@@ -1,13 +1,13 @@
--- To be read and believed: Plan, Workload with what it cites (Declarations, Steps, Operations, Calls, Named, Words, Kinds), and
--- PlanFaults, which has numbers. Tables is for private functions.
+-- To be read and believed: Plan, Workload with what it cites (Declarations, Steps, Operations, Named, Words, Limits), and PlanFaults,
+-- which has numbers. Laws are proved. Tables is for private functions. What plain forms say stands in ref_forms.
 pub mod Plan
 pub mod PlanFaults
 pub mod Words
+pub mod Limits
 pub mod Named
-pub mod Calls
 pub mod Operations
 pub mod Steps
 pub mod Declarations
 pub mod Workload
-pub mod Kinds
 pub mod Tables
+pub mod Laws

@@ -1,4 +1,4 @@
--- How the operations of a transaction are written, `[WORD NAME REST ..]`:
+-- How the operations of a transaction are written, `[WORD NAME REST ..]`, and what they say:
 --
 --   [:set R V]              the ref R is set to the value V
 --   [:alter R F ARG ..]     it gets what the function F gives
@@ -6,30 +6,47 @@
 --   [:ensure R]             it is ensured
 --   [:require R P ARG ..]   the predicate P has to accept what the transaction sees of it
 --   [:send G F ARG ..]      an action is sent to the agent G
-use Rattle.std.specs.Prelude.{◌≡◌, List, [], ◌∷◌}
-use Rattle.ref_value.specs.Edn.{Edn, keyword, vector, items_of}
+use Rattle.std.specs.Prelude.{ℕ, if◌then◌else◌, nat_le, List, length, Option, None, Some, option_and_then, option_map}
+use Rattle.ref_value.specs.Edn.{Edn}
+use Rattle.ref_value.specs.Names.{bytes_eq}
+use Rattle.ref_fun.specs.declared.actions.Action.{Action}
 use Rattle.ref_start.specs.Names.{NamesSeen}
-use Rattle.ref_log.specs.declared.notices.Who.TheVariants.{Ref, Agent}
 use Rattle.ref_log.specs.declared.operations.Op.TheVariants.{Set, Alter, Commute, Ensure}
-use Rattle.ref_plan.specs.declared.planning.words.OpWord.{OpWord}
-use Rattle.ref_plan.specs.declared.planning.words.OpWord.TheVariants as words
+use Rattle.ref_forms.specs.Calls.{action_said, rule_said, value_said}
+use Rattle.ref_forms.specs.Plain.{all_said, one_said, only_if, tagged_of, then_said, two_said}
+use Rattle.ref_forms.specs.References.{number_said}
+use Rattle.ref_forms.specs.declared.kinds.Kind.{Kind}
+use Rattle.ref_forms.specs.declared.kinds.Kind.TheVariants as kinds
+use Rattle.ref_plan.specs.Limits.{is_shallow, most_operations}
+use Rattle.ref_plan.specs.Named.{who_of}
+use Rattle.ref_plan.specs.Words.{alter_word, commute_word, ensure_word, require_word, send_word, set_word}
 use Rattle.ref_plan.specs.declared.plans.PlannedOp.{PlannedOp}
 use Rattle.ref_plan.specs.declared.plans.PlannedOp.TheVariants.{On, Require, Send}
-use Rattle.ref_plan.specs.Calls.{IsCall, IsFunction, IsPredicate, IsOn, IsValue}
-use Rattle.ref_plan.specs.Words.{op_text}
+
+-- NAME F ARG .., for a reference of this kind
+abbrev pub call_said : NamesSeen → Kind → List Edn → Option (ℕ × Action)
+call_said names kind xs = then_said (number_said (who_of names) kind) (action_said is_shallow) xs
+
+-- NAME VALUE
+abbrev pub setting_said : NamesSeen → Kind → List Edn → Option (ℕ × Edn)
+setting_said names kind xs = two_said (number_said (who_of names) kind) (value_said is_shallow) xs
 
 -- what stands behind the word
-abbrev pub SaysOp : NamesSeen → OpWord → List Edn → PlannedOp → Type 0
-SaysOp names words.Set parts (On r (Set v)) = IsOn names (Ref r) parts (IsValue v)
-SaysOp names words.Alter parts (On r (Alter code args)) = IsOn names (Ref r) parts (λ rest. IsCall IsFunction rest code args)
-SaysOp names words.Commute parts (On r (Commute code args)) = IsOn names (Ref r) parts (λ rest. IsCall IsFunction rest code args)
-SaysOp names words.Ensure parts (On r Ensure) = IsOn names (Ref r) parts (λ rest. rest ≡ [])
-SaysOp names words.Require parts (Require r rule) = IsOn names (Ref r) parts (λ rest. IsCall IsPredicate rest rule.code rule.args)
-SaysOp names words.Send parts (Send sent) = IsOn names (Agent sent.agent) parts (λ rest. IsCall IsFunction rest sent.action.code sent.action.args)
-SaysOp names word parts op = ⊥
+abbrev pub op_said : NamesSeen → List ℕ → List Edn → Option PlannedOp
+op_said names word xs =
+    if bytes_eq word set_word then option_map (λ s. On s.0 (Set s.1)) (setting_said names kinds.Ref xs) else
+    if bytes_eq word alter_word then option_map (λ c. On c.0 (Alter c.1.code c.1.args)) (call_said names kinds.Ref xs) else
+    if bytes_eq word commute_word then option_map (λ c. On c.0 (Commute c.1.code c.1.args)) (call_said names kinds.Ref xs) else
+    if bytes_eq word ensure_word then option_map (λ r. On r Ensure) (one_said (number_said (who_of names) kinds.Ref) xs) else
+    if bytes_eq word require_word then
+    option_map (λ p. Require p.0 p.1) (then_said (number_said (who_of names) kinds.Ref) (rule_said is_shallow) xs) else
+    if bytes_eq word send_word then
+    option_map (λ c. Send (record { agent = c.0; action = c.1 })) (call_said names kinds.Agent xs) else
+    None
 
-pub record IsOp (names : NamesSeen) (x : Edn) (op : PlannedOp) : Type 0 where
-  pub word : OpWord
-  pub parts : List Edn
-  pub form : x ≡ vector (items_of (keyword (op_text word) ∷ parts))
-  pub says : SaysOp names word parts op
+abbrev pub op_of : NamesSeen → Edn → Option PlannedOp
+op_of names x = option_and_then (λ t. op_said names t.0 t.1) (tagged_of x)
+
+-- at most 256 operations
+abbrev pub ops_said : NamesSeen → List Edn → Option (List PlannedOp)
+ops_said names xs = option_and_then (all_said (op_of names)) (only_if (nat_le (length xs) most_operations) xs)

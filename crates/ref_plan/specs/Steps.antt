@@ -1,4 +1,4 @@
--- How the steps of a worker are written, `[WORD REST ..]`:
+-- How the steps of a worker are written, `[WORD REST ..]`, and what they say:
 --
 --   [:tx OP ..]               a transaction with these operations, at most 256
 --   [:swap X F ARG ..]        `swap!` of the atom X by the function F
@@ -9,61 +9,46 @@
 --   [:restart G V :clear]     the same, which drops what waits
 --   [:mode G :fail]           `set-error-mode!` of G, or :continue
 --   [:validator NAME RULE]    `set-validator!` of any reference; nil in place of the rule takes it away
-use Rattle.std.specs.Prelude.{◌≡◌, ◌≤◌, Bool, true, false, List, [], ◌∷◌, Option, length}
-use Rattle.std.specs.List.{AllZip}
-use Rattle.ref_value.specs.Edn.{Edn, keyword, vector, items_of}
-use Rattle.ref_fun.specs.declared.rules.Rule.{Rule}
+use Rattle.std.specs.Prelude.{ℕ, if◌then◌else◌, List, Option, None, option_and_then, option_map}
+use Rattle.ref_value.specs.Edn.{Edn}
+use Rattle.ref_value.specs.Names.{bytes_eq}
 use Rattle.ref_start.specs.Names.{NamesSeen}
-use Rattle.ref_log.specs.declared.notices.Who.TheVariants.{Atom, Agent}
-use Rattle.ref_plan.specs.declared.planning.words.StepWord.{StepWord}
-use Rattle.ref_plan.specs.declared.planning.words.StepWord.TheVariants as words
+use Rattle.ref_forms.specs.Calls.{mode_said, rule_of, value_said}
+use Rattle.ref_forms.specs.Plain.{all_said, elements_within, tagged_of, then_said, two_said}
+use Rattle.ref_forms.specs.References.{number_said, state_said}
+use Rattle.ref_forms.specs.declared.kinds.Kind.TheVariants as kinds
+use Rattle.ref_plan.specs.Limits.{is_shallow, most_steps}
+use Rattle.ref_plan.specs.Named.{who_of}
+use Rattle.ref_plan.specs.Operations.{call_said, ops_said, setting_said}
+use Rattle.ref_plan.specs.Words.{cas_word, mode_word, reset_word, restart_word, send_word, swap_word, tx_word, validator_word}
 use Rattle.ref_plan.specs.declared.plans.Step.{Step}
 use Rattle.ref_plan.specs.declared.plans.Step.TheVariants.{Tx, Swap, Reset, CompareAndSet, Send, Restart, Mode, Validator}
-use Rattle.ref_plan.specs.Calls.{IsCall, IsFunction, IsOn, IsRuleOrNil, IsShallow, IsValue}
-use Rattle.ref_plan.specs.Operations.{IsOp}
-use Rattle.ref_plan.specs.Words.{clear_word, mode_text, step_text}
 
--- `OLD NEW`
-pub record IsTwoValues (old new : Edn) (rest : List Edn) : Type 0 where
-  pub form : rest ≡ old ∷ new ∷ []
-  pub old_shallow : IsShallow old
-  pub new_shallow : IsShallow new
-
--- what stands behind the state of a restart
-abbrev pub clear_part : Bool → List Edn
-clear_part true = keyword clear_word ∷ []
-clear_part false = []
-
-abbrev pub IsState : Edn → Bool → List Edn → Type 0
-IsState v clear rest = (rest ≡ v ∷ clear_part clear) × IsShallow v
-
--- a rule, or nil
-pub record IsSetting (rule : Option Rule) (rest : List Edn) : Type 0 where
-  pub x : Edn
-  pub form : rest ≡ x ∷ []
-  pub says : IsRuleOrNil x rule
+-- X OLD NEW
+abbrev pub comparison_said : NamesSeen → List Edn → Option (ℕ × (Edn × Edn))
+comparison_said names xs =
+    then_said (number_said (who_of names) kinds.Atom) (two_said (value_said is_shallow) (value_said is_shallow)) xs
 
 -- what stands behind the word
-abbrev pub SaysStep : NamesSeen → StepWord → List Edn → Step → Type 0
-SaysStep names words.Tx parts (Tx ops) = (length parts ≤ 256) × AllZip (IsOp names) parts ops
-SaysStep names words.Swap parts (Swap a action) = IsOn names (Atom a) parts (λ rest. IsCall IsFunction rest action.code action.args)
-SaysStep names words.Reset parts (Reset a v) = IsOn names (Atom a) parts (IsValue v)
-SaysStep names words.Cas parts (CompareAndSet a old new) = IsOn names (Atom a) parts (IsTwoValues old new)
-SaysStep names words.Send parts (Send sent) = IsOn names (Agent sent.agent) parts (λ rest. IsCall IsFunction rest sent.action.code sent.action.args)
-SaysStep names words.Restart parts (Restart g v clear) = IsOn names (Agent g) parts (IsState v clear)
-SaysStep names words.Mode parts (Mode g mode) = IsOn names (Agent g) parts (λ rest. rest ≡ keyword (mode_text mode) ∷ [])
-SaysStep names words.Validator parts (Validator who rule) = IsOn names who parts (IsSetting rule)
-SaysStep names word parts step = ⊥
+abbrev pub step_said : NamesSeen → List ℕ → List Edn → Option Step
+step_said names word xs =
+    if bytes_eq word tx_word then option_map Tx (ops_said names xs) else
+    if bytes_eq word swap_word then option_map (λ c. Swap c.0 c.1) (call_said names kinds.Atom xs) else
+    if bytes_eq word reset_word then option_map (λ s. Reset s.0 s.1) (setting_said names kinds.Atom xs) else
+    if bytes_eq word cas_word then option_map (λ c. CompareAndSet c.0 c.1.0 c.1.1) (comparison_said names xs) else
+    if bytes_eq word send_word then
+    option_map (λ c. Send (record { agent = c.0; action = c.1 })) (call_said names kinds.Agent xs) else
+    if bytes_eq word restart_word then
+    option_map (λ s. Restart s.0 s.1.0 s.1.1) (then_said (number_said (who_of names) kinds.Agent) (state_said is_shallow) xs) else
+    if bytes_eq word mode_word then
+    option_map (λ m. Mode m.0 m.1) (two_said (number_said (who_of names) kinds.Agent) mode_said xs) else
+    if bytes_eq word validator_word then
+    option_map (λ s. Validator s.0 s.1) (two_said (who_of names) (rule_of is_shallow) xs) else
+    None
 
-pub record IsStep (names : NamesSeen) (x : Edn) (step : Step) : Type 0 where
-  pub word : StepWord
-  pub parts : List Edn
-  pub form : x ≡ vector (items_of (keyword (step_text word) ∷ parts))
-  pub says : SaysStep names word parts step
+abbrev pub step_of : NamesSeen → Edn → Option Step
+step_of names x = option_and_then (λ t. step_said names t.0 t.1) (tagged_of x)
 
 -- `[STEP ..]`, at most 10,000
-pub record IsWorker (names : NamesSeen) (x : Edn) (steps : List Step) : Type 0 where
-  pub forms : List Edn
-  pub form : x ≡ vector (items_of forms)
-  pub few : length forms ≤ 10000
-  pub each : AllZip (IsStep names) forms steps
+abbrev pub worker_of : NamesSeen → Edn → Option (List Step)
+worker_of names x = option_and_then (all_said (step_of names)) (elements_within most_steps x)

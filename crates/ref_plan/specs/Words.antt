@@ -1,38 +1,49 @@
--- The words that stand in workloads, each a keyword.
-use Rattle.std.specs.Prelude.{ℕ, List, codes}
-use Rattle.ref_agents.specs.declared.agents.ErrorMode.{ErrorMode}
-use Rattle.ref_agents.specs.declared.agents.ErrorMode.TheVariants.{Fail, Continue}
-use Rattle.ref_plan.specs.declared.planning.words.OpWord.{OpWord}
-use Rattle.ref_plan.specs.declared.planning.words.OpWord.TheVariants as ops
-use Rattle.ref_plan.specs.declared.planning.words.StepWord.{StepWord}
-use Rattle.ref_plan.specs.declared.planning.words.StepWord.TheVariants as steps
+-- The words that stand in workloads, each a keyword. Those of error modes and of `:clear` stand in ref_forms.
+use Rattle.std.specs.Prelude.{ℕ, List, [], ◌∷◌, codes}
 
-abbrev pub op_text : OpWord → List ℕ
-op_text ops.Set = codes "set"
-op_text ops.Alter = codes "alter"
-op_text ops.Commute = codes "commute"
-op_text ops.Ensure = codes "ensure"
-op_text ops.Require = codes "require"
-op_text ops.Send = codes "send"
+-- what an operation begins with
+abbrev pub set_word : List ℕ
+set_word = codes "set"
 
-abbrev pub step_text : StepWord → List ℕ
-step_text steps.Tx = codes "tx"
-step_text steps.Swap = codes "swap"
-step_text steps.Reset = codes "reset"
-step_text steps.Cas = codes "cas"
-step_text steps.Send = codes "send"
-step_text steps.Restart = codes "restart"
-step_text steps.Mode = codes "mode"
-step_text steps.Validator = codes "validator"
+abbrev pub alter_word : List ℕ
+alter_word = codes "alter"
 
-abbrev pub mode_text : ErrorMode → List ℕ
-mode_text Fail = codes "fail"
-mode_text Continue = codes "continue"
+abbrev pub commute_word : List ℕ
+commute_word = codes "commute"
 
--- behind a value: whether what waits is dropped; whether the ref is the tally
-abbrev pub clear_word : List ℕ
-clear_word = codes "clear"
+abbrev pub ensure_word : List ℕ
+ensure_word = codes "ensure"
 
+abbrev pub require_word : List ℕ
+require_word = codes "require"
+
+-- an operation and a step
+abbrev pub send_word : List ℕ
+send_word = codes "send"
+
+-- what a step begins with
+abbrev pub tx_word : List ℕ
+tx_word = codes "tx"
+
+abbrev pub swap_word : List ℕ
+swap_word = codes "swap"
+
+abbrev pub reset_word : List ℕ
+reset_word = codes "reset"
+
+abbrev pub cas_word : List ℕ
+cas_word = codes "cas"
+
+abbrev pub restart_word : List ℕ
+restart_word = codes "restart"
+
+abbrev pub mode_word : List ℕ
+mode_word = codes "mode"
+
+abbrev pub validator_word : List ℕ
+validator_word = codes "validator"
+
+-- behind the rule of a ref: that it is the tally
 abbrev pub tally_word : List ℕ
 tally_word = codes "tally"
 
@@ -54,3 +65,6 @@ workers_word = codes "workers"
 
 abbrev pub pool_word : List ℕ
 pool_word = codes "pool"
+
+abbrev pub known_words : List (List ℕ)
+known_words = version_word ∷ refs_word ∷ atoms_word ∷ agents_word ∷ workers_word ∷ pool_word ∷ []

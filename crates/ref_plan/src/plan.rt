@@ -5,10 +5,10 @@ ghost use Rattle.ref_plan.specs.Workload.{HasForm, IsWorkload};
 
 use crate::plan_faults::PlanFault;
 use crate::planning::declarations::declarations;
-use crate::planning::forms::map_in;
-use crate::planning::parts::{forms_of, parts_of};
+use crate::planning::parts::parts_of;
 use crate::planning::steps::workers;
 use crate::plans::Plan;
+use ref_forms::maps::{forms_of, map_in};
 use ref_value::{Items, Value};
 use std::alloc::Global;
 

@@ -18,7 +18,7 @@ pub enum PlannedOp {
     Send(Sent),
 }
 
-// A function of its own, which whoever lets an operation go calls; a derived one would be written out there.
+// A function of its own, which each place that drops one calls; a derived one would be written out there.
 impl Drop for PlannedOp {
     fn drop(self) {
         match self {

@@ -4,7 +4,9 @@ use Rattle.std.specs.Prelude.{is_some, ok_or, option_and_then}
 use Rattle.ref_value.specs.Edn.{Edn, entries_of, pairs_of, pairs_of-entries_of}
 use Rattle.ref_value.specs.Edn as edn
 use Rattle.ref_log.specs.Told.{AnswersOrMemory}
-use Rattle.ref_verdict.specs.DumpForm.{agent_of, all_said, dump_of, elements_of, key_word, list_said, misfit, number_of, part_said, parts_said, parts_unless, under}
+use Rattle.ref_forms.specs.Plain.{all_said, elements_of, list_said, number_of}
+use Rattle.ref_forms.specs.Plain.{under}
+use Rattle.ref_verdict.specs.DumpForm.{agent_of, dump_of, key_word, misfit, part_said, parts_said, parts_unless}
 use Rattle.ref_verdict.specs.Early.{fault_of_parts, first_fault, is_said, parts_fault}
 use Rattle.ref_verdict.specs.Verdict.{verdict, verdict_on}
 use Rattle.ref_verdict.specs.declared.reading.dumps.Dump.{Dump}

@@ -1,20 +1,9 @@
--- Lists of forms: what a loop over them has read, and what is left.
+-- Entries that are read one after another: what a loop has read, and what is left.
 use Rattle.std.proofs.Common.{◌≡◌, ℕ, ◌+◌, ◌<◌, List, [], ◌∷◌, ◌++◌, drop, length, get_or, refl, sym, ◌∙◌, ap, suc, add-one, append_assoc, drop-cons, Option, None, Some, Result, Ok, Err}
-use Rattle.std.specs.Prelude.{option_map}
 use Rattle.ref_value.specs.Edn.{Edn}
 use Rattle.ref_log.specs.declared.entries.Entry.{Entry}
-use Rattle.ref_verdict.specs.DumpForm.{and_entry, and_said, entries_from, entry_of}
+use Rattle.ref_verdict.specs.DumpForm.{and_entry, entries_from, entry_of}
 use Rattle.ref_verdict.specs.declared.reading.faults.DumpFault.{DumpFault}
-
--- ---- forms that are read one after another
-
--- these, and behind them what is left, if that says something
-abbrev pub in_front : {A : Type 0} → List A → Option (List A) → Option (List A)
-in_front ys rest = option_map (λ zs. ys ++ zs) rest
-
-pub in_front_and_said : {A : Type 0} (ys : List A) (y : A) (rest : Option (List A)) → in_front ys (and_said (Some y) rest) ≡ in_front (ys ++ y ∷ []) rest
-in_front_and_said ys y None = refl
-in_front_and_said ys y (Some zs) = ap Some (sym (append_assoc ys (y ∷ []) zs))
 
 -- ---- entries
 

@@ -3,7 +3,8 @@ use Rattle.std.proofs.Common.{◌≡◌, ◌≢◌, Bool, true, false, not, cond
 use Rattle.ref_value.specs.Edn.{Edn, entries_of, pairs_of-entries_of}
 use Rattle.ref_value.specs.Edn as edn
 use Rattle.ref_value.specs.Edn.{pairs_of}
-use Rattle.ref_verdict.specs.DumpForm.{dump_of, has_keys, is_version, misfit, parts_unless, under}
+use Rattle.ref_forms.specs.Plain.{under}
+use Rattle.ref_verdict.specs.DumpForm.{dump_of, has_keys, is_version, misfit, parts_unless}
 use Rattle.ref_verdict.specs.Words.{dump_key}
 use Rattle.ref_verdict.specs.declared.reading.faults.DumpFault.{DumpFault}
 use Rattle.ref_verdict.specs.declared.reading.faults.DumpFault.TheVariants.{BadVersion, Memory, NotDump}

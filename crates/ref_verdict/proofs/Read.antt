@@ -8,7 +8,7 @@ use Rattle.ref_value.specs.Edn.{list_of}
 use Rattle.ref_value.specs.Names.{bytes_eq}
 use Rattle.ref_fun.specs.declared.actions.Action.{Action}
 use Rattle.ref_fun.specs.declared.rules.Rule.{Rule}
-use Rattle.ref_fun.specs.Names.{is_function, is_predicate}
+use Rattle.ref_fun.specs.Names.{code_in, core_names, is_function, is_predicate}
 use Rattle.ref_log.specs.declared.entries.Entry.{Entry}
 use Rattle.ref_log.specs.declared.entries.Entry.TheVariants.{Trans, Atom, MadeRef, MadeAtom}
 use Rattle.ref_log.specs.declared.entries.Stamp.{Stamp}
@@ -18,7 +18,10 @@ use Rattle.ref_log.specs.declared.operations.Op.TheVariants as ops
 use Rattle.ref_log.specs.declared.sends.Sent.{Sent}
 use Rattle.ref_agents.specs.declared.accounts.Handled.{Handled}
 use Rattle.ref_agents.specs.declared.accounts.Mark.{Mark}
-use Rattle.ref_verdict.specs.DumpForm.{action_of, agent_of, agent_said, agent_with, all_said, alter_said, and_entry, and_said, args_said, both, call_said, code_named, code_of, commute_said, done_of, done_said, elements_of, elements_within, ensure_said, entries_from, entry_of, entry_said, handled_of, handled_said, kept_of, kept_said, list_said, made_atom_said, made_ref_said, mark_of, number_of, only_if, part_said, queued_of, reference_of, reset_said, rule_of, rule_said, sent_of, set_said, stamp_of, status_of, swap_said, tagged_of, transaction_of, tx_said, under, key_word, values_said}
+use Rattle.ref_forms.specs.Calls.{action_of, any, args_said, code_for, code_of, rule_of, rule_said}
+use Rattle.ref_forms.specs.Plain.{all_said, and_said, both, elements_of, elements_within, list_said, number_of, only_if, symbol_of, tagged_of}
+use Rattle.ref_forms.specs.Plain.{under}
+use Rattle.ref_verdict.specs.DumpForm.{agent_of, agent_said, agent_with, alter_said, and_entry, call_said, commute_said, done_of, done_said, ensure_said, entries_from, entry_of, entry_said, handled_of, handled_said, kept_of, kept_said, made_atom_said, made_ref_said, mark_of, part_said, queued_of, reference_of, reset_said, sent_of, set_said, stamp_of, status_of, swap_said, transaction_of, tx_said, key_word, values_said}
 use Rattle.ref_verdict.specs.OfCore.{is_account_of_core, is_agent_rule_of_core, is_entry_of_core, is_handled_of_core, is_kept_of_core, is_op_of_core, is_rule_of_core}
 use Rattle.ref_verdict.specs.Words.{alter_tag, commute_tag, ensure_tag, made_atom_tag, made_ref_tag, reset_tag, set_tag, swap_tag, tx_tag}
 use Rattle.ref_verdict.specs.declared.reading.dumps.Kept.{Kept}
@@ -72,33 +75,34 @@ module _ {A : Type 0} (said : Edn → Option A) (test : A → Bool) (each : (x :
 
 code_passes : (is_one : ℕ → Bool) (x : Edn) (code : ℕ) → code_of is_one x ≡ Some code → is_one code ≡ true
 code_passes is_one x code e =
-    let p = and_then-Some (λ c. only_if (is_one c) c) (code_named x) code e in
+    let n = and_then-Some (code_for is_one) (symbol_of x) code e in
+    let p = and_then-Some (λ c. only_if (is_one c) c) (code_in core_names n.0) code n.2 in
     let q = only_if-Some (is_one p.0) p.0 code p.2 in
     ap is_one (sym q.1) ∙ q.0
 
 action_passes : (f args : Edn) (action : Action) → action_of f args ≡ Some action → is_function action.code ≡ true
 action_passes f args action e =
     let join : ℕ → List Edn → Action = λ code xs. record { code = code; args = xs } in
-    let p = both-Some join (code_of is_function f) (option_and_then args_said (elements_of args)) action e in
+    let p = both-Some join (code_of is_function f) (option_and_then (args_said any) (elements_of args)) action e in
     ap (λ (a : Action). is_function a.code) (sym p.4) ∙ code_passes is_function f p.0 p.2
 
-rule_said-passes : (xs : List Edn) (rule : Rule) → rule_said xs ≡ Some rule → is_predicate rule.code ≡ true
+rule_said-passes : (xs : List Edn) (rule : Rule) → rule_said any xs ≡ Some rule → is_predicate rule.code ≡ true
 rule_said-passes [] rule e = absurd cc
 rule_said-passes (x ∷ args) rule e =
     let join : ℕ → List Edn → Rule = λ code xs. record { code = code; args = xs } in
-    let p = both-Some join (code_of is_predicate x) (args_said args) rule e in
+    let p = both-Some join (code_of is_predicate x) (args_said any args) rule e in
     ap (λ (r : Rule). is_predicate r.code) (sym p.4) ∙ code_passes is_predicate x p.0 p.2
 
-some_rule : (xs : List Edn) (rule : Option Rule) → option_map Some (rule_said xs) ≡ Some rule → is_rule_of_core rule ≡ true
+some_rule : (xs : List Edn) (rule : Option Rule) → option_map Some (rule_said any xs) ≡ Some rule → is_rule_of_core rule ≡ true
 some_rule xs rule e =
     let some : Rule → Option Rule = λ r. Some r in
-    let p = map-Some some (rule_said xs) rule e in
+    let p = map-Some some (rule_said any xs) rule e in
     ap is_rule_of_core (sym p.2) ∙ rule_said-passes xs p.0 p.1
 
 no_rule : (o rule : Option Rule) → o ≡ None → Some o ≡ Some rule → is_rule_of_core rule ≡ true
 no_rule o rule none e = let same : rule ≡ None = cc in ap is_rule_of_core same
 
-rule_passes : (x : Edn) (rule : Option Rule) → rule_of x ≡ Some rule → is_rule_of_core rule ≡ true
+rule_passes : (x : Edn) (rule : Option Rule) → rule_of any x ≡ Some rule → is_rule_of_core rule ≡ true
 rule_passes edn.nil rule e = no_rule None rule refl e
 rule_passes (edn.boolean b) rule e = absurd cc
 rule_passes (edn.int n) rule e = absurd cc
@@ -116,7 +120,7 @@ kept_said-passes [] k e = absurd cc
 kept_said-passes (v ∷ []) k e = absurd cc
 kept_said-passes (v ∷ rule ∷ []) k e =
     let join : Option Rule → Kept = λ r. record { value = v; rule = r } in
-    let p = map-Some join (rule_of rule) k e in
+    let p = map-Some join (rule_of any rule) k e in
     ap is_kept_of_core (sym p.2) ∙ rule_passes rule p.0 p.1
 kept_said-passes (v ∷ rule ∷ x ∷ xs) k e = absurd cc
 
@@ -152,7 +156,7 @@ agent_said-passes (a ∷ b ∷ c ∷ []) agent e = absurd cc
 agent_said-passes (a ∷ b ∷ c ∷ d ∷ []) agent e = absurd cc
 agent_said-passes (a ∷ b ∷ c ∷ d ∷ f ∷ []) agent e = absurd cc
 agent_said-passes (start ∷ handled ∷ queue ∷ value ∷ status ∷ rule ∷ []) agent e =
-    let p = agent_parts start value (list_said handled_of handled) (list_said queued_of queue) (status_of status) (rule_of rule) agent e in
+    let p = agent_parts start value (list_said handled_of handled) (list_said queued_of queue) (status_of status) (rule_of any rule) agent e in
     (rule_passes rule agent.rule p.1, list_said-pass handled_of is_handled_of_core handled_passes handled agent.handled p.0)
 agent_said-passes (a ∷ b ∷ c ∷ d ∷ f ∷ g ∷ x ∷ xs) agent e = absurd cc
 

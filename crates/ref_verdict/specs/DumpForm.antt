@@ -14,13 +14,12 @@
 --   :added N
 --
 -- Numbers are integers of 0 or more. What a form doesn't say, or says in another way, is no part of a dump: it is None here.
-use Rattle.std.specs.Prelude.{ℕ, pos, ◌+◌, ◌-◌, ◌^◌, ◌==◌, ok_or, nat_le, nat_lt, min, Bool, true, false, not, ◌&&◌, if◌then◌else◌, List, [], ◌∷◌, length, Option, None, Some, is_some, option_map, option_and_then, Result, Ok, Err}
+use Rattle.std.specs.Prelude.{ℕ, pos, ◌+◌, ◌-◌, ◌^◌, ◌==◌, ok_or, min, Bool, true, false, not, ◌&&◌, if◌then◌else◌, List, [], ◌∷◌, Option, None, Some, is_some, option_map, option_and_then, Result, Ok, Err}
 use Rattle.std.specs.Prelude as lists
-use Rattle.std.specs.List.{list_all, list_any}
-use Rattle.ref_value.specs.Edn.{Edn, nil, int, keyword, symbol, vector, list_of, pairs_of}
+use Rattle.std.specs.List.{list_all}
+use Rattle.ref_value.specs.Edn.{Edn, nil, int, pairs_of}
 use Rattle.ref_value.specs.Edn as edn
 use Rattle.ref_value.specs.Names.{bytes_eq}
-use Rattle.ref_fun.specs.Names.{code_in, core_names, is_function, is_predicate}
 use Rattle.ref_fun.specs.declared.actions.Action.{Action}
 use Rattle.ref_fun.specs.declared.rules.Rule.{Rule}
 use Rattle.ref_log.specs.declared.entries.Entry.{Entry}
@@ -34,6 +33,8 @@ use Rattle.ref_log.specs.declared.states.Base.{Base}
 use Rattle.ref_agents.specs.declared.accounts.Handled.{Handled}
 use Rattle.ref_agents.specs.declared.accounts.Mark.{Mark}
 use Rattle.ref_agents.specs.declared.accounts.Mark.TheVariants as marks
+use Rattle.ref_forms.specs.Calls.{action_of, any, rule_of}
+use Rattle.ref_forms.specs.Plain.{all_said, are_known, both, elements_of, elements_within, keyword_of, list_said, number_of, stamp_number, tagged_of, under}
 use Rattle.ref_verdict.specs.Words.{added_key, agents_key, all_keys, alter_tag, atoms_key, base_atoms_key, base_refs_key, commits_key, commute_tag, done_mark, dump_key, ensure_tag, entries_key, failed_mark, failed_status, folded_key, made_atom_tag, made_ref_tag, passed_mark, point_key, ready_status, refs_key, reset_tag, set_tag, swap_tag, tally_key, tx_tag}
 use Rattle.ref_verdict.specs.declared.reading.dumps.Changed.{Changed}
 use Rattle.ref_verdict.specs.declared.reading.dumps.Dump.{Dump}
@@ -44,85 +45,16 @@ use Rattle.ref_verdict.specs.declared.reading.faults.DumpFault.TheVariants.{NotD
 use Rattle.ref_verdict.specs.declared.reading.faults.Key.{Key}
 use Rattle.ref_verdict.specs.declared.reading.faults.Key.TheVariants as keys
 
--- ---- plain forms
+-- ---- references by number
 
--- what two things say together
-abbrev pub both : {A B C : Type 0} → (A → B → C) → Option A → Option B → Option C
-both join (Some a) (Some b) = Some (join a b)
-both join (Some a) None = None
-both join None b = None
-
-abbrev pub only_if : {A : Type 0} → Bool → A → Option A
-only_if true x = Some x
-only_if false x = None
-
-abbrev pub number_of : Edn → Option ℕ
-number_of (int (pos n)) = Some n
-number_of x = None
-
-abbrev pub keyword_of : Edn → Option (List ℕ)
-keyword_of (keyword name) = Some name
-keyword_of x = None
-
-abbrev pub elements_of : Edn → Option (List Edn)
-elements_of (vector xs) = Some (list_of xs)
-elements_of x = None
-
--- of at most so many elements
-abbrev pub elements_within : ℕ → Edn → Option (List Edn)
-elements_within most x = option_and_then (λ xs. only_if (nat_le (length xs) most) xs) (elements_of x)
-
--- What each of these forms says, where all say something.
-abbrev pub and_said : {A : Type 0} → Option A → Option (List A) → Option (List A)
-and_said (Some y) (Some ys) = Some (y ∷ ys)
-and_said (Some y) None = None
-and_said None ys = None
-
-abbrev pub all_said : {A : Type 0} → (Edn → Option A) → List Edn → Option (List A)
-all_said said [] = Some []
-all_said said (x ∷ xs) = and_said (said x) (all_said said xs)
-
--- The elements of a vector, each in this form.
-abbrev pub list_said : {A : Type 0} → (Edn → Option A) → Edn → Option (List A)
-list_said said x = option_and_then (all_said said) (elements_of x)
-
--- The same of the values of references of a kind: a dump has fewer than 2^32 - 1 of them.
+-- The elements of a vector, each in this form, where they are the values of references of a kind: a dump has fewer than 2^32 - 1 of them.
 abbrev pub values_said : {A : Type 0} → (Edn → Option A) → Edn → Option (List A)
 values_said said x = option_and_then (all_said said) (elements_within (2 ^ 32 - 2) x)
-
--- ---- numbers of references, names of functions
 
 -- Every integer of 0 or more is the number of a reference. Those from 2^32 - 1 on are taken as one: no reference now has one of them,
 -- since a dump has fewer, and so none that is replayed has one where the verdict is ok.
 abbrev pub reference_of : Edn → Option ℕ
 reference_of x = option_map (λ n. min n (2 ^ 32 - 1)) (number_of x)
-
--- the code of Core that a symbol names
-abbrev pub code_named : Edn → Option ℕ
-code_named (symbol name) = code_in core_names name
-code_named x = None
-
--- the same, where it is one of these
-abbrev pub code_of : (ℕ → Bool) → Edn → Option ℕ
-code_of is_one x = option_and_then (λ code. only_if (is_one code) code) (code_named x)
-
--- at most 8 arguments
-abbrev pub args_said : List Edn → Option (List Edn)
-args_said xs = only_if (nat_le (length xs) 8) xs
-
-abbrev pub action_of : Edn → Edn → Option Action
-action_of f args = both (λ code xs. record { code = code; args = xs }) (code_of is_function f) (option_and_then args_said (elements_of args))
-
--- [P ARG ..]
-abbrev pub rule_said : List Edn → Option Rule
-rule_said [] = None
-rule_said (p ∷ args) = both (λ code xs. record { code = code; args = xs }) (code_of is_predicate p) (args_said args)
-
--- a rule, or nil where there is none
-abbrev pub rule_of : Edn → Option (Option Rule)
-rule_of nil = Some None
-rule_of (vector xs) = option_map Some (rule_said (list_of xs))
-rule_of x = None
 
 -- ---- entries
 
@@ -145,14 +77,6 @@ abbrev pub ensure_said : List Edn → Option Done
 ensure_said (r ∷ answer ∷ []) = option_map (λ n. record { r = n; op = Ensure; answer = answer }) (reference_of r)
 ensure_said xs = None
 
--- what follows the keyword that a form begins with
-abbrev pub tag_said : List Edn → Option (List ℕ × List Edn)
-tag_said [] = None
-tag_said (x ∷ xs) = option_map (λ tag. (tag, xs)) (keyword_of x)
-
-abbrev pub tagged_of : Edn → Option (List ℕ × List Edn)
-tagged_of x = option_and_then tag_said (elements_of x)
-
 -- [:set R V ANSWER], [:alter R F [ARG ..] ANSWER], [:commute R F [ARG ..] ANSWER] or [:ensure R ANSWER]
 abbrev pub done_said : List ℕ → List Edn → Option Done
 done_said tag xs =
@@ -172,9 +96,6 @@ sent_said xs = None
 
 abbrev pub sent_of : Edn → Option Sent
 sent_of x = option_and_then sent_said (elements_of x)
-
-abbrev pub stamp_number : Edn → Option ℕ
-stamp_number x = option_and_then (λ n. only_if (nat_lt n (2 ^ 32)) n) (number_of x)
 
 abbrev pub stamp_of : Edn → Edn → Option Stamp
 stamp_of w s = both (λ worker step. record { worker = worker; step = step }) (stamp_number w) (stamp_number s)
@@ -238,7 +159,7 @@ changed_of x = option_and_then changed_said (elements_of x)
 
 -- [VALUE RULE]
 abbrev pub kept_said : List Edn → Option Kept
-kept_said (v ∷ rule ∷ []) = option_map (λ r. record { value = v; rule = r }) (rule_of rule)
+kept_said (v ∷ rule ∷ []) = option_map (λ r. record { value = v; rule = r }) (rule_of any rule)
 kept_said xs = None
 
 abbrev pub kept_of : Edn → Option Kept
@@ -286,7 +207,7 @@ agent_with start value handled queue failed rule = None
 
 -- [START HANDLED QUEUE VALUE STATUS RULE]
 abbrev pub agent_said : List Edn → Option KeptAgent
-agent_said (start ∷ handled ∷ queue ∷ value ∷ status ∷ rule ∷ []) = agent_with start value (list_said handled_of handled) (list_said queued_of queue) (status_of status) (rule_of rule)
+agent_said (start ∷ handled ∷ queue ∷ value ∷ status ∷ rule ∷ []) = agent_with start value (list_said handled_of handled) (list_said queued_of queue) (status_of status) (rule_of any rule)
 agent_said xs = None
 
 abbrev pub agent_of : Edn → Option KeptAgent
@@ -322,21 +243,9 @@ key_word keys.Point = point_key
 key_word keys.Refs = refs_key
 key_word keys.Tally = tally_key
 
-abbrev pub is_word : List ℕ → Edn → Bool
-is_word word (keyword name) = bytes_eq name word
-is_word word x = false
-
--- what stands under a keyword
-abbrev pub under : List (Edn × Edn) → List ℕ → Option Edn
-under [] word = None
-under (e ∷ es) word = if is_word word e.0 then Some e.1 else under es word
-
-abbrev pub is_key : Edn → Bool
-is_key x = list_any (λ word. is_word word x) all_keys
-
 -- Each key is one of these, and each of these is there.
-abbrev pub has_keys : List (Edn × Edn) → Bool
-has_keys es = list_all (λ e. is_key e.0) es && list_all (λ word. is_some (under es word)) all_keys
+unfoldable pub has_keys : List (Edn × Edn) → Bool
+has_keys es = are_known all_keys es && list_all (λ word. is_some (under es word)) all_keys
 
 -- what stands under a key, or that it has a wrong form
 abbrev pub part_said : {A : Type 0} → List (Edn × Edn) → Key → (Edn → Option A) → Result A DumpFault

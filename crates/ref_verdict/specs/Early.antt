@@ -3,7 +3,9 @@
 use Rattle.std.specs.Prelude.{Bool, not, if◌then◌else◌, List, Option, None, Some, is_some, option_and_then}
 use Rattle.ref_value.specs.Edn.{Edn, pairs_of}
 use Rattle.ref_value.specs.Edn as edn
-use Rattle.ref_verdict.specs.DumpForm.{early_fault, elements_of, key_word, number_of, under}
+use Rattle.ref_forms.specs.Plain.{elements_of, number_of}
+use Rattle.ref_forms.specs.Plain.{under}
+use Rattle.ref_verdict.specs.DumpForm.{early_fault, key_word}
 use Rattle.ref_verdict.specs.declared.reading.faults.DumpFault.{DumpFault}
 use Rattle.ref_verdict.specs.declared.reading.faults.DumpFault.TheVariants.{BadPart}
 use Rattle.ref_verdict.specs.declared.reading.faults.Key.{Key}

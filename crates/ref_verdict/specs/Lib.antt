@@ -1,6 +1,5 @@
 -- To be read and believed: Words, DumpForm and Early (which data is a dump, what is read of it, and which faults are found first),
--- Verdict, Faults. FormLaws are proved, for whoever makes a dump. OfCore says what `read_dump` promises to `verdict`. Reading is for
--- private functions.
+-- Verdict, Faults. OfCore says what `read_dump` promises to `verdict`. Reading is for private functions.
 pub mod Words
 pub mod DumpForm
 pub mod Early
@@ -8,4 +7,3 @@ pub mod Verdict
 pub mod Faults
 pub mod OfCore
 pub mod Reading
-pub mod FormLaws

@@ -8,15 +8,12 @@ ghost use Rattle.ref_verdict.specs.OfCore.{IsOfCore};
 ghost use Rattle.ref_verdict.specs.Reading.{Told};
 ghost use Rattle.ref_verdict.specs.declared.reading.faults.DumpFault.TheVariants.{Memory};
 
-pub mod actions;
 pub mod dumps;
 pub(crate) mod entries;
 pub mod faults;
 pub(crate) mod lists;
 pub(crate) mod parts;
-pub mod plain;
 pub(crate) mod references;
-pub mod wrongs;
 
 use crate::reading::dumps::{Changed, Dump};
 use crate::reading::faults::{DumpFault, Key};

@@ -4,7 +4,8 @@ ghost use Rattle.ref_start.specs.Names.{NamesSeen};
 ghost use Rattle.ref_start.specs.declared.starts.AgentStart.{AgentStart as AnyAgent};
 ghost use Rattle.ref_start.specs.declared.starts.AtomStart.{AtomStart as AnyAtom};
 ghost use Rattle.ref_start.specs.declared.starts.RefStart.{RefStart as AnyRef};
-ghost use Rattle.ref_plan.specs.Declarations.{AreDeclared, AreReferences, IsAgent, IsAtom, IsRef};
+ghost use Rattle.ref_plan.specs.Declarations.{AreDeclared, AreReferences, agent_of, atom_of, ref_of};
+ghost use Rattle.ref_plan.specs.Limits.{most_references};
 ghost use Rattle.ref_plan.specs.Named.{AreApart};
 ghost use Rattle.ref_plan.specs.Tables.{Knows, refs_alone, refs_and_atoms};
 
@@ -45,13 +46,13 @@ pub fn refs(
     forms: &Items,
     table: &mut NameTable,
 ) -> Result<(Vec<Text>, Vec<RefStart>), PlanFault>
-    requires few { length forms.now ≤ 4096 }
+    requires few { length forms.now ≤ most_references }
     requires empty { table.old ≡ [] }
-    ensures ok { IfOk result (λ r. AreDeclared IsRef forms.now r.0.items r.1.items) }
+    ensures ok { IfOk result (λ r. AreDeclared ref_of forms.now r.0.items r.1.items) }
     ensures one_tally { IfOk result (λ r. count_by (λ s. s.tally) r.1.items ≤ 1) }
     ensures known { IfOk result (λ r. Knows table.new (refs_alone r.0.items)) }
     ensures none { IfErr result (λ f. f ≢ PlanFault.Memory → (names : NamesSeen) (starts : List AnyRef)
-        → AreDeclared IsRef forms.now names.refs starts → AreApart names → count_by (λ s. s.tally) starts ≤ 1 → ⊥) }
+        → AreDeclared ref_of forms.now names.refs starts → AreApart names → count_by (λ s. s.tally) starts ≤ 1 → ⊥) }
 {
     let mut names = Vec::new(alloc);
     let mut starts = Vec::new(alloc);
@@ -76,13 +77,13 @@ pub fn atoms(
     forms: &Items,
     table: &mut NameTable,
 ) -> Result<(Vec<Text>, Vec<AtomStart>), PlanFault>
-    requires { length forms.now ≤ 4096 }
-    ensures ok { IfOk result (λ r. AreDeclared IsAtom forms.now r.0.items r.1.items) }
+    requires { length forms.now ≤ most_references }
+    ensures ok { IfOk result (λ r. AreDeclared atom_of forms.now r.0.items r.1.items) }
     ensures known { IfOk result (λ r. (refs : List (List ℕ))
         → Knows table.old (refs_alone refs) → Knows table.new (refs_and_atoms refs r.0.items)) }
     ensures none { IfErr result (λ f. f ≢ PlanFault.Memory → (names : NamesSeen) (starts : List AnyAtom)
         → Knows table.old (refs_alone names.refs)
-        → AreDeclared IsAtom forms.now names.atoms starts → AreApart names → ⊥) }
+        → AreDeclared atom_of forms.now names.atoms starts → AreApart names → ⊥) }
 {
     let mut names = Vec::new(alloc);
     let mut starts = Vec::new(alloc);
@@ -105,14 +106,14 @@ pub fn agents(
     forms: &Items,
     table: &mut NameTable,
 ) -> Result<(Vec<Text>, Vec<AgentStart>), PlanFault>
-    requires { length forms.now ≤ 4096 }
-    ensures ok { IfOk result (λ r. AreDeclared IsAgent forms.now r.0.items r.1.items) }
+    requires { length forms.now ≤ most_references }
+    ensures ok { IfOk result (λ r. AreDeclared agent_of forms.now r.0.items r.1.items) }
     ensures known { IfOk result (λ r. (refs atoms : List (List ℕ))
         → Knows table.old (refs_and_atoms refs atoms)
         → Knows table.new (record { refs = refs; atoms = atoms; agents = r.0.items })) }
     ensures none { IfErr result (λ f. f ≢ PlanFault.Memory → (names : NamesSeen) (starts : List AnyAgent)
         → Knows table.old (refs_and_atoms names.refs names.atoms)
-        → AreDeclared IsAgent forms.now names.agents starts → AreApart names → ⊥) }
+        → AreDeclared agent_of forms.now names.agents starts → AreApart names → ⊥) }
 {
     let mut names = Vec::new(alloc);
     let mut starts = Vec::new(alloc);
@@ -136,9 +137,9 @@ pub fn declarations(
     atom_forms: &Items,
     agent_forms: &Items,
 ) -> Result<(Declared, Start), PlanFault>
-    requires few_refs { length ref_forms.now ≤ 4096 }
-    requires few_atoms { length atom_forms.now ≤ 4096 }
-    requires few_agents { length agent_forms.now ≤ 4096 }
+    requires few_refs { length ref_forms.now ≤ most_references }
+    requires few_atoms { length atom_forms.now ≤ most_references }
+    requires few_agents { length agent_forms.now ≤ most_references }
     ensures ok { IfOk result (λ r. AreReferences ref_forms.now atom_forms.now agent_forms.now r.0
         r.1.refs.items r.1.atoms.items r.1.agents.items) }
     ensures none { IfErr result (λ f. f ≢ PlanFault.Memory

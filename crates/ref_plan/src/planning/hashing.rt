@@ -1,6 +1,6 @@
 //! How names are hashed, so that nobody can choose them by their hashes.
 
-use crate::planning::forms::{symbol_in, vector_in};
+use ref_forms::plain::{elements_in, symbol_in};
 use ref_value::{Items, Text, Value};
 use std::hash::{BuildHasher, DefaultHasher, Hash};
 
@@ -41,5 +41,5 @@ fn take_in(begun: &mut DefaultHasher, forms: &Items) {
 }
 
 fn name_in(form: &Value) -> Option<&Text> {
-    symbol_in(vector_in(form)?.iter().next()?)
+    symbol_in(elements_in(form)?.iter().next()?)
 }

@@ -3,17 +3,24 @@ ghost use Rattle.std.specs.Prelude.{◌≡◌, ℕ, [], List, None, Some, IfOk, 
 ghost use Rattle.std.specs.Bool.{OnFalse, OnTrue};
 ghost use Rattle.std.specs.Cmp.Lexicographic.{pointwise};
 ghost use Rattle.ref_log.specs.declared.notices.Who.{Who as Reference};
-ghost use Rattle.ref_plan.specs.Named.{AreApart, IsNamed};
+ghost use Rattle.ref_forms.specs.Reading.{Reads};
+ghost use Rattle.ref_plan.specs.Limits.{is_shallow};
+ghost use Rattle.ref_plan.specs.Named.{AreApart, IsNamed, who_named, who_of};
 ghost use Rattle.ref_plan.specs.Tables.{Knows, found};
 
 use crate::planning::hashing::NameHashing;
 use indexmap::IndexMap;
+use ref_forms::plain::symbol_in;
+use ref_forms::{Naming, Values, Wrong};
 use ref_log::Who;
 use ref_start::Names;
-use ref_value::Text;
+use ref_value::{Text, Value};
 use std::alloc::{AllocError, Global};
 use std::hash::{Hash, Hasher};
 use std::marker::Model;
+
+/// How deep a value of a workload may be nested.
+pub const MOST_NESTED: u8 = 48;
 
 /// The name of a reference. Contracts see its bytes.
 #[derive(Drop)]
@@ -144,12 +151,23 @@ impl Declared {
         Declared { names, table }
     }
 
-    /// The reference of a name, and None for a name that isn't there.
-    pub fn find(&self, name: &Text) -> Result<Option<Who>, AllocError>
+    // The reference of a name, and None for a name that isn't there.
+    fn find(&self, name: &Text) -> Result<Option<Who>, AllocError>
         ensures named { IfOk result (λ found. IfSome found (λ who. IsNamed self.now who name.now)) }
         ensures only { IfOk result (λ found. (who : Reference) → IsNamed self.now who name.now → found ≡ Some who) }
     {
         self.table.find(name)
+    }
+
+    // The reference of a name.
+    #[tactic(auto, using(crate::proofs::Named::found_is_named))]
+    fn named(&self, name: &Text) -> Result<Who, Wrong>
+        ensures { Reads (who_named self.now name.now) result }
+    {
+        match self.find(name)? {
+            Some(who) => Ok(who),
+            None => Err(Wrong::Name),
+        }
     }
 
     /// The names by number. The table is dropped.
@@ -159,5 +177,25 @@ impl Declared {
     {
         let Declared { names, table: _ } = self;
         names
+    }
+}
+
+// A workload names references by their names alone.
+impl Naming for Declared {
+    ghost named = { who_of };
+
+    fn who_in(&self, form: &Value) -> Result<Who, Wrong> {
+        match symbol_in(form) {
+            Some(name) => self.named(name),
+            None => Err(Wrong::Form),
+        }
+    }
+}
+
+impl Values for Declared {
+    ghost is_value = { is_shallow };
+
+    fn takes(form: &Value) -> bool {
+        form.depth() <= MOST_NESTED
     }
 }

@@ -1,19 +1,14 @@
 //! The operations of a transaction.
-ghost use Rattle.std.specs.List.{AllZip};
-ghost use Rattle.std.specs.Prelude.{◌≡◌, ◌≢◌, ◌≤◌, ℕ, [], List, IfErr, IfOk, length};
-ghost use Rattle.ref_log.specs.declared.notices.Who.TheVariants.{Ref};
-ghost use Rattle.ref_plan.specs.Calls.{IsOn};
-ghost use Rattle.ref_plan.specs.Operations.{IsOp, SaysOp};
-ghost use Rattle.ref_plan.specs.declared.plans.PlannedOp.{PlannedOp as Planned};
+ghost use Rattle.std.specs.Prelude.{◌≡◌, ◌≢◌, None, Some, IfErr, IfOk};
+ghost use Rattle.ref_forms.specs.Reading.{Reads};
+ghost use Rattle.ref_plan.specs.Operations.{op_of, op_said, ops_said};
 
-use crate::planning::calls::{call_on, number_of, rule_on, value_on};
-use crate::planning::forms::{head_in, subject_in};
-use crate::planning::kinds::Kind;
 use crate::planning::names::Declared;
-use crate::planning::words::{OpWord, op_word_of};
-use crate::planning::wrong::Wrong;
 use crate::plans::PlannedOp;
-use ref_log::{Op, Sent};
+use ref_forms::plain::{is_same, tagged_in};
+use ref_forms::references::{call_on, number_alone, requirement_on, value_on};
+use ref_forms::{Kind, Wrong};
+use ref_log::{Op, Sent, SharedVec};
 use ref_value::Value;
 use ref_value::vectors::Iter;
 use std::alloc::Global;
@@ -21,72 +16,46 @@ use std::alloc::Global;
 /// How many operations a transaction may have.
 pub const MOST_OPERATIONS: usize = 256;
 
-// `NAME` alone, for a ref.
-fn ref_alone(declared: &Declared, parts: Iter<'_>) -> Result<u32, Wrong>
-    ensures ok { IfOk result (λ r. IsOn declared.now (Ref r) parts.entry (λ rest. rest ≡ [])) }
-    ensures wrong { IfErr result (λ e. e ≢ Wrong.Memory → (r : ℕ)
-        → IsOn declared.now (Ref r) parts.entry (λ rest. rest ≡ []) → ⊥) }
-{
-    let Some(mut subject) = subject_in(parts) else {
-        return Err(Wrong::Form);
-    };
-    if subject.rest.next().is_some() {
-        return Err(Wrong::Form);
-    }
-    number_of(declared, Kind::Ref, subject.name)
-}
-
 // What stands behind the word of an operation.
-#[tactic(auto, using(crate::proofs::Operations::no_set, crate::proofs::Operations::no_alter, crate::proofs::Operations::no_commute, crate::proofs::Operations::no_ensure, crate::proofs::Operations::no_require, crate::proofs::Operations::no_send))]
 fn operation_of(
     alloc: Global,
     declared: &Declared,
-    word: OpWord,
+    word: &[u8],
     parts: Iter<'_>,
 ) -> Result<PlannedOp, Wrong>
-    ensures ok { IfOk result (λ op. SaysOp declared.now word parts.entry op) }
-    ensures wrong { IfErr result (λ e. e ≢ Wrong.Memory → (op : Planned) → SaysOp declared.now word parts.entry op → ⊥) }
+    ensures { Reads (op_said declared.now word.now parts.entry) result }
 {
-    match word {
-        OpWord::Set => match value_on(declared, Kind::Ref, parts) {
-            Ok((r, value)) => Ok(PlannedOp::On(r, Op::Set(value))),
-            Err(wrong) => Err(wrong),
-        },
-        OpWord::Alter => match call_on(alloc, declared, Kind::Ref, parts) {
-            Ok((r, action)) => Ok(PlannedOp::On(r, Op::Alter(action.code, action.args))),
-            Err(wrong) => Err(wrong),
-        },
-        OpWord::Commute => match call_on(alloc, declared, Kind::Ref, parts) {
-            Ok((r, action)) => Ok(PlannedOp::On(r, Op::Commute(action.code, action.args))),
-            Err(wrong) => Err(wrong),
-        },
-        OpWord::Ensure => match ref_alone(declared, parts) {
-            Ok(r) => Ok(PlannedOp::On(r, Op::Ensure)),
-            Err(wrong) => Err(wrong),
-        },
-        OpWord::Require => match rule_on(alloc, declared, parts) {
-            Ok((r, rule)) => Ok(PlannedOp::Require(r, rule)),
-            Err(wrong) => Err(wrong),
-        },
-        OpWord::Send => match call_on(alloc, declared, Kind::Agent, parts) {
-            Ok((agent, action)) => Ok(PlannedOp::Send(Sent { agent, action })),
-            Err(wrong) => Err(wrong),
-        },
+    if is_same(word, b"set") {
+        let (r, value) = value_on(declared, Kind::Ref, parts)?;
+        Ok(PlannedOp::On(r, Op::Set(value)))
+    } else if is_same(word, b"alter") {
+        let (r, action) = call_on(alloc, declared, Kind::Ref, parts)?;
+        Ok(PlannedOp::On(r, Op::Alter(action.code, action.args)))
+    } else if is_same(word, b"commute") {
+        let (r, action) = call_on(alloc, declared, Kind::Ref, parts)?;
+        Ok(PlannedOp::On(r, Op::Commute(action.code, action.args)))
+    } else if is_same(word, b"ensure") {
+        let r = number_alone(declared, Kind::Ref, parts)?;
+        Ok(PlannedOp::On(r, Op::Ensure))
+    } else if is_same(word, b"require") {
+        let (r, rule) = requirement_on(alloc, declared, parts)?;
+        Ok(PlannedOp::Require(r, rule))
+    } else if is_same(word, b"send") {
+        let (agent, action) = call_on(alloc, declared, Kind::Agent, parts)?;
+        Ok(PlannedOp::Send(Sent { agent, action }))
+    } else {
+        Err(Wrong::Form)
     }
 }
 
 /// `[WORD NAME REST ..]`.
 fn operation(alloc: Global, declared: &Declared, form: &Value) -> Result<PlannedOp, Wrong>
-    ensures ok { IfOk result (λ op. IsOp declared.now form.now op) }
-    ensures wrong { IfErr result (λ e. e ≢ Wrong.Memory → (op : Planned) → IsOp declared.now form.now op → ⊥) }
+    ensures { Reads (op_of declared.now form.now) result }
 {
-    let Some(head) = head_in(form) else {
-        return Err(Wrong::Form);
-    };
-    let Some(word) = op_word_of(head.word.as_bytes()) else {
-        return Err(Wrong::Form);
-    };
-    operation_of(alloc, declared, word, head.parts)
+    match tagged_in(form) {
+        Some((word, parts)) => operation_of(alloc, declared, word.as_bytes(), parts),
+        None => Err(Wrong::Form),
+    }
 }
 
 // A wrong name counts more than a wrong function.
@@ -100,17 +69,10 @@ fn worse(worst: Option<Wrong>, wrong: Wrong) -> Wrong
     }
 }
 
-/// The operations that these forms say, at most 256. A wrong form of any of them comes first, then a wrong name, then a wrong function.
-#[tactic(auto, using(crate::proofs::Turns::known_more))]
-pub fn operations(
-    alloc: Global,
-    declared: &Declared,
-    forms: Iter<'_>,
-) -> Result<Vec<PlannedOp>, Wrong>
-    ensures few { IfOk result (λ ops. length forms.entry ≤ 256) }
-    ensures ok { IfOk result (λ ops. AllZip (IsOp declared.now) forms.entry ops.items) }
-    ensures wrong { IfErr result (λ e. e ≢ Wrong.Memory → (ops : List Planned)
-        → length forms.entry ≤ 256 → AllZip (IsOp declared.now) forms.entry ops → ⊥) }
+#[tactic(auto, using(crate::proofs::Operations::known_more))]
+fn list_of(alloc: Global, declared: &Declared, forms: Iter<'_>) -> Result<Vec<PlannedOp>, Wrong>
+    ensures ok { IfOk result (λ ops. ops_said declared.now forms.entry ≡ Some ops.items) }
+    ensures wrong { IfErr result (λ w. w ≢ Wrong.Memory → ops_said declared.now forms.entry ≡ None) }
 {
     let mut ops = Vec::new(alloc);
     let mut worst = None;
@@ -134,4 +96,16 @@ pub fn operations(
         }
         Some(wrong) => Err(wrong),
     }
+}
+
+/// The operations that these forms say, at most 256. A wrong form of any of them comes first, then a wrong name, then a wrong function.
+pub fn operations(
+    alloc: Global,
+    declared: &Declared,
+    forms: Iter<'_>,
+) -> Result<SharedVec<PlannedOp>, Wrong>
+    ensures { Reads (ops_said declared.now forms.entry) result }
+{
+    let ops = list_of(alloc, declared, forms)?;
+    Ok(SharedVec::of(alloc, ops)?)
 }

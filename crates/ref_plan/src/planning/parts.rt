@@ -2,17 +2,19 @@
 ghost use Rattle.std.specs.Bool.{OnFalse, OnTrue};
 ghost use Rattle.std.specs.List.{list_all};
 ghost use Rattle.std.specs.Option.{option_copied};
-ghost use Rattle.std.specs.Prelude.{◌≡◌, ◌≢◌, ℕ, ℤ, List, IfErr, IfOk, IfNone, IfSome, OnErr, Some, [], length, pos, true};
-ghost use Rattle.ref_value.specs.Edn.{Edn, int};
-ghost use Rattle.ref_plan.specs.Kinds.{is_short_vector, is_vector};
-ghost use Rattle.ref_plan.specs.Workload.{AreFew, HasParts, HasVectors, IsPool, IsPoolSize, IsVectorPart, elements, is_known, part as part_of};
-ghost use Rattle.ref_plan.specs.Words.{pool_word, version_word};
+ghost use Rattle.std.specs.Prelude.{◌≡◌, ◌≢◌, ◌≤◌, ℕ, ℤ, IfErr, IfOk, IfNone, IfSome, None, OnErr, Some, length, true};
+ghost use Rattle.ref_value.specs.Edn.{int};
+ghost use Rattle.ref_forms.specs.Plain.{elements, forms_under, under};
+ghost use Rattle.ref_plan.specs.Limits.{most_references, most_workers};
+ghost use Rattle.ref_plan.specs.Words.{agents_word, atoms_word, pool_word, refs_word, version_word, workers_word};
+ghost use Rattle.ref_plan.specs.Workload.{HasParts, HasVectors, is_short_vector, is_vector, pool_in_range, pool_said};
 
 use crate::plan_faults::PlanFault;
 use crate::planning::declarations::MOST_REFERENCES;
-use crate::planning::forms::{int_in, is_word, vector_in};
 use crate::planning::steps::MOST_STEPS;
-use ref_value::{Entries, Items, Value};
+use ref_forms::maps::{are_known, count, under, vector_under};
+use ref_forms::plain::{elements_in, elements_up_to};
+use ref_value::{Entries, Items, Node, Value};
 
 /// How many workers a workload may have.
 pub const MOST_WORKERS: usize = 64;
@@ -22,6 +24,8 @@ pub const MOST_POOL: i64 = 16;
 
 // Where none is asked for.
 const POOL: i64 = 2;
+
+const WORDS: [&str; 6] = ["version", "refs", "atoms", "agents", "workers", "pool"];
 
 /// The forms in a workload's vectors, where they aren't left out, and the number of threads for actions.
 #[derive(Drop)]
@@ -33,77 +37,32 @@ pub struct Parts<'a> {
     pub pool: u32,
 }
 
-/// What stands under a keyword.
-#[tactic(auto, using(crate::proofs::Parts::part_at))]
-pub fn part<'a>(entries: &'a Entries, word: &[u8]) -> Option<&'a Value>
-    ensures { option_copied result ≡ part_of word.now entries.now }
-{
-    for i in 0..entries.len() {
-        let (key, value) = entries.at(i);
-        if is_word(key, word) {
-            return Some(value);
-        }
-    }
-    None
-}
-
-fn is_known(key: &Value) -> bool
-    ensures { result ≡ is_known key.now }
-{
-    is_word(key, b"version")
-        || is_word(key, b"refs")
-        || is_word(key, b"atoms")
-        || is_word(key, b"agents")
-        || is_word(key, b"workers")
-        || is_word(key, b"pool")
-}
-
-#[tactic(auto, using(crate::proofs::Parts::known_at))]
-fn are_known(entries: &Entries) -> bool
-    ensures { result ≡ list_all (λ e. is_known e.0) entries.now }
-{
-    for i in 0..entries.len() {
-        let (key, _) = entries.at(i);
-        if !is_known(key) {
-            return false;
-        }
-    }
-    true
-}
-
-/// The elements of a part that is a vector, or is left out.
-pub fn vector_part<'a>(entries: &'a Entries, word: &[u8]) -> Option<Option<&'a Items>>
-    ensures some { IfSome result (λ xs. IsVectorPart (part_of word.now entries.now) (elements (option_copied xs))) }
-    ensures none { IfNone result ((xs : List Edn) → IsVectorPart (part_of word.now entries.now) xs → ⊥) }
-{
-    match part(entries, word) {
-        None => Some(None),
-        Some(value) => Some(Some(vector_in(value)?)),
-    }
-}
-
 /// The version, where it is an integer.
 pub fn version_of(entries: &Entries) -> Option<i64>
-    ensures some { IfSome result (λ n. part_of version_word entries.now ≡ Some (int n)) }
-    ensures none { IfNone result ((n : ℤ) → part_of version_word entries.now ≡ Some (int n) → ⊥) }
+    ensures some { IfSome result (λ n. under entries.now version_word ≡ Some (int n)) }
+    ensures none { IfNone result ((n : ℤ) → under entries.now version_word ≡ Some (int n) → ⊥) }
 {
-    int_in(part(entries, b"version")?)
+    match under(entries, b"version")?.node() {
+        Node::Int(n) => Some(*n),
+        _ => None,
+    }
 }
 
 // How many threads for actions are asked for, in range or not.
 fn pool_of(entries: &Entries) -> Option<i64>
-    ensures some { IfSome result (λ n. IsPool (part_of pool_word entries.now) n) }
-    ensures none { IfNone result ((n : ℤ) → IsPool (part_of pool_word entries.now) n → ⊥) }
+    ensures { result ≡ pool_said (under entries.now pool_word) }
 {
-    match part(entries, b"pool") {
+    match under(entries, b"pool") {
         None => Some(POOL),
-        Some(value) => int_in(value),
+        Some(value) => match value.node() {
+            Node::Int(n) => Some(*n),
+            _ => None,
+        },
     }
 }
 
 fn pool_in_range(n: i64) -> Option<u32>
-    ensures some { IfSome result (λ pool. (n ≡ pos pool) × IsPoolSize pool) }
-    ensures none { IfNone result ((pool : ℕ) → n ≡ pos pool → IsPoolSize pool → ⊥) }
+    ensures { result ≡ pool_in_range n }
 {
     if n < 1 || n > MOST_POOL {
         return None;
@@ -111,32 +70,13 @@ fn pool_in_range(n: i64) -> Option<u32>
     Some(n as u32)
 }
 
-/// How many elements a part has.
-pub fn count(part: Option<&Items>) -> usize
-    ensures { result ≡ length (elements (option_copied part.entry)) }
-{
-    match part {
-        Some(forms) => forms.len(),
-        None => 0,
-    }
-}
-
 // Whether each of these is a vector.
 fn are_vectors(workers: Option<&Items>) -> bool
     ensures { result ≡ list_all is_vector (elements (option_copied workers.entry)) }
 {
     match workers {
-        Some(workers) => workers.iter().all(|worker| vector_in(worker).is_some()),
+        Some(workers) => workers.iter().all(|worker| elements_in(worker).is_some()),
         None => true,
-    }
-}
-
-fn is_short_vector(worker: &Value) -> bool
-    ensures { result ≡ is_short_vector worker.now }
-{
-    match vector_in(worker) {
-        Some(steps) => steps.len() <= MOST_STEPS,
-        None => false,
     }
 }
 
@@ -145,7 +85,9 @@ fn are_short_vectors(workers: Option<&Items>) -> bool
     ensures { result ≡ list_all is_short_vector (elements (option_copied workers.entry)) }
 {
     match workers {
-        Some(workers) => workers.iter().all(|worker| is_short_vector(worker)),
+        Some(workers) => workers
+            .iter()
+            .all(|worker| elements_up_to(worker, MOST_STEPS).is_some()),
         None => true,
     }
 }
@@ -161,27 +103,33 @@ struct Found<'a> {
 }
 
 fn found_in<'a>(entries: &'a Entries) -> Option<Found<'a>>
-    ensures vectors { IfSome result (λ f. HasVectors entries.now (elements (option_copied f.refs))
-        (elements (option_copied f.atoms)) (elements (option_copied f.agents)) (elements (option_copied f.workers))) }
-    ensures pool { IfSome result (λ f. IsPool (part_of pool_word entries.now) f.pool) }
-    ensures none { IfNone result ((refs atoms agents workers : List Edn) (n : ℤ)
-        → HasVectors entries.now refs atoms agents workers → IsPool (part_of pool_word entries.now) n → ⊥) }
+    ensures refs { IfSome result (λ f. elements (option_copied f.refs) ≡ forms_under entries.now refs_word) }
+    ensures atoms { IfSome result (λ f. elements (option_copied f.atoms) ≡ forms_under entries.now atoms_word) }
+    ensures agents { IfSome result (λ f. elements (option_copied f.agents) ≡ forms_under entries.now agents_word) }
+    ensures workers { IfSome result (λ f. elements (option_copied f.workers) ≡ forms_under entries.now workers_word) }
+    ensures vectors { IfSome result (λ _. HasVectors entries.now) }
+    ensures pool { IfSome result (λ f. pool_said (under entries.now pool_word) ≡ Some f.pool) }
+    ensures none { IfNone result ((n : ℤ) → HasVectors entries.now → pool_said (under entries.now pool_word) ≡ Some n → ⊥) }
 {
     Some(Found {
-        refs: vector_part(entries, b"refs")?,
-        atoms: vector_part(entries, b"atoms")?,
-        agents: vector_part(entries, b"agents")?,
-        workers: vector_part(entries, b"workers")?,
+        refs: vector_under(entries, b"refs")?,
+        atoms: vector_under(entries, b"atoms")?,
+        agents: vector_under(entries, b"agents")?,
+        workers: vector_under(entries, b"workers")?,
         pool: pool_of(entries)?,
     })
 }
 
 // Whether there are no more references of a kind and no more workers than may be.
 fn are_few(found: &Found<'_>) -> bool
-    ensures yes { OnTrue result (AreFew (elements (option_copied found.now.refs)) (elements (option_copied found.now.atoms))
-        (elements (option_copied found.now.agents)) (elements (option_copied found.now.workers))) }
-    ensures no { OnFalse result (AreFew (elements (option_copied found.now.refs)) (elements (option_copied found.now.atoms))
-        (elements (option_copied found.now.agents)) (elements (option_copied found.now.workers)) → ⊥) }
+    ensures refs { OnTrue result (length (elements (option_copied found.now.refs)) ≤ most_references) }
+    ensures atoms { OnTrue result (length (elements (option_copied found.now.atoms)) ≤ most_references) }
+    ensures agents { OnTrue result (length (elements (option_copied found.now.agents)) ≤ most_references) }
+    ensures workers { OnTrue result (length (elements (option_copied found.now.workers)) ≤ most_workers) }
+    ensures no { OnFalse result (length (elements (option_copied found.now.refs)) ≤ most_references
+        → length (elements (option_copied found.now.atoms)) ≤ most_references
+        → length (elements (option_copied found.now.agents)) ≤ most_references
+        → length (elements (option_copied found.now.workers)) ≤ most_workers → ⊥) }
 {
     count(found.refs) <= MOST_REFERENCES
         && count(found.atoms) <= MOST_REFERENCES
@@ -190,13 +138,15 @@ fn are_few(found: &Found<'_>) -> bool
 }
 
 /// The parts of a workload's map, where its entries are those of one. It takes no memory.
+#[tactic(auto, using(crate::proofs::Parts::are_vectors))]
 pub fn parts_of<'a>(entries: &'a Entries) -> Result<Parts<'a>, PlanFault>
-    ensures ok { IfOk result (λ p. HasParts entries.now (elements (option_copied p.refs)) (elements (option_copied p.atoms))
-        (elements (option_copied p.agents)) (elements (option_copied p.workers)) p.pool) }
-    ensures short { IfOk result (λ p. list_all is_short_vector (elements (option_copied p.workers)) ≡ true) }
+    ensures refs { IfOk result (λ p. elements (option_copied p.refs) ≡ forms_under entries.now refs_word) }
+    ensures atoms { IfOk result (λ p. elements (option_copied p.atoms) ≡ forms_under entries.now atoms_word) }
+    ensures agents { IfOk result (λ p. elements (option_copied p.agents) ≡ forms_under entries.now agents_word) }
+    ensures workers { IfOk result (λ p. elements (option_copied p.workers) ≡ forms_under entries.now workers_word) }
+    ensures ok { IfOk result (λ p. HasParts entries.now p.pool) }
     ensures told { IfErr result (λ f. f ≢ PlanFault.Memory) }
-    ensures none { OnErr result ((refs atoms agents workers : List Edn) (pool : ℕ)
-        → HasParts entries.now refs atoms agents workers pool → list_all is_short_vector workers ≡ true → ⊥) }
+    ensures none { OnErr result ((pool : ℕ) → HasParts entries.now pool → ⊥) }
 {
     let Some(found) = found_in(entries) else {
         return Err(PlanFault::NotWorkload);
@@ -204,7 +154,7 @@ pub fn parts_of<'a>(entries: &'a Entries) -> Result<Parts<'a>, PlanFault>
     let Some(version) = version_of(entries) else {
         return Err(PlanFault::NotWorkload);
     };
-    if !are_known(entries) {
+    if !are_known(entries, &WORDS) {
         return Err(PlanFault::NotWorkload);
     }
     if !are_vectors(found.workers) {
@@ -229,15 +179,4 @@ pub fn parts_of<'a>(entries: &'a Entries) -> Result<Parts<'a>, PlanFault>
         workers: found.workers,
         pool,
     })
-}
-
-/// The forms of a part: none, where it is left out.
-pub fn forms_of<'a>(part: Option<&'a Items>, empty: &'a Items) -> &'a Items
-    requires { empty.now ≡ [] }
-    ensures { result.now ≡ elements (option_copied part.entry) }
-{
-    match part {
-        Some(forms) => forms,
-        None => empty,
-    }
 }

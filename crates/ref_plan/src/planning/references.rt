@@ -1,29 +1,27 @@
 //! The form of a reference, and what it declares in addition to those before it.
-ghost use Rattle.std.specs.Prelude.{◌≡◌, ◌≢◌, ◌∷◌, ℕ, [], Bool, List, Option, None, IfErr, IfNone, IfOk, IfSome, false, option_copied, true};
-ghost use Rattle.ref_agents.specs.declared.agents.ErrorMode.{ErrorMode as AgentMode};
-ghost use Rattle.ref_value.specs.Edn.{Edn};
+ghost use Rattle.std.specs.Prelude.{◌≡◌, ◌≢◌, ◌∷◌, ℕ, [], List, None, Some, IfErr, IfOk, false, option_copied, true};
 ghost use Rattle.ref_fun.specs.Core.{core_accepts};
 ghost use Rattle.ref_fun.specs.Rule.{passes};
-ghost use Rattle.ref_fun.specs.declared.rules.Rule.{Rule as AnyRule};
 ghost use Rattle.ref_log.specs.Tally.{is_count};
 ghost use Rattle.ref_start.specs.declared.starts.AgentStart.{AgentStart as AnyAgent};
 ghost use Rattle.ref_start.specs.declared.starts.AtomStart.{AtomStart as AnyAtom};
 ghost use Rattle.ref_start.specs.declared.starts.RefStart.{RefStart as AnyRef};
-ghost use Rattle.ref_plan.specs.Declarations.{IsAgent, IsAtom, IsMode, IsRef, IsReference, IsRuleOf, tail_of, tally_mark};
+ghost use Rattle.ref_forms.specs.Reading.{Reads};
+ghost use Rattle.ref_plan.specs.Declarations.{agent_of, atom_of, declaration, declaration_of, mode_marked, parts_declare, ref_of, rule_in, tail_said, tally_said};
 ghost use Rattle.ref_plan.specs.Tables.{Adds, found};
 ghost use Rattle.ref_plan.specs.declared.planning.references.Refused.TheVariants.{Memory};
 
-use crate::planning::calls::rule_in;
-use crate::planning::forms::{is_same, is_shallow, keyword_in, symbol_in, vector_in};
-use crate::planning::names::NameTable;
-use crate::planning::words::mode_of;
-use crate::planning::wrong::Wrong;
+use crate::planning::names::{Declared, NameTable};
 use ref_agents::ErrorMode;
+use ref_forms::Wrong;
+use ref_forms::calls::{Values, rule_parts};
+use ref_forms::marks::mode_named;
+use ref_forms::plain::{elements_in, is_same, keyword_in, symbol_in};
 use ref_fun::{Rule, core_test};
 use ref_log::Who;
 use ref_start::{AgentStart, AtomStart, RefStart};
 use ref_value::vectors::Iter;
-use ref_value::{Items, Node, Text, Value};
+use ref_value::{Node, Text, Value};
 use std::alloc::{AllocError, AllocFailed, Global};
 
 /// Why a form declares no reference that can follow those before it.
@@ -62,42 +60,32 @@ fn refused_by(wrong: Wrong) -> Refused
     }
 }
 
-// What stands behind name and value: a rule and a mark, either of which may be left out.
-#[derive(Drop)]
-struct Tail<'a> {
-    rule: Option<&'a Items>,
-    mark: Option<&'a Text>,
+// `[P ARG ..]`.
+fn rule_in(alloc: Global, form: &Value) -> Result<Rule, Wrong>
+    ensures { Reads (rule_in form.now) result }
+{
+    match elements_in(form) {
+        Some(parts) => rule_parts::<Declared>(alloc, parts.iter()),
+        None => Err(Wrong::Form),
+    }
 }
 
-fn tail_in(mut parts: Iter<'_>) -> Option<Tail<'_>>
-    ensures some { IfSome result (λ t. parts.entry ≡ tail_of (option_copied t.rule) (option_copied t.mark)) }
-    ensures none { IfNone result ((rule : Option (List Edn)) (mark : Option (List ℕ))
-        → parts.entry ≡ tail_of rule mark → ⊥) }
+// A rule and a mark, either of which may be left out.
+fn tail_in(alloc: Global, mut parts: Iter<'_>) -> Result<(Option<Rule>, Option<&Text>), Wrong>
+    ensures ok { IfOk result (λ t. tail_said parts.entry ≡ Some (t.0, option_copied t.1)) }
+    ensures wrong { IfErr result (λ w. w ≢ Wrong.Memory → tail_said parts.entry ≡ None) }
 {
-    let (first, second) = (parts.next(), parts.next());
-    if parts.next().is_some() {
-        return None;
-    }
-    match (first, second) {
-        (None, _) => Some(Tail {
-            rule: None,
-            mark: None,
-        }),
-        (Some(x), None) => match x.node() {
-            Node::Vector(rule) => Some(Tail {
-                rule: Some(rule),
-                mark: None,
-            }),
-            Node::Keyword(mark) => Some(Tail {
-                rule: None,
-                mark: Some(mark),
-            }),
-            _ => None,
+    match (parts.next(), parts.next(), parts.next()) {
+        (None, _, _) => Ok((None, None)),
+        (Some(x), None, _) => match x.node() {
+            Node::Keyword(mark) => Ok((None, Some(mark))),
+            _ => Ok((Some(rule_in(alloc, x)?), None)),
         },
-        (Some(rule), Some(mark)) => Some(Tail {
-            rule: Some(vector_in(rule)?),
-            mark: Some(keyword_in(mark)?),
-        }),
+        (Some(rule), Some(mark), None) => match keyword_in(mark) {
+            Some(mark) => Ok((Some(rule_in(alloc, rule)?), Some(mark))),
+            None => Err(Wrong::Form),
+        },
+        _ => Err(Wrong::Form),
     }
 }
 
@@ -110,50 +98,35 @@ struct Reference<'a> {
     mark: Option<&'a Text>,
 }
 
-fn rule_of(alloc: Global, parts: Option<&Items>) -> Result<Option<Rule>, Wrong>
-    ensures ok { IfOk result (λ rule. IsRuleOf (option_copied parts.entry) rule) }
-    ensures wrong { IfErr result (λ e. e ≢ Wrong.Memory → (rule : Option AnyRule)
-        → IsRuleOf (option_copied parts.entry) rule → ⊥) }
+fn parts_in(alloc: Global, mut parts: Iter<'_>) -> Result<Reference<'_>, Wrong>
+    ensures ok { IfOk result (λ r. parts_declare parts.entry ≡ Some (declaration r.name.now r.value r.rule (option_copied r.mark))) }
+    ensures wrong { IfErr result (λ w. w ≢ Wrong.Memory → parts_declare parts.entry ≡ None) }
 {
-    match parts {
-        None => Ok(None),
-        Some(parts) => match rule_in(alloc, parts.iter()) {
-            Ok(rule) => Ok(Some(rule)),
-            Err(wrong) => Err(wrong),
-        },
-    }
-}
-
-fn reference_in(alloc: Global, form: &Value) -> Result<Reference<'_>, Wrong>
-    ensures ok { IfOk result (λ r. IsReference form.now r.name.now r.value r.rule (option_copied r.mark)) }
-    ensures wrong { IfErr result (λ e. e ≢ Wrong.Memory
-        → (name : List ℕ) (value : Edn) (rule : Option AnyRule) (mark : Option (List ℕ))
-        → IsReference form.now name value rule mark → ⊥) }
-{
-    let Some(items) = vector_in(form) else {
-        return Err(Wrong::Form);
-    };
-    let mut parts = items.iter();
     let (Some(name), Some(value)) = (parts.next(), parts.next()) else {
         return Err(Wrong::Form);
     };
     let Some(name) = symbol_in(name) else {
         return Err(Wrong::Form);
     };
-    let Some(tail) = tail_in(parts) else {
-        return Err(Wrong::Form);
-    };
-    if !is_shallow(value) {
+    if !Declared::takes(value) {
         return Err(Wrong::Form);
     }
-    match rule_of(alloc, tail.rule) {
-        Ok(rule) => Ok(Reference {
-            name,
-            value: value.share()?,
-            rule,
-            mark: tail.mark,
-        }),
-        Err(wrong) => Err(wrong),
+    let (rule, mark) = tail_in(alloc, parts)?;
+    Ok(Reference {
+        name,
+        value: value.share()?,
+        rule,
+        mark,
+    })
+}
+
+fn reference_in(alloc: Global, form: &Value) -> Result<Reference<'_>, Wrong>
+    ensures ok { IfOk result (λ r. declaration_of form.now ≡ Some (declaration r.name.now r.value r.rule (option_copied r.mark))) }
+    ensures wrong { IfErr result (λ w. w ≢ Wrong.Memory → declaration_of form.now ≡ None) }
+{
+    match elements_in(form) {
+        Some(parts) => parts_in(alloc, parts.iter()),
+        None => Err(Wrong::Form),
     }
 }
 
@@ -178,9 +151,8 @@ fn is_count(value: &Value) -> bool
 }
 
 // Whether the mark of a ref says that it is the tally.
-fn tally_of(mark: Option<&Text>) -> Option<bool>
-    ensures some { IfSome result (λ tally. option_copied mark.entry ≡ tally_mark tally) }
-    ensures none { IfNone result ((tally : Bool) → option_copied mark.entry ≡ tally_mark tally → ⊥) }
+fn tally_in(mark: Option<&Text>) -> Option<bool>
+    ensures { result ≡ tally_said (option_copied mark.entry) }
 {
     match mark {
         None => Some(false),
@@ -197,17 +169,17 @@ pub fn ref_in(
     table: &mut NameTable,
     has_tally: bool,
 ) -> Result<(Text, RefStart), Refused>
-    ensures ok { IfOk result (λ r. IsRef form.now r.0 r.1) }
+    ensures ok { IfOk result (λ r. ref_of form.now ≡ Some (r.0, r.1)) }
     ensures one_tally { IfOk result (λ r. has_tally ≡ true → r.1.tally ≡ false) }
     ensures adds { IfOk result (λ r. Adds table.old r.0 who table.new) }
     ensures refused { IfErr result (λ e. e ≢ Refused.Memory → (name : List ℕ) (start : AnyRef)
-        → IsRef form.now name start → found table.old name ≡ None → (has_tally ≡ true → start.tally ≡ false) → ⊥) }
+        → ref_of form.now ≡ Some (name, start) → found table.old name ≡ None → (has_tally ≡ true → start.tally ≡ false) → ⊥) }
 {
     let reference = match reference_in(alloc, form) {
         Ok(reference) => reference,
         Err(wrong) => return Err(refused_by(wrong)),
     };
-    let Some(tally) = tally_of(reference.mark) else {
+    let Some(tally) = tally_in(reference.mark) else {
         return Err(Refused::Form);
     };
     if !table.add(reference.name, who)? {
@@ -236,10 +208,10 @@ pub fn atom_in(
     who: Who,
     table: &mut NameTable,
 ) -> Result<(Text, AtomStart), Refused>
-    ensures ok { IfOk result (λ r. IsAtom form.now r.0 r.1) }
+    ensures ok { IfOk result (λ r. atom_of form.now ≡ Some (r.0, r.1)) }
     ensures adds { IfOk result (λ r. Adds table.old r.0 who table.new) }
     ensures refused { IfErr result (λ e. e ≢ Refused.Memory → (name : List ℕ) (start : AnyAtom)
-        → IsAtom form.now name start → found table.old name ≡ None → ⊥) }
+        → atom_of form.now ≡ Some (name, start) → found table.old name ≡ None → ⊥) }
 {
     let reference = match reference_in(alloc, form) {
         Ok(reference) => reference,
@@ -265,12 +237,11 @@ pub fn atom_in(
 
 // The error mode that the mark of an agent says.
 fn mode_marked(mark: Option<&Text>) -> Option<ErrorMode>
-    ensures some { IfSome result (λ mode. IsMode (option_copied mark.entry) mode) }
-    ensures none { IfNone result ((mode : AgentMode) → IsMode (option_copied mark.entry) mode → ⊥) }
+    ensures { result ≡ mode_marked (option_copied mark.entry) }
 {
     match mark {
         None => Some(ErrorMode::Fail),
-        Some(word) => mode_of(word.as_bytes()),
+        Some(word) => mode_named(word.as_bytes()),
     }
 }
 
@@ -281,10 +252,10 @@ pub fn agent_in(
     who: Who,
     table: &mut NameTable,
 ) -> Result<(Text, AgentStart), Refused>
-    ensures ok { IfOk result (λ r. IsAgent form.now r.0 r.1) }
+    ensures ok { IfOk result (λ r. agent_of form.now ≡ Some (r.0, r.1)) }
     ensures adds { IfOk result (λ r. Adds table.old r.0 who table.new) }
     ensures refused { IfErr result (λ e. e ≢ Refused.Memory → (name : List ℕ) (start : AnyAgent)
-        → IsAgent form.now name start → found table.old name ≡ None → ⊥) }
+        → agent_of form.now ≡ Some (name, start) → found table.old name ≡ None → ⊥) }
 {
     let reference = match reference_in(alloc, form) {
         Ok(reference) => reference,

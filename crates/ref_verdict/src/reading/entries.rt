@@ -1,28 +1,29 @@
 //! Entries and what they are made of.
 ghost use Rattle.std.specs.Prelude.{◌≡◌, ◌≢◌, ◌∷◌, [], None, Some, Ok, IfErr, IfOk, IfNone, IfSome};
-ghost use Rattle.ref_verdict.specs.DumpForm.{alter_said, call_said, commute_said, done_of, done_said, ensure_said, entries_from, entry_of, entry_said, made_atom_said, made_ref_said, reset_said, sent_of, sent_said, set_said, stamp_of, swap_said, tagged_of, tx_said};
-ghost use Rattle.ref_verdict.specs.Reading.{Reads, Told};
+ghost use Rattle.ref_forms.specs.Reading.{Reads};
+ghost use Rattle.ref_verdict.specs.DumpForm.{alter_said, call_said, commute_said, done_of, done_said, ensure_said, entries_from, entry_of, entry_said, made_atom_said, made_ref_said, reference_of, reset_said, sent_of, sent_said, set_said, stamp_of, swap_said, tx_said};
+ghost use Rattle.ref_verdict.specs.Reading.{Told};
 
-use crate::reading::actions::action_in;
 use crate::reading::lists::{FromForm, list_in};
-use crate::reading::plain::{
-    elements_in, is_same, keyword_in, number_in, reference_in, stamp_number_in,
-};
-use crate::reading::wrongs::Wrong;
+use ref_forms::Wrong;
+use ref_forms::calls::action_in;
+use ref_forms::plain::{elements_in, is_same, number_in, stamp_number_in, tagged_in};
 use ref_fun::Action;
 use ref_log::{Done, Entry, Op, Sent, Stamp, Transaction};
+use ref_value::Value;
 use ref_value::vectors::Iter;
-use ref_value::{Text, Value};
 use std::alloc::Global;
 
-/// The keyword that a form begins with, and what follows it.
-fn tagged_in(form: &Value) -> Option<(&Text, Iter<'_>)>
-    ensures some { IfSome result (λ t. tagged_of form.now ≡ Some (t.0.now, t.1)) }
-    ensures none { IfNone result (tagged_of form.now ≡ None) }
+/// The number of a reference. Those past the greatest `u32` are taken as that: no reference has one of them.
+pub fn reference_in(form: &Value) -> Option<u32>
+    ensures { result ≡ reference_of form.now }
 {
-    let mut parts = elements_in(form)?.iter();
-    let tag = keyword_in(parts.next()?)?;
-    Some((tag, parts))
+    let n = number_in(form)?;
+    if n < 4_294_967_295 {
+        Some(n as u32)
+    } else {
+        Some(u32::MAX)
+    }
 }
 
 // `R V ANSWER`

@@ -1,12 +1,12 @@
 //! Lists of forms.
-ghost use Rattle.std.specs.Prelude.{◌≡◌, ◌≤◌, length, Option, None, Some, IfErr, IfOk, IfNone, IfSome};
+ghost use Rattle.std.specs.Prelude.{◌≡◌, ◌≢◌, Option, None, Some, IfErr, IfOk};
 ghost use Rattle.ref_value.specs.Edn.{Edn};
-ghost use Rattle.ref_verdict.specs.DumpForm.{all_said, elements_within, list_said, values_said};
-ghost use Rattle.ref_verdict.specs.Reading.{Reads};
-ghost use Rattle.ref_verdict.specs.declared.reading.wrongs.Wrong.TheVariants.{Form};
+ghost use Rattle.ref_forms.specs.Plain.{all_said, list_said};
+ghost use Rattle.ref_forms.specs.Reading.{Reads};
+ghost use Rattle.ref_verdict.specs.DumpForm.{values_said};
 
-use crate::reading::plain::elements_in;
-use crate::reading::wrongs::Wrong;
+use ref_forms::Wrong;
+use ref_forms::plain::{elements_in, elements_up_to};
 use ref_log::SharedVec;
 use ref_value::{Items, Value};
 use std::alloc::Global;
@@ -32,10 +32,10 @@ impl FromForm for Value {
 }
 
 // What each of these forms says.
-#[tactic(auto, using(crate::proofs::Lists::in_front_and_said))]
+#[tactic(auto, using(ref_forms::specs::Laws::in_front_and_said))]
 fn all_in<T: FromForm>(alloc: Global, forms: &Items) -> Result<Vec<T>, Wrong>
     ensures ok { IfOk result (λ all. all_said T.said forms.now ≡ Some all.items) }
-    ensures wrong { IfErr result (λ w. w ≡ Form → all_said T.said forms.now ≡ None) }
+    ensures wrong { IfErr result (λ w. w ≢ Wrong.Memory → all_said T.said forms.now ≡ None) }
 {
     let mut all = Vec::with_capacity(alloc, forms.len())?;
     for form in forms {
@@ -60,19 +60,6 @@ pub(crate) fn list_in<T: FromForm>(alloc: Global, form: &Value) -> Result<Shared
         Some(forms) => shared_in(alloc, forms),
         None => Err(Wrong::Form),
     }
-}
-
-/// A vector of at most so many elements.
-pub(crate) fn elements_up_to(form: &Value, most: usize) -> Option<&Items>
-    ensures some { IfSome result (λ xs. elements_within most form.now ≡ Some xs.now) }
-    ensures limit { IfSome result (λ xs. length xs.now ≤ most) }
-    ensures none { IfNone result (elements_within most form.now ≡ None) }
-{
-    let items = elements_in(form)?;
-    if items.len() > most {
-        return None;
-    }
-    Some(items)
 }
 
 /// What the forms of the references of a kind say.

@@ -1,19 +1,21 @@
 //! The parts of a dump's map.
 ghost use Rattle.std.specs.Prelude.{◌≡◌, ◌<◌, ◌≤◌, ◌^◌, length, map, None, Some, Ok, Err, IfErr, IfOk, is_some, option_copied};
-ghost use Rattle.std.specs.List.{list_all, list_any};
+ghost use Rattle.std.specs.List.{list_all};
 ghost use Rattle.ref_value.specs.Edn.{Edn};
-ghost use Rattle.ref_verdict.specs.DumpForm.{elements_of, elements_within, entries_from, folded_of, folded_said, has_keys, is_key, is_version, is_word, key_word, list_said, misfit, number_of, part_said, reference_of, tally_of, under, values_said};
+ghost use Rattle.ref_forms.specs.Plain.{elements_of, elements_within, list_said, number_of, under};
+ghost use Rattle.ref_verdict.specs.DumpForm.{entries_from, folded_of, folded_said, has_keys, is_version, key_word, misfit, part_said, reference_of, tally_of, values_said};
 ghost use Rattle.ref_verdict.specs.Early.{is_said, parts_fault};
-ghost use Rattle.ref_verdict.specs.Reading.{Told};
+ghost use Rattle.ref_verdict.specs.Reading.{Told, fault_at};
 ghost use Rattle.ref_verdict.specs.Words.{all_keys};
 ghost use Rattle.ref_verdict.specs.declared.reading.faults.DumpFault.TheVariants.{BadPart};
 ghost use Rattle.ref_verdict.specs.declared.reading.faults.Key.TheVariants as keys;
 
-use crate::reading::entries::entry_in;
+use crate::reading::entries::{entry_in, reference_in};
 use crate::reading::faults::{DumpFault, Key};
-use crate::reading::lists::{FromForm, elements_up_to, list_in, values_in};
-use crate::reading::plain::{elements_in, is_word, number_in, reference_in};
-use crate::reading::wrongs::Wrong;
+use crate::reading::lists::{FromForm, list_in, values_in};
+use ref_forms::Wrong;
+use ref_forms::maps::{are_known, under};
+use ref_forms::plain::{elements_in, elements_up_to, number_in};
 use ref_log::{Entry, SharedVec};
 use ref_pvec::PVec;
 use ref_value::{Entries, Items, Node, Value};
@@ -37,41 +39,6 @@ const KEYS: [&str; 12] = [
     "tally",
 ];
 
-// What stands under a key.
-fn under<'a>(entries: &'a Entries, word: &[u8]) -> Option<&'a Value>
-    ensures { option_copied result ≡ under entries.now word.now }
-{
-    for (key, value) in entries {
-        if is_word(key, word) {
-            return Some(value);
-        }
-    }
-    None
-}
-
-fn is_one_of(key: &Value, words: &[&str]) -> bool
-    ensures { result ≡ list_any (λ word. is_word word key.now) (map (λ w. w.now) words.now) }
-{
-    for word in words {
-        if is_word(key, word.as_bytes()) {
-            return true;
-        }
-    }
-    false
-}
-
-fn are_known(entries: &Entries, words: &[&str]) -> bool
-    ensures { result ≡ list_all
-        (λ e. list_any (λ word. is_word word e.0) (map (λ w. w.now) words.now)) entries.now }
-{
-    for (key, _) in entries {
-        if !is_one_of(key, words) {
-            return false;
-        }
-    }
-    true
-}
-
 fn are_there(entries: &Entries, words: &[&str]) -> bool
     ensures { result ≡ list_all (λ word. is_some (under entries.now word)) (map (λ w. w.now) words.now) }
 {
@@ -83,6 +50,7 @@ fn are_there(entries: &Entries, words: &[&str]) -> bool
     true
 }
 
+#[tactic(auto, unfolding(crate::specs::DumpForm::has_keys))]
 fn has_keys(entries: &Entries) -> bool
     ensures { result ≡ has_keys entries.now }
 {
@@ -151,6 +119,16 @@ pub(crate) fn parts_fault(entries: &Entries) -> Option<DumpFault>
     None
 }
 
+// The fault where the part under a key isn't read.
+fn fault_at(key: Key, wrong: Wrong) -> DumpFault
+    ensures { result ≡ fault_at key wrong }
+{
+    match wrong {
+        Wrong::Memory => DumpFault::Memory,
+        _ => DumpFault::BadPart(key),
+    }
+}
+
 /// A part that is an integer of 0 or more.
 pub(crate) fn number_part(entries: &Entries, key: Key) -> Result<u64, DumpFault>
     ensures reads { Told (part_said entries.now key number_of) result }
@@ -176,7 +154,7 @@ pub(crate) fn list_part<T: FromForm>(
     };
     match list_in(alloc, form) {
         Ok(list) => Ok(list),
-        Err(wrong) => Err(wrong.at(key)),
+        Err(wrong) => Err(fault_at(key, wrong)),
     }
 }
 
@@ -193,7 +171,7 @@ pub(crate) fn values_part<T: FromForm>(
     };
     match values_in(alloc, form) {
         Ok(list) => Ok(list),
-        Err(wrong) => Err(wrong.at(key)),
+        Err(wrong) => Err(fault_at(key, wrong)),
     }
 }
 
@@ -268,8 +246,8 @@ pub(crate) fn entries_in(alloc: Global, forms: &Items) -> Result<PVec<Entry>, Du
                 Ok(()) => {}
                 Err(_) => return Err(DumpFault::Memory),
             },
-            Err(Wrong::Form) => return Err(DumpFault::BadEntry(i as u64 + 1)),
             Err(Wrong::Memory) => return Err(DumpFault::Memory),
+            Err(_) => return Err(DumpFault::BadEntry(i as u64 + 1)),
         }
     }
     Ok(entries)

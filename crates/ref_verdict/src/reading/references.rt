@@ -1,14 +1,15 @@
 //! References: their values, rules and accounts.
 ghost use Rattle.std.specs.Prelude.{◌≡◌, None, Some};
-ghost use Rattle.ref_verdict.specs.DumpForm.{agent_of, agent_said, changed_of, handled_of, kept_of, mark_of, mark_said, status_of, status_said};
-ghost use Rattle.ref_verdict.specs.Reading.{Reads};
+ghost use Rattle.ref_verdict.specs.DumpForm.{agent_of, agent_said, changed_of, handled_of, kept_of, mark_of, mark_said, queued_of, status_of, status_said};
+ghost use Rattle.ref_forms.specs.Reading.{Reads};
 
-use crate::reading::actions::{action_in, rule_in};
 use crate::reading::dumps::{Changed, Kept, KeptAgent};
 use crate::reading::lists::{FromForm, list_in};
-use crate::reading::plain::{elements_in, is_same, keyword_in, number_in};
-use crate::reading::wrongs::Wrong;
 use ref_agents::accounts::{Handled, Mark};
+use ref_forms::calls::{action_in, rule_in};
+use ref_forms::plain::{elements_in, is_same, keyword_in, number_in};
+use ref_forms::{AnyValue, Wrong};
+use ref_fun::Action;
 use ref_value::Value;
 use ref_value::vectors::Iter;
 use std::alloc::Global;
@@ -47,7 +48,7 @@ impl FromForm for Kept {
         let (Some(value), Some(rule), None) = (parts.next(), parts.next(), parts.next()) else {
             return Err(Wrong::Form);
         };
-        match rule_in(alloc, rule) {
+        match rule_in::<AnyValue>(alloc, rule) {
             Ok(rule) => Ok(Kept {
                 value: value.share()?,
                 rule,
@@ -104,6 +105,22 @@ impl FromForm for Handled {
     }
 }
 
+// `[F [ARG ..]]`
+impl FromForm for Action {
+    ghost said = { queued_of };
+
+    fn from_form(alloc: Global, form: &Value) -> Result<Action, Wrong> {
+        let Some(forms) = elements_in(form) else {
+            return Err(Wrong::Form);
+        };
+        let mut parts = forms.iter();
+        let (Some(function), Some(args), None) = (parts.next(), parts.next(), parts.next()) else {
+            return Err(Wrong::Form);
+        };
+        action_in(alloc, function, args)
+    }
+}
+
 fn status_named(status: &[u8]) -> Option<bool>
     ensures { result ≡ status_said status.now }
 {
@@ -144,7 +161,7 @@ fn agent_in(alloc: Global, mut parts: Iter<'_>) -> Result<KeptAgent, Wrong>
     match (
         list_in(alloc, handled),
         list_in(alloc, queue),
-        rule_in(alloc, rule),
+        rule_in::<AnyValue>(alloc, rule),
     ) {
         (Ok(handled), Ok(queue), Ok(rule)) => Ok(KeptAgent {
             start: start.share()?,

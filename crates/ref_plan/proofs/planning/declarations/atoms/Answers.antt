@@ -1,5 +1,5 @@
 use Rattle.std.proofs.Common.{◌<◌, length}
-use Rattle.ref_plan.specs.Declarations.{IsAtom}
+use Rattle.ref_plan.specs.Declarations.{atom_of}
 use Rattle.ref_plan.proofs.Collected.{collects_end}
 use Rattle.ref_plan.proofs.Loops.{atoms_fail, atoms_more}
 use Rattle.ref_plan.proofs.planning.declarations.atoms.Goals as goal
@@ -16,4 +16,4 @@ loop-i-preserved c =
     rw (c.in_ok-push-in-Ok.ensures.items, c.in_ok-push-in-Ok-2.ensures.items) more
 
 pub returns-clause-ok : goal.returns-clause-ok
-returns-clause-ok c = collects_end IsAtom _ _ _ _ c.loop-i.invariant.collects (rw (← c.len-i-end.ensures) c.loop-i-test.false)
+returns-clause-ok c = collects_end atom_of _ _ _ _ c.loop-i.invariant.collects (rw (← c.len-i-end.ensures) c.loop-i-test.false)

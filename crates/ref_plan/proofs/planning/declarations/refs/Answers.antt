@@ -1,5 +1,5 @@
 use Rattle.std.proofs.Common.{◌<◌, length}
-use Rattle.ref_plan.specs.Declarations.{IsRef}
+use Rattle.ref_plan.specs.Declarations.{ref_of}
 use Rattle.ref_plan.proofs.Collected.{collects_end}
 use Rattle.ref_plan.proofs.Loops.{at_most_one, refs_fail, refs_more}
 use Rattle.ref_plan.proofs.planning.declarations.refs.Goals as goal
@@ -10,7 +10,7 @@ returns-in-Err-clause-none c =
     λ other. refs_fail _ _ _ _ _ _ c.loop-i.invariant _ within c.at.ensures (c.in-Err.ensures.refused (c.plan_fault.ensures other))
 
 pub returns-clause-ok : goal.returns-clause-ok
-returns-clause-ok c = collects_end IsRef _ _ _ _ c.loop-i.invariant.collects (rw (← c.len-i-end.ensures) c.loop-i-test.false)
+returns-clause-ok c = collects_end ref_of _ _ _ _ c.loop-i.invariant.collects (rw (← c.len-i-end.ensures) c.loop-i-test.false)
 
 pub returns-clause-one_tally : goal.returns-clause-one_tally
 returns-clause-one_tally c = at_most_one _ _ c.loop-i.invariant.tally

@@ -1,7 +1,12 @@
-use Rattle.std.proofs.Common.{drop}
-use Rattle.ref_plan.specs.Steps.{IsStep}
-use Rattle.ref_plan.proofs.Turns.{GoesOn}
+use Rattle.std.proofs.Common.{◌≡◌, ◌+◌, length}
+use Rattle.ref_forms.specs.Laws.{in_front}
+use Rattle.ref_forms.specs.Plain.{all_said}
+use Rattle.ref_plan.specs.Steps.{step_of}
 use Rattle.ref_plan.proofs.planning.steps.steps.Given as goal
 
-abbrev pub invariant-loop-i : goal.invariant-loop-i
-invariant-loop-i l = GoesOn (IsStep l.declared) l.forms (drop l.i l.forms) l.steps.items
+-- What was read, with what is left, is what all forms say.
+abbrev pub invariant-loop-form : goal.invariant-loop-form
+invariant-loop-form l = record {
+  all : in_front l.steps.items (all_said (step_of l.declared) l.form-iterator) ≡ all_said (step_of l.declared) l.forms;
+  count : length l.steps.items + length l.form-iterator ≡ length l.forms;
+}

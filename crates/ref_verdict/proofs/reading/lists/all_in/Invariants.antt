@@ -1,6 +1,6 @@
 use Rattle.std.proofs.Common.{◌≡◌}
-use Rattle.ref_verdict.specs.DumpForm.{all_said}
-use Rattle.ref_verdict.proofs.Lists.{in_front}
+use Rattle.ref_forms.specs.Laws.{in_front}
+use Rattle.ref_forms.specs.Plain.{all_said}
 use Rattle.ref_verdict.proofs.reading.lists.all_in.Given as goal
 
 -- What was read, with what is left, is what all forms say.

@@ -1,6 +1,6 @@
 use Rattle.std.proofs.Common.{◌≡◌, drop, map, is_some}
 use Rattle.std.specs.List.{list_all}
-use Rattle.ref_verdict.specs.DumpForm.{under}
+use Rattle.ref_forms.specs.Plain.{under}
 use Rattle.ref_verdict.proofs.reading.parts.are_there.Given as goal
 
 abbrev pub invariant-loop-word : goal.invariant-loop-word

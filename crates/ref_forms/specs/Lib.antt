@@ -1,0 +1,7 @@
+-- To be read and believed: Plain, Calls and References (what forms say). Laws are proved, for a proof about forms. Reading says how a
+-- form is read.
+pub mod Plain
+pub mod Calls
+pub mod References
+pub mod Reading
+pub mod Laws

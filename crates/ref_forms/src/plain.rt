@@ -1,0 +1,104 @@
+//! The plain forms: numbers, keywords, symbols, vectors.
+ghost use Rattle.std.specs.Prelude.{◌≡◌, ◌≤◌, ◌<◌, ◌^◌, None, Some, IfNone, IfSome, length};
+ghost use Rattle.ref_value.specs.Names.{bytes_eq};
+ghost use Rattle.ref_forms.specs.Plain.{elements_of, elements_within, is_word, keyword_of, number_of, stamp_number, symbol_of, tagged_of};
+
+use ref_value::vectors::Iter;
+use ref_value::{Items, Node, Text, Value};
+
+/// An integer of 0 or more.
+pub fn number_in(form: &Value) -> Option<u64>
+    ensures value { result ≡ number_of form.now }
+    ensures limit { IfSome result (λ n. n < 2 ^ 63) }
+{
+    match form.node() {
+        Node::Int(n) if *n >= 0 => Some(*n as u64),
+        _ => None,
+    }
+}
+
+/// The number of a worker, an actor or a step.
+pub fn stamp_number_in(form: &Value) -> Option<u32>
+    ensures { result ≡ stamp_number form.now }
+{
+    let n = number_in(form)?;
+    if n < 4_294_967_296 {
+        Some(n as u32)
+    } else {
+        None
+    }
+}
+
+/// The text of a keyword without its colon, or `None` for another value.
+pub fn keyword_in(form: &Value) -> Option<&Text>
+    ensures some { IfSome result (λ name. keyword_of form.now ≡ Some name.now) }
+    ensures none { IfNone result (keyword_of form.now ≡ None) }
+{
+    match form.node() {
+        Node::Keyword(name) => Some(name),
+        _ => None,
+    }
+}
+
+/// The text of a symbol, or `None` for another value.
+pub fn symbol_in(form: &Value) -> Option<&Text>
+    ensures some { IfSome result (λ name. symbol_of form.now ≡ Some name.now) }
+    ensures none { IfNone result (symbol_of form.now ≡ None) }
+{
+    match form.node() {
+        Node::Symbol(name) => Some(name),
+        _ => None,
+    }
+}
+
+/// The elements of a vector, or `None` for another value.
+#[tactic(auto, using(crate::specs::Laws::elements_of_vector))]
+pub fn elements_in(form: &Value) -> Option<&Items>
+    ensures some { IfSome result (λ xs. elements_of form.now ≡ Some xs.now) }
+    ensures none { IfNone result (elements_of form.now ≡ None) }
+{
+    match form.node() {
+        Node::Vector(items) => Some(items),
+        _ => None,
+    }
+}
+
+/// A vector of at most so many elements.
+pub fn elements_up_to(form: &Value, most: usize) -> Option<&Items>
+    ensures some { IfSome result (λ xs. elements_within most form.now ≡ Some xs.now) }
+    ensures limit { IfSome result (λ xs. length xs.now ≤ most) }
+    ensures none { IfNone result (elements_within most form.now ≡ None) }
+{
+    let items = elements_in(form)?;
+    if items.len() > most {
+        return None;
+    }
+    Some(items)
+}
+
+/// The keyword that a vector begins with, and what follows it.
+pub fn tagged_in(form: &Value) -> Option<(&Text, Iter<'_>)>
+    ensures some { IfSome result (λ t. tagged_of form.now ≡ Some (t.0.now, t.1)) }
+    ensures none { IfNone result (tagged_of form.now ≡ None) }
+{
+    let mut parts = elements_in(form)?.iter();
+    let tag = keyword_in(parts.next()?)?;
+    Some((tag, parts))
+}
+
+/// Whether these are the same bytes.
+pub fn is_same(a: &[u8], b: &[u8]) -> bool
+    ensures { result ≡ bytes_eq a.now b.now }
+{
+    a == b
+}
+
+/// Whether a value is the keyword of this name.
+pub fn is_word(form: &Value, word: &[u8]) -> bool
+    ensures { result ≡ is_word word.now form.now }
+{
+    match form.node() {
+        Node::Keyword(name) => is_same(name.as_bytes(), word),
+        _ => false,
+    }
+}
