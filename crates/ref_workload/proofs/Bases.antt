@@ -42,3 +42,12 @@ zeros (r ∷ rs) (x ∷ xs) same all =
     let first : x ≡ 0 = all zero (omega arith) in
     let rest : xs ≡ map (λ (r : RefStart). 0) rs = zeros rs xs (omega arith) (λ k below. all (suc k) (omega (arith, below))) in
     ap (λ y. y ∷ xs) first ∙ ap (λ ys. 0 ∷ ys) rest
+
+-- Each of so many zeros is one.
+pub zero_at : (refs : List RefStart) (lasts : List ℕ) (i : ℕ) → lasts ≡ map (λ (r : RefStart). 0) refs → get_or lasts i 0 ≡ 0
+zero_at refs lasts i is = ap (λ xs. get_or xs i 0) is ∙ zero_in refs i
+  where
+    zero_in : (rs : List RefStart) (k : ℕ) → get_or {A = ℕ} (map {A = RefStart} {B = ℕ} (λ r. 0) rs) k 0 ≡ 0
+    zero_in [] k = refl
+    zero_in (r ∷ rs) zero = refl
+    zero_in (r ∷ rs) (suc k) = zero_in rs k

@@ -4,6 +4,7 @@ use Rattle.std.proofs.lemmas.Bool.Decides.{nat_tests}
 use Rattle.std.proofs.lemmas.Option.{slice_get_within, slice_get_read}
 use Rattle.std.proofs.lemmas.List.{set-get_or}
 use Rattle.std.specs.Bool.{MatchBool}
+use Rattle.std.specs.Prelude.{◌≢◌}
 use Rattle.ref_log.specs.declared.entries.Stamp.{Stamp}
 use Rattle.ref_workload.specs.Marks.{Takes}
 use Rattle.ref_workload.specs.Orderly.{at_stamp, in_row, is_stamp}
@@ -50,8 +51,10 @@ takes old s m row row' at room free inside is = record { free = ap (λ r. in_row
     after t = by_worker t (t.worker == s.worker) refl
 
 pub taken : (old : List (List Mark)) (s : Stamp) (m : Mark) (row row' : List Mark) (b : Bool) → s.worker < length old → row ≡ get_or old s.worker row
-    → MatchBool b ((slice_get row s.step ≡ Some Open) × (row' ≡ slice_set row s.step m)) (row' ≡ row)
-    → MatchBool b (Takes old s m (slice_set old s.worker row')) (slice_set old s.worker row' ≡ old)
+    → MatchBool b ((slice_get row s.step ≡ Some Open) × (row' ≡ slice_set row s.step m)) ((slice_get row s.step ≢ Some Open) × (row' ≡ row))
+    → MatchBool b (Takes old s m (slice_set old s.worker row')) ((at_stamp old s ≢ Some Open) × (slice_set old s.worker row' ≡ old))
 taken old s m row row' true room is h =
     takes old s m row row' (slice_get_read old (length old) s.worker row refl room is) room h.0 (slice_get_within row s.step Open h.0) h.1
-taken old s m row row' false room is h = ap (slice_set old s.worker) (h ∙ is) ∙ set-get_or old s.worker row
+taken old s m row row' false room is h =
+    let at : slice_get old s.worker ≡ Some row = slice_get_read old (length old) s.worker row refl room is in
+    (λ marked. h.0 (sym (ap (λ r. in_row r s.step) at) ∙ marked), ap (slice_set old s.worker) (h.1 ∙ is) ∙ set-get_or old s.worker row)

@@ -4,12 +4,11 @@ pub use Rattle.ref_plan.specs.Plan
 pub use Rattle.ref_plan.specs.PlanFaults
 pub use Rattle.ref_plan.specs.Words
 pub use Rattle.ref_plan.specs.Named
-pub use Rattle.ref_plan.specs.Calls
+pub use Rattle.ref_plan.specs.Limits
 pub use Rattle.ref_plan.specs.Operations
 pub use Rattle.ref_plan.specs.Steps
 pub use Rattle.ref_plan.specs.Declarations
 pub use Rattle.ref_plan.specs.Workload
-pub use Rattle.ref_plan.specs.Kinds
 pub use Rattle.ref_plan.specs.Tables
 pub mod Orderly
 pub mod Reasons

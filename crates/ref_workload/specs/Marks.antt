@@ -48,6 +48,17 @@ EntryTaken workers old (Atom a op answer) new = new ≡ old
 EntryTaken workers old (MadeRef v) new = ⊥
 EntryTaken workers old (MadeAtom v) new = ⊥
 
+-- A transaction's step isn't an open one that names its operations and sends.
+abbrev pub TransactionMissed : List (List Step) → List (List Mark) → Transaction → Type 0
+TransactionMissed workers board t =
+    (ops : List PlannedOp) → at_stamp workers t.stamp ≡ Some (Tx ops) → IsNamedBy ops t → at_stamp board t.stamp ≢ Some Open
+
+abbrev pub EntryMissed : List (List Step) → List (List Mark) → Entry → Type 0
+EntryMissed workers board (Trans t) = TransactionMissed workers board t
+EntryMissed workers board (Atom a op answer) = ⊥
+EntryMissed workers board (MadeRef v) = Unit {0}
+EntryMissed workers board (MadeAtom v) = Unit {0}
+
 -- The entries are those of the plan's transactions, and are marked.
 pub record EntriesStand (workers : List (List Step)) (refused : List Refusal) (log : List Entry) (board : List (List Mark)) : Type 0 where
   pub marks : AreMarks workers refused log board

@@ -1,5 +1,5 @@
 //! Whether a world and the refused steps of a run are those of its plan.
-ghost use Rattle.std.specs.Prelude.{◌≡◌, IfOk, true};
+ghost use Rattle.std.specs.Prelude.{◌≡◌, IfOk, false, true};
 ghost use Rattle.ref_shared.specs.Gather.{InOrder};
 ghost use Rattle.ref_workload.specs.Orderly.{IsOrderly};
 
@@ -16,7 +16,7 @@ use ref_fun::Core;
 use ref_plan::Plan;
 use ref_world::World;
 pub(crate) use refusals::{are_in_order, have_reasons};
-use start::{are_agents, is_base};
+use start::is_base;
 use std::alloc::{AllocError, Global};
 use std::sync::ledger::Ledger;
 
@@ -30,14 +30,16 @@ pub fn is_orderly<C: Ledger, A: Ledger>(
     refused: &[Refusal],
 ) -> Result<bool, AllocError>
     requires { InOrder world.now.base.point world.now.log }
-    ensures { IfOk result (λ b. b ≡ true → IsOrderly plan.now world.now refused.now) }
+    ensures yes { IfOk result (λ b. b ≡ true → IsOrderly plan.now world.now refused.now) }
+    // A run of the plan is never reported as none.
+    ensures no { IfOk result (λ b. b ≡ false → IsOrderly plan.now world.now refused.now → ⊥) }
 {
     let workers = plan.workers();
     let mut board = Board::open(alloc, workers)?;
     if !is_base(plan.start(), world.base()) {
         return Ok(false);
     }
-    if !are_agents(world, plan.start().agents.len()) {
+    if world.agent_count() != plan.start().agents.len() {
         return Ok(false);
     }
     if !mark_refused(&mut board, refused) {

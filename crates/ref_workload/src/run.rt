@@ -1,5 +1,5 @@
 //! A plan, run by threads.
-ghost use Rattle.std.specs.Prelude.{◌≡◌, ◌+◌, [], Ok, IfErr, IfOk, OnOk, length, vec_len};
+ghost use Rattle.std.specs.Prelude.{◌≡◌, ◌+◌, [], Err, Ok, IfErr, IfOk, OnOk, length, vec_len};
 ghost use Rattle.ref_fun.specs.Core.{core_accepts};
 ghost use Rattle.ref_workload.specs.Orderly.{AreInOrder, IsOrderly};
 ghost use Rattle.ref_workload.specs.Reasons.{HaveReasons};
@@ -210,6 +210,9 @@ fn check<C: Ledger, A: Ledger>(
     ensures order { OnOk result (AreInOrder refused.now) }
     ensures reasons { OnOk result (HaveReasons plan.now.workers refused.now) }
     ensures inner { IfErr result IsOfPlan }
+    // A run of the plan is never reported as none.
+    ensures internal { result ≡ Err RunFault.Internal → IsOrderly plan.now world.now refused.now → AreInOrder refused.now
+        → HaveReasons plan.now.workers refused.now → ⊥ }
 {
     if !are_in_order(refused) || !have_reasons(plan.workers(), refused) {
         return Err(RunFault::Internal);

@@ -1,3 +1,4 @@
 pub mod PrintedLines
 pub mod AuditFaults
 pub mod PlayFaults
+pub mod Options

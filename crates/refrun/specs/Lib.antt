@@ -4,3 +4,5 @@ pub mod Checking
 pub mod Printing
 pub mod Lines
 pub mod Tasks
+pub mod Commands
+pub mod Serving

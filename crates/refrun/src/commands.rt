@@ -1,4 +1,10 @@
 //! The command line.
+ghost use Rattle.std.specs.Prelude.{◌≡◌, ◌≢◌, IfSome, IsNone, false, codes};
+ghost use Rattle.clap.specs.Simple.{subcommand_rows_of};
+ghost use Rattle.clap.specs.Matches.{found_of};
+ghost use Rattle.clap.specs.Walk.{one_of, rows_of};
+ghost use Rattle.refrun.specs.Commands.{IsAct, IsFlag, IsRunOf, IsTries, IsWanted, is_command};
+
 use crate::tasks::Task;
 use clap::{Arg, ArgAction, ArgMatches, Command, Error, value_parser};
 use ref_explain::FORMAT_VERSION;
@@ -179,30 +185,74 @@ fn run<'a>(alloc: Global) -> Result<Command<'a>, AllocError> {
 }
 
 /// What the command says.
-pub(crate) fn wanted_of(matches: &ArgMatches) -> Option<Wanted> {
-    let (name, inner) = matches.subcommand()?;
-    let act = match name {
-        "run" => Act::ByCore(run_of(inner)),
-        "check" => Act::Check,
-        "audit" => Act::ByCore(Task::Audit),
-        "play" => Act::ByCore(Task::Play),
-        "print" => Act::Print,
-        _ => return None,
-    };
-    Some(Wanted {
-        act,
-        explains: inner.get_flag("explain"),
-        is_strict: matches!(name, "run") && inner.get_flag("strict"),
-    })
+pub(crate) fn wanted_of(matches: &ArgMatches) -> Option<Wanted>
+    ensures { IsWanted (subcommand_rows_of matches.now) result }
+{
+    match matches.subcommand() {
+        Some((name, inner)) => wanted_by(name, inner),
+        None => None,
+    }
 }
 
-fn run_of(matches: &ArgMatches) -> Task {
-    let options = Options {
-        tries: matches.get_one::<u32>("tries").unwrap_or(TRIES),
-        dump: matches.get_flag("dump"),
-    };
-    Task::Run {
-        options,
-        tells: matches.get_flag("progress"),
+// What the command of this name says.
+fn wanted_by(name: &str, inner: &ArgMatches) -> Option<Wanted>
+    ensures { IsWanted (Some (name.now, rows_of (found_of inner.now))) result }
+{
+    match act_of(name, inner) {
+        Some(act) => Some(Wanted {
+            act,
+            explains: has_flag(inner, "explain"),
+            is_strict: is_strict(name, inner),
+        }),
+        None => None,
     }
+}
+
+fn act_of(name: &str, inner: &ArgMatches) -> Option<Act>
+    ensures some { IfSome result (IsAct name.now (rows_of (found_of inner.now))) }
+    ensures none { IsNone result → is_command name.now ≡ false }
+{
+    match name {
+        "run" => Some(Act::ByCore(run_of(inner))),
+        "check" => Some(Act::Check),
+        "audit" => Some(Act::ByCore(Task::Audit)),
+        "play" => Some(Act::ByCore(Task::Play)),
+        "print" => Some(Act::Print),
+        _ => None,
+    }
+}
+
+// Whether a refused step is to show in the status.
+fn is_strict(name: &str, inner: &ArgMatches) -> bool
+    ensures run { name.now ≡ codes "run" → IsFlag (one_of (codes "strict") (rows_of (found_of inner.now))) result }
+    ensures other { name.now ≢ codes "run" → result ≡ false }
+{
+    name == "run" && has_flag(inner, "strict")
+}
+
+// A run with the options that stand in the command.
+fn run_of(matches: &ArgMatches) -> Task
+    ensures { IsRunOf (rows_of (found_of matches.now)) result }
+{
+    Task::Run {
+        options: Options {
+            tries: tries_of(matches),
+            dump: has_flag(matches, "dump"),
+        },
+        tells: has_flag(matches, "progress"),
+    }
+}
+
+// How often a transaction is tried.
+fn tries_of(matches: &ArgMatches) -> u32
+    ensures { IsTries (one_of (codes "tries") (rows_of (found_of matches.now))) result }
+{
+    matches.get_one::<u32>("tries").unwrap_or(TRIES)
+}
+
+// Whether a flag is given.
+fn has_flag(matches: &ArgMatches, name: &str) -> bool
+    ensures { IsFlag (one_of name.now (rows_of (found_of matches.now))) result }
+{
+    matches.get_flag(name)
 }

@@ -1,6 +1,7 @@
 //! What the program says of a fault, and the status that it ends with.
-ghost use Rattle.std.specs.Prelude.{◌≡◌};
-ghost use Rattle.refrun.specs.Lines.{audit_status_of, run_status_of, script_status_of, status_of};
+ghost use Rattle.std.specs.Prelude.{◌≡◌, ◌++◌, Some, codes};
+ghost use Rattle.std.specs.Fmt.{WritesOnOk};
+ghost use Rattle.refrun.specs.Lines.{audit_line_of, audit_status_of, dump_line_of, line_of, plan_line_of, read_line_of, reference_line, run_line_of, run_status_of, script_line_of, script_status_of, status_of};
 
 use crate::faults::{AuditRunFault, Fault};
 use ref_audit::DumpFault;
@@ -10,21 +11,32 @@ use ref_log::Who;
 use ref_workload::{PlanFault, RunFault};
 use std::fmt;
 
-/// The line of a fault, without what begins each line of the program and without the newline.
+/// The line of a fault on standard error, without the newline.
 #[derive(Drop)]
 pub struct Line(pub Fault);
 
 impl fmt::Display for Line {
+    ghost output = { λ line. Some (codes "refrun: " ++ line_of line.0) };
+
     fn fmt<W: fmt::Write>(&self, f: &mut fmt::Formatter<W>) -> fmt::Result {
-        match self.0 {
-            Fault::Run(fault) => write_run_fault(fault, f),
-            Fault::Audit(fault) => write_audit_fault(fault, f),
-            Fault::Script(fault) => write_script_fault(fault, f),
-        }
+        f.write_str("refrun: ")?;
+        write_fault(self.0, f)
     }
 }
 
-fn write_run_fault<W: fmt::Write>(fault: RunFault, f: &mut fmt::Formatter<W>) -> fmt::Result {
+fn write_fault<W: fmt::Write>(fault: Fault, f: &mut fmt::Formatter<W>) -> fmt::Result
+    ensures { WritesOnOk W.write_str_gives f.old result (line_of fault) f.new }
+{
+    match fault {
+        Fault::Run(fault) => write_run_fault(fault, f),
+        Fault::Audit(fault) => write_audit_fault(fault, f),
+        Fault::Script(fault) => write_script_fault(fault, f),
+    }
+}
+
+fn write_run_fault<W: fmt::Write>(fault: RunFault, f: &mut fmt::Formatter<W>) -> fmt::Result
+    ensures { WritesOnOk W.write_str_gives f.old result (run_line_of fault) f.new }
+{
     match fault {
         RunFault::Read => f.write_str("read fault"),
         RunFault::InputTooLong => f.write_str("InputTooLong"),
@@ -36,10 +48,9 @@ fn write_run_fault<W: fmt::Write>(fault: RunFault, f: &mut fmt::Formatter<W>) ->
     }
 }
 
-fn write_audit_fault<W: fmt::Write>(
-    fault: AuditRunFault,
-    f: &mut fmt::Formatter<W>,
-) -> fmt::Result {
+fn write_audit_fault<W: fmt::Write>(fault: AuditRunFault, f: &mut fmt::Formatter<W>) -> fmt::Result
+    ensures { WritesOnOk W.write_str_gives f.old result (audit_line_of fault) f.new }
+{
     match fault {
         AuditRunFault::Read => f.write_str("read fault"),
         AuditRunFault::InputTooLong => f.write_str("InputTooLong"),
@@ -50,14 +61,18 @@ fn write_audit_fault<W: fmt::Write>(
     }
 }
 
-fn write_read_fault<W: fmt::Write>(fault: ReadFault, f: &mut fmt::Formatter<W>) -> fmt::Result {
+fn write_read_fault<W: fmt::Write>(fault: ReadFault, f: &mut fmt::Formatter<W>) -> fmt::Result
+    ensures { WritesOnOk W.write_str_gives f.old result (read_line_of fault) f.new }
+{
     match fault.place() {
         Some(place) => write!(f, "{} at {place}", fault.name()),
         None => f.write_str("out of memory"),
     }
 }
 
-fn write_plan_fault<W: fmt::Write>(fault: PlanFault, f: &mut fmt::Formatter<W>) -> fmt::Result {
+fn write_plan_fault<W: fmt::Write>(fault: PlanFault, f: &mut fmt::Formatter<W>) -> fmt::Result
+    ensures { WritesOnOk W.write_str_gives f.old result (plan_line_of fault) f.new }
+{
     match fault {
         PlanFault::NotWorkload => f.write_str("NotWorkload"),
         PlanFault::BadVersion => f.write_str("BadVersion"),
@@ -73,7 +88,9 @@ fn write_plan_fault<W: fmt::Write>(fault: PlanFault, f: &mut fmt::Formatter<W>) 
     }
 }
 
-fn write_script_fault<W: fmt::Write>(fault: ScriptFault, f: &mut fmt::Formatter<W>) -> fmt::Result {
+fn write_script_fault<W: fmt::Write>(fault: ScriptFault, f: &mut fmt::Formatter<W>) -> fmt::Result
+    ensures { WritesOnOk W.write_str_gives f.old result (script_line_of fault) f.new }
+{
     match fault {
         ScriptFault::NotEvents => f.write_str("NotEvents"),
         ScriptFault::BadVersion => f.write_str("BadVersion"),
@@ -87,7 +104,9 @@ fn write_script_fault<W: fmt::Write>(fault: ScriptFault, f: &mut fmt::Formatter<
 }
 
 // The fault of a reference that is declared.
-fn write_of<W: fmt::Write>(name: &str, who: Who, f: &mut fmt::Formatter<W>) -> fmt::Result {
+fn write_of<W: fmt::Write>(name: &str, who: Who, f: &mut fmt::Formatter<W>) -> fmt::Result
+    ensures { WritesOnOk W.write_str_gives f.old result (reference_line name.now who) f.new }
+{
     match who {
         Who::Ref(n) => write!(f, "{name} ref {n}"),
         Who::Atom(n) => write!(f, "{name} atom {n}"),
@@ -95,7 +114,9 @@ fn write_of<W: fmt::Write>(name: &str, who: Who, f: &mut fmt::Formatter<W>) -> f
     }
 }
 
-fn write_dump_fault<W: fmt::Write>(fault: DumpFault, f: &mut fmt::Formatter<W>) -> fmt::Result {
+fn write_dump_fault<W: fmt::Write>(fault: DumpFault, f: &mut fmt::Formatter<W>) -> fmt::Result
+    ensures { WritesOnOk W.write_str_gives f.old result (dump_line_of fault) f.new }
+{
     match fault {
         DumpFault::NotDump => f.write_str("NotDump"),
         DumpFault::BadVersion => f.write_str("BadVersion"),
@@ -103,6 +124,15 @@ fn write_dump_fault<W: fmt::Write>(fault: DumpFault, f: &mut fmt::Formatter<W>) 
         DumpFault::BadEntry(n) => write!(f, "BadEntry {n}"),
         DumpFault::Memory => f.write_str("out of memory"),
     }
+}
+
+/// Says what went wrong, and returns the status. Where standard error can't be written, only the status says it.
+pub(crate) fn say<R: Eprint>(rt: &R, fault: Fault) -> u8
+    ensures { result ≡ status_of fault }
+{
+    let line = Line(fault);
+    let _said = eprintln!(rt; "{line}");
+    status(fault)
 }
 
 /// The status that the program ends with after a fault.

@@ -1,7 +1,8 @@
 //! A mark for each step of a plan.
-ghost use Rattle.std.specs.Prelude.{◌≡◌, IfOk, Some, length, map, replicate, slice_get, slice_set};
+ghost use Rattle.std.specs.Prelude.{◌≡◌, ◌≢◌, IfOk, Some, length, map, replicate, slice_get, slice_set};
 ghost use Rattle.std.specs.Bool.{MatchBool};
 ghost use Rattle.ref_workload.specs.Marks.{Takes};
+ghost use Rattle.ref_workload.specs.Orderly.{at_stamp};
 ghost use Rattle.ref_workload.specs.declared.order.board.Mark.TheVariants.{Open};
 
 use ref_log::{SharedVec, Stamp};
@@ -50,7 +51,8 @@ impl Row {
 
     fn take(&mut self, step: u32, mark: Mark) -> bool
         ensures { MatchBool result
-            ((slice_get self.old step ≡ Some Open) × (self.new ≡ slice_set self.old step mark)) (self.new ≡ self.old) }
+            ((slice_get self.old step ≡ Some Open) × (self.new ≡ slice_set self.old step mark))
+            ((slice_get self.old step ≢ Some Open) × (self.new ≡ self.old)) }
     {
         let at = step as usize;
         if at >= self.marks.len() || self.marks[at] != Mark::Open {
@@ -96,7 +98,8 @@ impl Board {
 
     // Marks a step, where it is there and open.
     pub(crate) fn take(&mut self, stamp: Stamp, mark: Mark) -> bool
-        ensures { MatchBool result (Takes self.old stamp mark self.new) (self.new ≡ self.old) }
+        ensures { MatchBool result (Takes self.old stamp mark self.new)
+            ((at_stamp self.old stamp ≢ Some Open) × (self.new ≡ self.old)) }
     {
         let at = stamp.worker as usize;
         if at >= self.rows.len() {

@@ -1,6 +1,10 @@
 //! Passes over the refused steps, the log and the plan.
-ghost use Rattle.std.specs.Prelude.{◌≡◌, [], true};
-ghost use Rattle.ref_workload.specs.Marks.{AreMarks, EntriesStand, EntryTaken, IsDone, IsRowDone, RefusedStand, TransactionTaken, is_tx};
+ghost use Rattle.std.specs.Prelude.{◌≡◌, ℕ, [], false, true};
+ghost use Rattle.std.specs.Bool.{MatchBool};
+ghost use Rattle.std.specs.List.{All, IsDistinct};
+ghost use Rattle.ref_shared.specs.Gather.{InOrder};
+ghost use Rattle.ref_workload.specs.Marks.{AreMarks, EntriesStand, EntryMissed, EntryTaken, IsDone, IsRowDone, RefusedStand, TransactionMissed, TransactionTaken, is_tx};
+ghost use Rattle.ref_workload.specs.Orderly.{IsPlanned, IsStep, is_of_same_step};
 
 use crate::order::board::{Board, Mark};
 use crate::order::named::is_named;
@@ -11,8 +15,10 @@ use ref_pvec::PVec;
 
 // Marks the refused steps, where each is open.
 pub(crate) fn mark_refused(board: &mut Board, refused: &[Refusal]) -> bool
-    ensures { (workers : _) → AreMarks workers [] [] board.old → result ≡ true
+    ensures yes { (workers : _) → AreMarks workers [] [] board.old → result ≡ true
         → RefusedStand workers refused.now board.new }
+    ensures no { (workers : _) → AreMarks workers [] [] board.old → result ≡ false
+        → All (IsStep workers) refused.now → IsDistinct is_of_same_step refused.now → ⊥ }
 {
     for refusal in refused {
         if !board.take(refusal.stamp, Mark::Refused) {
@@ -28,8 +34,10 @@ pub(crate) fn mark_entries(
     workers: &[SharedVec<Step>],
     log: &PVec<Entry>,
 ) -> bool
-    ensures { (refused : _) → AreMarks workers.now refused [] board.old → result ≡ true
+    ensures yes { (refused : _) → AreMarks workers.now refused [] board.old → result ≡ true
         → EntriesStand workers.now refused log.now board.new }
+    ensures no { (refused : _) (base : ℕ) → AreMarks workers.now refused [] board.old → result ≡ false
+        → InOrder base log.now → All (IsPlanned workers.now refused) log.now → ⊥ }
 {
     for entry in log {
         if !mark_entry(board, workers, entry) {
@@ -40,7 +48,8 @@ pub(crate) fn mark_entries(
 }
 
 fn mark_entry(board: &mut Board, workers: &[SharedVec<Step>], entry: &Entry) -> bool
-    ensures { result ≡ true → EntryTaken workers.now board.old entry.now board.new }
+    ensures { MatchBool result (EntryTaken workers.now board.old entry.now board.new)
+        (EntryMissed workers.now board.old entry.now) }
 {
     match entry {
         Entry::Trans(transaction) => mark_transaction(board, workers, transaction),
@@ -54,7 +63,8 @@ fn mark_transaction(
     workers: &[SharedVec<Step>],
     transaction: &Transaction,
 ) -> bool
-    ensures { result ≡ true → TransactionTaken workers.now board.old transaction.now board.new }
+    ensures { MatchBool result (TransactionTaken workers.now board.old transaction.now board.new)
+        (TransactionMissed workers.now board.old transaction.now) }
 {
     let stamp = transaction.stamp;
     let Some(steps) = workers.get(stamp.worker as usize) else {
@@ -68,14 +78,16 @@ fn mark_transaction(
 
 // Whether no transaction's step is open.
 pub(crate) fn is_done(board: &Board, workers: &[SharedVec<Step>]) -> bool
-    ensures { result ≡ true → IsDone workers.now board.now }
+    ensures yes { result ≡ true → IsDone workers.now board.now }
+    ensures no { result ≡ false → IsDone workers.now board.now → ⊥ }
 {
     let rows = board.rows();
-    if rows.len() != workers.len() {
-        return false;
-    }
     for k in 0..workers.len() {
-        if !is_row_done(workers[k].as_slice(), rows[k].as_slice()) {
+        // What has no mark isn't open.
+        let Some(row) = rows.get(k) else {
+            continue;
+        };
+        if !is_row_done(workers[k].as_slice(), row.as_slice()) {
             return false;
         }
     }
@@ -83,7 +95,8 @@ pub(crate) fn is_done(board: &Board, workers: &[SharedVec<Step>]) -> bool
 }
 
 fn is_row_done(steps: &[Step], marks: &[Mark]) -> bool
-    ensures { result ≡ true → IsRowDone steps.now marks.now }
+    ensures yes { result ≡ true → IsRowDone steps.now marks.now }
+    ensures no { result ≡ false → IsRowDone steps.now marks.now → ⊥ }
 {
     for k in 0..steps.len() {
         if is_tx(&steps[k]) && marks.get(k).copied() == Some(Mark::Open) {

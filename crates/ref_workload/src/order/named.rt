@@ -1,6 +1,7 @@
 //! Whether a transaction did what the text of a step names.
-ghost use Rattle.std.specs.Prelude.{◌≡◌, ◌≤◌, ◌++◌, ◌∷◌, [], IfSome, length, take, true};
+ghost use Rattle.std.specs.Prelude.{◌≡◌, ◌≢◌, ◌≤◌, ◌↔◌, ◌∷◌, IfSome, IsNone, IsTrue, List, drop, length};
 ghost use Rattle.std.specs.List.{filter_map};
+ghost use Rattle.ref_plan.specs.declared.plans.PlannedOp.{PlannedOp};
 ghost use Rattle.ref_workload.specs.Orderly.{IsNamedBy, asked, op_named, send_named};
 
 use ref_log::{Done, Same, Sent, Transaction};
@@ -8,15 +9,14 @@ use ref_plan::PlannedOp;
 
 // Whether operations and sends are those that are named, in order.
 pub(crate) fn is_named(ops: &[PlannedOp], transaction: &Transaction) -> bool
-    ensures { result ≡ true → IsNamedBy ops.now transaction.now }
+    ensures { IsTrue result ↔ IsNamedBy ops.now transaction.now }
 {
     are_dones_named(ops, transaction.dones.as_slice())
         && are_sends_named(ops, transaction.sends.as_slice())
 }
 
-#[tactic(auto, using(crate::proofs::Naming::named_more))]
 fn are_dones_named(ops: &[PlannedOp], dones: &[Done]) -> bool
-    ensures { result ≡ true → asked dones.now ≡ filter_map op_named ops.now }
+    ensures { IsTrue result ↔ (asked dones.now ≡ filter_map op_named ops.now) }
 {
     let mut at = 0;
     for op in ops {
@@ -32,8 +32,9 @@ fn are_dones_named(ops: &[PlannedOp], dones: &[Done]) -> bool
 fn after_done(op: &PlannedOp, dones: &[Done], at: usize) -> Option<usize>
     requires { at ≤ length dones.now }
     ensures within { IfSome result (λ next. next ≤ length dones.now) }
-    ensures made { IfSome result (λ next.
-        asked (take next dones.now) ≡ asked (take at dones.now) ++ filter_map op_named (op.now ∷ [])) }
+    ensures made { (more : List PlannedOp) → IfSome result (λ next.
+        (asked (drop at dones.now) ≡ filter_map op_named (op.now ∷ more)) ↔ (asked (drop next dones.now) ≡ filter_map op_named more)) }
+    ensures missing { (more : List PlannedOp) → IsNone result → asked (drop at dones.now) ≢ filter_map op_named (op.now ∷ more) }
 {
     let PlannedOp::On(r, op) = op else {
         return Some(at);
@@ -45,9 +46,8 @@ fn after_done(op: &PlannedOp, dones: &[Done], at: usize) -> Option<usize>
     Some(at + 1)
 }
 
-#[tactic(auto, using(crate::proofs::Naming::named_more))]
 fn are_sends_named(ops: &[PlannedOp], sends: &[Sent]) -> bool
-    ensures { result ≡ true → sends.now ≡ filter_map send_named ops.now }
+    ensures { IsTrue result ↔ (sends.now ≡ filter_map send_named ops.now) }
 {
     let mut at = 0;
     for op in ops {
@@ -62,8 +62,9 @@ fn are_sends_named(ops: &[PlannedOp], sends: &[Sent]) -> bool
 fn after_send(op: &PlannedOp, sends: &[Sent], at: usize) -> Option<usize>
     requires { at ≤ length sends.now }
     ensures within { IfSome result (λ next. next ≤ length sends.now) }
-    ensures made { IfSome result (λ next.
-        take next sends.now ≡ take at sends.now ++ filter_map send_named (op.now ∷ [])) }
+    ensures made { (more : List PlannedOp) → IfSome result (λ next.
+        (drop at sends.now ≡ filter_map send_named (op.now ∷ more)) ↔ (drop next sends.now ≡ filter_map send_named more)) }
+    ensures missing { (more : List PlannedOp) → IsNone result → drop at sends.now ≢ filter_map send_named (op.now ∷ more) }
 {
     let PlannedOp::Send(named) = op else {
         return Some(at);

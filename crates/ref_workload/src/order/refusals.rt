@@ -1,5 +1,5 @@
 //! The order of the refused steps, and their reasons.
-ghost use Rattle.std.specs.Prelude.{◌≡◌, None, true};
+ghost use Rattle.std.specs.Prelude.{◌≡◌, ◌↔◌, IsTrue, None, false, true};
 ghost use Rattle.ref_workload.specs.Orderly.{comes_after, rise_after};
 ghost use Rattle.ref_workload.specs.Reasons.{HasReason, HaveReasons, can_refuse, can_refuse_reset, can_refuse_restart, can_refuse_rule, can_refuse_send, can_refuse_swap, can_refuse_tx};
 
@@ -34,7 +34,8 @@ fn comes_after(last: Option<Stamp>, stamp: Stamp) -> bool
 
 /// Whether each refusal is of a step that can be refused for its reason. Linear in their number.
 pub(crate) fn have_reasons(workers: &[SharedVec<Step>], refused: &[Refusal]) -> bool
-    ensures { result ≡ true → HaveReasons workers.now refused.now }
+    ensures yes { result ≡ true → HaveReasons workers.now refused.now }
+    ensures no { result ≡ false → HaveReasons workers.now refused.now → ⊥ }
 {
     for refusal in refused {
         if !has_reason(workers, *refusal) {
@@ -45,7 +46,7 @@ pub(crate) fn have_reasons(workers: &[SharedVec<Step>], refused: &[Refusal]) -> 
 }
 
 fn has_reason(workers: &[SharedVec<Step>], refusal: Refusal) -> bool
-    ensures { result ≡ true → HasReason workers.now refusal }
+    ensures { IsTrue result ↔ HasReason workers.now refusal }
 {
     let Some(steps) = workers.get(refusal.stamp.worker as usize) else {
         return false;

@@ -1,18 +1,17 @@
 //! Whether a world began with what is declared.
-ghost use Rattle.std.specs.Prelude.{◌≡◌, length, map, position, true};
+ghost use Rattle.std.specs.Prelude.{◌≡◌, ◌≢◌, false, map, position, true};
 ghost use Rattle.ref_workload.specs.Orderly.{base_declared};
 ghost use Rattle.ref_start.specs.declared.starts.AtomStart.{AtomStart};
 ghost use Rattle.ref_start.specs.declared.starts.RefStart.{RefStart};
 
-use ref_fun::Core;
-use ref_log::{Base, Same, Who};
+use ref_log::{Base, Same};
 use ref_value::Value;
-use ref_world::{AtomStart, RefStart, Start, World};
-use std::sync::ledger::Ledger;
+use ref_world::{AtomStart, RefStart, Start};
 
 // Whether a base is the declared one.
 pub(crate) fn is_base(start: &Start, base: &Base) -> bool
-    ensures { result ≡ true → base.now ≡ base_declared start.now.refs.items start.now.atoms.items }
+    ensures yes { result ≡ true → base.now ≡ base_declared start.now.refs.items start.now.atoms.items }
+    ensures no { result ≡ false → base.now ≢ base_declared start.now.refs.items start.now.atoms.items }
 {
     let refs = start.refs.as_slice();
     if !is_new(base) || !is_tally(refs, base.tally) {
@@ -26,14 +25,16 @@ pub(crate) fn is_base(start: &Start, base: &Base) -> bool
 
 // Whether nothing was done before a base.
 fn is_new(base: &Base) -> bool
-    ensures { result ≡ true → (base.now.point ≡ 0) × (base.now.commits ≡ 0) × (base.now.added ≡ 0) }
+    ensures yes { result ≡ true → (base.now.point ≡ 0) × (base.now.commits ≡ 0) × (base.now.added ≡ 0) }
+    ensures no { result ≡ false → (base.now.point ≡ 0) × (base.now.commits ≡ 0) × (base.now.added ≡ 0) → ⊥ }
 {
     base.point == 0 && base.commits == 0 && base.added == 0
 }
 
 // Whether the tally is the ref that is declared so, or none.
 fn is_tally(refs: &[RefStart], tally: Option<u32>) -> bool
-    ensures { result ≡ true → tally ≡ position (λ (r : RefStart). r.tally) refs.now }
+    ensures yes { result ≡ true → tally ≡ position (λ (r : RefStart). r.tally) refs.now }
+    ensures no { result ≡ false → tally ≢ position (λ (r : RefStart). r.tally) refs.now }
 {
     match tally_of(refs) {
         None => tally.is_none(),
@@ -53,7 +54,8 @@ fn tally_of(refs: &[RefStart]) -> Option<usize>
 
 // Whether the values are those of the refs that are declared.
 fn are_refs(refs: &[RefStart], values: &[Value]) -> bool
-    ensures { result ≡ true → values.now ≡ map (λ (r : RefStart). r.value) refs.now }
+    ensures yes { result ≡ true → values.now ≡ map (λ (r : RefStart). r.value) refs.now }
+    ensures no { result ≡ false → values.now ≢ map (λ (r : RefStart). r.value) refs.now }
 {
     if refs.len() != values.len() {
         return false;
@@ -68,7 +70,8 @@ fn are_refs(refs: &[RefStart], values: &[Value]) -> bool
 
 // Whether there is a last change at point 0 for each ref.
 fn are_unchanged(refs: &[RefStart], lasts: &[u64]) -> bool
-    ensures { result ≡ true → lasts.now ≡ map (λ (r : RefStart). 0) refs.now }
+    ensures yes { result ≡ true → lasts.now ≡ map (λ (r : RefStart). 0) refs.now }
+    ensures no { result ≡ false → lasts.now ≢ map (λ (r : RefStart). 0) refs.now }
 {
     if refs.len() != lasts.len() {
         return false;
@@ -83,7 +86,8 @@ fn are_unchanged(refs: &[RefStart], lasts: &[u64]) -> bool
 
 // Whether the values are those of the atoms that are declared.
 fn are_atoms(atoms: &[AtomStart], values: &[Value]) -> bool
-    ensures { result ≡ true → values.now ≡ map (λ (a : AtomStart). a.value) atoms.now }
+    ensures yes { result ≡ true → values.now ≡ map (λ (a : AtomStart). a.value) atoms.now }
+    ensures no { result ≡ false → values.now ≢ map (λ (a : AtomStart). a.value) atoms.now }
 {
     if atoms.len() != values.len() {
         return false;
@@ -94,17 +98,4 @@ fn are_atoms(atoms: &[AtomStart], values: &[Value]) -> bool
         }
     }
     true
-}
-
-// Whether there are so many agents: the last of them is there, and no further one.
-pub(crate) fn are_agents<C: Ledger, A: Ledger>(world: &World<Core, C, A>, many: usize) -> bool
-    ensures { result ≡ true → length world.now.agents.agents ≡ many }
-{
-    let Ok(many) = u32::try_from(many) else {
-        return false;
-    };
-    if world.value_of(Who::Agent(many)).is_some() {
-        return false;
-    }
-    many == 0 || world.value_of(Who::Agent(many - 1)).is_some()
 }

@@ -1,17 +1,13 @@
-use Rattle.std.proofs.Common.{◌++◌, ◌∷◌, [], ap, sym, ◌∙◌}
+use Rattle.std.proofs.Common.{◌≡◌, drop}
 use Rattle.std.specs.List.{filter_map}
 use Rattle.ref_workload.specs.Orderly.{send_named}
-use Rattle.ref_workload.proofs.Naming.{named_more}
+use Rattle.ref_workload.proofs.Naming.{at_end, named_all}
 use Rattle.ref_workload.proofs.order.named.are_sends_named.Goals as goal
 
-pub loop-op-preserved : goal.loop-op-preserved
-loop-op-preserved c =
+pub returns : goal.returns
+returns c =
     let ops = c.args.ops.now in
-    let op = c.op-item.result in
-    record {
-      within = c.in-Some.ensures.within;
-      named =
-          c.in-Some.ensures.made
-          ∙ (ap (λ xs. xs ++ filter_map send_named (op ∷ [])) c.loop-op.invariant.named
-          ∙ sym (named_more send_named ops c.loop-op.op-index op c.loop-op-test.true c.op-item.is));
-    }
+    let sends = c.args.sends.now in
+    let at = c.loop-op.at in
+    named_all send_named (sends ≡ filter_map send_named ops) (drop at sends) ops c.loop-op.op-index _ c.loop-op-test.false c.loop-op.invariant.same
+    (at_end at sends c.loop-op.invariant.within)

@@ -5,4 +5,4 @@ use Rattle.ref_workload.proofs.order.refusals.have_reasons.Goals as goal
 
 pub loop-refusal-preserved : goal.loop-refusal-preserved
 loop-refusal-preserved c =
-    each_up_to (HasReason c.args.workers.now) c.args.refused.now c.loop-refusal.refusal-index _ c.loop-refusal-test.true c.loop-refusal.invariant (c.if-not-has_reason.ensures refl)
+    each_up_to (HasReason c.args.workers.now) c.args.refused.now c.loop-refusal.refusal-index _ c.loop-refusal-test.true c.loop-refusal.invariant (c.if-not-has_reason.ensures.0 refl)

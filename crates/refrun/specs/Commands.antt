@@ -1,0 +1,59 @@
+-- What a command line asks for, by what the parser found in it.
+use Rattle.std.specs.Prelude.{◌≡◌, ◌≢◌, ℕ, ◌<◌, ◌^◌, Bool, true, false, List, [], ◌∷◌, Option, Some, None, codes}
+use Rattle.std.specs.List.{list_any}
+use Rattle.std.specs.Str.{bytes_eq}
+use Rattle.std.specs.Str.Parse.{IsNumeral, digits_value, without_leading_plus}
+use Rattle.clap.specs.Walk.{Row, Text, one_of}
+use Rattle.ref_workload.specs.declared.texts.Options.{Options}
+use Rattle.refrun.specs.declared.commands.Act.{Act}
+use Rattle.refrun.specs.declared.commands.Act.TheVariants.{ByCore, Check, Print}
+use Rattle.refrun.specs.declared.commands.Wanted.{Wanted}
+use Rattle.refrun.specs.declared.tasks.Task.{Task}
+use Rattle.refrun.specs.declared.tasks.Task.TheVariants.{Run, Audit, Play}
+
+-- Whether a flag is given, by the text that the parser has under its name. Without a text it isn't.
+abbrev pub IsFlag : Option Text → Bool → Type 0
+IsFlag None flag = flag ≡ false
+IsFlag (Some text) flag = (text ≡ codes "true" → flag ≡ true) × (text ≡ codes "false" → flag ≡ false)
+
+-- How often a transaction is tried: as often as the digits say, and 1,000 times if nothing is said.
+abbrev pub IsTries : Option Text → ℕ → Type 0
+IsTries None tries = tries ≡ 1000
+IsTries (Some text) tries = IsNumeral 10 (without_leading_plus text) → digits_value 10 (without_leading_plus text) < 2 ^ 32
+    → tries ≡ digits_value 10 (without_leading_plus text)
+
+-- The options of a run are those that stand under their names.
+pub record AreOptions (rows : List Row) (options : Options) (tells : Bool) : Type 0 where
+  pub tries : IsTries (one_of (codes "tries") rows) options.tries
+  pub dump : IsFlag (one_of (codes "dump") rows) options.dump
+  pub progress : IsFlag (one_of (codes "progress") rows) tells
+
+-- A run with the options that stand under their names.
+abbrev pub IsRunOf : List Row → Task → Type 0
+IsRunOf rows (Run options tells) = AreOptions rows options tells
+IsRunOf rows Audit = ⊥
+IsRunOf rows Play = ⊥
+
+-- The command of this name, with its options, is this act.
+abbrev pub IsAct : Text → List Row → Act → Type 0
+IsAct name rows (ByCore (Run options tells)) = (name ≡ codes "run") × AreOptions rows options tells
+IsAct name rows (ByCore Audit) = name ≡ codes "audit"
+IsAct name rows (ByCore Play) = name ≡ codes "play"
+IsAct name rows Check = name ≡ codes "check"
+IsAct name rows Print = name ≡ codes "print"
+
+-- The command of this name, with its options, asks for this. Only a run can be strict.
+pub record AsksFor (name : Text) (rows : List Row) (wanted : Wanted) : Type 0 where
+  pub act : IsAct name rows wanted.act
+  pub explains : IsFlag (one_of (codes "explain") rows) wanted.explains
+  pub strict : name ≡ codes "run" → IsFlag (one_of (codes "strict") rows) wanted.is_strict
+  pub other : name ≢ codes "run" → wanted.is_strict ≡ false
+
+abbrev pub is_command : Text → Bool
+is_command name = list_any (bytes_eq name) (codes "run" ∷ codes "check" ∷ codes "audit" ∷ codes "play" ∷ codes "print" ∷ [])
+
+-- What is wanted, by the command that was met and its options.
+abbrev pub IsWanted : Option (Text × List Row) → Option Wanted → Type 0
+IsWanted (Some met) (Some wanted) = AsksFor met.0 met.1 wanted
+IsWanted (Some met) None = is_command met.0 ≡ false
+IsWanted None wanted = wanted ≡ None

@@ -1,0 +1,88 @@
+-- What a command does with its input, and the status that the program ends with.
+use Rattle.std.specs.Prelude.{◌≡◌, ◌≢◌, ◌==◌, ◌⊎◌, ℕ, Bool, true, if◌then◌else◌, List, [], ◌∷◌, Option, IfSome, Result, Ok, Err, IfOk, IfErr}
+use Rattle.std.specs.List.{list_any}
+use Rattle.std.specs.declared.io.ErrorKind.{ErrorKind as IoErrorKind}
+use Rattle.std.specs.declared.io.ErrorKind.TheVariants as io_kinds
+use Rattle.clap.specs.declared.error.kind.ErrorKind.{ErrorKind}
+use Rattle.clap.specs.declared.error.kind.ErrorKind.TheVariants as kinds
+use Rattle.ref_edn.specs.Grammar.{AreTexts}
+use Rattle.ref_verdict.specs.declared.reports.Verdict.{Verdict}
+use Rattle.ref_verdict.specs.declared.reports.Verdict.TheVariants as verdicts
+use Rattle.ref_workload.specs.Run as runs
+use Rattle.ref_workload.specs.Streams as streams
+use Rattle.ref_workload.specs.declared.faults.RunFault.TheVariants as run_faults
+use Rattle.refrun.specs.Checking as checks
+use Rattle.refrun.specs.Lines.{status_of}
+use Rattle.refrun.specs.Printing as prints
+use Rattle.refrun.specs.Tasks.{IsDone, IsFaultOf, IsLeft}
+use Rattle.refrun.specs.declared.commands.Act.{Act}
+use Rattle.refrun.specs.declared.commands.Act.TheVariants.{ByCore, Check, Print}
+use Rattle.refrun.specs.declared.commands.Wanted.{Wanted}
+use Rattle.refrun.specs.declared.faults.Fault.{Fault}
+use Rattle.refrun.specs.declared.faults.Fault.TheVariants.{Run}
+
+-- The whole output of an act was written. What was left to read and what was written are named before and after.
+abbrev pub IsActDone : Act → Verdict → Option (List ℕ) → Option (List ℕ) → Option (List ℕ) → Option (List ℕ) → Type 0
+IsActDone (ByCore task) verdict before after old new = IsDone task verdict before after old new
+IsActDone Check verdict before after old new = (verdict ≡ verdicts.Ok) × streams.HasWritten checks.IsCheckOf before after old new
+IsActDone Print verdict before after old new = (verdict ≡ verdicts.Ok) × streams.HasWritten prints.IsPrintOf before after old new
+
+-- The fault is one of this act, and the text that was there to read is at fault if it says so.
+abbrev pub IsFaultOfAct : Act → Option (List ℕ) → Fault → Type 0
+IsFaultOfAct (ByCore task) before fault = IsFaultOf task before fault
+IsFaultOfAct Check before (Run fault) = checks.IsOfChecking fault × IfSome before (λ text. runs.IsAtFault text fault)
+IsFaultOfAct Print before (Run fault) = prints.IsOfPrinting fault
+    × IfSome before (λ text. streams.IsInputAtFault AreTexts streams.IsFaultOfAll text fault)
+IsFaultOfAct act before fault = ⊥
+
+-- If the writer failed, a part of the output was written, from its start on, and before any other fault nothing.
+abbrev pub IsLeftByAct : Act → Fault → Option (List ℕ) → Option (List ℕ) → Option (List ℕ) → Option (List ℕ) → Type 0
+IsLeftByAct (ByCore task) fault before after old new = IsLeft task fault before after old new
+IsLeftByAct Check (Run fault) before after old new =
+    (fault ≡ run_faults.Write → streams.HasBrokenOff checks.IsCheckOf before after old new) × (fault ≢ run_faults.Write → new ≡ old)
+IsLeftByAct Print (Run fault) before after old new =
+    (fault ≡ run_faults.Write → streams.HasBrokenOff prints.IsPrintOf before after old new) × (fault ≢ run_faults.Write → new ≡ old)
+IsLeftByAct act fault before after old new = ⊥
+
+-- the status after a verdict: 7 if a step that was refused is to show, and 5 for an audit that says no
+abbrev pub verdict_status : Bool → Verdict → ℕ
+verdict_status shows verdicts.Ok = if shows then 7 else 0
+verdict_status shows verdict = 5
+
+abbrev pub status_after : Bool → Result Verdict Fault → ℕ
+status_after shows (Ok verdict) = verdict_status shows verdict
+status_after shows (Err fault) = status_of fault
+
+-- The program did what was wanted, or met a fault, and ends with the status of that.
+pub record Ends (wanted : Wanted) (before after old new : Option (List ℕ)) (status : ℕ) : Type 0 where
+  pub done : Result Verdict Fault
+  pub ok : IfOk done (λ verdict. IsActDone wanted.act verdict before after old new)
+  pub fault : IfErr done (λ fault. IsFaultOfAct wanted.act before fault)
+  pub left : IfErr done (λ fault. IsLeftByAct wanted.act fault before after old new)
+  -- Whether a step that was refused is to show. Only a strict run shows it.
+  pub shows : Bool
+  pub strict : shows ≡ true → wanted.is_strict ≡ true
+  pub status_is : status ≡ status_after shows done
+
+-- The same of some reader and writer.
+abbrev pub CanEnd : Wanted → ℕ → Type 0
+CanEnd wanted status = (before after old new : Option (List ℕ)) × Ends wanted before after old new status
+
+-- The status if the arguments can't be had: one of them isn't UTF-8, or there is no memory for them.
+abbrev pub EndsAtArguments : IoErrorKind → ℕ → Type 0
+EndsAtArguments io_kinds.OutOfMemory status = status ≡ 6
+EndsAtArguments kind status = status ≡ 2
+
+-- The status if the parser of the command line refuses the words, or prints help or the version.
+abbrev pub EndsAtWords : ErrorKind → ℕ → Type 0
+EndsAtWords kinds.OutOfMemory status = status ≡ 6
+EndsAtWords kinds.DisplayHelp status = (status ≡ 0) ⊎ (status ≡ 4)
+EndsAtWords kinds.DisplayVersion status = (status ≡ 0) ⊎ (status ≡ 4)
+EndsAtWords kind status = status ≡ 2
+
+abbrev pub is_early : ℕ → Bool
+is_early status = list_any (λ n. n == status) (0 ∷ 2 ∷ 4 ∷ 6 ∷ [])
+
+-- The program ends before a command is carried out, or by one.
+abbrev pub IsEnd : ℕ → Type 0
+IsEnd status = (is_early status ≡ true) ⊎ ((wanted : Wanted) × CanEnd wanted status)

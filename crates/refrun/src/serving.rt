@@ -1,0 +1,130 @@
+//! What a command does with its input, and the status that the program ends with.
+ghost use Rattle.std.specs.Prelude.{◌≡◌, IfOk, IfErr};
+ghost use Rattle.ref_edn.specs.Streams.{ConsumesUpTo};
+ghost use Rattle.ref_fun.specs.Calls.{HasCore};
+ghost use Rattle.refrun.specs.Serving.{Ends, IsActDone, IsFaultOfAct, IsLeftByAct, status_after, verdict_status};
+ghost use Rattle.refrun.specs.Tasks.{CountsReads, CountsWrites};
+
+use crate::checking::check_text;
+use crate::commands::{Act, Wanted};
+use crate::explaining::{explain_fault, explain_refused_steps, warn};
+use crate::faults::Fault;
+use crate::lines::say;
+use crate::printing::print_text;
+use crate::tasks::{Task, carry_out};
+use ref_audit::Verdict;
+use ref_edn::{Sink, Source};
+use ref_explain::{RefusedSteps, Remembering, Watching};
+use ref_fun::{Core, Functions};
+use std::sync::Wait;
+use std::thread::Threads;
+use std::time::Clock;
+
+// The status where an audit says no.
+const AUDIT_SAYS_NO: u8 = 5;
+
+// The status of a strict run where a step was refused.
+const STEP_REFUSED: u8 = 7;
+
+/// Does what the command says, from a reader to a writer, says on standard error what went wrong, and returns the status.
+pub(crate) fn serve<F, R, I, O>(
+    rt: &R,
+    funs: &F,
+    wanted: Wanted,
+    reader: &mut Remembering<I>,
+    writer: &mut Watching<O>,
+) -> u8
+where
+    F: Functions<Core> + Sync,
+    R: AllocGlobal + Threads + Wait + Clock + Eprint + Sync,
+    I: Source,
+    O: Sink,
+    requires { HasCore (F.knows funs.now) }
+    // It reads no further than one byte past what an input may have.
+    ensures taken { ConsumesUpTo (⟦<Remembering<I> as Source>⟧.left reader.old)
+        (⟦<Remembering<I> as Source>⟧.left reader.new) 16777217 }
+    ensures ends { Ends wanted (⟦<Remembering<I> as Source>⟧.left reader.old)
+        (⟦<Remembering<I> as Source>⟧.left reader.new)
+        (⟦<Watching<O> as Sink>⟧.written writer.old) (⟦<Watching<O> as Sink>⟧.written writer.new) result }
+{
+    let done = do_act(rt, funs, wanted.act, reader, writer);
+    let shows = wanted.is_strict && writer.steps().count() > 0;
+    let status = say_end(rt, done, shows);
+    if let (true, Some(text)) = (wanted.explains, reader.bytes()) {
+        explain_end(rt, wanted.act, done, text, writer.steps());
+    }
+    status
+}
+
+// Does what is wanted. Of what is no audit the verdict is ok.
+fn do_act<F, R, I, O>(
+    rt: &R,
+    funs: &F,
+    act: Act,
+    reader: &mut I,
+    writer: &mut O,
+) -> Result<Verdict, Fault>
+where
+    F: Functions<Core> + Sync,
+    R: AllocGlobal + Threads + Wait + Clock + Eprint + Sync,
+    I: Source,
+    O: Sink,
+    requires { HasCore (F.knows funs.now) }
+    ensures taken { ConsumesUpTo (I.left reader.old) (I.left reader.new) 16777217 }
+    ensures ok { IfOk result (λ verdict. IsActDone act verdict (I.left reader.old) (I.left reader.new)
+        (O.written writer.old) (O.written writer.new)) }
+    ensures fault { IfErr result (λ f. IsFaultOfAct act (I.left reader.old) f) }
+    ensures left { IfErr result (λ f. IsLeftByAct act f (I.left reader.old) (I.left reader.new)
+        (O.written writer.old) (O.written writer.new)) }
+    ensures reads { CountsReads (I.failures reader.old) (I.failures reader.new) result }
+    ensures writes { CountsWrites (O.failures writer.old) (O.failures writer.new) result }
+{
+    match act {
+        Act::Check => match check_text(rt.alloc(), reader, writer) {
+            Ok(()) => Ok(Verdict::Ok),
+            Err(fault) => Err(Fault::Run(fault)),
+        },
+        Act::Print => match print_text(rt.alloc(), reader, writer) {
+            Ok(()) => Ok(Verdict::Ok),
+            Err(fault) => Err(Fault::Run(fault)),
+        },
+        Act::ByCore(task) => carry_out(rt, rt.alloc(), funs, task, reader, writer),
+    }
+}
+
+// Says what went wrong, if anything did, and returns the status.
+fn say_end<R: Eprint>(rt: &R, done: Result<Verdict, Fault>, shows: bool) -> u8
+    ensures { result ≡ status_after shows done }
+{
+    match done {
+        Ok(verdict) => status_of(verdict, shows),
+        Err(fault) => say(rt, fault),
+    }
+}
+
+// The status of what went well, or of an audit.
+fn status_of(verdict: Verdict, shows: bool) -> u8
+    ensures { result ≡ verdict_status shows verdict }
+{
+    match verdict {
+        Verdict::Ok if shows => STEP_REFUSED,
+        Verdict::Ok => 0,
+        _ => AUDIT_SAYS_NO,
+    }
+}
+
+// What there is to explain of a text, as it was taken or not.
+fn explain_end<R: AllocGlobal + Eprint>(
+    rt: &R,
+    act: Act,
+    done: Result<Verdict, Fault>,
+    text: &[u8],
+    steps: &RefusedSteps,
+) {
+    match (act, done) {
+        (_, Err(fault)) => explain_fault(rt, text, fault),
+        (Act::Check, Ok(_)) => warn(rt, text),
+        (Act::ByCore(Task::Run { .. }), Ok(_)) => explain_refused_steps(rt, text, steps),
+        _ => {}
+    }
+}
