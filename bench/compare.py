@@ -19,7 +19,7 @@ from generate import arguments
 HERE = os.path.dirname(os.path.abspath(__file__))
 MIB = 1024 * 1024
 
-# The C library is to hold what the program frees, as the JVM holds its heap. By itself it hands each block of 32 MiB or more
+# The C library is to hold what the program frees, as the JVM holds its heap. By itself it returns each block of 32 MiB or more
 # back, and the next round pays for fresh pages.
 KEEPS = {"GLIBC_TUNABLES": f"glibc.malloc.mmap_max=0:glibc.malloc.trim_threshold={2**33}"}
 

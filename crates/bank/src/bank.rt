@@ -54,7 +54,7 @@ fn args(alloc: Global, value: &Value) -> Result<Args, AllocError> {
     Args::of(alloc, vec![in alloc; value.share()?]?)
 }
 
-// An account, which its rule `[>= 0]` doesn't let go below 0.
+// An account, whose rule `[>= 0]` refuses less than 0.
 fn account(alloc: Global, balance: &str) -> Result<RefStart, AllocError> {
     Ok(RefStart {
         value: value(alloc, balance)?,

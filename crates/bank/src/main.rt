@@ -37,7 +37,7 @@ fn main(rt: HostRuntime) -> ExitCode {
     }
 }
 
-// C and A name the books of the bank's world. Only their types tell them from those of another world.
+// C and A name the books of the bank's world. Only their types distinguish them from those of another world.
 fn business<C: Ledger, A: Ledger, R: AllocGlobal + Print>(
     rt: &R,
     funs: &FunTable,

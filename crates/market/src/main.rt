@@ -74,7 +74,7 @@ fn run_day<R: AllocGlobal + Print + Threads + Wait + Sync>(rt: &R) -> Result<(),
     )
 }
 
-// The day in a world. C and A name the books of its world, which only their types tell from those of another world.
+// The day in a world. C and A name the books of its world, which only their types distinguish from those of another world.
 fn day<
     C: Ledger + Send + Sync,
     A: Ledger + Send + Sync,
@@ -86,7 +86,7 @@ fn day<
     let (world, share) = begin::<C, A>(rt.alloc(), funs, commits, added)?;
     let market = Market::of(rt.alloc(), funs, world);
     match open_hours(rt, &market, share) {
-        Ok((custom, told)) => close_up(rt, market, custom, told),
+        Ok((custom, notices)) => close_up(rt, market, custom, notices),
         Err(Trouble) => {
             drop(market);
             Err(Trouble)
@@ -119,13 +119,13 @@ fn open_hours<
     F: Functions<Core> + Sync,
 >(rt: &R, market: &Market<F, C, A>, share: Share<C, A>) -> Result<(Custom<C, A>, Board), Trouble> {
     let watched = market.watch_all(rt);
-    let (told, custom) = thread::join(
+    let (notices, custom) = thread::join(
         rt,
         move || help_both(rt, market),
         move || serve_until_close(rt, market, share),
     );
-    match watched.and(told) {
-        Ok(told) => Ok((custom?, told)),
+    match watched.and(notices) {
+        Ok(notices) => Ok((custom?, notices)),
         Err(Trouble) => {
             drop(custom);
             Err(Trouble)
@@ -202,7 +202,11 @@ fn say_values<C: Ledger, A: Ledger, R: AllocGlobal + Print>(
         .ok_or(Trouble)
 }
 
-fn say_counts<R: AllocGlobal + Print>(rt: &R, wishes: Wishes, told: Board) -> Result<(), Trouble> {
+fn say_counts<R: AllocGlobal + Print>(
+    rt: &R,
+    wishes: Wishes,
+    notices: Board,
+) -> Result<(), Trouble> {
     let Wishes {
         sold,
         sold_out,
@@ -212,8 +216,8 @@ fn say_counts<R: AllocGlobal + Print>(rt: &R, wishes: Wishes, told: Board) -> Re
         .ok()
         .ok_or(Trouble)?;
     println!(rt;
-        "told of refs {}, of atoms {}, of agents {}",
-        told.refs, told.atoms, told.agents
+        "notices of refs {}, of atoms {}, of agents {}",
+        notices.refs, notices.atoms, notices.agents
     )
     .ok()
     .ok_or(Trouble)

@@ -84,7 +84,7 @@ fn at_least(alloc: Global, least: &str) -> Result<Rule, AllocError> {
     })
 }
 
-// A stock, which its rule `[>= 0]` doesn't let go below 0.
+// A stock, whose rule `[>= 0]` refuses less than 0.
 fn stock(alloc: Global, pieces: &str) -> Result<RefStart, AllocError> {
     Ok(RefStart {
         value: value(alloc, pieces)?,

@@ -69,7 +69,7 @@ impl Job {
         &self.state
     }
 
-    /// Calls the action's function with the state and the arguments. Neither an agent nor a store takes part: whoever has the
+    /// Calls the action's function with the state and the arguments. Neither an agent nor a store takes part: the owner of the
     /// job runs it. A refused call returns the job.
     pub fn run<M: Meaning, F: Functions<M>>(
         self,

@@ -13,7 +13,7 @@
 //! | [`Change`] | a change that was tested: the atom, its new value, its entry for a log, and what is answered |
 //! | [`AtomFault`] | why an atom isn't changed; the store is then as it was |
 //!
-//! Take it where a program has atoms alone, and no log or one of its own. Each change is one entry of a log, and whoever holds the log
+//! Take it where a program has atoms alone, and no log or one of its own. Each change is one entry of a log, and the owner of the log
 //! makes it in two steps: [`AtomStore::prepare`] or [`AtomStore::prepare_compare`] does all that takes memory or may be refused, and
 //! [`AtomStore::install`] can't fail. Otherwise take `ref_world`, which holds the log, or `ref_shared`, where threads share the atoms.
 //!
@@ -25,7 +25,7 @@
 //! **Not promised.** That the points which a caller passes rise: the store holds none, and refuses a change or a making past 2^62. That
 //! what is installed was prepared on the value that the atom has now: `install` asks that the atom is there and its rule accepts the
 //! value. That a `swap` doesn't return 'out of memory' instead of the refusal by its function or by the rule, or of the end of
-//! points. The store calls no watch: that is for whoever made the change. No contract speaks of time, or of how much memory is taken.
+//! points. The store calls no watch: the caller does. No contract speaks of time, or of how much memory is taken.
 #![tactic(auto)]
 
 mod asking;

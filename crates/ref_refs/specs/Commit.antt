@@ -1,6 +1,6 @@
 -- When a transaction can be committed, and what its commit makes.
 --
--- A commit is asked for at a point, which comes right after the present one, by whoever knows how many agents there are. What
+-- A commit is asked for at a point, which comes right after the present one, by a caller that knows how many agents there are. What
 -- stands here speaks of the values and the last changes of all refs as they are before it, and of the transaction as a record:
 -- its read point, the values that it began with, its operations with their answers, and what it sends.
 use Rattle.std.specs.Prelude.{ℕ, ◌^◌, ◌==◌, nat_lt, Bool, true, false, not, ◌&&◌, if◌then◌else◌, List, [], ◌∷◌, ◌++◌, find, length, slice_get, slice_set, Option, None, Some, Result, Ok, Err}

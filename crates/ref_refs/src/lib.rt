@@ -29,7 +29,7 @@
 //! its own has nothing foreign, or that one of another store has: one that only commuted, say, may be committed as if it had been begun
 //! here. That of two transactions, each of which only reads what the other one sets, one is refused: `ensure` is the remedy. That a
 //! refusal over the latest values or by a rule, or the end of points, isn't returned as 'out of memory'. The store calls no watch and sends
-//! no action: both are for whoever commits. No contract speaks of time, or of how much memory is taken.
+//! no action: the caller does both. No contract speaks of time, or of how much memory is taken.
 #![tactic(auto)]
 
 mod checking;

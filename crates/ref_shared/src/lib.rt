@@ -8,7 +8,7 @@
 //!
 //! | Name | Is |
 //! |---|---|
-//! | [`Shared`] | the world under its lock; whoever finds that free finds all that the type `World` guarantees |
+//! | [`Shared`] | the world under its lock; whenever the lock is free, all holds that the type `World` guarantees |
 //! | [`Gate`], [`Spot`], [`Open`] | what is called between two steps, where that is, and a gate that lets all pass |
 //! | [`WatchSink`], [`Quiet`] | who gets the notices of a commit or an action, and a sink that drops them |
 //! | [`Worked`], [`WorkFault`] | what a call of `work_once` did, and why it didn't run an action to its end |

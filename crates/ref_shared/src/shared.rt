@@ -41,8 +41,8 @@ pub(crate) struct Held<M: Meaning, C: Ledger, A: Ledger> {
 ///
 /// It stands under one lock. Each call but [`Shared::new`] and [`Shared::finish`] takes that lock, makes one call of the world, or none
 /// as [`Shared::close`], and then releases it; [`Shared::transact`] and [`Shared::work_once`] take it for each of their steps. The lock
-/// is never held while a transaction's body, an action, a gate or a sink runs, and whoever finds it free finds a world of which all is so
-/// that the type [`World`] guarantees. What was found at one lock need not hold at the next. Where a commit commutes, where an atom is
+/// is never held while a transaction's body, an action, a gate or a sink runs, and whenever it is free, the world is as the type
+/// [`World`] guarantees. What was found at one lock need not hold at the next. Where a commit commutes, where an atom is
 /// changed and where a rule is asked, the table's functions are called under the lock: they are to be quick.
 ///
 /// The calls may wait for the lock, and promise what they say where they return. A thread that never lets its body, its gate or
@@ -333,7 +333,7 @@ impl<M: Meaning, C: Ledger, A: Ledger> Shared<M, C, A> {
     }
 
     /// Takes the world out, with the totals of all its shares, which have to be joined again. It takes no lock and waits for
-    /// nobody: whoever has all of the shared world is alone with it. The receipts are compared with the log by
+    /// nobody: it takes the whole shared world. The receipts are compared with the log by
     /// [`match_receipts`]; where they don't fit, or there is no memory to compare them, world and share come back. Of entries that a
     /// checkpoint folded nothing is compared.
     pub fn finish(

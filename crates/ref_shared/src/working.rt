@@ -1,4 +1,4 @@
-//! The actions of agents, run by whoever has time.
+//! The actions of agents, run by any thread that has time.
 ghost use Rattle.std.specs.Prelude.{◌≡◌, IfOk, OnErr};
 ghost use Rattle.ref_shared.specs.Sinks.{Tells};
 

@@ -25,7 +25,7 @@ pub struct Value {
     node: Node,
 }
 
-// A function of its own, which whoever lets a value go calls; a derived one would be written out there, with all that a
+// A function of its own, which each place that drops a value calls; a derived one would be written out there, with all that a
 // value may be made of.
 impl Drop for Value {
     #[cycle(drop)]

@@ -17,7 +17,7 @@
 //! | [`Share`] | what commits and changes of atoms are counted in. It is split and joined; one with [`ALL_PARTS`] has what the books have |
 //! | [`Receipt`], [`LogReceipt`] | what a commit returns; what a share stores of an entry: its point and the whole entry |
 //! | [`Totals`] | what the books say: how many commits there were, and how much they added to the tally |
-//! | [`View`] | base and log as they were ([`World::view`]), for whoever reads them while the world goes on |
+//! | [`View`] | base and log as they were ([`World::view`]), to be read while the world goes on |
 //! | [`CheckpointFault`] | why [`World::checkpoint`] folded nothing. Other calls have the faults of the stores and of `ref_log` |
 //!
 //! Take it where one thread has all of the world, as in `crates/bank`; otherwise, where threads share it, take `ref_shared`. A store

@@ -25,7 +25,7 @@ pub struct Apart {
     log: PVec<Entry>,
 }
 
-// A function of its own, which whoever drops one calls; a derived one would be written out there.
+// A function of its own, which each place that drops one calls; a derived one would be written out there.
 impl Drop for Apart {
     fn drop(self) {
         let Apart {

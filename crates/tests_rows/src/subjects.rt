@@ -65,7 +65,7 @@ pub struct Look {
     pub account: Value,
 }
 
-// A function of its own, which whoever drops one calls; a derived one would be written out there.
+// A function of its own, which each place that drops one calls; a derived one would be written out there.
 impl Drop for Look {
     fn drop(self) {
         let Look {

@@ -24,7 +24,7 @@ pub struct Whole<C: Ledger, A: Ledger> {
     pub share: Share<C, A>,
 }
 
-// A function of its own, which whoever drops one calls; a derived one would be written out there.
+// A function of its own, which each place that drops one calls; a derived one would be written out there.
 impl<C: Ledger, A: Ledger> Drop for Whole<C, A> {
     fn drop(self) {
         let Whole {

@@ -166,7 +166,7 @@ fn transact_and_look<
     (mine, seen)
 }
 
-// A transaction in a world that is closed, so that whoever works there learns when no agent is ready.
+// A transaction in a world that is closed, so that a worker there learns that no agent is ready.
 fn try_transaction<
     C: Ledger + Send + Sync,
     A: Ledger + Send + Sync,

@@ -22,7 +22,7 @@ use std::time::{Clock, Duration};
 use tests_shared::jobs::{Work, agents_at, two_agents, work};
 use tests_shared::worlds::{Stop, action, done, int_at, opened};
 
-// Waits for a flag, and then some time more, in which whoever set it has begun to wait.
+// Waits for a flag, and then some time more, in which the thread that set it has begun to wait.
 pub(crate) fn wait_past<R: Clock>(rt: &R, flag: &AtomicBool) -> bool {
     let is_set = wait_for(rt, flag);
     thread::sleep(rt, Duration::from_millis(20));

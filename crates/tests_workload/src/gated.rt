@@ -111,6 +111,12 @@ const OVERTAKEN_ROWS: &[Row] = &[
         tries: 10,
         report: "ref a 9223372036854775807\nref b 0\nagent g 0 ready\nrefused 0 0 overflow\ncommits 1\naudit ok\n",
     },
+    // Its function is called on the latest value, of whatever kind that is.
+    Row {
+        text: "{:version 1 :refs [[a 0]] :workers [[[:tx [:commute a + 1]]] [[:tx [:set a :k]]]]}",
+        tries: 10,
+        report: "ref a :k\nrefused 0 0 wrong-kind\ncommits 1\naudit ok\n",
+    },
     // A ref that is only read is in no conflict either, but one that is ensured is, also where the other sets it to what it was.
     Row {
         text: "{:version 1 :refs [[a 0] [b 0]] :workers [[[:tx [:require a = 0] [:set b 1]]] [[:tx [:set a 1]]]]}",

@@ -3,5 +3,5 @@ use Rattle.std.proofs.Crossing as std
 use Rattle.market.proofs.Crossing.{crosses}
 use Rattle.market.proofs.open_hours.Goals as goal
 
-pub join-told-requires-send-F : goal.join-told-requires-send-F
-join-told-requires-send-F g c κs within = search (crosses, std.crosses, sendable) depth 60
+pub join-notices-requires-send-F : goal.join-notices-requires-send-F
+join-notices-requires-send-F g c κs within = search (crosses, std.crosses, sendable) depth 60

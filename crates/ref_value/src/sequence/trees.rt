@@ -16,7 +16,7 @@ use std::sync::Arc;
 
 /// Members in order. Contracts see them as pairs, with the height and the mark.
 ///
-/// A mark is what whoever has the tree wants to store with it; it stays the same in each change.
+/// A mark is what the owner of the tree stores with it; it stays the same in each change.
 #[cycle(value)]
 #[derive(Drop)]
 pub(crate) struct Tree {
