@@ -237,14 +237,14 @@ def folds(agent):
     return value == now
 
 
-def addition(done, tally):
-    """What an operation adds to the tally."""
+def moves(done, tally, functions):
+    """What an operation adds to the tally, and what it takes from it, where it may do so by these functions."""
     if done[1] != tally or done[0] == word(":ensure"):
-        return 0
-    if done[0] == word(":commute") and done[2] == word("+") and len(done[3][1]) == 1:
+        return 0, 0
+    if done[0] == word(":commute") and done[2][1] in functions and len(done[3][1]) == 1:
         kind, number = done[3][1][0]
         if kind == "int" and number >= 0:
-            return number
+            return (number, 0) if done[2] == word("+") else (0, number)
     raise No("count")
 
 
@@ -267,9 +267,13 @@ def audit(dump):
         if not folds(agent[1]):
             raise No(f"agent {at} fold")
     transactions = [it[1] for it in parts["entries"] if it[1][0] == word(":tx")]
-    commits, added = (it[1] for it in parts["folded"])
-    added += sum(addition(done[1], tally) for it in transactions for done in it[4][1])
-    if (parts["commits"], parts["added"]) != (commits + len(transactions), added):
+    commits, *folded = (it[1] for it in parts["folded"])
+    # A dump of version 1 has no book of what was taken.
+    functions = ("+", "-") if parts["dump"] == 2 else ("+",)
+    moved = [moves(done[1], tally, functions) for it in transactions for done in it[4][1]]
+    books = [before + sum(it[side] for it in moved) for side, before in enumerate(folded)]
+    now = [parts["added"], parts["taken"]] if parts["dump"] == 2 else [parts["added"]]
+    if (parts["commits"], now) != (commits + len(transactions), books):
         raise No("count")
 
 

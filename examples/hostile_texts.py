@@ -301,10 +301,10 @@ def values():
             ("vector of small ones", listed("[]", n), ["[", joined("[]", n), "]"], 64))
     for name, text, shown, times in rows:
         begin = "{:added 0, :agents [], :atoms [], :base-atoms [], :base-refs [["
-        end = " 0]], :commits 0, :dump 1, :entries [], :folded [0 0], :point 0, :refs [["
+        end = " 0]], :commits 0, :dump 2, :entries [], :folded [0 0 0], :point 0, :refs [["
         yield Case(f"a ref with a long {name}", workload(":refs [[a ", text, "]]"), {
             "run": printed("ref a ", shown, "\ncommits 0\naudit ok\n"),
-            "run --dump": printed(begin, shown, end, shown, " nil]], :tally nil}\n"),
+            "run --dump": printed(begin, shown, end, shown, " nil]], :taken 0, :tally nil}\n"),
             "check": printed("workload ok\n")}, times)
     nest, row, word = "[" * 48 + "]" * 48, "0 " * 640, "a" * 1_300
     rows = (("strings", lambda i: f'"{word}{i}"', 32), ("vectors", lambda i: f"[{row}{i}]", 32), ("48 levels", lambda i: nest, 64))

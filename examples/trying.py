@@ -44,23 +44,26 @@ def refused(status, words):
 # ---- texts and tables in files
 
 
-# The dump of a world without references and entries, key by key.
+# The dump of a world without references and entries, key by key, in version 1, and what version 2 has instead.
 EMPTY_DUMP = {
     ":added": "0", ":agents": "[]", ":atoms": "[]", ":base-atoms": "[]", ":base-refs": "[]", ":commits": "0", ":dump": "1",
     ":entries": "[]", ":folded": "[0 0]", ":point": "0", ":refs": "[]", ":tally": "nil",
 }  # fmt: skip
+VERSION_2 = {":dump": "2", ":folded": "[0 0 0]", ":taken": "0"}
 
 
-def dump_of(keys):
+def dump_of(keys, version={}):
     """A dump that differs from the empty one in these keys."""
-    told = {**EMPTY_DUMP, **dict(it.split(" ", 1) for it in keys.split(" | ") if it)}
+    told = {**EMPTY_DUMP, **version, **dict(it.split(" ", 1) for it in keys.split(" | ") if it)}
     return ("{" + ", ".join(f"{key} {value}" for key, value in told.items()) + "}").encode()
 
 
 def text_of(head):
-    """The text of a row: behind `<<`, with escapes behind `<<\\`, or as the keys of a dump behind `<<+`."""
+    """The text of a row: behind `<<`, with escapes behind `<<\\`, or as the keys of a dump behind `<<+`, or `<<2` in version 2."""
     if head.startswith("<<+"):
         return dump_of(head[4:])
+    if head.startswith("<<2"):
+        return dump_of(head[4:], VERSION_2)
     if not head.startswith("<<\\"):
         return head[3:].encode()
     escapes = {"n": b"\n", "\\": b"\\"}

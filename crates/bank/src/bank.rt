@@ -34,13 +34,13 @@ pub(crate) enum Refusal {
     Commit(CommitFault),
 }
 
-/// A world with the functions that it names, and with its whole share: the bank alone changes it. C and A name the world's books.
+/// A world with the functions that it names, and with its whole share: the bank alone changes it. C, A and K name the world's books.
 #[derive(Drop)]
-pub(crate) struct Bank<'a, C: Ledger, A: Ledger> {
+pub(crate) struct Bank<'a, C: Ledger, A: Ledger, K: Ledger> {
     alloc: Global,
     funs: &'a FunTable,
-    world: World<Core, C, A>,
-    share: Share<C, A>,
+    world: World<Core, C, A, K>,
+    share: Share<C, A, K>,
 }
 
 fn value(alloc: Global, edn: &str) -> Result<Value, AllocError> {
@@ -85,18 +85,21 @@ fn start(alloc: Global) -> Result<Start, AllocError> {
     })
 }
 
-impl<'a, C: Ledger, A: Ledger> Bank<'a, C, A> {
+impl<'a, C: Ledger, A: Ledger, K: Ledger> Bank<'a, C, A, K> {
     /// A bank with two accounts, each of which has a watch. The blanks become its books.
     pub(crate) fn open(
         alloc: Global,
         funs: &'a FunTable,
         commits: Blank,
         added: Blank,
-    ) -> Result<Bank<'a, C, A>, AllocError>
+        taken: Blank,
+    ) -> Result<Bank<'a, C, A, K>, AllocError>
         requires commits { IsBlank commits C.name C.parts }
         requires added { IsBlank added A.name A.parts }
+        requires taken { IsBlank taken K.name K.parts }
     {
-        let Ok((world, share)) = World::new(alloc, funs, start(alloc)?, commits, added) else {
+        let Ok((world, share)) = World::new(alloc, funs, start(alloc)?, commits, added, taken)
+        else {
             return Err(AllocError);
         };
         let mut bank = Bank {

@@ -37,23 +37,25 @@ fn main(rt: HostRuntime) -> ExitCode {
     }
 }
 
-// C and A name the books of the bank's world. Only their types distinguish them from those of another world.
-fn business<C: Ledger, A: Ledger, R: AllocGlobal + Print>(
+// C, A and K name the books of the bank's world. Only their types distinguish them from those of another world.
+fn business<C: Ledger, A: Ledger, K: Ledger, R: AllocGlobal + Print>(
     rt: &R,
     funs: &FunTable,
     commits: Blank,
     added: Blank,
+    taken: Blank,
 ) -> Result<(), Trouble>
     requires commits { IsBlank commits C.name C.parts }
     requires added { IsBlank added A.name A.parts }
+    requires taken { IsBlank taken K.name K.parts }
 {
-    let mut bank = Bank::<C, A>::open(rt.alloc(), funs, commits, added)?;
+    let mut bank = Bank::<C, A, K>::open(rt.alloc(), funs, commits, added, taken)?;
     work(rt, &mut bank)
 }
 
-fn work<C: Ledger, A: Ledger, R: AllocGlobal + Print>(
+fn work<C: Ledger, A: Ledger, K: Ledger, R: AllocGlobal + Print>(
     rt: &R,
-    bank: &mut Bank<C, A>,
+    bank: &mut Bank<C, A, K>,
 ) -> Result<(), Trouble> {
     transfer(rt, bank, 0, "30")?;
     transfer(rt, bank, 1, "80")?;
@@ -61,9 +63,9 @@ fn work<C: Ledger, A: Ledger, R: AllocGlobal + Print>(
     tell_all(rt, bank)
 }
 
-fn tell_all<C: Ledger, A: Ledger, R: AllocGlobal + Print>(
+fn tell_all<C: Ledger, A: Ledger, K: Ledger, R: AllocGlobal + Print>(
     rt: &R,
-    bank: &Bank<C, A>,
+    bank: &Bank<C, A, K>,
 ) -> Result<(), Trouble> {
     say(rt, "the first account has", bank.balance(FIRST))?;
     say(rt, "the second account has", bank.balance(SECOND))?;
@@ -73,9 +75,9 @@ fn tell_all<C: Ledger, A: Ledger, R: AllocGlobal + Print>(
 }
 
 // Moves a sum from the first account to the second, and says what came of it.
-fn transfer<C: Ledger, A: Ledger, R: AllocGlobal + Print>(
+fn transfer<C: Ledger, A: Ledger, K: Ledger, R: AllocGlobal + Print>(
     rt: &R,
-    bank: &mut Bank<C, A>,
+    bank: &mut Bank<C, A, K>,
     step: u32,
     sum: &str,
 ) -> Result<(), Trouble> {
@@ -89,9 +91,9 @@ fn transfer<C: Ledger, A: Ledger, R: AllocGlobal + Print>(
 }
 
 // Calls the watches, and then releases what was sent to the journal.
-fn settle<C: Ledger, A: Ledger, R: AllocGlobal + Print>(
+fn settle<C: Ledger, A: Ledger, K: Ledger, R: AllocGlobal + Print>(
     rt: &R,
-    bank: &mut Bank<C, A>,
+    bank: &mut Bank<C, A, K>,
     receipt: &Receipt,
 ) -> Result<(), Trouble> {
     for notice in &receipt.notices {

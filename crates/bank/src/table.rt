@@ -42,5 +42,11 @@ pub(crate) fn run_by_core<R: AllocGlobal + Print>(rt: &R) -> Result<(), Trouble>
         };
     }
     // The books of a world begin as blanks, each of which is named as it is made.
-    business::<Brand, Brand, R>(rt, &table, Blank::new(ALL_PARTS), Blank::new(ALL_PARTS))
+    business::<Brand, Brand, Brand, R>(
+        rt,
+        &table,
+        Blank::new(ALL_PARTS),
+        Blank::new(ALL_PARTS),
+        Blank::new(ALL_PARTS),
+    )
 }

@@ -11,19 +11,19 @@ use Rattle.market.specs.contracts.tickets.office.Office as Office
 use Rattle.market.specs.contracts.customers.Visit as Visit
 use Rattle.market.specs.contracts.customers.Custom as Custom
 
-module _ (κ : NamedLft) (F C A : RattleType) (gC : Ledger.Ghosts C.Denot) (gA : Ledger.Ghosts A.Denot) where
-  pub market_sync : IsSync F → IsSync (Market.the_row κ F C A gC gA)
-  market_sync y = declared_sync (Market.the_type κ F C A gC gA)
+module _ (κ : NamedLft) (F C A K : RattleType) (gC : Ledger.Ghosts C.Denot) (gA : Ledger.Ghosts A.Denot) (gK : Ledger.Ghosts K.Denot) where
+  pub market_sync : IsSync F → IsSync (Market.the_row κ F C A K gC gA gK)
+  market_sync y = declared_sync (Market.the_type κ F C A K gC gA gK)
       (search (std.crosses, sendable) depth 60, (search (y, std.crosses, sendable) depth 60, (search (shared_crosses, std.crosses, sendable) depth 60, tt)))
 
-module _ (C A : RattleType) (gC : Ledger.Ghosts C.Denot) (gA : Ledger.Ghosts A.Denot) where
-  pub visit_send : IsSend (Visit.the_row C A gC gA)
-  visit_send = declared_send (Visit.the_type C A gC gA) (search (std.crosses, sendable) depth 60, (search (shared_crosses, std.crosses, sendable) depth 60, tt))
+module _ (C A K : RattleType) (gC : Ledger.Ghosts C.Denot) (gA : Ledger.Ghosts A.Denot) (gK : Ledger.Ghosts K.Denot) where
+  pub visit_send : IsSend (Visit.the_row C A K gC gA gK)
+  visit_send = declared_send (Visit.the_type C A K gC gA gK) (search (std.crosses, sendable) depth 60, (search (shared_crosses, std.crosses, sendable) depth 60, tt))
 
-  pub custom_send : IsSend (Custom.the_row C A gC gA)
-  custom_send = declared_send (Custom.the_type C A gC gA) (search (shared_crosses, std.crosses, sendable) depth 60, (search (std.crosses, sendable) depth 60, (search (std.crosses, sendable) depth 60, tt)))
+  pub custom_send : IsSend (Custom.the_row C A K gC gA gK)
+  custom_send = declared_send (Custom.the_type C A K gC gA gK) (search (shared_crosses, std.crosses, sendable) depth 60, (search (std.crosses, sendable) depth 60, (search (std.crosses, sendable) depth 60, tt)))
 
-  pub office_sync : IsSync (Office.the_row C A gC gA)
-  office_sync = declared_sync (Office.the_type C A gC gA) (search (std.crosses, sendable) depth 60, (search (shared_crosses, std.crosses, sendable) depth 60, tt))
+  pub office_sync : IsSync (Office.the_row C A K gC gA gK)
+  office_sync = declared_sync (Office.the_type C A K gC gA gK) (search (std.crosses, sendable) depth 60, (search (shared_crosses, std.crosses, sendable) depth 60, tt))
 
 pub ruleset crosses = (shared_crosses, market_sync, visit_send, custom_send, office_sync)

@@ -2,22 +2,23 @@
 --
 --   code  function  arguments             tickets    gives
 --   1     Add       as of Core's `+`
---   2     Sell      an integer from 1 to 4  integer  so many fewer
---   3     Close     none                  integer    0
+--   2     Take      as of Core's `-`
+--   3     Sell      an integer from 1 to 4  integer  so many fewer
+--   4     Close     none                  integer    0
 --
 -- Predicate 1 accepts an integer of 0 or more, without an argument. Other codes have no function, and accept nothing.
 use Rattle.std.specs.Prelude.{◌≡◌, ℕ, ℤ, pos, int_le, ◌==◌, ◌&&◌, Bool, false, is_some, if◌then◌else◌, List, [], ◌∷◌, Option, None, Some, Result, Ok, Err}
 use Rattle.ref_edn.specs.Edn.{Edn, int}
 use Rattle.ref_fun.specs.Calls.{Known}
-use Rattle.ref_fun.specs.Core.{core_means, core_adds}
-use Rattle.ref_fun.specs.Integers.{plus}
+use Rattle.ref_fun.specs.Core.{core_adds, core_means, core_takes}
+use Rattle.ref_fun.specs.Integers.{minus, plus}
 use Rattle.ref_fun.specs.declared.faults.Cause.{Cause}
 use Rattle.ref_fun.specs.declared.faults.Cause.TheVariants.{WrongKind, WrongArity}
 use Rattle.market.specs.declared.tickets.acts.Act.{Act}
-use Rattle.market.specs.declared.tickets.acts.Act.TheVariants.{Add, Sell, Close}
+use Rattle.market.specs.declared.tickets.acts.Act.TheVariants.{Add, Take, Sell, Close}
 
 abbrev pub act_of : ℕ → Option Act
-act_of code = if code == 1 then Some Add else if code == 2 then Some Sell else if code == 3 then Some Close else None
+act_of code = if code == 1 then Some Add else if code == 2 then Some Take else if code == 3 then Some Sell else if code == 4 then Some Close else None
 
 -- the one argument of a sale: how many tickets a group takes
 abbrev pub is_group : List Edn → Bool
@@ -30,6 +31,7 @@ closed args state = Err WrongKind
 
 abbrev pub done : Act → List Edn → Edn → Result Edn Cause
 done Add args state = core_means 1 args state
+done Take args state = core_means 2 args state
 done Sell args state = if is_group args then core_means 2 args state else Err WrongKind
 done Close args state = closed args state
 
@@ -40,9 +42,12 @@ done_by (Some act) args state = done act args state
 abbrev pub act_means : ℕ → List Edn → Edn → Result Edn Cause
 act_means code args state = done_by (act_of code) args state
 
--- code 1 adds, as every meaning has to mean by it
+-- code 1 adds and code 2 takes, as every meaning has to mean by them
 pub act_adds : (a b : ℤ) → act_means 1 (int b ∷ []) (int a) ≡ plus (int b ∷ []) (int a)
 act_adds a b = core_adds a b
+
+pub act_takes : (a b : ℤ) → act_means 2 (int b ∷ []) (int a) ≡ minus (int b ∷ []) (int a)
+act_takes a b = core_takes a b
 
 abbrev pub is_left : List Edn → Edn → Bool
 is_left [] (int n) = int_le (pos 0) n

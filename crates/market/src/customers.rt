@@ -21,9 +21,9 @@ const CUSTOMERS: u32 = 60;
 
 // A thread's customers, whose numbers begin with their worker's.
 #[derive(Drop)]
-struct Visit<C: Ledger, A: Ledger> {
+struct Visit<C: Ledger, A: Ledger, K: Ledger> {
     worker: u32,
-    share: Share<C, A>,
+    share: Share<C, A, K>,
 }
 
 /// How the wishes of customers ended.
@@ -56,14 +56,14 @@ impl Wishes {
 
 /// What came of customers: the share that was used for them, how their wishes ended, and the notices that the board got.
 #[derive(Drop)]
-pub(crate) struct Custom<C: Ledger, A: Ledger> {
-    pub(crate) share: Share<C, A>,
+pub(crate) struct Custom<C: Ledger, A: Ledger, K: Ledger> {
+    pub(crate) share: Share<C, A, K>,
     pub(crate) wishes: Wishes,
     pub(crate) board: Board,
 }
 
-impl<C: Ledger, A: Ledger> Custom<C, A> {
-    pub(crate) fn of(share: Share<C, A>) -> Custom<C, A> {
+impl<C: Ledger, A: Ledger, K: Ledger> Custom<C, A, K> {
+    pub(crate) fn of(share: Share<C, A, K>) -> Custom<C, A, K> {
         Custom {
             share,
             wishes: Wishes::default(),
@@ -71,7 +71,7 @@ impl<C: Ledger, A: Ledger> Custom<C, A> {
         }
     }
 
-    fn join(&mut self, other: Custom<C, A>) -> Result<(), Trouble> {
+    fn join(&mut self, other: Custom<C, A, K>) -> Result<(), Trouble> {
         let Custom {
             share,
             wishes,
@@ -91,19 +91,20 @@ impl<C: Ledger, A: Ledger> Custom<C, A> {
 pub(crate) fn serve_all<
     C: Ledger + Send + Sync,
     A: Ledger + Send + Sync,
+    K: Ledger + Send + Sync,
     R: Threads + Wait + Sync,
     F: Functions<Core> + Sync,
->(rt: &R, market: &Market<F, C, A>, all: &mut Custom<C, A>) -> Result<(), Trouble> {
+>(rt: &R, market: &Market<F, C, A, K>, all: &mut Custom<C, A, K>) -> Result<(), Trouble> {
     let visits = visits(market.alloc, &mut all.share)?;
     let customs = thread::map_vec(rt, visits, &|visit| serve(rt, market, visit))?;
     join_all(all, customs)
 }
 
 // A visit for each thread, and for each a part of the share.
-fn visits<C: Ledger, A: Ledger>(
+fn visits<C: Ledger, A: Ledger, K: Ledger>(
     alloc: Global,
-    share: &mut Share<C, A>,
-) -> Result<Vec<Visit<C, A>>, Trouble> {
+    share: &mut Share<C, A, K>,
+) -> Result<Vec<Visit<C, A, K>>, Trouble> {
     let mut visits = Vec::new(alloc);
     for worker in 0..THREADS {
         let Some(share) = share.split(PARTS) else {
@@ -114,9 +115,9 @@ fn visits<C: Ledger, A: Ledger>(
     Ok(visits)
 }
 
-fn join_all<C: Ledger, A: Ledger>(
-    all: &mut Custom<C, A>,
-    customs: Vec<Result<Custom<C, A>, Trouble>>,
+fn join_all<C: Ledger, A: Ledger, K: Ledger>(
+    all: &mut Custom<C, A, K>,
+    customs: Vec<Result<Custom<C, A, K>, Trouble>>,
 ) -> Result<(), Trouble> {
     for custom in customs {
         all.join(custom?)?;
@@ -125,11 +126,11 @@ fn join_all<C: Ledger, A: Ledger>(
 }
 
 // What a thread does.
-fn serve<C: Ledger, A: Ledger, R: Wait, F: Functions<Core>>(
+fn serve<C: Ledger, A: Ledger, K: Ledger, R: Wait, F: Functions<Core>>(
     rt: &R,
-    market: &Market<F, C, A>,
-    visit: Visit<C, A>,
-) -> Result<Custom<C, A>, Trouble> {
+    market: &Market<F, C, A, K>,
+    visit: Visit<C, A, K>,
+) -> Result<Custom<C, A, K>, Trouble> {
     let Visit { worker, share } = visit;
     let mut custom = Custom::of(share);
     match serve_each(rt, market, worker, &mut custom) {
@@ -142,11 +143,11 @@ fn serve<C: Ledger, A: Ledger, R: Wait, F: Functions<Core>>(
 }
 
 // Serves the customers of one thread.
-fn serve_each<C: Ledger, A: Ledger, R: Wait, F: Functions<Core>>(
+fn serve_each<C: Ledger, A: Ledger, K: Ledger, R: Wait, F: Functions<Core>>(
     rt: &R,
-    market: &Market<F, C, A>,
+    market: &Market<F, C, A, K>,
     worker: u32,
-    custom: &mut Custom<C, A>,
+    custom: &mut Custom<C, A, K>,
 ) -> Result<(), Trouble> {
     for step in 0..CUSTOMERS {
         let good = match step % 3 {

@@ -13,17 +13,18 @@ use std::thread::Threads;
 pub(crate) fn help_both<
     C: Ledger + Send + Sync,
     A: Ledger + Send + Sync,
+    K: Ledger + Send + Sync,
     R: Threads + Wait + Sync,
     F: Functions<Core> + Sync,
->(rt: &R, market: &Market<F, C, A>) -> Result<Board, Trouble> {
+>(rt: &R, market: &Market<F, C, A, K>) -> Result<Board, Trouble> {
     let (one, other) = thread::join(rt, move || help(rt, market), move || help(rt, market));
     Ok(one?.with(other?))
 }
 
 // Runs actions, whichever agent is ready, until the market is closed and nothing is left to do.
-fn help<C: Ledger, A: Ledger, R: Wait, F: Functions<Core>>(
+fn help<C: Ledger, A: Ledger, K: Ledger, R: Wait, F: Functions<Core>>(
     rt: &R,
-    market: &Market<F, C, A>,
+    market: &Market<F, C, A, K>,
 ) -> Result<Board, Trouble> {
     let mut board = Board::default();
     for _ in rt.forever() {

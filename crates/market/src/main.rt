@@ -66,24 +66,27 @@ fn main(rt: HostRuntime) -> ExitCode {
 // A day at the market, by the functions of Core.
 fn run_day<R: AllocGlobal + Print + Threads + Wait + Sync>(rt: &R) -> Result<(), Trouble> {
     // The books of a world begin as blanks, each of which is named as it is made.
-    day::<Brand, Brand, R>(
+    day::<Brand, Brand, Brand, R>(
         rt,
         &CoreFunctions,
+        Blank::new(ALL_PARTS),
         Blank::new(ALL_PARTS),
         Blank::new(ALL_PARTS),
     )
 }
 
-// The day in a world. C and A name the books of its world, which only their types distinguish from those of another world.
+// The day in a world. C, A and K name the books of its world, which only their types distinguish from those of another world.
 fn day<
     C: Ledger + Send + Sync,
     A: Ledger + Send + Sync,
+    K: Ledger + Send + Sync,
     R: AllocGlobal + Print + Threads + Wait + Sync,
->(rt: &R, funs: &CoreFunctions, commits: Blank, added: Blank) -> Result<(), Trouble>
+>(rt: &R, funs: &CoreFunctions, commits: Blank, added: Blank, taken: Blank) -> Result<(), Trouble>
     requires commits { IsBlank commits C.name C.parts }
     requires added { IsBlank added A.name A.parts }
+    requires taken { IsBlank taken K.name K.parts }
 {
-    let (world, share) = begin::<C, A>(rt.alloc(), funs, commits, added)?;
+    let (world, share) = begin::<C, A, K>(rt.alloc(), funs, commits, added, taken)?;
     let market = Market::of(rt.alloc(), funs, world);
     match open_hours(rt, &market, share) {
         Ok((custom, notices)) => close_up(rt, market, custom, notices),
@@ -95,16 +98,18 @@ fn day<
 }
 
 // The world of the market, and the share with all its parts.
-fn begin<C: Ledger, A: Ledger>(
+fn begin<C: Ledger, A: Ledger, K: Ledger>(
     alloc: Global,
     funs: &CoreFunctions,
     commits: Blank,
     added: Blank,
-) -> Result<(World<Core, C, A>, Share<C, A>), Trouble>
+    taken: Blank,
+) -> Result<(World<Core, C, A, K>, Share<C, A, K>), Trouble>
     requires commits { IsBlank commits C.name C.parts }
     requires added { IsBlank added A.name A.parts }
+    requires taken { IsBlank taken K.name K.parts }
 {
-    match World::<Core, C, A>::new(alloc, funs, start(alloc)?, commits, added) {
+    match World::<Core, C, A, K>::new(alloc, funs, start(alloc)?, commits, added, taken) {
         Ok(begun) => Ok(begun),
         Err(_) => Err(Trouble),
     }
@@ -115,9 +120,14 @@ fn begin<C: Ledger, A: Ledger>(
 fn open_hours<
     C: Ledger + Send + Sync,
     A: Ledger + Send + Sync,
+    K: Ledger + Send + Sync,
     R: Threads + Wait + Sync,
     F: Functions<Core> + Sync,
->(rt: &R, market: &Market<F, C, A>, share: Share<C, A>) -> Result<(Custom<C, A>, Board), Trouble> {
+>(
+    rt: &R,
+    market: &Market<F, C, A, K>,
+    share: Share<C, A, K>,
+) -> Result<(Custom<C, A, K>, Board), Trouble> {
     let watched = market.watch_all(rt);
     let (notices, custom) = thread::join(
         rt,
@@ -137,9 +147,10 @@ fn open_hours<
 fn serve_until_close<
     C: Ledger + Send + Sync,
     A: Ledger + Send + Sync,
+    K: Ledger + Send + Sync,
     R: Threads + Wait + Sync,
     F: Functions<Core> + Sync,
->(rt: &R, market: &Market<F, C, A>, share: Share<C, A>) -> Result<Custom<C, A>, Trouble> {
+>(rt: &R, market: &Market<F, C, A, K>, share: Share<C, A, K>) -> Result<Custom<C, A, K>, Trouble> {
     let mut custom = Custom::of(share);
     let served = serve_all(rt, market, &mut custom);
     market.shared.close(rt);
@@ -153,10 +164,10 @@ fn serve_until_close<
 }
 
 // Takes the world out, and says what is in it.
-fn close_up<C: Ledger, A: Ledger, R: AllocGlobal + Print, F: Functions<Core>>(
+fn close_up<C: Ledger, A: Ledger, K: Ledger, R: AllocGlobal + Print, F: Functions<Core>>(
     rt: &R,
-    market: Market<F, C, A>,
-    custom: Custom<C, A>,
+    market: Market<F, C, A, K>,
+    custom: Custom<C, A, K>,
     helped: Board,
 ) -> Result<(), Trouble> {
     let Custom {
@@ -173,10 +184,10 @@ fn close_up<C: Ledger, A: Ledger, R: AllocGlobal + Print, F: Functions<Core>>(
 }
 
 // Takes the world out, with its totals.
-fn take_out<C: Ledger, A: Ledger, F: Functions<Core>>(
-    market: Market<F, C, A>,
-    share: Share<C, A>,
-) -> Result<(World<Core, C, A>, Totals), Trouble> {
+fn take_out<C: Ledger, A: Ledger, K: Ledger, F: Functions<Core>>(
+    market: Market<F, C, A, K>,
+    share: Share<C, A, K>,
+) -> Result<(World<Core, C, A, K>, Totals), Trouble> {
     let Market { alloc, shared, .. } = market;
     if share.is_whole() {
         shared.finish(alloc, share).ok().ok_or(Trouble)
@@ -186,9 +197,9 @@ fn take_out<C: Ledger, A: Ledger, F: Functions<Core>>(
     }
 }
 
-fn say_values<C: Ledger, A: Ledger, R: AllocGlobal + Print>(
+fn say_values<C: Ledger, A: Ledger, K: Ledger, R: AllocGlobal + Print>(
     rt: &R,
-    world: &World<Core, C, A>,
+    world: &World<Core, C, A, K>,
 ) -> Result<(), Trouble> {
     say(rt, "customers", world.value_of(Who::Atom(CAME)))?;
     for good in [Good::Apple, Good::Bread, Good::Cheese] {

@@ -68,12 +68,12 @@ pub(crate) enum Outcome {
     WithoutBread,
 }
 
-/// What all threads share: the world, and the table of the functions that it names. C and A name the world's books.
+/// What all threads share: the world, and the table of the functions that it names. C, A and K name the world's books.
 #[derive(Drop)]
-pub(crate) struct Market<'a, F: Functions<Core>, C: Ledger, A: Ledger> {
+pub(crate) struct Market<'a, F: Functions<Core>, C: Ledger, A: Ledger, K: Ledger> {
     pub(crate) alloc: Global,
     pub(crate) funs: &'a F,
-    pub(crate) shared: Shared<Core, C, A>,
+    pub(crate) shared: Shared<Core, C, A, K>,
 }
 
 // A rule that a value is at least so much.
@@ -142,9 +142,13 @@ pub(crate) fn start(alloc: Global) -> Result<Start, AllocError> {
     })
 }
 
-impl<'a, F: Functions<Core>, C: Ledger, A: Ledger> Market<'a, F, C, A> {
+impl<'a, F: Functions<Core>, C: Ledger, A: Ledger, K: Ledger> Market<'a, F, C, A, K> {
     /// Shares a world.
-    pub(crate) fn of(alloc: Global, funs: &'a F, world: World<Core, C, A>) -> Market<'a, F, C, A> {
+    pub(crate) fn of(
+        alloc: Global,
+        funs: &'a F,
+        world: World<Core, C, A, K>,
+    ) -> Market<'a, F, C, A, K> {
         Market {
             alloc,
             funs,
@@ -174,7 +178,7 @@ impl<'a, F: Functions<Core>, C: Ledger, A: Ledger> Market<'a, F, C, A> {
     pub(crate) fn come<R: Wait>(
         &self,
         rt: &R,
-        share: &mut Share<C, A>,
+        share: &mut Share<C, A, K>,
         board: &mut Board,
     ) -> Result<(), Trouble> {
         let (alloc, funs) = (self.alloc, self.funs);
@@ -193,7 +197,7 @@ impl<'a, F: Functions<Core>, C: Ledger, A: Ledger> Market<'a, F, C, A> {
     pub(crate) fn sell<R: Wait>(
         &self,
         rt: &R,
-        share: &mut Share<C, A>,
+        share: &mut Share<C, A, K>,
         stamp: Stamp,
         good: Good,
         board: &mut Board,

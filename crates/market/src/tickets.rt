@@ -22,18 +22,25 @@ pub(crate) fn sell_tickets<R: AllocGlobal + Print + Threads + Wait + Sync>(
     rt: &R,
 ) -> Result<(), Trouble> {
     // The books of a world begin as blanks, each of which is named as it is made.
-    open_office::<Brand, Brand, R>(rt, Blank::new(ALL_PARTS), Blank::new(ALL_PARTS))
+    open_office::<Brand, Brand, Brand, R>(
+        rt,
+        Blank::new(ALL_PARTS),
+        Blank::new(ALL_PARTS),
+        Blank::new(ALL_PARTS),
+    )
 }
 
 fn open_office<
     C: Ledger + Send + Sync,
     A: Ledger + Send + Sync,
+    K: Ledger + Send + Sync,
     R: AllocGlobal + Print + Threads + Wait + Sync,
->(rt: &R, commits: Blank, added: Blank) -> Result<(), Trouble>
+>(rt: &R, commits: Blank, added: Blank, taken: Blank) -> Result<(), Trouble>
     requires commits { IsBlank commits C.name C.parts }
     requires added { IsBlank added A.name A.parts }
+    requires taken { IsBlank taken K.name K.parts }
 {
-    let (world, share) = begin::<C, A>(rt.alloc(), commits, added)?;
+    let (world, share) = begin::<C, A, K>(rt.alloc(), commits, added, taken)?;
     let office = Office::open(rt.alloc(), world);
     match sell_and_say(rt, &office, share) {
         Ok(sold) => close_up(rt, office, sold),
@@ -45,15 +52,17 @@ fn open_office<
 }
 
 // The world of the box office, and the share with all its parts.
-fn begin<C: Ledger, A: Ledger>(
+fn begin<C: Ledger, A: Ledger, K: Ledger>(
     alloc: Global,
     commits: Blank,
     added: Blank,
-) -> Result<(World<BoxOffice, C, A>, Share<C, A>), Trouble>
+    taken: Blank,
+) -> Result<(World<BoxOffice, C, A, K>, Share<C, A, K>), Trouble>
     requires commits { IsBlank commits C.name C.parts }
     requires added { IsBlank added A.name A.parts }
+    requires taken { IsBlank taken K.name K.parts }
 {
-    match World::<BoxOffice, C, A>::new(alloc, &Acts, start(alloc)?, commits, added) {
+    match World::<BoxOffice, C, A, K>::new(alloc, &Acts, start(alloc)?, commits, added, taken) {
         Ok(begun) => Ok(begun),
         Err(_) => Err(Trouble),
     }
@@ -62,8 +71,9 @@ fn begin<C: Ledger, A: Ledger>(
 fn sell_and_say<
     C: Ledger + Send + Sync,
     A: Ledger + Send + Sync,
+    K: Ledger + Send + Sync,
     R: AllocGlobal + Print + Threads + Wait + Sync,
->(rt: &R, office: &Office<C, A>, share: Share<C, A>) -> Result<Sold<C, A>, Trouble> {
+>(rt: &R, office: &Office<C, A, K>, share: Share<C, A, K>) -> Result<Sold<C, A, K>, Trouble> {
     let sold = sell_both(rt, office, share)?;
     match say_left(rt, office) {
         Ok(()) => Ok(sold),
@@ -104,13 +114,13 @@ impl Groups {
 
 // What a clerk did, and the share that it was done with.
 #[derive(Drop)]
-struct Sold<C: Ledger, A: Ledger> {
-    share: Share<C, A>,
+struct Sold<C: Ledger, A: Ledger, K: Ledger> {
+    share: Share<C, A, K>,
     groups: Groups,
 }
 
-impl<C: Ledger, A: Ledger> Sold<C, A> {
-    fn join(&mut self, other: Result<Sold<C, A>, Trouble>) -> Result<(), Trouble> {
+impl<C: Ledger, A: Ledger, K: Ledger> Sold<C, A, K> {
+    fn join(&mut self, other: Result<Sold<C, A, K>, Trouble>) -> Result<(), Trouble> {
         let Sold { share, groups } = other?;
         if let Err(share) = self.share.join(share) {
             drop(share);
@@ -121,11 +131,12 @@ impl<C: Ledger, A: Ledger> Sold<C, A> {
     }
 }
 
-fn sell_both<C: Ledger + Send + Sync, A: Ledger + Send + Sync, R: Threads + Wait + Sync>(
-    rt: &R,
-    office: &Office<C, A>,
-    share: Share<C, A>,
-) -> Result<Sold<C, A>, Trouble> {
+fn sell_both<
+    C: Ledger + Send + Sync,
+    A: Ledger + Send + Sync,
+    K: Ledger + Send + Sync,
+    R: Threads + Wait + Sync,
+>(rt: &R, office: &Office<C, A, K>, share: Share<C, A, K>) -> Result<Sold<C, A, K>, Trouble> {
     let mut first = share;
     let Some(second) = first.split(ALL_PARTS / 2) else {
         drop(first);
@@ -140,10 +151,10 @@ fn sell_both<C: Ledger + Send + Sync, A: Ledger + Send + Sync, R: Threads + Wait
 }
 
 // What two clerks did, as one.
-fn both<C: Ledger, A: Ledger>(
-    one: Result<Sold<C, A>, Trouble>,
-    other: Result<Sold<C, A>, Trouble>,
-) -> Result<Sold<C, A>, Trouble> {
+fn both<C: Ledger, A: Ledger, K: Ledger>(
+    one: Result<Sold<C, A, K>, Trouble>,
+    other: Result<Sold<C, A, K>, Trouble>,
+) -> Result<Sold<C, A, K>, Trouble> {
     match one {
         Ok(mut sold) => match sold.join(other) {
             Ok(()) => Ok(sold),
@@ -160,12 +171,12 @@ fn both<C: Ledger, A: Ledger>(
 }
 
 // What a clerk does.
-fn sell_all<C: Ledger, A: Ledger, R: Wait>(
+fn sell_all<C: Ledger, A: Ledger, K: Ledger, R: Wait>(
     rt: &R,
-    office: &Office<C, A>,
+    office: &Office<C, A, K>,
     worker: u32,
-    share: Share<C, A>,
-) -> Result<Sold<C, A>, Trouble> {
+    share: Share<C, A, K>,
+) -> Result<Sold<C, A, K>, Trouble> {
     let mut sold = Sold {
         share,
         groups: Groups::default(),
@@ -180,11 +191,11 @@ fn sell_all<C: Ledger, A: Ledger, R: Wait>(
 }
 
 // Twenty groups of two come to a clerk, half of them for each evening, and then one of five.
-fn sell_each<C: Ledger, A: Ledger, R: Wait>(
+fn sell_each<C: Ledger, A: Ledger, K: Ledger, R: Wait>(
     rt: &R,
-    office: &Office<C, A>,
+    office: &Office<C, A, K>,
     worker: u32,
-    sold: &mut Sold<C, A>,
+    sold: &mut Sold<C, A, K>,
 ) -> Result<(), Trouble> {
     for step in 0..21u32 {
         let evening = if step % 2 == 0 { FIRST } else { SECOND };
@@ -196,9 +207,9 @@ fn sell_each<C: Ledger, A: Ledger, R: Wait>(
     Ok(())
 }
 
-fn say_left<C: Ledger, A: Ledger, R: AllocGlobal + Print + Wait>(
+fn say_left<C: Ledger, A: Ledger, K: Ledger, R: AllocGlobal + Print + Wait>(
     rt: &R,
-    office: &Office<C, A>,
+    office: &Office<C, A, K>,
 ) -> Result<(), Trouble> {
     for (words, evening) in [("first evening", FIRST), ("second evening", SECOND)] {
         let left = office.shared.value_of(rt, Who::Ref(evening))?;
@@ -208,10 +219,10 @@ fn say_left<C: Ledger, A: Ledger, R: AllocGlobal + Print + Wait>(
 }
 
 // Closes the second evening, takes the world out, and says what is in it.
-fn close_up<C: Ledger, A: Ledger, R: AllocGlobal + Print + Wait>(
+fn close_up<C: Ledger, A: Ledger, K: Ledger, R: AllocGlobal + Print + Wait>(
     rt: &R,
-    office: Office<C, A>,
-    sold: Sold<C, A>,
+    office: Office<C, A, K>,
+    sold: Sold<C, A, K>,
 ) -> Result<(), Trouble> {
     let Sold { mut share, groups } = sold;
     let closed = office.close(rt, &mut share, Stamp { worker: 2, step: 0 }, SECOND);
@@ -223,18 +234,18 @@ fn close_up<C: Ledger, A: Ledger, R: AllocGlobal + Print + Wait>(
     say_totals(rt, totals)
 }
 
-fn say_world<C: Ledger, A: Ledger, R: AllocGlobal + Print>(
+fn say_world<C: Ledger, A: Ledger, K: Ledger, R: AllocGlobal + Print>(
     rt: &R,
-    world: &World<BoxOffice, C, A>,
+    world: &World<BoxOffice, C, A, K>,
 ) -> Result<(), Trouble> {
     say(rt, "closed, it has", world.value_of(Who::Ref(SECOND)))?;
     say(rt, "tickets sold", world.value_of(Who::Ref(SOLD)))
 }
 
-fn take_out<C: Ledger, A: Ledger>(
-    office: Office<C, A>,
-    share: Share<C, A>,
-) -> Result<(World<BoxOffice, C, A>, Totals), Trouble> {
+fn take_out<C: Ledger, A: Ledger, K: Ledger>(
+    office: Office<C, A, K>,
+    share: Share<C, A, K>,
+) -> Result<(World<BoxOffice, C, A, K>, Totals), Trouble> {
     let Office { alloc, shared } = office;
     if share.is_whole() {
         shared.finish(alloc, share).ok().ok_or(Trouble)

@@ -13,7 +13,8 @@ use Rattle.ref_log.specs.Guards.{AreAccepted, passes_if_here, rule_at}
 use Rattle.std.proofs.Math.ListN.{length-set}
 use Rattle.ref_log.specs.Laws.{after_found-Ok, replay-refs, replay_from-Ok}
 use Rattle.ref_log.specs.Replay.{after_dones, after_one, done_of, is_set, refs_after, replay_from, sets_atom, state_of, step, with_atoms, with_refs}
-use Rattle.ref_log.specs.Tally.{IsTally, added_of, fits_entry}
+use Rattle.ref_log.specs.Tally.{IsMoved, fits_entry, moved_of}
+use Rattle.ref_log.specs.declared.counting.Side.TheVariants.{Added, Taken}
 use Rattle.ref_log.specs.declared.entries.Entry.{Entry}
 use Rattle.ref_log.specs.declared.entries.Entry.TheVariants.{Trans, Atom, MadeRef, MadeAtom}
 use Rattle.ref_log.specs.declared.faults.AuditFault.{AuditFault}
@@ -260,9 +261,9 @@ more_atoms point (e ∷ es) state after r =
 number_typed : (n : ℕ) → n < 2 ^ 32 → is_typed_number n ≡ true
 number_typed n h = grind (arith, nat_tests)
 
-tally_typed : (tally : Option ℕ) (values : List Edn) (n : ℕ) → IsTally tally values n → length values ≤ 2 ^ 20 → is_typed_tally tally ≡ true
-tally_typed None values n is few = refl
-tally_typed (Some t) values n is few =
+tally_typed : (tally : Option ℕ) (values : List Edn) (start added taken : ℕ) → IsMoved tally values start added taken → length values ≤ 2 ^ 20 → is_typed_tally tally ≡ true
+tally_typed None values start added taken is few = refl
+tally_typed (Some t) values start added taken is few =
     let within : t < length values = slice_get_within values t _ is in
     number_typed t (omega arith)
 
@@ -288,7 +289,7 @@ told_typed w t none =
       ref_rules = rules_typed w.refs.guards w.refs.values t.refs;
       atom_rules = rules_typed w.atoms.guards w.atoms.values t.atoms;
       agent_rules = λ n h. rules_typed w.agents.guards (values_of w.agents.agents) t.agents n (omega (arith, agents, h));
-      tally = ap is_typed_tally t.tally ∙ tally_typed w.refs.tally w.refs.values _ t.counts few_refs;
+      tally = ap is_typed_tally t.tally ∙ tally_typed w.refs.tally w.refs.values _ _ _ t.counts few_refs;
       lasts = t.lasts;
       few_entries = omega (arith, t.limit);
       few_refs = few_refs;
@@ -305,7 +306,8 @@ told_sound w t = record {
   agent_rules = all_accepted w.agents.guards (values_of w.agents.agents) t.agents;
   agents = t.folded;
   commits = t.commits;
-  added = t.added ∙ ap (λ tally. w.base.added + added_of tally w.log) (sym t.tally);
+  added = t.added ∙ ap (λ tally. w.base.added + moved_of Added tally w.log) (sym t.tally);
+  taken = t.taken ∙ ap (λ tally. w.base.taken + moved_of Taken tally w.log) (sym t.tally);
   lawful = ap (λ tally. list_all (fits_entry tally) w.log) t.tally ∙ t.lawful;
 }
 

@@ -10,7 +10,8 @@ use Rattle.ref_value.specs.OrderLaws.{edn_eq}
 use Rattle.ref_fun.specs.Core.{core_accepts, core_means}
 use Rattle.ref_fun.specs.Rule.{passes}
 use Rattle.ref_log.specs.Guards.{AreAccepted, passes_if_here, rule_at}
-use Rattle.ref_log.specs.Tally.{added_of, commits_of}
+use Rattle.ref_log.specs.Tally.{commits_of, moved_of}
+use Rattle.ref_log.specs.declared.counting.Side.TheVariants.{Added, Taken}
 use Rattle.ref_log.specs.declared.guards.Guard.{Guard}
 use Rattle.ref_agents.specs.Agents.{AreAgents, IsAgent, values_of}
 use Rattle.ref_agents.specs.declared.agents.Agent.{Agent}
@@ -89,7 +90,8 @@ verdict_back w s =
       agents_pass w.agents.guards w.agents.agents s.agent_rules,
       folds w.agents.guards 0 0 w.agents.agents s.agents,
       equal_test w.books.commits (w.base.commits + commits_of w.log) s.commits,
-      equal_test w.books.added (w.base.added + added_of w.base.tally w.log) s.added,
+      equal_test w.books.added (w.base.added + moved_of Added w.base.tally w.log) s.added,
+      equal_test w.books.taken (w.base.taken + moved_of Taken w.base.tally w.log) s.taken,
       s.lawful,
     )
     refl

@@ -33,6 +33,7 @@ is_keyword_word words.Refs = refl
 is_keyword_word words.Reset = refl
 is_keyword_word words.Set = refl
 is_keyword_word words.Swap = refl
+is_keyword_word words.Taken = refl
 is_keyword_word words.Tally = refl
 is_keyword_word words.Tx = refl
 

@@ -23,7 +23,7 @@ use Rattle.ref_log.specs.declared.operations.Op.TheVariants.{Set, Alter, Commute
 use Rattle.ref_log.specs.declared.sends.Sent.{Sent}
 use Rattle.ref_log.specs.declared.states.Base.{Base}
 use Rattle.ref_world.specs.Seen.{WorldSeen}
-use Rattle.ref_verdict.specs.Words.{added_key, agents_key, atoms_key, base_atoms_key, base_refs_key, commits_key, dump_key, entries_key, folded_key, point_key, refs_key, tally_key, tx_tag, reset_tag, swap_tag, made_ref_tag, made_atom_tag, set_tag, alter_tag, commute_tag, ensure_tag, done_mark, failed_mark, passed_mark, ready_status, failed_status, number_form, vector_form, name_form, action_forms, rule_form}
+use Rattle.ref_verdict.specs.Words.{added_key, agents_key, atoms_key, base_atoms_key, base_refs_key, commits_key, dump_key, entries_key, folded_key, point_key, refs_key, taken_key, tally_key, tx_tag, reset_tag, swap_tag, made_ref_tag, made_atom_tag, set_tag, alter_tag, commute_tag, ensure_tag, done_mark, failed_mark, passed_mark, ready_status, failed_status, number_form, vector_form, name_form, action_forms, rule_form}
 use Rattle.ref_audit.specs.declared.faults.DumpMakeFault.{DumpMakeFault}
 use Rattle.ref_audit.specs.declared.faults.DumpMakeFault.TheVariants as faults
 
@@ -80,9 +80,9 @@ base_ref_form e = vector_form (e.0 ∷ number_form e.1 ∷ [])
 abbrev pub base_refs_form : Base → Edn
 base_refs_form base = vector_form (map base_ref_form (zip base.refs base.last))
 
--- [COMMITS ADDED]
+-- [COMMITS ADDED TAKEN]
 abbrev pub folded_form : Base → Edn
-folded_form base = vector_form (number_form base.commits ∷ number_form base.added ∷ [])
+folded_form base = vector_form (number_form base.commits ∷ number_form base.added ∷ number_form base.taken ∷ [])
 
 -- the number of the tally, or nil
 abbrev pub tally_form : Option ℕ → Edn
@@ -139,11 +139,12 @@ dump_entries world =
     ∷ (keyword base_atoms_key, vector_form world.base.atoms)
     ∷ (keyword base_refs_key, base_refs_form world.base)
     ∷ (keyword commits_key, number_form world.books.commits)
-    ∷ (keyword dump_key, number_form 1)
+    ∷ (keyword dump_key, number_form 2)
     ∷ (keyword entries_key, vector_form (map entry_form world.log))
     ∷ (keyword folded_key, folded_form world.base)
     ∷ (keyword point_key, number_form world.base.point)
     ∷ (keyword refs_key, values_form world.refs.guards world.refs.values)
+    ∷ (keyword taken_key, number_form world.books.taken)
     ∷ (keyword tally_key, tally_form world.base.tally)
     ∷ []
 

@@ -1,6 +1,6 @@
 -- What the parts of a dump and of a report are made by: bookkeeping.
 use Rattle.std.specs.Prelude.{◌≡◌, ◌≢◌, ℕ, ◌<◌, ◌≤◌, List, codes, length, map}
-use Rattle.ref_verdict.specs.Words.{added_key, agents_key, atoms_key, base_atoms_key, base_refs_key, commits_key, dump_key, entries_key, folded_key, point_key, refs_key, tally_key, tx_tag, reset_tag, swap_tag, made_ref_tag, made_atom_tag, set_tag, alter_tag, commute_tag, ensure_tag, done_mark, failed_mark, passed_mark, ready_status, vector_form}
+use Rattle.ref_verdict.specs.Words.{added_key, agents_key, atoms_key, base_atoms_key, base_refs_key, commits_key, dump_key, entries_key, folded_key, point_key, refs_key, taken_key, tally_key, tx_tag, reset_tag, swap_tag, made_ref_tag, made_atom_tag, set_tag, alter_tag, commute_tag, ensure_tag, done_mark, failed_mark, passed_mark, ready_status, vector_form}
 use Rattle.ref_world.specs.Seen.{WorldSeen}
 use Rattle.ref_log.specs.declared.notices.Who.{Who}
 use Rattle.ref_log.specs.declared.notices.Who.TheVariants as whos
@@ -67,5 +67,6 @@ word_text words.Refs = refs_key
 word_text words.Reset = reset_tag
 word_text words.Set = set_tag
 word_text words.Swap = swap_tag
+word_text words.Taken = taken_key
 word_text words.Tally = tally_key
 word_text words.Tx = tx_tag

@@ -26,13 +26,15 @@ use Rattle.ref_log.specs.declared.guards.Guard.{Guard}
 use Rattle.ref_fun.specs.Core.{core_accepts, core_means}
 use Rattle.ref_fun.specs.Names.{is_function, is_predicate}
 use Rattle.ref_log.specs.Guards.{AreAccepted}
-use Rattle.ref_log.specs.Tally.{IsTally, added_of, commits_of, fits_entry}
+use Rattle.ref_log.specs.Tally.{IsMoved, commits_of, fits_entry, moved_of}
+use Rattle.ref_log.specs.declared.counting.Side.TheVariants.{Added, Taken}
 use Rattle.ref_agents.specs.Agents as stores
 use Rattle.ref_agents.specs.Agents.{AreAgents, account_at}
 use Rattle.ref_world.specs.Seen.{WorldSeen}
 use Rattle.ref_world.specs.World.{IsReplayed, point_of}
 use Rattle.ref_audit.specs.Made.{AreFew}
 use Rattle.ref_verdict.specs.declared.reading.dumps.Dump.{Dump}
+use Rattle.ref_verdict.specs.declared.reading.dumps.Version.TheVariants.{Two}
 use Rattle.ref_verdict.specs.declared.reading.dumps.Kept.{Kept}
 use Rattle.ref_verdict.specs.declared.reading.dumps.KeptAgent.{KeptAgent}
 
@@ -188,6 +190,7 @@ agents_seen guards agents = map (agent_seen guards) (enumerate_from 0 agents)
 -- what a world's dump says
 abbrev pub dump_seen : WorldSeen → Dump
 dump_seen w = record {
+  version = Two;
   base = w.base;
   entries = w.log;
   refs = kepts_seen w.refs.guards w.refs.values;
@@ -195,6 +198,7 @@ dump_seen w = record {
   agents = agents_seen w.agents.guards w.agents.agents;
   commits = w.books.commits;
   added = w.books.added;
+  taken = w.books.taken;
 }
 
 -- What is always so in a world of Core's functions.
@@ -205,7 +209,8 @@ pub record IsSound (w : WorldSeen) : Type 0 where
   pub agent_rules : AreAccepted core_accepts w.agents.guards (stores.values_of w.agents.agents)
   pub agents : AreAgents core_means w.agents.agents
   pub commits : w.books.commits ≡ w.base.commits + commits_of w.log
-  pub added : w.books.added ≡ w.base.added + added_of w.base.tally w.log
+  pub added : w.books.added ≡ w.base.added + moved_of Added w.base.tally w.log
+  pub taken : w.books.taken ≡ w.base.taken + moved_of Taken w.base.tally w.log
   pub lawful : list_all (fits_entry w.base.tally) w.log ≡ true
 
 -- What the calls of a world guarantee of it: what is always so, and what the types of its parts say.
@@ -223,6 +228,7 @@ pub record IsTold (w : WorldSeen) : Type 0 where
   pub lasts : length w.base.last ≡ length w.base.refs
   pub few : AreFew w
   pub commits : w.books.commits ≡ w.base.commits + commits_of w.log
-  pub added : w.books.added ≡ w.base.added + added_of w.refs.tally w.log
+  pub added : w.books.added ≡ w.base.added + moved_of Added w.refs.tally w.log
+  pub taken : w.books.taken ≡ w.base.taken + moved_of Taken w.refs.tally w.log
   pub lawful : list_all (fits_entry w.refs.tally) w.log ≡ true
-  pub counts : IsTally w.refs.tally w.refs.values (w.books.start + w.books.added)
+  pub counts : IsMoved w.refs.tally w.refs.values w.books.start w.books.added w.books.taken

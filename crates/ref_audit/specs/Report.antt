@@ -71,6 +71,7 @@ reason_text reasons.NotMet = codes "not-met"
 reason_text reasons.Invalid = codes "invalid"
 reason_text reasons.GaveUp = codes "gave-up"
 reason_text reasons.PointLimit = codes "point-limit"
+reason_text reasons.BookFull = codes "book-full"
 reason_text reasons.AgentFailed = codes "agent-failed"
 reason_text reasons.NotFailed = codes "not-failed"
 

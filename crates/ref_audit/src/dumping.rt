@@ -29,9 +29,9 @@ pub(crate) use worlds::unnamed_in;
 /// Where an action in the log's sends or in an agent's account names a function that Core doesn't have, the least such code is
 /// reported, and else that the dump would nest deeper than 64. The time is linear in what is dumped; values are shared, not copied.
 #[tactic(auto, using(crate::proofs::Dumps::dump_told))]
-pub fn dump<C: Ledger, A: Ledger>(
+pub fn dump<C: Ledger, A: Ledger, K: Ledger>(
     alloc: Global,
-    world: &World<Core, C, A>,
+    world: &World<Core, C, A, K>,
 ) -> Result<Value, DumpMakeFault>
     ensures value { IfOk result (λ v. v ≡ dumped world.now) }
     ensures refused { TellsOrMemory faults.Memory (unnamed_refusal world.now) (dump_refusal world.now) result }

@@ -29,7 +29,7 @@ use std::sync::ledger::Ledger;
 /// The law of dumps: the verdict on a world's dump is ok, whatever the world went through. It changes nothing and answers nothing, and
 /// costs a look at each part of the world.
 #[tactic(auto, using(crate::proofs::OwnVerdict::own_ok))]
-pub fn own_dump_is_ok<C: Ledger, A: Ledger>(world: &World<Core, C, A>)
+pub fn own_dump_is_ok<C: Ledger, A: Ledger, K: Ledger>(world: &World<Core, C, A, K>)
     ensures { dump_refusal world.now ≡ None → verdict_on (dump_of (dumped world.now)) ≡ Ok verdicts.Ok }
 {
     tell(world);
@@ -37,10 +37,10 @@ pub fn own_dump_is_ok<C: Ledger, A: Ledger>(world: &World<Core, C, A>)
 
 /// Dumps a world, and audits the dump: where that is done, the verdict is ok, by [`own_dump_is_ok`]. It is refused where [`dump`]
 /// is.
-pub fn audit_own_dump<F: Functions<Core>, C: Ledger, A: Ledger>(
+pub fn audit_own_dump<F: Functions<Core>, C: Ledger, A: Ledger, K: Ledger>(
     alloc: Global,
     funs: &F,
-    world: &World<Core, C, A>,
+    world: &World<Core, C, A, K>,
 ) -> Result<Verdict, DumpMakeFault>
     requires core { HasCore (F.knows funs.now) }
     ensures ok { IfOk result (λ verdict. verdict ≡ verdicts.Ok) }
@@ -58,10 +58,10 @@ pub fn audit_own_dump<F: Functions<Core>, C: Ledger, A: Ledger>(
 /// The verdict on a world's dump, without the dump: what the dump says is taken from the world, and judged as what a dump says is. So it
 /// costs the replay and no forms. It is ok by the same law. It is refused where an action in the log's sends or in an agent's account
 /// names a function that Core doesn't have, with the least such code.
-pub fn audit_world<F: Functions<Core>, C: Ledger, A: Ledger>(
+pub fn audit_world<F: Functions<Core>, C: Ledger, A: Ledger, K: Ledger>(
     alloc: Global,
     funs: &F,
-    world: &World<Core, C, A>,
+    world: &World<Core, C, A, K>,
 ) -> Result<Verdict, DumpMakeFault>
     requires core { HasCore (F.knows funs.now) }
     ensures verdict { IfOk result (λ verdict. verdict_on (dump_of (dumped world.now)) ≡ Ok verdict) }
@@ -82,7 +82,7 @@ pub fn audit_world<F: Functions<Core>, C: Ledger, A: Ledger>(
 
 // What is always so in a world, and what the types of its parts say, stated of the whole. It changes nothing, and costs a look at each
 // part.
-fn tell<C: Ledger, A: Ledger>(world: &World<Core, C, A>)
+fn tell<C: Ledger, A: Ledger, K: Ledger>(world: &World<Core, C, A, K>)
     ensures { IsTold world.now }
 {
     tell_few(world);
@@ -97,4 +97,5 @@ fn tell<C: Ledger, A: Ledger>(world: &World<Core, C, A>)
     let _point = world.point();
     let _commits = world.commits();
     let _added = world.added();
+    let _taken = world.taken();
 }

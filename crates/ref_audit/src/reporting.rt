@@ -19,10 +19,10 @@ use std::sync::ledger::Ledger;
 /// Appends the report of a world: a line for each name of a reference that is there, for each refused step, for the number of
 /// commits and for the verdict. The refused steps are given by worker and then by step. The time is linear in the text. Where
 /// memory is refused, nothing is appended.
-pub fn report<C: Ledger, A: Ledger>(
+pub fn report<C: Ledger, A: Ledger, K: Ledger>(
     alloc: Global,
     names: &Names,
-    world: &World<Core, C, A>,
+    world: &World<Core, C, A, K>,
     refused: &[Refusal],
     verdict: &Verdict,
     out: &mut Vec<u8>,
@@ -61,6 +61,7 @@ pub fn word_of(reason: Reason) -> &'static str
         Reason::Invalid => "invalid",
         Reason::GaveUp => "gave-up",
         Reason::PointLimit => "point-limit",
+        Reason::BookFull => "book-full",
         Reason::AgentFailed => "agent-failed",
         Reason::NotFailed => "not-failed",
     }
@@ -78,11 +79,11 @@ fn word_of_cause(cause: Cause) -> &'static str
 }
 
 // A line for each name of a ref, or of an atom, that is there.
-fn append_values<C: Ledger, A: Ledger>(
+fn append_values<C: Ledger, A: Ledger, K: Ledger>(
     alloc: Global,
     kind: Kind,
     names: &[Text],
-    world: &World<Core, C, A>,
+    world: &World<Core, C, A, K>,
     out: &mut Vec<u8>,
 ) -> Result<(), AllocError>
     ensures { OnOk result (out.new.items
@@ -138,10 +139,10 @@ fn append_value(
 }
 
 // A line for each name of an agent that is there.
-fn append_agents<C: Ledger, A: Ledger>(
+fn append_agents<C: Ledger, A: Ledger, K: Ledger>(
     alloc: Global,
     names: &[Text],
-    world: &World<Core, C, A>,
+    world: &World<Core, C, A, K>,
     out: &mut Vec<u8>,
 ) -> Result<(), AllocError>
     ensures { OnOk result (out.new.items ≡ out.old.items ++ agent_lines names.now world.now.agents.agents) }

@@ -9,7 +9,7 @@ pub use ref_verdict::reports::Verdict;
 pub enum Reason {
     /// A ref was set or altered after it was commuted in the same transaction.
     SetAfterCommute,
-    /// The tally was changed in another way than by adding to it.
+    /// The tally was changed in another way than by adding to it and taking from it.
     TallyOnly,
     /// A function refused.
     Refused(Cause),
@@ -21,6 +21,8 @@ pub enum Reason {
     GaveUp,
     /// There are no more points.
     PointLimit,
+    /// What is added to the tally in all, or taken from it, would pass 9223372036854775807.
+    BookFull,
     /// The agent is failed, and takes no send.
     AgentFailed,
     /// The agent isn't failed, and isn't restarted.

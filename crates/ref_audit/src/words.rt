@@ -33,6 +33,7 @@ pub enum Word {
     Reset,
     Set,
     Swap,
+    Taken,
     Tally,
     Tx,
 }
@@ -66,6 +67,7 @@ impl Word {
             Word::Reset => "reset",
             Word::Set => "set",
             Word::Swap => "swap",
+            Word::Taken => "taken",
             Word::Tally => "tally",
             Word::Tx => "tx",
         }

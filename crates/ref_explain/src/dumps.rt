@@ -9,13 +9,15 @@ use std::alloc::AllocError;
 // How a part is written.
 fn written(key: Key) -> &'static str {
     match key {
-        Key::Added | Key::Commits | Key::Dump | Key::Point => "an integer of 0 or more",
+        Key::Added | Key::Commits | Key::Dump | Key::Point | Key::Taken => {
+            "an integer of 0 or more"
+        }
         Key::Agents => "[[START HANDLED QUEUE VALUE STATUS RULE] ..]",
         Key::Atoms | Key::Refs => "[[VALUE RULE] ..]",
         Key::BaseAtoms => "[VALUE ..]",
         Key::BaseRefs => "[[VALUE LAST] ..]",
         Key::Entries => "[ENTRY ..]",
-        Key::Folded => "[COMMITS ADDED]",
+        Key::Folded => "[COMMITS ADDED TAKEN], or in version 1 [COMMITS ADDED]",
         Key::Tally => "the number of a ref, or nil",
     }
 }

@@ -1,6 +1,8 @@
 //! The explanation of each fault.
 use crate::dumps::{write_bad_entry, write_bad_part};
-use crate::keys::{Document, write_keys, write_too_many, write_too_many_events, write_version};
+use crate::keys::{
+    Document, write_dump_version, write_keys, write_too_many, write_too_many_events, write_version,
+};
 use crate::read_faults::write_read_fault;
 use crate::references::{
     write_bad_tally, write_name_twice, write_reference_fault, write_start_invalid,
@@ -69,7 +71,7 @@ fn write_events(writing: &mut Writing<'_>, fault: ScriptFault) -> Result<(), All
 fn write_dump(writing: &mut Writing<'_>, fault: DumpFault) -> Result<(), AllocError> {
     match fault {
         DumpFault::NotDump => write_keys(writing, Document::Dump),
-        DumpFault::BadVersion => write_version(writing, "dump"),
+        DumpFault::BadVersion => write_dump_version(writing),
         DumpFault::BadPart(key) => write_bad_part(writing, key),
         DumpFault::BadEntry(number) => write_bad_entry(writing, number),
         DumpFault::Memory => Ok(()),

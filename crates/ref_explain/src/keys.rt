@@ -9,7 +9,7 @@ use ref_plan::planning::parts::{MOST_POOL, MOST_WORKERS};
 use ref_plan::planning::steps::MOST_STEPS;
 use std::alloc::AllocError;
 
-/// The version of workloads, lists of events and dumps.
+/// The version of workloads and lists of events.
 pub const FORMAT_VERSION: u32 = 1;
 
 // So many keys are shown at most.
@@ -95,13 +95,14 @@ fn dump_key(place: usize) -> Option<Key> {
         9 => "point",
         10 => "refs",
         11 => "tally",
+        12 => return Some(optional("taken", Under::Any)),
         _ => return None,
     };
     Some(needed(word, Under::Any))
 }
 
 // No map has more keys.
-const MOST_KEYS: usize = 12;
+const MOST_KEYS: usize = 13;
 
 impl Document {
     fn key(self, place: usize) -> Option<Key> {
@@ -130,7 +131,8 @@ impl Document {
             Document::Events => {
                 "a list of events is a map, as {:version 1 :refs [[a 0]] :events [[0 :begin]]}"
             }
-            Document::Dump => "a dump is a map with twelve keys, as `refrun run --dump` prints it",
+            Document::Dump =>
+                "a dump is a map with thirteen keys, as `refrun run --dump` prints it",
         }
     }
 
@@ -139,7 +141,7 @@ impl Document {
             Document::Workload => "the keys are :version :refs :atoms :agents :workers :pool",
             Document::Events => "the keys are :version :refs :atoms :agents :events",
             Document::Dump => {
-                "the keys are :dump :point :base-refs :base-atoms :folded :tally :entries :refs :atoms :agents :commits :added"
+                "the keys are :dump :point :base-refs :base-atoms :folded :tally :entries :refs :atoms :agents :commits :added, and :taken but in version 1"
             }
         }
     }
@@ -295,6 +297,18 @@ pub(crate) fn write_version(writing: &mut Writing<'_>, word: &str) -> Result<(),
         }
         None => Ok(()),
     }
+}
+
+/// Says that the version of a dump isn't that of its keys.
+pub(crate) fn write_dump_version(writing: &mut Writing<'_>) -> Result<(), AllocError> {
+    let Some(version) = part_of(writing.text, "dump") else {
+        return Ok(());
+    };
+    let message = match part_of(writing.text, "taken") {
+        Some(_) => "a dump with :taken is of version 2",
+        None => "a dump without :taken is of version 1",
+    };
+    writing.mark(&version, message)
 }
 
 // Says that a part has a member too many, if it has one.

@@ -56,6 +56,10 @@ pub core_adds : (a b : ℤ) → core_means 1 (int b ∷ []) (int a) ≡ plus (in
 unfolding core_means
 core_adds a b = refl
 
+pub core_takes : (a b : ℤ) → core_means 2 (int b ∷ []) (int a) ≡ minus (int b ∷ []) (int a)
+unfolding core_means
+core_takes a b = refl
+
 -- The predicates. Another code accepts nothing.
 unfoldable pub core_accepts : ℕ → List Edn → Edn → Bool
 core_accepts code args state =

@@ -2,7 +2,8 @@
 use Rattle.std.specs.Prelude.{◌≡◌, ℕ, ◌+◌, List, length, slice_index_or, Ok}
 use Rattle.ref_fun.specs.Meaning.{Means}
 use Rattle.ref_log.specs.Replay.{last_change, point_after, replay, state_of}
-use Rattle.ref_log.specs.Tally.{added_of, commits_of}
+use Rattle.ref_log.specs.Tally.{commits_of, moved_of}
+use Rattle.ref_log.specs.declared.counting.Side.TheVariants.{Added, Taken}
 use Rattle.ref_log.specs.declared.entries.Entry.{Entry}
 use Rattle.ref_log.specs.declared.states.Base.{Base}
 
@@ -15,4 +16,5 @@ pub record IsFolded (means : Means) (base : Base) (entries : List Entry) (after 
   pub lasts : length after.last ≡ length after.refs
   pub tally : after.tally ≡ base.tally
   pub commits : after.commits ≡ base.commits + commits_of entries
-  pub added : after.added ≡ base.added + added_of base.tally entries
+  pub added : after.added ≡ base.added + moved_of Added base.tally entries
+  pub taken : after.taken ≡ base.taken + moved_of Taken base.tally entries

@@ -9,7 +9,8 @@ use Rattle.ref_fun.specs.Meaning.{Means}
 use Rattle.ref_log.specs.Fold.{IsFolded}
 use Rattle.ref_log.specs.Laws.{after_done-length, after_dones-Ok, after_found-Ok, refs_of, replay-refs, replay_from-Ok, replay_from-refs, step-refs}
 use Rattle.ref_log.specs.Replay.{after_done, after_dones, and_step, is_changed_by, is_ensure, is_protected, is_touched, last_change, last_change_from, refs_after, refs_after_one, replay, replay_from, state_of, step}
-use Rattle.ref_log.specs.Tally.{added_of, commits_of}
+use Rattle.ref_log.specs.Tally.{commits_of, moved_of}
+use Rattle.ref_log.specs.declared.counting.Side.{Side}
 use Rattle.ref_log.specs.declared.faults.AuditFault.{AuditFault}
 use Rattle.ref_log.specs.declared.operations.Done.{Done}
 use Rattle.ref_log.specs.declared.entries.Entry.{Entry}
@@ -50,10 +51,10 @@ commits_of-both (x ∷ xs) ys =
     let more = commits_of-both xs ys in
     omega (arith, more)
 
-pub added_of-both : (tally : Option ℕ) (xs ys : List Entry) → added_of tally (xs ++ ys) ≡ added_of tally xs + added_of tally ys
-added_of-both tally [] ys = none_more (added_of tally ys)
-added_of-both tally (x ∷ xs) ys =
-    let more = added_of-both tally xs ys in
+pub moved_of-both : (side : Side) (tally : Option ℕ) (xs ys : List Entry) → moved_of side tally (xs ++ ys) ≡ moved_of side tally xs + moved_of side tally ys
+moved_of-both side tally [] ys = none_more (moved_of side tally ys)
+moved_of-both side tally (x ∷ xs) ys =
+    let more = moved_of-both side tally xs ys in
     omega (arith, more)
 
 -- ---- what is folded, and the entries that are left

@@ -1,19 +1,39 @@
-//! What entries count in the books: transactions, and what they added to the tally.
-ghost use Rattle.std.specs.Prelude.{◌≡◌, ◌<◌, ◌^◌};
-ghost use Rattle.ref_log.specs.Tally.{added_by, added_by_done, added_by_dones, added_in, added_of, commits_in, commits_of, counted};
+//! What entries count in the books: transactions, and how far they move the tally.
+ghost use Rattle.std.specs.Prelude.{◌≡◌, ◌≤◌, ◌^◌, [], ◌∷◌, IfNone, IfSome};
+ghost use Rattle.ref_log.specs.Tally.{code_of, commits_in, commits_of, counted, is_tally, moved_by, moved_by_done, moved_by_dones, moved_in, moved_of};
 
 use crate::entries::Entry;
-use crate::lists::SharedVec;
 use crate::operations::{Done, Op};
+use ref_fun::codes;
 use ref_pvec::PVec;
 use ref_value::{Node, Value};
 
-// How many of these entries are transactions.
-pub(crate) fn commits_of(entries: &PVec<Entry>) -> u64
-    requires { commits_of entries.now < 2 ^ 64 }
+/// Which way an operation moves the tally. Each way has a book of its own.
+#[derive(Clone, Copy, Debug, Drop, PartialEq, Eq)]
+pub enum Side {
+    /// Up, by `commute` of `+`.
+    Added,
+    /// Down, by `commute` of `-`.
+    Taken,
+}
+
+impl Side {
+    // The code of the function that moves it this way.
+    pub(crate) fn code(self) -> u32
+        ensures { result ≡ code_of self }
+    {
+        match self {
+            Side::Added => codes::PLUS,
+            Side::Taken => codes::MINUS,
+        }
+    }
+}
+
+/// How many of these entries are transactions. Linear in their number.
+pub fn commits_of(entries: &PVec<Entry>) -> u64
     ensures { result ≡ commits_of entries.now }
 {
-    let mut commits = 0;
+    let mut commits: u64 = 0;
     for entry in entries {
         commits += commits_in(entry);
     }
@@ -21,7 +41,8 @@ pub(crate) fn commits_of(entries: &PVec<Entry>) -> u64
 }
 
 fn commits_in(entry: &Entry) -> u64
-    ensures { result ≡ commits_in entry.now }
+    ensures value { result ≡ commits_in entry.now }
+    ensures bound { result ≤ 1 }
 {
     match entry {
         Entry::Trans(_) => 1,
@@ -29,66 +50,91 @@ fn commits_in(entry: &Entry) -> u64
     }
 }
 
-// How much these entries add to the tally.
-pub(crate) fn added_of(tally: Option<u32>, entries: &PVec<Entry>) -> u64
-    requires { added_of tally entries.now < 2 ^ 64 }
-    ensures { result ≡ added_of tally entries.now }
+/// How far these entries move the tally to this side; None where that is more than 64 bits. Linear in their operations.
+pub fn moved_of(side: Side, tally: Option<u32>, entries: &PVec<Entry>) -> Option<u64>
+    ensures some { IfSome result (λ n. n ≡ moved_of side tally entries.now) }
+    ensures none { IfNone result (2 ^ 64 ≤ moved_of side tally entries.now) }
 {
-    let mut added = 0;
+    let mut sum: u64 = 0;
     for entry in entries {
-        added += added_in(tally, entry);
+        sum = sum.checked_add(moved_in(side, tally, entry)?)?;
     }
-    added
+    Some(sum)
 }
 
-fn added_in(tally: Option<u32>, entry: &Entry) -> u64
-    requires { added_in tally entry.now < 2 ^ 64 }
-    ensures { result ≡ added_in tally entry.now }
+fn moved_in(side: Side, tally: Option<u32>, entry: &Entry) -> Option<u64>
+    ensures some { IfSome result (λ n. n ≡ moved_in side tally entry.now) }
+    ensures none { IfNone result (2 ^ 64 ≤ moved_in side tally entry.now) }
 {
     match entry {
-        Entry::Trans(transaction) => added_by_dones(tally, &transaction.dones),
-        Entry::Atom(..) | Entry::MadeRef(_) | Entry::MadeAtom(_) => 0,
+        Entry::Trans(transaction) => moved_by_dones(side, tally, transaction.dones.as_slice()),
+        Entry::Atom(..) | Entry::MadeRef(_) | Entry::MadeAtom(_) => Some(0),
     }
 }
 
-fn added_by_dones(tally: Option<u32>, dones: &SharedVec<Done>) -> u64
-    requires { added_by_dones tally dones.now < 2 ^ 64 }
-    ensures { result ≡ added_by_dones tally dones.now }
+/// How far these operations move the tally to this side; None where that is more than 64 bits. Linear in their number.
+pub fn moved_by_dones(side: Side, tally: Option<u32>, dones: &[Done]) -> Option<u64>
+    ensures some { IfSome result (λ n. n ≡ moved_by_dones side tally dones.now) }
+    ensures none { IfNone result (2 ^ 64 ≤ moved_by_dones side tally dones.now) }
 {
-    let mut added = 0;
+    let mut sum: u64 = 0;
     for done in dones {
-        added += added_by_done(tally, done);
+        sum = sum.checked_add(moved_by_done(side, tally, done))?;
     }
-    added
+    Some(sum)
 }
 
-fn added_by_done(tally: Option<u32>, done: &Done) -> u64
-    ensures { result ≡ added_by_done tally done.now }
+fn moved_by_done(side: Side, tally: Option<u32>, done: &Done) -> u64
+    ensures { result ≡ moved_by_done side tally done.now }
+{
+    if is_tally(tally, done.r) {
+        moved_by(side, &done.op)
+    } else {
+        0
+    }
+}
+
+/// Whether the ref of this number is the tally.
+pub fn is_tally(tally: Option<u32>, r: u32) -> bool
+    ensures { result ≡ is_tally tally r }
 {
     match tally {
-        Some(t) => { if t == done.r { added_by(&done.op) } else { 0 } }
-        None => 0,
+        Some(t) => t == r,
+        None => false,
     }
 }
 
-fn added_by(op: &Op) -> u64
-    ensures { result ≡ added_by op.now }
+fn moved_by(side: Side, op: &Op) -> u64
+    ensures { result ≡ moved_by side op.now }
 {
     match op {
-        Op::Commute(_, args) => counted(args.as_slice()),
+        Op::Commute(code, args) => {
+            if *code == side.code() {
+                counted(args.as_slice())
+            } else {
+                0
+            }
+        }
         Op::Set(_) | Op::Alter(_, _) | Op::Ensure => 0,
     }
 }
 
-// The number that a count is: one integer of 0 or more. It is 0 of all else.
+// The number that arguments are where they are one count. It is 0 of all else.
 fn counted(args: &[Value]) -> u64
     ensures { result ≡ counted args.now }
 {
     match args {
-        [by] => match by.node() {
-            Node::Int(n) if *n >= 0 => *n as u64,
-            _ => 0,
-        },
+        [by] => count(by),
+        _ => 0,
+    }
+}
+
+/// The number that a value is where it is a count: an integer of 0 or more. It is 0 of all else.
+pub fn count(value: &Value) -> u64
+    ensures { result ≡ counted (value.now ∷ []) }
+{
+    match value.node() {
+        Node::Int(n) if *n >= 0 => *n as u64,
         _ => 0,
     }
 }

@@ -2,9 +2,10 @@
 ghost use Rattle.std.specs.Prelude.{◌≡◌, ◌<◌, ◌^◌, ◌+◌, ℕ, None, IfOk, IfErr, OnOk, length, slice_index_or};
 ghost use Rattle.ref_log.specs.Fold.{IsFolded};
 ghost use Rattle.ref_log.specs.Replay.{FaultComes, missing, needed, point_after, replay};
-ghost use Rattle.ref_log.specs.Tally.{added_of, commits_of};
+ghost use Rattle.ref_log.specs.Tally.{commits_of, moved_of};
+ghost use Rattle.ref_log.specs.declared.counting.Side.TheVariants.{Added, Taken};
 
-use crate::counting::{added_of, commits_of};
+use crate::counting::{Side, commits_of, moved_of};
 use crate::entries::Entry;
 use crate::faults::AuditFault;
 use crate::lasts::lasts_after;
@@ -26,7 +27,8 @@ pub fn fold<M: Meaning, F: Functions<M>>(
 ) -> Result<Base, AuditFault>
     requires points { point_after base.now entries.now < 2 ^ 64 }
     requires commits { base.now.commits + commits_of entries.now < 2 ^ 64 }
-    requires added { base.now.added + added_of base.now.tally entries.now < 2 ^ 64 }
+    requires added { base.now.added + moved_of Added base.now.tally entries.now < 2 ^ 64 }
+    requires taken { base.now.taken + moved_of Taken base.now.tally entries.now < 2 ^ 64 }
     // The base has the last change of each of its refs.
     requires lasts { length base.now.last ≡ length base.now.refs }
     ensures ok { IfOk result (λ after. IsFolded M.means base.now entries.now after) }
@@ -38,6 +40,13 @@ pub fn fold<M: Meaning, F: Functions<M>>(
     let PlainState { refs, atoms } = replay_plain(alloc, funs, base, entries)?;
     let lasts = lasts_after(alloc, base, entries)?;
     let last = SharedVec::of(alloc, lasts)?;
+    // The books fit in 64 bits.
+    let Some(added) = moved_of(Side::Added, base.tally, entries) else {
+        unreachable!()
+    };
+    let Some(taken) = moved_of(Side::Taken, base.tally, entries) else {
+        unreachable!()
+    };
     Ok(Base {
         point: base.point + entries.len() as u64,
         refs,
@@ -45,6 +54,7 @@ pub fn fold<M: Meaning, F: Functions<M>>(
         atoms,
         tally: base.tally,
         commits: base.commits + commits_of(entries),
-        added: base.added + added_of(base.tally, entries),
+        added: base.added + added,
+        taken: base.taken + taken,
     })
 }

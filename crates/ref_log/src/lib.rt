@@ -15,6 +15,7 @@
 //! | [`Op`], [`Done`] | an operation; one on a ref, with its answer |
 //! | [`Entry`], [`Transaction`], [`Stamp`] | one committed change; that of a transaction; who made it |
 //! | [`Base`], [`PlainState`] | what a log begins with, and what its replay ends with |
+//! | [`Side`] | which way an operation moves the tally; [`counting`] has how far |
 //! | [`Guard`], [`Guards`], [`Watches`] | the rule and the watches of one reference, and of all of a kind |
 //! | [`Who`], [`Notice`], [`Sent`] | a reference, the notice for a watch, what a transaction sends |
 //! | [`MakeFault`], [`RuleFault`], [`WatchFault`], [`AuditFault`] | why a call that all kinds have is refused, and why entries have no replay |
@@ -26,7 +27,7 @@
 #![tactic(auto)]
 
 pub mod calling;
-mod counting;
+pub mod counting;
 pub mod entries;
 pub mod faults;
 pub mod folding;
@@ -43,6 +44,7 @@ pub mod states;
 pub mod watches;
 
 pub use calling::lacking_fun;
+pub use counting::Side;
 pub use entries::{Entry, Stamp, Transaction};
 pub use faults::{AuditFault, MakeFault, RuleFault, WatchFault};
 pub use folding::fold;

@@ -4,8 +4,9 @@ ghost use Rattle.std.specs.Ordering.{nat_cmp};
 ghost use Rattle.std.specs.Prelude.{◌≡◌, ℕ, IfOk, IfErr};
 ghost use Rattle.ref_fun.specs.declared.faults.CallFault.TheVariants.{Memory};
 ghost use Rattle.ref_log.specs.Replay.{PlaceAnswers, codes_of, is_commute, is_ensure, is_protected, is_set, missing, place};
-ghost use Rattle.ref_log.specs.Tally.{fits_tally, is_count};
+ghost use Rattle.ref_log.specs.Tally.{fits_side, fits_tally, is_count};
 
+use crate::counting::Side;
 use crate::lists::Share;
 use ref_fun::{Args, CallFault, Functions, Meaning};
 use ref_value::{Node, Value};
@@ -86,12 +87,20 @@ impl Op {
         matches!(self, Op::Set(_) | Op::Alter(_, _))
     }
 
-    /// Whether it may be made on the tally: `commute` of `+` with one integer of 0 or more, and `ensure`.
+    /// Whether it may be made on the tally: `commute` of `+` or `-` with one integer of 0 or more, and `ensure`.
     pub fn fits_tally(&self) -> bool
         ensures { result ≡ fits_tally self.now }
     {
+        self.fits_side(Side::Added) || self.fits_side(Side::Taken)
+    }
+
+    /// Whether it may be made on a tally that moves to this side alone: `commute` of `+` or of `-` with one integer of 0 or more,
+    /// and `ensure`.
+    pub fn fits_side(&self, side: Side) -> bool
+        ensures { result ≡ fits_side side self.now }
+    {
         match self {
-            Op::Commute(code, args) => *code == 1 && is_count(args.as_slice()),
+            Op::Commute(code, args) => *code == side.code() && is_count(args.as_slice()),
             Op::Ensure => true,
             Op::Set(_) | Op::Alter(_, _) => false,
         }

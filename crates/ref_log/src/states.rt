@@ -19,6 +19,8 @@ pub struct Base {
     pub commits: u64,
     /// How much was added to the tally up to the base.
     pub added: u64,
+    /// How much was taken from the tally up to the base.
+    pub taken: u64,
 }
 
 /// What a replay ends with.

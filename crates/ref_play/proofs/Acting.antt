@@ -66,7 +66,7 @@ use Rattle.ref_atoms.specs.declared.changes.Cas.{Cas}
 use Rattle.ref_agents.specs.Ends.{judged}
 use Rattle.ref_play.proofs.Grows.{answer-Ok, called-Ok}
 use Rattle.ref_play.proofs.KeptJobs.{away_made, away_same, away_sends, ended_in}
-use Rattle.ref_world.specs.World.{IsWorld, values_now, with_tally}
+use Rattle.ref_world.specs.World.{IsWorld, room, values_now, with_tally}
 use Rattle.ref_world.specs.declared.commits.Receipt.{Receipt}
 use Rattle.ref_world.specs.References.{number_of}
 use Rattle.ref_play.specs.declared.events.Act.{Act}
@@ -364,7 +364,7 @@ module _ (means : Means) (accepts : Accepts) (knows : Known) (base : Base) (log 
   -- ---- commit
 
   abbrev refusal : TxSeen → Option CommitFault
-  refusal tx = commit_refusal means accepts knows old.refs (old.point + 1) (length old.agents.agents) tx
+  refusal tx = commit_refusal means accepts knows old.refs (old.point + 1) (length old.agents.agents) (room old.books.added) (room old.books.taken) tx
 
   looks_placed : (tx : TxSeen) (after : List Edn) (rest : List Look) → ((n r : ℕ) → is_protected tx.dones r ≡ true → placed_value means tx.dones (old.point + 1) old.refs.values n r ≡ value_after means tx.began (take n tx.dones) r) → AllByRecursion (IsLook means tx) rest
       → AllByRecursion (λ look. is_protected tx.dones look.r ≡ true → placed_value means tx.dones (old.point + 1) old.refs.values look.after look.r ≡ look.value) rest
@@ -373,7 +373,7 @@ module _ (means : Means) (accepts : Accepts) (knows : Known) (base : Base) (log 
 
   commit_placed : (new : Present) (stamp : Stamp) (tx : TxSeen) (receipt : Receipt) (added : List Entry) → IsCommitted means old a stamp tx receipt added new → refusal tx ≡ None → IsOpen means old tx → AllByRecursion (IsLook means tx) looks → IsPlaced means old tx looks
   commit_placed new stamp tx receipt added did none had heard =
-      let agree = agrees_first means old tx had (no_conflict means accepts knows old.refs (old.point + 1) (length old.agents.agents) tx none) in
+      let agree = agrees_first means old tx had (no_conflict means accepts knows old.refs (old.point + 1) (length old.agents.agents) (room old.books.added) (room old.books.taken) tx none) in
       let made = refs_of (values_now old.refs old.atoms) (values_now new.refs new.atoms) (after_dones means tx.dones (old.point + 1) tx.dones (Ok old.refs.values)) did.values in
       let each = placed means tx.began tx.dones (old.point + 1) old.refs.values new.refs.values agree made in
       record {
@@ -402,7 +402,7 @@ module _ (means : Means) (accepts : Accepts) (knows : Known) (base : Base) (log 
           later = later_commit means old new a stamp tx receipt added ok;
           world = subst (λ l. IsWorld means (with_tally new.refs.tally base) (log ++ l) new.refs new.atoms new.agents.unreleased) (sym ok.entry)
               (subst (λ y. IsWorld means (with_tally y base) (log ++ entry_of stamp tx ∷ []) new.refs new.atoms new.agents.unreleased) (sym ok.tally)
-              (kept_commit means (with_tally old.refs.tally base) log old was.0 was.1 new a stamp tx receipt added ok (within_points means accepts knows old.refs (old.point + 1) (length old.agents.agents) tx tells)));
+              (kept_commit means (with_tally old.refs.tally base) log old was.0 was.1 new a stamp tx receipt added ok (within_points means accepts knows old.refs (old.point + 1) (length old.agents.agents) (room old.books.added) (room old.books.taken) tx tells)));
           point = ok.point ∙ ap (λ l. old.point + length l) (sym ok.entry);
           count = ok.count;
           parts = ap (λ (s : ShareSeen). s.parts) ok.share;

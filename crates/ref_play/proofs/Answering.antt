@@ -15,7 +15,8 @@ use Rattle.ref_log.specs.Fold.{IsFolded}
 use Rattle.ref_log.specs.Guards.{keys_at}
 use Rattle.ref_log.specs.Make as makes_in
 use Rattle.ref_log.specs.Replay.{place, state_of, step}
-use Rattle.ref_log.specs.Tally.{added_by_dones}
+use Rattle.ref_log.specs.Tally.{moved_by_dones}
+use Rattle.ref_log.specs.declared.counting.Side.TheVariants as sides
 use Rattle.ref_log.specs.Told.{AnswersOrMemory, TellsFault}
 use Rattle.ref_log.specs.Watches.{has_key, notices_of}
 use Rattle.ref_log.specs.declared.entries.Entry.{Entry}
@@ -51,7 +52,7 @@ use Rattle.ref_world.specs.Seen.{ShareSeen, WorldSeen}
 use Rattle.ref_world.specs.Shares as shares
 use Rattle.ref_world.specs.Shares.{with_receipt}
 use Rattle.ref_world.specs.World as worlds
-use Rattle.ref_world.specs.World.{point_of, values_now}
+use Rattle.ref_world.specs.World.{point_of, room, values_now}
 use Rattle.ref_world.specs.declared.commits.Receipt.{Receipt}
 use Rattle.ref_world.specs.declared.faults.CheckpointFault.{CheckpointFault}
 use Rattle.ref_world.specs.declared.faults.CheckpointFault.TheVariants as checkpoints
@@ -154,14 +155,14 @@ late_fault memory early reason f is = (is.0, λ want. refl)
 
 module _ (means : Means) (accepts : Accepts) (knows : Known) (s : SimSeen) (a : ℕ) (stamp : Stamp) where
   reason : TxSeen → Option CommitFault
-  reason tx = commit_refusal means accepts knows s.world.refs (point_of s.world + 1) (length s.world.agents.agents) tx
+  reason tx = commit_refusal means accepts knows s.world.refs (point_of s.world + 1) (length s.world.agents.agents) (room s.world.books.added) (room s.world.books.taken) tx
 
   pub commit_none : (left : Slots) → None ≡ txs_of s.slots a → txs_of left ≡ txs_of s.slots → Serves means accepts knows s a (acts.Commit stamp) replies.NoTx (record s { slots = left })
   commit_none left none same = silent means accepts knows s a left (acts.Commit stamp) replies.NoTx refl (with_none (txs_of s.slots a) _ _ (sym none) (refl, (refl, ap (λ f. record (present s) { txs = f }) same)))
 
   module _ (tx : TxSeen) (was : Some tx ≡ txs_of s.slots a) (left : Slots) (took : txs_of left ≡ put (txs_of s.slots) a None) where
     pub commit_refused : (new : Slots) (v : WorldSeen) (sh : ShareSeen) (f : CommitFault) → v ≡ s.world → sh ≡ s.share
-        → TellsFault commits.Memory (early_refusal knows s.world.refs (point_of s.world + 1) (length s.world.agents.agents) tx) (commit_refusal means accepts knows s.world.refs (point_of s.world + 1) (length s.world.agents.agents) tx) f
+        → TellsFault commits.Memory (early_refusal knows s.world.refs (point_of s.world + 1) (length s.world.agents.agents) tx) (commit_refusal means accepts knows s.world.refs (point_of s.world + 1) (length s.world.agents.agents) (room s.world.books.added) (room s.world.books.taken) tx) f
         → txs_of new ≡ put (txs_of left) a (Some tx) → Serves means accepts knows s a (acts.Commit stamp) (replies.Commit (Err f)) (record s { world = v; share = sh; slots = new })
     commit_refused new v sh f same same_share tells back =
         subst (λ (x : WorldSeen). Serves means accepts knows s a (acts.Commit stamp) (replies.Commit (Err f)) (record s { world = x; share = sh; slots = new })) (sym same)
@@ -171,7 +172,7 @@ module _ (means : Means) (accepts : Accepts) (knows : Known) (s : SimSeen) (a : 
           slots : txs_of new ≡ txs_of s.slots
           slots = back ∙ (ap (λ f. put f a (Some tx)) took ∙ (put_again (txs_of s.slots) a None (Some tx) ∙ put_same (txs_of s.slots) a (Some tx) (sym was)))
 
-    pub commit_made : (v : WorldSeen) (sh : ShareSeen) (receipt : Receipt) → commit_refusal means accepts knows s.world.refs (point_of s.world + 1) (length s.world.agents.agents) tx ≡ None
+    pub commit_made : (v : WorldSeen) (sh : ShareSeen) (receipt : Receipt) → commit_refusal means accepts knows s.world.refs (point_of s.world + 1) (length s.world.agents.agents) (room s.world.books.added) (room s.world.books.taken) tx ≡ None
         → v ≡ worlds.with_commit s.world (entry_of stamp tx) v.refs tx.sends
         → step means (point_of s.world + 1) (entry_of stamp tx) (values_now s.world.refs s.world.atoms) ≡ Ok (values_now v.refs v.atoms)
         → ((r : ℕ) → changed_at v.refs.lasts r ≡ changed_by s.world.refs.lasts (point_of s.world + 1) tx.dones r)
@@ -179,7 +180,7 @@ module _ (means : Means) (accepts : Accepts) (knows : Known) (s : SimSeen) (a : 
         → (v.refs.tally ≡ s.world.refs.tally) × (v.refs.guards ≡ s.world.refs.guards)
         → (receipt.point ≡ point_of s.world + 1) × (receipt.stamp ≡ stamp)
         → receipt.notices.items ≡ notices s.world.refs.guards s.world.refs.values v.refs.values (touched_refs tx.dones)
-        → sh ≡ shares.with_commit s.share (point_of s.world + 1) (entry_of stamp tx) (added_by_dones s.world.refs.tally tx.dones)
+        → sh ≡ shares.with_commit s.share (point_of s.world + 1) (entry_of stamp tx) (moved_by_dones sides.Added s.world.refs.tally tx.dones) (moved_by_dones sides.Taken s.world.refs.tally tx.dones)
         → Serves means accepts knows s a (acts.Commit stamp) (replies.Commit (Ok receipt)) (record s { world = v; share = sh; slots = left })
     commit_made v sh receipt none is values lasts count rest told noticed shared = served means accepts knows s a (record s { world = v; share = sh; slots = left }) (acts.Commit stamp) (replies.Commit (Ok receipt)) (entry_of stamp tx ∷ []) refl
         (with_some (txs_of s.slots a) tx _ _ (sym was) (
@@ -196,6 +197,7 @@ module _ (means : Means) (accepts : Accepts) (knows : Known) (s : SimSeen) (a : 
             guards = rest.1;
             atoms = ap (λ (x : WorldSeen). x.atoms) is;
             agents = ap (λ (x : WorldSeen). x.agents) is;
+            books = ap (λ (x : WorldSeen). x.books) is;
             share = shared;
             closed = took;
             jobs = refl;
@@ -346,7 +348,7 @@ module _ (means : Means) (accepts : Accepts) (knows : Known) (s : SimSeen) (acto
       record {
         added = [];
         went = folded_entries w p;
-        acts = (Ok n, refl, (refl, rw (point, ap (λ (x : WorldSeen). x.refs) same, ap (λ (x : WorldSeen). x.atoms) same, ap (λ (x : WorldSeen). x.agents) same) refl));
+        acts = (Ok n, refl, (refl, rw (point, ap (λ (x : WorldSeen). x.refs) same, ap (λ (x : WorldSeen). x.atoms) same, ap (λ (x : WorldSeen). x.agents) same, ap (λ (x : WorldSeen). x.books) same) refl));
         folds = (Ok n, refl, none, (count, ap (λ k. take k w.log) many), tt);
         logs = logs;
       }

@@ -20,7 +20,7 @@ use Rattle.ref_tx.specs.Seen.{TxSeen}
 use Rattle.ref_refs.specs.Commit.{changed_by, entry_of}
 use Rattle.ref_refs.specs.Make.{with_ref}
 use Rattle.ref_refs.specs.Seen.{are_unchanged_since, changed_at}
-use Rattle.ref_play.specs.Present.{IsCommitted, Present, with_guards}
+use Rattle.ref_play.specs.Present.{IsCommitted, Present, with_guards, with_made_ref}
 use Rattle.ref_world.specs.World.{IsWorld, are_past, values_now, with_tally}
 use Rattle.ref_world.specs.declared.commits.Receipt.{Receipt}
 use Rattle.ref_play.proofs.Later.{last-append, last-here}
@@ -88,7 +88,7 @@ module _ (means : Means) (base : Base) (log : List Entry) (old : Present) (is : 
     by (inr other) = rw (ne_eqb n r other) (last-append lasts at r (λ same. other (sym count ∙ same)))
 
   pub kept_made : (new : Present) (value : Edn) (rule : Option Rule) (tally : Bool) → length old.refs.lasts ≡ length old.refs.values → old.point + 1 ≤ 2 ^ 62
-      → new ≡ record old { point = old.point + 1; refs = with_ref old.refs (old.point + 1) value rule tally }
+      → new ≡ with_made_ref old value rule tally
       → IsWorld means (with_tally new.refs.tally base) (log ++ MadeRef value ∷ []) new.refs new.atoms new.agents.unreleased
   kept_made new value rule tally count limit did = subst (λ (n : Present). IsWorld means (with_tally n.refs.tally base) (log ++ MadeRef value ∷ []) n.refs n.atoms n.agents.unreleased) (sym did) made where
     made : IsWorld means (with_tally (with_ref old.refs (old.point + 1) value rule tally).tally base) (log ++ MadeRef value ∷ []) (with_ref old.refs (old.point + 1) value rule tally) old.atoms old.agents.unreleased

@@ -16,7 +16,7 @@ use Rattle.ref_tx.specs.Seen.{TxSeen}
 use Rattle.ref_refs.specs.Commit.{entry_of}
 use Rattle.ref_refs.specs.Make.{with_ref}
 use Rattle.ref_refs.specs.Seen.{changed_at}
-use Rattle.ref_play.specs.Present.{IsCommitted, Present}
+use Rattle.ref_play.specs.Present.{IsCommitted, Present, with_made_ref}
 use Rattle.ref_play.specs.Runs.{IsOpen, KnowsTally}
 use Rattle.ref_world.specs.World.{values_now}
 use Rattle.ref_world.specs.declared.commits.Receipt.{Receipt}
@@ -110,7 +110,7 @@ if-made true n tally none = inr (none refl, refl)
 if-made false n tally none = inl refl
 
 pub later_made : (old new : Present) (value : Edn) (rule : Option Rule) (tally : Bool) → length old.refs.lasts ≡ length old.refs.values → (tally ≡ true → old.refs.tally ≡ None)
-    → new ≡ record old { point = old.point + 1; refs = with_ref old.refs (old.point + 1) value rule tally } → IsLater old new
+    → new ≡ with_made_ref old value rule tally → IsLater old new
 later_made old new value rule tally lasts none is = subst (IsLater old) (sym is) (record {
   point = omega arith;
   count = omega (arith, length-append old.refs.values (value ∷ []));

@@ -17,6 +17,7 @@ pub mod Puts
 pub mod Starting
 pub mod Tables
 pub mod PlainLists
+pub mod PlainBooks
 pub mod PlainCommits
 pub mod PlainRules
 pub mod PlainAgents

@@ -1,5 +1,5 @@
 -- A transaction of this world has nothing foreign, and a table that serves it has what its commit needs.
-use Rattle.std.proofs.Common.{◌≡◌, ◌≢◌, ℕ, zero, suc, cond, ◌+◌, ◌<◌, ◌≤◌, ◌^◌, ◌&&◌, not, nat_lt, Bool, true, false, ◌⊎◌, inl, inr, List, [], ◌∷◌, ◌++◌, length, Option, None, Some, Result, Ok, Err, slice_get, slice_set, refl, sym, ap, subst, ◌∙◌, arith}
+use Rattle.std.proofs.Common.{◌≡◌, ◌≢◌, ℕ, zero, suc, cond, ◌+◌, ◌<◌, ◌≤◌, ◌^◌, ◌&&◌, ◌||◌, not, nat_lt, Bool, true, false, ◌⊎◌, inl, inr, List, [], ◌∷◌, ◌++◌, length, Option, None, Some, Result, Ok, Err, slice_get, slice_set, refl, sym, ap, subst, ◌∙◌, arith}
 use Rattle.std.specs.List.{find, list_all, range_with_len}
 use Rattle.std.specs.Option.{option_map}
 use Rattle.std.specs.Ordering.{is_eq}
@@ -14,7 +14,8 @@ use Rattle.ref_fun.specs.declared.faults.Cause.{Cause}
 use Rattle.ref_fun.specs.declared.rules.Rule.{Rule}
 use Rattle.ref_log.specs.Guards.{are_known, rule_at}
 use Rattle.ref_log.specs.Replay.{after_dones, is_ensure, is_protected, place}
-use Rattle.ref_log.specs.Tally.{fit_tally}
+use Rattle.ref_log.specs.Tally.{fit_tally, moved_by_dones}
+use Rattle.ref_log.specs.declared.counting.Side.TheVariants.{Added, Taken}
 use Rattle.ref_log.specs.declared.faults.AuditFault.{AuditFault}
 use Rattle.ref_log.specs.declared.guards.Guard.{Guard}
 use Rattle.ref_log.specs.declared.operations.Done.{Done}
@@ -22,12 +23,13 @@ use Rattle.ref_log.specs.declared.operations.Op.{Op}
 use Rattle.ref_log.specs.declared.sends.Sent.{Sent}
 use Rattle.ref_tx.specs.Inner.{AreAnswers, IsTx, after_ops, ops_on, value_after}
 use Rattle.ref_tx.specs.Seen.{TxSeen}
-use Rattle.ref_refs.specs.Commit.{alien, alien_value, changed_after, commit_refusal, conflict, conflict_on, differs, differs_at, early_refusal, first_invalid, first_protected, has_ref, invalid, lacking, lacking_rule, or_fault, past_points, refused, refused_at}
+use Rattle.ref_refs.specs.Commit.{alien, alien_value, changed_after, commit_refusal, conflict, conflict_on, differs, differs_at, early_refusal, first_invalid, first_protected, full_book, has_ref, invalid, lacking, lacking_rule, or_fault, past_points, refused, refused_at}
 use Rattle.ref_refs.specs.Seen.{RefsSeen, changed_at}
 use Rattle.ref_refs.specs.Watches.{touched_refs}
 use Rattle.ref_refs.specs.declared.faults.Alien.TheVariants as aliens
 use Rattle.ref_refs.specs.declared.faults.CommitFault.{CommitFault}
-use Rattle.ref_refs.specs.declared.faults.CommitFault.TheVariants.{Conflict, Foreign, Invalid, Memory, NoSuchFun, PointLimit, Refused}
+use Rattle.ref_refs.specs.declared.faults.CommitFault.TheVariants.{BookFull, Conflict, Foreign, Invalid, Memory, NoSuchFun, PointLimit, Refused}
+use Rattle.ref_world.specs.World.{room}
 use Rattle.ref_play.specs.Present.{Present}
 use Rattle.ref_play.specs.Laws.{IsNative}
 use Rattle.ref_play.specs.Runs.{IsOpen, KnowsTally}
@@ -66,6 +68,10 @@ native_invalid accepts guards ds (Err fault) = tt
 native_past : (b : Bool) → IsNativeOr (cond b (Some PointLimit) None)
 native_past true = tt
 native_past false = tt
+
+native_full : (b : Bool) → IsNativeOr (cond b (Some BookFull) None)
+native_full true = tt
+native_full false = tt
 
 -- ---- what is never so
 
@@ -176,17 +182,22 @@ aliens_none means now tx is =
     rw (refs, sent, tally, point) refl
 
 pub native_refusal : (means : Means) (accepts : Accepts) (knows : Known) (now : Present) (tx : TxSeen) → IsOpen means now tx → are_known knows.preds now.refs.guards ≡ true → lacking knows.funs tx.dones ≡ None
-    → IsNativeOr (commit_refusal means accepts knows now.refs (now.point + 1) (length now.agents.agents) tx)
+    → IsNativeOr (commit_refusal means accepts knows now.refs (now.point + 1) (length now.agents.agents) (room now.books.added) (room now.books.taken) tx)
 native_refusal means accepts knows now tx is preds funs =
     let at = now.point + 1 in
-    let rest = native_or (refused means tx.dones now.refs.values) (or_fault (invalid accepts now.refs.guards tx.dones (after_dones means tx.dones at tx.dones (Ok now.refs.values))) (past_points at)) (native_refused means tx.dones now.refs.values)
-    (native_or (invalid accepts now.refs.guards tx.dones (after_dones means tx.dones at tx.dones (Ok now.refs.values))) (past_points at) (native_invalid accepts now.refs.guards tx.dones (after_dones means tx.dones at tx.dones (Ok now.refs.values))) (native_past (nat_lt (2 ^ 62) at))) in
+    let full = full_book (room now.books.added) (room now.books.taken) now.refs.tally tx.dones in
+    let late = or_fault (past_points at) full in
+    let made = invalid accepts now.refs.guards tx.dones (after_dones means tx.dones at tx.dones (Ok now.refs.values)) in
+    let rest = native_or (refused means tx.dones now.refs.values) (or_fault made late) (native_refused means tx.dones now.refs.values)
+    (native_or made late (native_invalid accepts now.refs.guards tx.dones (after_dones means tx.dones at tx.dones (Ok now.refs.values)))
+    (native_or (past_points at) full (native_past (nat_lt (2 ^ 62) at))
+    (native_full (nat_lt (room now.books.added) (moved_by_dones Added now.refs.tally tx.dones) || nat_lt (room now.books.taken) (moved_by_dones Taken now.refs.tally tx.dones))))) in
     let values = native_protected means now tx (first_protected now.refs.values tx.dones (changed_after now.refs.lasts tx.read_point)) is refl in
     let first = native_or (alien now.refs at (length now.agents.agents) tx) (or_fault (lacking knows.funs tx.dones) (or_fault (lacking_rule knows.preds now.refs.guards tx.dones) (or_fault (conflict now.refs tx) (alien_value now.refs.values tx))))
     (native_none (alien now.refs at (length now.agents.agents) tx) (aliens_none means now tx is))
     (native_or (lacking knows.funs tx.dones) (or_fault (lacking_rule knows.preds now.refs.guards tx.dones) (or_fault (conflict now.refs tx) (alien_value now.refs.values tx))) (native_none (lacking knows.funs tx.dones) funs)
     (native_or (lacking_rule knows.preds now.refs.guards tx.dones) (or_fault (conflict now.refs tx) (alien_value now.refs.values tx)) (native_none (lacking_rule knows.preds now.refs.guards tx.dones) (rules_known knows.preds now.refs.guards tx.dones preds)) values)) in
-    native_or (early_refusal knows now.refs at (length now.agents.agents) tx) (or_fault (refused means tx.dones now.refs.values) (or_fault (invalid accepts now.refs.guards tx.dones (after_dones means tx.dones at tx.dones (Ok now.refs.values))) (past_points at))) first rest
+    native_or (early_refusal knows now.refs at (length now.agents.agents) tx) (or_fault (refused means tx.dones now.refs.values) (or_fault made late)) first rest
 
 by_reason : (reason : Option CommitFault) (fault : CommitFault) → IsNativeOr reason → reason ≡ Some fault → IsNative fault
 by_reason reason fault native is = subst IsNativeOr is native
@@ -198,6 +209,7 @@ native_told reason (Conflict c) native told = tt
 native_told reason (Refused r cause) native told = tt
 native_told reason (Invalid r) native told = tt
 native_told reason PointLimit native told = tt
+native_told reason BookFull native told = tt
 native_told reason Memory native told = tt
 
 -- ---- a commit that is made: what it protects has the value that it began with
@@ -235,8 +247,8 @@ pub none_of : (first later : Option CommitFault) → or_fault first later ≡ No
 none_of None later none = (refl, none)
 none_of (Some fault) later none = absurd cc
 
-pub no_conflict : (means : Means) (accepts : Accepts) (knows : Known) (refs : RefsSeen) (at agents : ℕ) (tx : TxSeen) → commit_refusal means accepts knows refs at agents tx ≡ None → conflict refs tx ≡ None
-no_conflict means accepts knows refs at agents tx none =
+pub no_conflict : (means : Means) (accepts : Accepts) (knows : Known) (refs : RefsSeen) (at agents most_added most_taken : ℕ) (tx : TxSeen) → commit_refusal means accepts knows refs at agents most_added most_taken tx ≡ None → conflict refs tx ≡ None
+no_conflict means accepts knows refs at agents most_added most_taken tx none =
     let early = none_of (early_refusal knows refs at agents tx) _ none in
     let a = none_of (alien refs at agents tx) _ early.0 in
     let b = none_of (lacking knows.funs tx.dones) _ a.1 in
@@ -247,9 +259,10 @@ pub not_past : (at : ℕ) (b : Bool) → nat_lt (2 ^ 62) at ≡ b → cond b (So
 not_past at true is none = absurd cc
 not_past at false is none = ltb-false (2 ^ 62) at is
 
-pub within_points : (means : Means) (accepts : Accepts) (knows : Known) (refs : RefsSeen) (at agents : ℕ) (tx : TxSeen) → commit_refusal means accepts knows refs at agents tx ≡ None → at ≤ 2 ^ 62
-within_points means accepts knows refs at agents tx none =
+pub within_points : (means : Means) (accepts : Accepts) (knows : Known) (refs : RefsSeen) (at agents most_added most_taken : ℕ) (tx : TxSeen) → commit_refusal means accepts knows refs at agents most_added most_taken tx ≡ None → at ≤ 2 ^ 62
+within_points means accepts knows refs at agents most_added most_taken tx none =
     let a = none_of (early_refusal knows refs at agents tx) _ none in
     let b = none_of (refused means tx.dones refs.values) _ a.1 in
-    let c = none_of (invalid accepts refs.guards tx.dones (after_dones means tx.dones at tx.dones (Ok refs.values))) (past_points at) b.1 in
-    not_past at (nat_lt (2 ^ 62) at) refl c.1
+    let c = none_of (invalid accepts refs.guards tx.dones (after_dones means tx.dones at tx.dones (Ok refs.values))) _ b.1 in
+    let d = none_of (past_points at) (full_book most_added most_taken refs.tally tx.dones) c.1 in
+    not_past at (nat_lt (2 ^ 62) at) refl d.0

@@ -1,5 +1,5 @@
 -- What a commit asks for, in plain words.
-use Rattle.std.proofs.Common.{Equal, Greater, Less, Ordering, ◌≡◌, ℕ, zero, suc, pos, cond, ◌<◌, ◌≤◌, ◌^◌, ◌==◌, ◌&&◌, ◌||◌, not, nat_lt, Bool, true, false, List, [], ◌∷◌, ◌++◌, length, Option, None, Some, Result, Ok, Err, slice_get, slice_set, refl, sym, ap, subst, ◌∙◌, arith}
+use Rattle.std.proofs.Common.{Equal, Greater, Less, Ordering, ◌≡◌, ℕ, zero, suc, pos, cond, ◌<◌, ◌≤◌, ◌^◌, ◌==◌, ◌&&◌, ◌||◌, not, nat_lt, Bool, true, false, ◌⊎◌, inl, inr, List, [], ◌∷◌, ◌++◌, length, Option, None, Some, Result, Ok, Err, slice_get, slice_set, refl, sym, ap, subst, ◌∙◌, arith}
 use Rattle.std.specs.List.{AllByRecursion, find}
 use Rattle.std.specs.BTreeSet.{insert_key}
 use Rattle.std.specs.Option.{option_map}
@@ -17,7 +17,8 @@ use Rattle.ref_fun.specs.declared.rules.Rule.{Rule}
 use Rattle.ref_log.specs.Guards.{is_accepted_at, passes_if_here, rule_at, rule_if_here}
 use Rattle.ref_log.specs.Laws.{after_dones-Ok, is_kept-itself, same_value}
 use Rattle.ref_log.specs.Replay.{after_done, after_dones, after_found, after_place, is_commute, is_kept, is_ensure, is_protected, missing, place}
-use Rattle.ref_log.specs.Tally.{fit_tally, fits_tally, is_count, is_tally}
+use Rattle.ref_log.specs.Tally.{fit_tally, fits_tally, is_count, is_tally, moved_by_dones}
+use Rattle.ref_log.specs.declared.counting.Side.TheVariants.{Added, Taken}
 use Rattle.ref_log.specs.declared.faults.AuditFault.{AuditFault}
 use Rattle.ref_log.specs.declared.guards.Guard.{Guard}
 use Rattle.ref_log.specs.declared.operations.Done.{Done}
@@ -27,7 +28,7 @@ use Rattle.ref_log.specs.declared.sends.Sent.{Sent}
 use Rattle.ref_tx.specs.Inner.{AreAnswers, IsTx, and_place, given, value_after}
 use Rattle.ref_tx.specs.Laws.{value_after-here}
 use Rattle.ref_tx.specs.Seen.{TxSeen}
-use Rattle.ref_refs.specs.Commit.{alien, alien_agent, alien_point, alien_ref, alien_tally, alien_value, changed_after, commit_refusal, commuted_code, commuted_codes, conflict, conflict_on, differs, differs_at, early_refusal, first_invalid, first_protected, has_ref, invalid, lacking, lacking_rule, needed_rule, or_fault, past_points, refused, refused_at, unknown_at}
+use Rattle.ref_refs.specs.Commit.{alien, alien_agent, alien_point, alien_ref, alien_tally, alien_value, changed_after, commit_refusal, commuted_code, commuted_codes, conflict, conflict_on, differs, differs_at, early_refusal, first_invalid, first_protected, has_ref, invalid, lacking, lacking_rule, needed_rule, full_book, or_fault, past_points, refused, refused_at, unknown_at}
 use Rattle.ref_refs.specs.Seen.{RefsSeen, changed_at}
 use Rattle.ref_refs.specs.Watches.{touched_from, touched_refs}
 use Rattle.ref_refs.specs.declared.faults.Alien.TheVariants as aliens
@@ -36,6 +37,7 @@ use Rattle.ref_refs.specs.declared.faults.CommitFault.TheVariants.{Foreign, Inva
 use Rattle.ref_play.specs.Plain.{CanCommit, Changes, CommitsWhereItCan, Counts, HasCommuted, HasRule, IsChanged, IsProtected, KnowsRuleOf, Leads, Makes, Protects, RuleAccepts}
 use Rattle.ref_play.proofs.Native.{changed_by_protected, differs_itself, mapped_none, none_of, not_past, range_none}
 use Rattle.ref_play.proofs.Placed.{Agrees, agrees_more}
+use Rattle.ref_play.proofs.PlainBooks.{has_room, not_full, sum_is, sums_to}
 use Rattle.ref_play.proofs.PlainLists.{all_map, all_pass, any_each, any_pass, each_any, each_passes, found_none, none_found, none_range, some_passes}
 
 -- ---- faults
@@ -135,15 +137,29 @@ count_is args is = absurd cc
 pub counts_by : (op : Op) → fits_tally op ≡ true → Counts op
 counts_by (Set w) is = absurd cc
 counts_by (Alter code args) is = absurd cc
-counts_by (Commute code args) is =
-    let parts = and_parts (code == 1) (is_count args) is in
-    (eqb-true code 1 parts.0, count_is args parts.1)
+counts_by (Commute code args) is = by (code == 1) refl (code == 2) refl is where
+  of_one : (b : Bool) → (b || false) ≡ true → b ≡ true
+  of_one true e = refl
+  of_one false e = absurd cc
+
+  by : (one : Bool) → (code == 1) ≡ one → (two : Bool) → (code == 2) ≡ two → ((one && is_count args) || (two && is_count args)) ≡ true → Counts (Commute code args)
+  by true e true f both = (inl (eqb-true code 1 e), count_is args (either_way (is_count args) both)) where
+    either_way : (b : Bool) → (b || b) ≡ true → b ≡ true
+    either_way true e = refl
+    either_way false e = absurd cc
+  by true e false f both = (inl (eqb-true code 1 e), count_is args (of_one (is_count args) both))
+  by false e true f both = (inr (eqb-true code 2 f), count_is args both)
+  by false e false f both = absurd cc
 counts_by Ensure is = tt
 
 pub by_counts : (op : Op) → Counts op → fits_tally op ≡ true
 by_counts (Set w) is = absurd is
 by_counts (Alter code args) is = absurd is
-by_counts (Commute code args) is = and_from (code == 1) (is_count args) (eq-eqb code 1 is.0) (ap is_count is.1.1)
+by_counts (Commute code args) (inl one, (n, are)) = ap (λ b. b || ((code == 2) && is_count args)) (and_from (code == 1) (is_count args) (eq-eqb code 1 one) (ap is_count are))
+by_counts (Commute code args) (inr two, (n, are)) = or_true ((code == 1) && is_count args) ((code == 2) && is_count args) (and_from (code == 2) (is_count args) (eq-eqb code 2 two) (ap is_count are)) where
+  or_true : (a b : Bool) → b ≡ true → (a || b) ≡ true
+  or_true true b e = refl
+  or_true false b e = e
 by_counts Ensure is = refl
 
 pub unless : (b c : Bool) → b ≡ true → (not b || c) ≡ true → c ≡ true
@@ -475,11 +491,14 @@ module _ (means : Means) (accepts : Accepts) (knows : Known) (store : RefsSeen) 
   pub lead_on : IsTx means tx.began tx.dones tx.tally → AllByRecursion (λ d. d.r < length store.values) tx.dones → ((r : ℕ) → IsProtected tx.dones r → slice_get store.values r ≡ slice_get tx.began r) → refused means tx.dones store.values ≡ None → (after : List Edn) × Leads means tx.dones tx.dones store.values after
   lead_on is here same none = refused_leads means tx.began tx.dones at [] tx.dones store.values (λ r protected. same r (protected_is tx.dones r protected)) is.answered here none
 
-  pub can_commit : IsTx means tx.began tx.dones tx.tally → commit_refusal means accepts knows store at agents tx ≡ None → CanCommit means accepts knows store at agents tx
+module _ (means : Means) (accepts : Accepts) (knows : Known) (store : RefsSeen) (at agents most_added most_taken : ℕ) (tx : TxSeen) where
+  pub can_commit : IsTx means tx.began tx.dones tx.tally → commit_refusal means accepts knows store at agents most_added most_taken tx ≡ None → CanCommit means accepts knows store at agents most_added most_taken tx
   can_commit is none =
       let a = none_of (early_refusal knows store at agents tx) _ none in
       let b = none_of (refused means tx.dones store.values) _ a.1 in
-      let c = none_of (invalid accepts store.guards tx.dones (after_dones means tx.dones at tx.dones (Ok store.values))) (past_points at) b.1 in
+      let c = none_of (invalid accepts store.guards tx.dones (after_dones means tx.dones at tx.dones (Ok store.values))) _ b.1 in
+      let k = none_of (past_points at) (full_book most_added most_taken store.tally tx.dones) c.1 in
+      let within = not_full most_added most_taken store.tally tx.dones k.1 in
       let d = none_of (alien store at agents tx) _ a.0 in
       let e = none_of (alien_ref store.values tx.dones) _ d.0 in
       let f = none_of (alien_agent agents tx.sends) _ e.1 in
@@ -489,7 +508,7 @@ module _ (means : Means) (accepts : Accepts) (knows : Known) (store : RefsSeen) 
       let j = none_of (conflict store tx) (alien_value store.values tx) i.1 in
       let here = refs_by store.values tx.dones e.0 in
       let same = values_by store.values tx here j.1 in
-      let leads = lead_on is here same b.0 in
+      let leads = lead_on means accepts knows store at agents tx is here same b.0 in
       let made = leads_after means tx.dones at tx.dones store.values leads.0 leads.1 in
       record {
         refs = here;
@@ -503,10 +522,12 @@ module _ (means : Means) (accepts : Accepts) (knows : Known) (store : RefsSeen) 
         after = leads.0;
         leads = leads.1;
         rules = accepted_by accepts store.guards tx.dones leads.0 (ap (invalid accepts store.guards tx.dones) (sym made) ∙ c.0);
-        within = not_past at (nat_lt (2 ^ 62) at) refl c.1;
+        within = not_past at (nat_lt (2 ^ 62) at) refl k.0;
+        added = λ sum sums. (let same = sum_is Added store.tally tx.dones sum sums in omega (arith, same, within.0));
+        taken = λ sum sums. (let same = sum_is Taken store.tally tx.dones sum sums in omega (arith, same, within.1));
       }
 
-  commits : CanCommit means accepts knows store at agents tx → commit_refusal means accepts knows store at agents tx ≡ None
+  commits : CanCommit means accepts knows store at agents most_added most_taken tx → commit_refusal means accepts knows store at agents most_added most_taken tx ≡ None
   commits can =
       let made = leads_after means tx.dones at tx.dones store.values can.after can.leads in
       let foreign = none_or (alien_ref store.values tx.dones) _ (by_refs store.values tx.dones can.refs)
@@ -518,9 +539,12 @@ module _ (means : Means) (accepts : Accepts) (knows : Known) (store : RefsSeen) 
       (none_or (conflict store tx) (alien_value store.values tx) (by_unchanged store tx can.unchanged) (by_values store.values tx can.same)))) in
       none_or (early_refusal knows store at agents tx) _ early
       (none_or (refused means tx.dones store.values) _ (leads_refused means tx.dones tx.dones store.values can.after can.leads)
-      (none_or (invalid accepts store.guards tx.dones (after_dones means tx.dones at tx.dones (Ok store.values))) (past_points at)
+      (none_or (invalid accepts store.guards tx.dones (after_dones means tx.dones at tx.dones (Ok store.values))) _
       (ap (invalid accepts store.guards tx.dones) made ∙ by_accepted accepts store.guards tx.dones can.after can.rules)
-      (by_within at can.within)))
+      (none_or (past_points at) (full_book most_added most_taken store.tally tx.dones) (by_within at can.within)
+      (has_room most_added most_taken store.tally tx.dones
+      (can.added (moved_by_dones Added store.tally tx.dones) (sums_to Added store.tally tx.dones can.tally))
+      (can.taken (moved_by_dones Taken store.tally tx.dones) (sums_to Taken store.tally tx.dones can.tally))))))
 
 pub commits_where_it_can : (means : Means) (accepts : Accepts) → CommitsWhereItCan means accepts
-commits_where_it_can means accepts knows store at agents tx is = (can_commit means accepts knows store at agents tx is, commits means accepts knows store at agents tx)
+commits_where_it_can means accepts knows store at agents most_added most_taken tx is = (can_commit means accepts knows store at agents most_added most_taken tx is, commits means accepts knows store at agents most_added most_taken tx)

@@ -15,7 +15,8 @@ use Rattle.ref_fun.specs.declared.faults.Cause.{Cause}
 use Rattle.ref_fun.specs.declared.rules.Rule.{Rule}
 use Rattle.ref_log.specs.Guards.{is_accepted_at, passes_if_here, rule_at}
 use Rattle.ref_log.specs.Replay.{after_dones, is_ensure, is_protected, is_touched, missing, place}
-use Rattle.ref_log.specs.Tally.{fit_tally, fits_tally, is_tally}
+use Rattle.ref_log.specs.Tally.{fit_tally, fits_tally, is_tally, moved_by_dones}
+use Rattle.ref_log.specs.declared.counting.Side.TheVariants.{Added, Taken}
 use Rattle.ref_log.specs.declared.guards.Guard.{Guard}
 use Rattle.ref_log.specs.declared.operations.Done.{Done}
 use Rattle.ref_log.specs.declared.operations.Op.{Op}
@@ -23,17 +24,18 @@ use Rattle.ref_log.specs.declared.operations.Op.TheVariants.{Set, Alter, Commute
 use Rattle.ref_log.specs.declared.sends.Sent.{Sent}
 use Rattle.ref_tx.specs.Inner.{IsTx}
 use Rattle.ref_tx.specs.Seen.{TxSeen}
-use Rattle.ref_refs.specs.Commit.{alien, alien_agent, alien_point, alien_ref, alien_tally, alien_value, changed_after, commit_refusal, commuted_code, commuted_codes, conflict, conflict_on, differs, differs_at, early_refusal, first_invalid, first_protected, has_ref, invalid, lacking, lacking_rule, or_fault, past_points, refused, refused_at, unknown_at}
+use Rattle.ref_refs.specs.Commit.{alien, alien_agent, alien_point, alien_ref, alien_tally, alien_value, changed_after, commit_refusal, commuted_code, commuted_codes, conflict, conflict_on, differs, differs_at, early_refusal, first_invalid, first_protected, has_ref, invalid, lacking, lacking_rule, full_book, or_fault, past_points, refused, refused_at, unknown_at}
 use Rattle.ref_refs.specs.Seen.{RefsSeen, changed_at}
 use Rattle.ref_refs.specs.Watches.{touched_from, touched_refs}
 use Rattle.ref_refs.specs.declared.faults.Alien.TheVariants as aliens
 use Rattle.ref_refs.specs.declared.faults.CommitFault.{CommitFault}
-use Rattle.ref_refs.specs.declared.faults.CommitFault.TheVariants.{Conflict, Foreign, Invalid, Memory, NoSuchFun, PointLimit, Refused}
+use Rattle.ref_refs.specs.declared.faults.CommitFault.TheVariants.{BookFull, Conflict, Foreign, Invalid, Memory, NoSuchFun, PointLimit, Refused}
 use Rattle.ref_refs.specs.declared.faults.Conflict as told
-use Rattle.ref_play.specs.Plain.{AnyByRecursion, AreRising, Changes, CommutesBy, Counts, FirstWithout, HasAgents, HasCommuted, HasRefs, HasRule, IsChanged, IsCurrent, IsHere, IsKnown, IsProtected, IsSmallestInvalid, IsSmallestOther, KnowsRuleOf, LacksFun, Leads, NamesSmallest, OnlyCounts, RefusalsSayWhy, RefusedOn, RefusesValue, RuledBy, Why}
-use Rattle.ref_play.proofs.Native.{differs_itself, none_of}
+use Rattle.ref_play.specs.Plain.{AnyByRecursion, AreRising, Changes, CommutesBy, Counts, FirstWithout, HasAgents, HasCommuted, HasRefs, HasRule, IsChanged, IsCurrent, IsHere, IsKnown, IsMade, IsProtected, IsSmallestInvalid, IsSmallestOther, KnowsRuleOf, LacksFun, Leads, NamesSmallest, OnlyCounts, RefusalsSayWhy, RefusedOn, RefusesValue, RuledBy, SumsTo, Why}
+use Rattle.ref_play.proofs.Native.{differs_itself, none_of, not_past}
+use Rattle.ref_play.proofs.PlainBooks.{by_full, full_by, sum_is, sums_to}
 use Rattle.ref_play.proofs.PlainLists.{all_map, any_each, any_pass, each_any, some_passes}
-use Rattle.ref_play.proofs.PlainCommits.{IsAcceptedAt, accepted_by, accepts_by, by_accepted, by_changes, by_counts, by_funs, by_last, by_preds, by_read, by_refs, by_sends, by_tally, by_unchanged, by_values, changes_by, counts_by, each_touched, funs_by, has_rule, here_by, insert_from, is_protected_by, last_by, lead_on, leads_after, leads_refused, makes_place, none_or, place_makes, pred_by, preds_by, protected_is, read_by, refs_by, rule_is, same_by, sends_by, tally_by, there, touched_each, unchanged_by, values_by}
+use Rattle.ref_play.proofs.PlainCommits.{IsAcceptedAt, accepted_by, accepts_by, by_accepted, by_changes, by_counts, by_funs, by_last, by_preds, by_read, by_refs, by_sends, by_tally, by_unchanged, by_values, by_within, changes_by, counts_by, each_touched, funs_by, has_rule, here_by, insert_from, is_protected_by, last_by, lead_on, leads_after, leads_refused, makes_place, none_or, place_makes, pred_by, preds_by, protected_is, read_by, refs_by, rule_is, same_by, sends_by, tally_by, there, touched_each, unchanged_by, values_by}
 
 -- ---- the first of faults
 
@@ -549,9 +551,9 @@ by_past at past = ap (λ b. cond b (Some PointLimit) None) (lt-ltb (2 ^ 62) at p
 
 -- ---- all together
 
-module _ (means : Means) (accepts : Accepts) (knows : Known) (store : RefsSeen) (at agents : ℕ) (tx : TxSeen) where
+module _ (means : Means) (accepts : Accepts) (knows : Known) (store : RefsSeen) (at agents most_added most_taken : ℕ) (tx : TxSeen) where
   abbrev Says : CommitFault → Type 0
-  Says fault = Why means accepts knows store at agents tx fault
+  Says fault = Why means accepts knows store at agents tx most_added most_taken fault
 
   here_of : alien store at agents tx ≡ None → IsHere means accepts knows store at agents tx
   here_of none =
@@ -629,39 +631,56 @@ module _ (means : Means) (accepts : Accepts) (knows : Known) (store : RefsSeen) 
       let here = here_of a.0 in
       ((here, funs_by knows.funs tx.dones b.0, preds_by knows.preds store.guards tx.dones c.0), unchanged_by store tx here.0 d.0, values_by store.values tx here.0 d.1)
 
-  pub says : (fault : CommitFault) → IsTx means tx.began tx.dones tx.tally → commit_refusal means accepts knows store at agents tx ≡ Some fault → Says fault
+  pub says : (fault : CommitFault) → IsTx means tx.began tx.dones tx.tally → commit_refusal means accepts knows store at agents most_added most_taken tx ≡ Some fault → Says fault
   says fault is refusal = first (some_or (early_refusal knows store at agents tx) _ fault refusal) where
-    rules : IsCurrent means accepts knows store at agents tx → (after : List Edn) → Leads means tx.dones tx.dones store.values after → (invalid accepts store.guards tx.dones (Ok after) ≡ Some fault) ⊎ ((invalid accepts store.guards tx.dones (Ok after) ≡ None) × (past_points at ≡ Some fault)) → Says fault
+    books : IsMade means accepts knows store at agents tx → (past_points at ≡ Some fault) ⊎ ((past_points at ≡ None) × (full_book most_added most_taken store.tally tx.dones ≡ Some fault)) → Says fault
+    books made (inl is) =
+        let one = past_by at fault is in
+        subst Says one.0 (made, one.1)
+    books made (inr rest) =
+        let one = full_by most_added most_taken store.tally tx.dones fault rest.1 in
+        subst Says one.0 (made, not_past at (nat_lt (2 ^ 62) at) refl rest.0, sums one.1) where
+          tally : AllByRecursion (λ (d : Done). store.tally ≡ Some d.r → Counts d.op) tx.dones
+          tally = made.0.0.0.2
+
+          sums : (most_added < moved_by_dones Added store.tally tx.dones) ⊎ (most_taken < moved_by_dones Taken store.tally tx.dones)
+              → ((sum : ℕ) × SumsTo store.tally 1 tx.dones sum × (most_added < sum)) ⊎ ((sum : ℕ) × SumsTo store.tally 2 tx.dones sum × (most_taken < sum))
+          sums (inl up) = inl (moved_by_dones Added store.tally tx.dones, sums_to Added store.tally tx.dones tally, up)
+          sums (inr down) = inr (moved_by_dones Taken store.tally tx.dones, sums_to Taken store.tally tx.dones tally, down)
+
+    rules : IsCurrent means accepts knows store at agents tx → (after : List Edn) → Leads means tx.dones tx.dones store.values after
+        → (invalid accepts store.guards tx.dones (Ok after) ≡ Some fault) ⊎ ((invalid accepts store.guards tx.dones (Ok after) ≡ None) × (or_fault (past_points at) (full_book most_added most_taken store.tally tx.dones) ≡ Some fault)) → Says fault
     rules current after leads (inl is) =
         let one = invalid_by accepts store tx after fault is in
         subst Says one.1 (current, (after, leads, one.2))
     rules current after leads (inr rest) =
-        let one = past_by at fault rest.1 in
-        subst Says one.0 (current, (after, leads, accepted_by accepts store.guards tx.dones after rest.0, one.1))
+        books (current, (after, leads, accepted_by accepts store.guards tx.dones after rest.0)) (some_or (past_points at) (full_book most_added most_taken store.tally tx.dones) fault rest.1)
 
-    places : IsCurrent means accepts knows store at agents tx → (refused means tx.dones store.values ≡ Some fault) ⊎ ((refused means tx.dones store.values ≡ None) × (or_fault (invalid accepts store.guards tx.dones (after_dones means tx.dones at tx.dones (Ok store.values))) (past_points at) ≡ Some fault)) → Says fault
+    places : IsCurrent means accepts knows store at agents tx → (refused means tx.dones store.values ≡ Some fault) ⊎ ((refused means tx.dones store.values ≡ None)
+        × (or_fault (invalid accepts store.guards tx.dones (after_dones means tx.dones at tx.dones (Ok store.values))) (or_fault (past_points at) (full_book most_added most_taken store.tally tx.dones)) ≡ Some fault)) → Says fault
     places current (inl is) =
         let one = refused_by means tx.dones store.values fault is in
         subst Says one.2 (current, one.3)
     places current (inr rest) =
         let leads = lead_on means accepts knows store at agents tx is current.0.0.0 current.2 rest.0 in
         let made = leads_after means tx.dones at tx.dones store.values leads.0 leads.1 in
-        rules current leads.0 leads.1 (some_or (invalid accepts store.guards tx.dones (Ok leads.0)) (past_points at) fault (ap (λ l. or_fault (invalid accepts store.guards tx.dones l) (past_points at)) (sym made) ∙ rest.1))
+        let late = or_fault (past_points at) (full_book most_added most_taken store.tally tx.dones) in
+        rules current leads.0 leads.1 (some_or (invalid accepts store.guards tx.dones (Ok leads.0)) late fault (ap (λ l. or_fault (invalid accepts store.guards tx.dones l) late) (sym made) ∙ rest.1))
 
-    first : (early_refusal knows store at agents tx ≡ Some fault) ⊎ ((early_refusal knows store at agents tx ≡ None) × (or_fault (refused means tx.dones store.values) (or_fault (invalid accepts store.guards tx.dones (after_dones means tx.dones at tx.dones (Ok store.values))) (past_points at)) ≡ Some fault)) → Says fault
+    first : (early_refusal knows store at agents tx ≡ Some fault) ⊎ ((early_refusal knows store at agents tx ≡ None) × (or_fault (refused means tx.dones store.values) (or_fault (invalid accepts store.guards tx.dones (after_dones means tx.dones at tx.dones (Ok store.values))) (or_fault (past_points at) (full_book most_added most_taken store.tally tx.dones))) ≡ Some fault)) → Says fault
     first (inl is) = early_says fault is
     first (inr rest) = places (current_of rest.0) (some_or (refused means tx.dones store.values) _ fault rest.1)
 
   -- ---- and back
 
-  by_alien : (fault : CommitFault) → alien store at agents tx ≡ Some fault → commit_refusal means accepts knows store at agents tx ≡ Some fault
+  by_alien : (fault : CommitFault) → alien store at agents tx ≡ Some fault → commit_refusal means accepts knows store at agents most_added most_taken tx ≡ Some fault
   by_alien fault is = or_some (early_refusal knows store at agents tx) _ fault (or_some (alien store at agents tx) _ fault is)
 
   by_here : (fault : CommitFault) → IsHere means accepts knows store at agents tx → or_fault (lacking knows.funs tx.dones) (or_fault (lacking_rule knows.preds store.guards tx.dones) (or_fault (conflict store tx) (alien_value store.values tx))) ≡ Some fault
-      → commit_refusal means accepts knows store at agents tx ≡ Some fault
+      → commit_refusal means accepts knows store at agents most_added most_taken tx ≡ Some fault
   by_here fault here is = or_some (early_refusal knows store at agents tx) _ fault (or_later (alien store at agents tx) _ fault (of_here here) is)
 
-  by_known : (fault : CommitFault) → IsKnown means accepts knows store at agents tx → or_fault (conflict store tx) (alien_value store.values tx) ≡ Some fault → commit_refusal means accepts knows store at agents tx ≡ Some fault
+  by_known : (fault : CommitFault) → IsKnown means accepts knows store at agents tx → or_fault (conflict store tx) (alien_value store.values tx) ≡ Some fault → commit_refusal means accepts knows store at agents most_added most_taken tx ≡ Some fault
   by_known fault known is =
       by_here fault known.0
       (or_later (lacking knows.funs tx.dones) _ fault (by_funs knows.funs tx.dones known.1)
@@ -674,18 +693,22 @@ module _ (means : Means) (accepts : Accepts) (knows : Known) (store : RefsSeen) 
       (none_or (lacking_rule knows.preds store.guards tx.dones) _ (by_preds knows.preds store.guards tx.dones current.0.2)
       (none_or (conflict store tx) (alien_value store.values tx) (by_unchanged store tx current.1) (by_values store.values tx current.2))))
 
-  by_current : (fault : CommitFault) → IsCurrent means accepts knows store at agents tx → or_fault (refused means tx.dones store.values) (or_fault (invalid accepts store.guards tx.dones (after_dones means tx.dones at tx.dones (Ok store.values))) (past_points at)) ≡ Some fault
-      → commit_refusal means accepts knows store at agents tx ≡ Some fault
+  -- the end of points, and a full book
+  abbrev late : Option CommitFault
+  late = or_fault (past_points at) (full_book most_added most_taken store.tally tx.dones)
+
+  by_current : (fault : CommitFault) → IsCurrent means accepts knows store at agents tx → or_fault (refused means tx.dones store.values) (or_fault (invalid accepts store.guards tx.dones (after_dones means tx.dones at tx.dones (Ok store.values))) late) ≡ Some fault
+      → commit_refusal means accepts knows store at agents most_added most_taken tx ≡ Some fault
   by_current fault current is = or_later (early_refusal knows store at agents tx) _ fault (of_current current) is
 
-  by_leads : (fault : CommitFault) → IsCurrent means accepts knows store at agents tx → (after : List Edn) → Leads means tx.dones tx.dones store.values after → or_fault (invalid accepts store.guards tx.dones (Ok after)) (past_points at) ≡ Some fault
-      → commit_refusal means accepts knows store at agents tx ≡ Some fault
+  by_leads : (fault : CommitFault) → IsCurrent means accepts knows store at agents tx → (after : List Edn) → Leads means tx.dones tx.dones store.values after → or_fault (invalid accepts store.guards tx.dones (Ok after)) late ≡ Some fault
+      → commit_refusal means accepts knows store at agents most_added most_taken tx ≡ Some fault
   by_leads fault current after leads is =
       by_current fault current
       (or_later (refused means tx.dones store.values) _ fault (leads_refused means tx.dones tx.dones store.values after leads)
-      (ap (λ l. or_fault (invalid accepts store.guards tx.dones l) (past_points at)) (leads_after means tx.dones at tx.dones store.values after leads) ∙ is))
+      (ap (λ l. or_fault (invalid accepts store.guards tx.dones l) late) (leads_after means tx.dones at tx.dones store.values after leads) ∙ is))
 
-  pub shows : (fault : CommitFault) → Says fault → commit_refusal means accepts knows store at agents tx ≡ Some fault
+  pub shows : (fault : CommitFault) → Says fault → commit_refusal means accepts knows store at agents most_added most_taken tx ≡ Some fault
   shows (Foreign (aliens.Ref r)) why = by_alien (Foreign (aliens.Ref r)) (or_some (alien_ref store.values tx.dones) _ (Foreign (aliens.Ref r)) (by_ref store.values tx.dones r why))
   shows (Foreign (aliens.Agent g)) why =
       by_alien (Foreign (aliens.Agent g))
@@ -709,10 +732,20 @@ module _ (means : Means) (accepts : Accepts) (knows : Known) (store : RefsSeen) 
   shows (Refused r cause) why = by_current (Refused r cause) why.0 (or_some (refused means tx.dones store.values) _ (Refused r cause) (by_refused means tx.dones store.values r cause why.1))
   shows (Invalid r) why =
       by_leads (Invalid r) why.0 why.1.0 why.1.1
-      (or_some (invalid accepts store.guards tx.dones (Ok why.1.0)) (past_points at) (Invalid r) (by_invalid accepts store tx why.1.0 r why.1.2))
-  shows PointLimit why =
-      by_leads PointLimit why.0 why.1.0 why.1.1
-      (or_later (invalid accepts store.guards tx.dones (Ok why.1.0)) (past_points at) PointLimit (by_accepted accepts store.guards tx.dones why.1.0 why.1.2) (by_past at why.1.3))
+      (or_some (invalid accepts store.guards tx.dones (Ok why.1.0)) late (Invalid r) (by_invalid accepts store tx why.1.0 r why.1.2))
+  shows PointLimit ((current, (after, leads, rules)), past) =
+      by_leads PointLimit current after leads
+      (or_later (invalid accepts store.guards tx.dones (Ok after)) late PointLimit (by_accepted accepts store.guards tx.dones after rules)
+      (or_some (past_points at) (full_book most_added most_taken store.tally tx.dones) PointLimit (by_past at past)))
+  shows BookFull ((current, (after, leads, rules)), within, full) =
+      by_leads BookFull current after leads
+      (or_later (invalid accepts store.guards tx.dones (Ok after)) late BookFull (by_accepted accepts store.guards tx.dones after rules)
+      (or_later (past_points at) (full_book most_added most_taken store.tally tx.dones) BookFull (by_within at within)
+      (by_full most_added most_taken store.tally tx.dones (moved full)))) where
+        moved : ((sum : ℕ) × SumsTo store.tally 1 tx.dones sum × (most_added < sum)) ⊎ ((sum : ℕ) × SumsTo store.tally 2 tx.dones sum × (most_taken < sum))
+            → (most_added < moved_by_dones Added store.tally tx.dones) ⊎ (most_taken < moved_by_dones Taken store.tally tx.dones)
+        moved (inl (sum, sums, above)) = inl (let same = sum_is Added store.tally tx.dones sum sums in omega (arith, same, above))
+        moved (inr (sum, sums, above)) = inr (let same = sum_is Taken store.tally tx.dones sum sums in omega (arith, same, above))
   shows Memory why = absurd why
   shows (NoSuchFun code) (here, inl fun) = by_here (NoSuchFun code) here (or_some (lacking knows.funs tx.dones) _ (NoSuchFun code) (by_fun knows tx code fun))
   shows (NoSuchFun code) (here, inr (funs, pred)) =
@@ -721,4 +754,4 @@ module _ (means : Means) (accepts : Accepts) (knows : Known) (store : RefsSeen) 
       (or_some (lacking_rule knows.preds store.guards tx.dones) _ (NoSuchFun code) (first_rule knows.preds store.guards tx.dones code pred)))
 
 pub refusals_say_why : (means : Means) (accepts : Accepts) → RefusalsSayWhy means accepts
-refusals_say_why means accepts knows store at agents tx fault is = (says means accepts knows store at agents tx fault is, shows means accepts knows store at agents tx fault)
+refusals_say_why means accepts knows store at agents most_added most_taken tx fault is = (says means accepts knows store at agents most_added most_taken tx fault is, shows means accepts knows store at agents most_added most_taken tx fault)

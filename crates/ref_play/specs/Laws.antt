@@ -8,7 +8,8 @@ use Rattle.ref_fun.specs.Rule.{Accepts, is_accepted}
 use Rattle.ref_fun.specs.declared.actions.Action.{Action}
 use Rattle.ref_fun.specs.declared.rules.Rule.{Rule}
 use Rattle.ref_log.specs.Replay.{after_dones, is_protected, point_after, replay}
-use Rattle.ref_log.specs.Tally.{added_by_dones}
+use Rattle.ref_log.specs.Tally.{moved_by_dones}
+use Rattle.ref_log.specs.declared.counting.Side.TheVariants as sides
 use Rattle.ref_log.specs.declared.entries.Entry.{Entry}
 use Rattle.ref_log.specs.declared.entries.Entry.TheVariants.{Trans, Atom, MadeRef, MadeAtom}
 use Rattle.ref_log.specs.declared.entries.Stamp.{Stamp}
@@ -227,13 +228,15 @@ abbrev pub with_counted : Option ℕ → ℕ → ShareSeen → Entry → ShareSe
 with_counted tally point share (Trans t) = record {
   parts = share.parts;
   commits = share.commits + 1;
-  added = share.added + added_by_dones tally t.dones;
+  added = share.added + moved_by_dones sides.Added tally t.dones;
+  taken = share.taken + moved_by_dones sides.Taken tally t.dones;
   receipts = share.receipts ++ record { point = point; entry = Trans t } ∷ [];
 }
 with_counted tally point share (Atom n op v) = record {
   parts = share.parts;
   commits = share.commits;
   added = share.added;
+  taken = share.taken;
   receipts = share.receipts ++ record { point = point; entry = Atom n op v } ∷ [];
 }
 with_counted tally point share (MadeRef v) = share

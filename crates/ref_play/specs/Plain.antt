@@ -1,6 +1,6 @@
 -- What definitions say that the machine and the calls of a world share, in plain words: each is met exactly where what stands here is
 -- so. The functions of src/theorems.rt have these laws as contracts.
-use Rattle.std.specs.Prelude.{◌≡◌, ◌≢◌, ◌↔◌, ◌⊎◌, ℕ, pos, ◌<◌, ◌≤◌, ◌^◌, Bool, true, false, List, [], ◌∷◌, ◌++◌, length, slice_get, slice_set, None, Some, Ok, Err, ◌+◌, slice_index_or, map}
+use Rattle.std.specs.Prelude.{◌≡◌, ◌≢◌, ◌↔◌, ◌⊎◌, ℕ, pos, ◌<◌, ◌≤◌, ◌^◌, Bool, true, false, List, [], ◌∷◌, ◌++◌, length, slice_get, slice_set, Option, None, Some, Ok, Err, ◌+◌, slice_index_or, map}
 use Rattle.std.specs.List.{AllByRecursion}
 use Rattle.ref_value.specs.Edn.{Edn, int}
 use Rattle.ref_fun.specs.Calls.{Known}
@@ -53,11 +53,12 @@ Makes means (Alter code args) old new = means code args old ≡ Ok new
 Makes means (Commute code args) old new = means code args old ≡ Ok new
 Makes means Ensure old new = new ≡ old
 
--- The tally is counted up: by `commute` of `+`, which has the code 1, with one integer of 0 or more. It can be ensured.
+-- The tally is counted up and down: by `commute` of `+` and of `-`, which have the codes 1 and 2, with one integer of 0 or more. It can
+-- be ensured.
 abbrev pub Counts : Op → Type 0
 Counts (Set w) = ⊥
 Counts (Alter code args) = ⊥
-Counts (Commute code args) = (code ≡ 1) × ((n : ℕ) × (args ≡ int (pos n) ∷ []))
+Counts (Commute code args) = ((code ≡ 1) ⊎ (code ≡ 2)) × ((n : ℕ) × (args ≡ int (pos n) ∷ []))
 Counts Ensure = Unit {0}
 
 -- A table has the function of a `commute`.
@@ -169,7 +170,7 @@ HasRefs store tx = AllByRecursion (λ d. d.r < length store.values) tx.dones
 abbrev pub HasAgents : ℕ → TxSeen → Type 0
 HasAgents agents tx = AllByRecursion (λ s. s.agent < agents) tx.sends
 
--- The tally here is only counted up.
+-- The tally here is only counted up and down.
 abbrev pub OnlyCounts : RefsSeen → TxSeen → Type 0
 OnlyCounts store tx = AllByRecursion (λ d. store.tally ≡ Some d.r → Counts d.op) tx.dones
 
@@ -191,9 +192,16 @@ AreSame store tx = (r : ℕ) → IsProtected tx.dones r → slice_get store.valu
 abbrev pub KeepsRules : Accepts → RefsSeen → TxSeen → List Edn → Type 0
 KeepsRules accepts store tx after = (r : ℕ) (v : Edn) → IsChanged tx.dones r → slice_get after r ≡ Some v → RuleAccepts accepts store.guards r v
 
--- All that a transaction needs to be committed at a point, where there are so many agents: its operations lead from the latest values
--- to others, whose rules stay. Points end at 2^62.
-pub record CanCommit (means : Means) (accepts : Accepts) (knows : Known) (store : RefsSeen) (at agents : ℕ) (tx : TxSeen) : Type 0 where
+-- Of these operations, those on the tally that commute by the function of this code have arguments with this sum.
+abbrev pub SumsTo : Option ℕ → ℕ → List Done → ℕ → Type 0
+SumsTo tally code [] sum = sum ≡ 0
+SumsTo tally code (d ∷ ds) sum =
+    ((n rest : ℕ) × (tally ≡ Some d.r) × (d.op ≡ Commute code (int (pos n) ∷ [])) × SumsTo tally code ds rest × (sum ≡ n + rest))
+    ⊎ ((tally ≡ Some d.r → (args : List Edn) → d.op ≡ Commute code args → ⊥) × SumsTo tally code ds sum)
+
+-- All that a transaction needs to be committed at a point, where there are so many agents and so much may still be added to the tally and
+-- taken from it: its operations lead from the latest values to others, whose rules stay. Points end at 2^62.
+pub record CanCommit (means : Means) (accepts : Accepts) (knows : Known) (store : RefsSeen) (at agents most_added most_taken : ℕ) (tx : TxSeen) : Type 0 where
   pub refs : HasRefs store tx
   pub agents_here : HasAgents agents tx
   pub tally : OnlyCounts store tx
@@ -206,12 +214,14 @@ pub record CanCommit (means : Means) (accepts : Accepts) (knows : Known) (store 
   pub leads : Leads means tx.dones tx.dones store.values after
   pub rules : KeepsRules accepts store tx after
   pub within : at ≤ 2 ^ 62
+  pub added : (sum : ℕ) → SumsTo store.tally 1 tx.dones sum → sum ≤ most_added
+  pub taken : (sum : ℕ) → SumsTo store.tally 2 tx.dones sum → sum ≤ most_taken
 
 -- A transaction, whose answers are its in-transaction values, is committed exactly where it can be.
 abbrev pub CommitsWhereItCan : Means → Accepts → Type 0
 CommitsWhereItCan means accepts =
-    (knows : Known) (store : RefsSeen) (at agents : ℕ) (tx : TxSeen) → IsTx means tx.began tx.dones tx.tally
-    → commit_refusal means accepts knows store at agents tx ≡ None ↔ CanCommit means accepts knows store at agents tx
+    (knows : Known) (store : RefsSeen) (at agents most_added most_taken : ℕ) (tx : TxSeen) → IsTx means tx.began tx.dones tx.tally
+    → commit_refusal means accepts knows store at agents most_added most_taken tx ≡ None ↔ CanCommit means accepts knows store at agents most_added most_taken tx
 
 -- ---- why a commit is refused
 
@@ -286,23 +296,30 @@ module _ (means : Means) (accepts : Accepts) (knows : Known) (store : RefsSeen) 
   abbrev pub IsCurrent : Type 0
   IsCurrent = IsKnown × AreUnchanged store tx × AreSame store tx
 
-  abbrev pub Why : CommitFault → Type 0
-  Why (commits.Foreign (aliens.Ref r)) = FirstWithout (λ d. d.r < length store.values) (λ d. d.r ≡ r) tx.dones
-  Why (commits.Foreign (aliens.Agent g)) = HasRefs store tx × FirstWithout (λ s. s.agent < agents) (λ s. s.agent ≡ g) tx.sends
-  Why (commits.Foreign aliens.Tally) = HasRefs store tx × HasAgents agents tx × AnyByRecursion (λ d. (store.tally ≡ Some d.r) × (Counts d.op → ⊥)) tx.dones
-  Why (commits.Foreign (aliens.Point p)) = HasRefs store tx × HasAgents agents tx × OnlyCounts store tx × (p ≡ tx.read_point) × (at ≤ p)
-  Why (commits.NoSuchFun code) = IsHere × (LacksFun knows tx code ⊎ (HasFuns knows tx × LacksPred knows store tx code))
-  Why (commits.Conflict c) = IsKnown × NamesSmallest store tx c
-  Why (commits.Foreign (aliens.Value r)) = IsKnown × AreUnchanged store tx × IsSmallestOther store tx r
-  Why (commits.Refused r cause) = IsCurrent × RefusedOn means r cause tx.dones store.values
-  Why (commits.Invalid r) = IsCurrent × ((after : List Edn) × Leads means tx.dones tx.dones store.values after × IsSmallestInvalid accepts store tx after r)
-  Why commits.PointLimit = IsCurrent × ((after : List Edn) × Leads means tx.dones tx.dones store.values after × KeepsRules accepts store tx after × (2 ^ 62 < at))
-  Why commits.Memory = ⊥
+  -- Also all its operations can be made, and the rules accept what comes of them.
+  abbrev pub IsMade : Type 0
+  IsMade = IsCurrent × ((after : List Edn) × Leads means tx.dones tx.dones store.values after × KeepsRules accepts store tx after)
+
+  -- where so much may still be added to the tally and taken from it
+  abbrev pub Why : ℕ → ℕ → CommitFault → Type 0
+  Why most_added most_taken (commits.Foreign (aliens.Ref r)) = FirstWithout (λ d. d.r < length store.values) (λ d. d.r ≡ r) tx.dones
+  Why most_added most_taken (commits.Foreign (aliens.Agent g)) = HasRefs store tx × FirstWithout (λ s. s.agent < agents) (λ s. s.agent ≡ g) tx.sends
+  Why most_added most_taken (commits.Foreign aliens.Tally) = HasRefs store tx × HasAgents agents tx × AnyByRecursion (λ d. (store.tally ≡ Some d.r) × (Counts d.op → ⊥)) tx.dones
+  Why most_added most_taken (commits.Foreign (aliens.Point p)) = HasRefs store tx × HasAgents agents tx × OnlyCounts store tx × (p ≡ tx.read_point) × (at ≤ p)
+  Why most_added most_taken (commits.NoSuchFun code) = IsHere × (LacksFun knows tx code ⊎ (HasFuns knows tx × LacksPred knows store tx code))
+  Why most_added most_taken (commits.Conflict c) = IsKnown × NamesSmallest store tx c
+  Why most_added most_taken (commits.Foreign (aliens.Value r)) = IsKnown × AreUnchanged store tx × IsSmallestOther store tx r
+  Why most_added most_taken (commits.Refused r cause) = IsCurrent × RefusedOn means r cause tx.dones store.values
+  Why most_added most_taken (commits.Invalid r) = IsCurrent × ((after : List Edn) × Leads means tx.dones tx.dones store.values after × IsSmallestInvalid accepts store tx after r)
+  Why most_added most_taken commits.PointLimit = IsMade × (2 ^ 62 < at)
+  Why most_added most_taken commits.BookFull = IsMade × (at ≤ 2 ^ 62)
+      × (((sum : ℕ) × SumsTo store.tally 1 tx.dones sum × (most_added < sum)) ⊎ ((sum : ℕ) × SumsTo store.tally 2 tx.dones sum × (most_taken < sum)))
+  Why most_added most_taken commits.Memory = ⊥
 
 abbrev pub RefusalsSayWhy : Means → Accepts → Type 0
 RefusalsSayWhy means accepts =
-    (knows : Known) (store : RefsSeen) (at agents : ℕ) (tx : TxSeen) (fault : CommitFault) → IsTx means tx.began tx.dones tx.tally
-    → commit_refusal means accepts knows store at agents tx ≡ Some fault ↔ Why means accepts knows store at agents tx fault
+    (knows : Known) (store : RefsSeen) (at agents most_added most_taken : ℕ) (tx : TxSeen) (fault : CommitFault) → IsTx means tx.began tx.dones tx.tally
+    → commit_refusal means accepts knows store at agents most_added most_taken tx ≡ Some fault ↔ Why means accepts knows store at agents tx most_added most_taken fault
 
 -- ---- the notices of a commit
 

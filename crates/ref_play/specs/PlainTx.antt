@@ -63,7 +63,7 @@ IsCommuted tx r = AnyByRecursion (λ d. (d.r ≡ r) × Commutes d.op) tx.dones
 abbrev pub MaySet : TxSeen → ℕ → Op → Type 0
 MaySet tx r op = Sets op → IsCommuted tx r → ⊥
 
--- The tally is only counted up.
+-- The tally is only counted up and down.
 abbrev pub MayCount : TxSeen → ℕ → Op → Type 0
 MayCount tx r op = tx.tally ≡ Some r → Counts op
 

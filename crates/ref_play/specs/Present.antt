@@ -12,7 +12,8 @@ use Rattle.ref_log.specs.Guards as guards
 use Rattle.ref_log.specs.Guards.{keys_at}
 use Rattle.ref_log.specs.Make as makes_in
 use Rattle.ref_log.specs.Replay.{place, step}
-use Rattle.ref_log.specs.Tally.{added_by_dones}
+use Rattle.ref_log.specs.Tally.{moved_by_dones}
+use Rattle.ref_log.specs.declared.counting.Side.TheVariants as sides
 use Rattle.ref_log.specs.Told.{AnswersOrMemory, Tells, TellsOrMemory, TellsThenMemory}
 use Rattle.ref_log.specs.Watches.{has_key, notices_of}
 use Rattle.ref_log.specs.declared.entries.Entry.{Entry}
@@ -60,10 +61,10 @@ use Rattle.ref_agents.specs.declared.faults.ModeFault.{ModeFault}
 use Rattle.ref_agents.specs.declared.faults.RestartFault.TheVariants as restarts
 use Rattle.ref_agents.specs.declared.faults.SendFault.TheVariants as sends
 use Rattle.ref_world.specs.References.{number_of}
-use Rattle.ref_world.specs.Seen.{ShareSeen}
+use Rattle.ref_world.specs.Seen.{BooksSeen, ShareSeen}
 use Rattle.ref_world.specs.Shares as shares
 use Rattle.ref_world.specs.Shares.{with_receipt}
-use Rattle.ref_world.specs.World.{values_now}
+use Rattle.ref_world.specs.World.{booked, room, values_now, with_start}
 use Rattle.ref_world.specs.declared.commits.Receipt.{Receipt}
 use Rattle.ref_world.specs.declared.faults.CheckpointFault.{CheckpointFault}
 use Rattle.ref_play.specs.declared.events.Act.{Act}
@@ -76,13 +77,14 @@ pub record HeldSeen : Type 0 where
   pub job : JobSeen
   pub outcome : Option (Result Edn Cause)
 
--- The present point, all refs, atoms and agents, the share of the world, and of each actor the transaction that it has open
+-- The present point, all refs, atoms and agents, the books, the share of the world, and of each actor the transaction that it has open
 -- and the job that it has.
 pub record Present : Type 0 where
   pub point : ℕ
   pub refs : RefsSeen
   pub atoms : AtomsSeen
   pub agents : AgentsSeen
+  pub books : BooksSeen
   pub share : ShareSeen
   pub txs : ℕ → Option TxSeen
   pub jobs : ℕ → Option HeldSeen
@@ -202,7 +204,8 @@ pub record IsCommitted (means : Means) (old : Present) (a : ℕ) (stamp : Stamp)
   pub guards : new.refs.guards ≡ old.refs.guards
   pub atoms : new.atoms ≡ old.atoms
   pub agents : new.agents ≡ agents.with_commit old.agents (old.point + 1) tx.sends
-  pub share : new.share ≡ shares.with_commit old.share (old.point + 1) (entry_of stamp tx) (added_by_dones old.refs.tally tx.dones)
+  pub books : new.books ≡ booked old.books (moved_by_dones sides.Added old.refs.tally tx.dones) (moved_by_dones sides.Taken old.refs.tally tx.dones)
+  pub share : new.share ≡ shares.with_commit old.share (old.point + 1) (entry_of stamp tx) (moved_by_dones sides.Added old.refs.tally tx.dones) (moved_by_dones sides.Taken old.refs.tally tx.dones)
   pub closed : new.txs ≡ put old.txs a None
   pub jobs : new.jobs ≡ old.jobs
   pub told : (receipt.point ≡ old.point + 1) × (receipt.stamp ≡ stamp)
@@ -212,7 +215,8 @@ pub record IsCommitted (means : Means) (old : Present) (a : ℕ) (stamp : Stamp)
 abbrev pub Commits : Means → Accepts → Known → Present → ℕ → Stamp → Reply → List Entry → Present → Type 0
 Commits means accepts knows old a stamp reply added new = OnTx old a reply added new (λ tx.
     Calls replies.Commit
-    (TellsOrMemory commits.Memory (early_refusal knows old.refs (old.point + 1) (length old.agents.agents) tx) (commit_refusal means accepts knows old.refs (old.point + 1) (length old.agents.agents) tx))
+    (TellsOrMemory commits.Memory (early_refusal knows old.refs (old.point + 1) (length old.agents.agents) tx)
+    (commit_refusal means accepts knows old.refs (old.point + 1) (length old.agents.agents) (room old.books.added) (room old.books.taken) tx))
     (λ receipt. IsCommitted means old a stamp tx receipt added new) old reply added new)
 
 -- ---- atoms
@@ -305,7 +309,11 @@ ReadsError old g reply added new = (reply ≡ replies.ErrorOf (error_at old.agen
 -- ---- makings
 
 abbrev pub with_made_ref : Present → Edn → Option Rule → Bool → Present
-with_made_ref old value rule tally = record old { point = old.point + 1; refs = refs.with_ref old.refs (old.point + 1) value rule tally }
+with_made_ref old value rule tally = record old {
+  point = old.point + 1;
+  refs = refs.with_ref old.refs (old.point + 1) value rule tally;
+  books = with_start tally value old.books;
+}
 
 abbrev pub with_made_atom : Present → Edn → Option Rule → Present
 with_made_atom old value rule = record old { point = old.point + 1; atoms = atoms_seen.with_atom old.atoms value rule }

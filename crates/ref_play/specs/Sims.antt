@@ -75,6 +75,7 @@ present s = record {
   refs = s.world.refs;
   atoms = s.world.atoms;
   agents = s.world.agents;
+  books = s.world.books;
   share = s.share;
   txs = txs_of s.slots;
   jobs = jobs_of s.jobs;

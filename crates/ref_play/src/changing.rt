@@ -15,11 +15,11 @@ use std::alloc::Global;
 use std::sync::ledger::Ledger;
 
 // Commits the actor's transaction. A refused commit leaves it with the actor.
-pub(crate) fn commit<M: Meaning, C: Ledger, A: Ledger, F: Functions<M>>(
+pub(crate) fn commit<M: Meaning, C: Ledger, A: Ledger, K: Ledger, F: Functions<M>>(
     alloc: Global,
     funs: &F,
-    world: &mut World<M, C, A>,
-    share: &mut Share<C, A>,
+    world: &mut World<M, C, A, K>,
+    share: &mut Share<C, A, K>,
     actors: &mut Actors<M>,
     actor: u32,
     stamp: Stamp,
@@ -44,11 +44,11 @@ pub(crate) fn commit<M: Meaning, C: Ledger, A: Ledger, F: Functions<M>>(
 }
 
 // Sets an atom to what a function makes of it.
-pub(crate) fn swap<M: Meaning, C: Ledger, A: Ledger, F: Functions<M>>(
+pub(crate) fn swap<M: Meaning, C: Ledger, A: Ledger, K: Ledger, F: Functions<M>>(
     alloc: Global,
     funs: &F,
-    world: &mut World<M, C, A>,
-    share: &mut Share<C, A>,
+    world: &mut World<M, C, A, K>,
+    share: &mut Share<C, A, K>,
     n: u32,
     code: u32,
     args: &Args,
@@ -66,11 +66,11 @@ pub(crate) fn swap<M: Meaning, C: Ledger, A: Ledger, F: Functions<M>>(
 }
 
 // Sets an atom.
-pub(crate) fn reset<M: Meaning, C: Ledger, A: Ledger, F: Functions<M>>(
+pub(crate) fn reset<M: Meaning, C: Ledger, A: Ledger, K: Ledger, F: Functions<M>>(
     alloc: Global,
     funs: &F,
-    world: &mut World<M, C, A>,
-    share: &mut Share<C, A>,
+    world: &mut World<M, C, A, K>,
+    share: &mut Share<C, A, K>,
     n: u32,
     value: &Value,
 ) -> Reply
@@ -87,11 +87,11 @@ pub(crate) fn reset<M: Meaning, C: Ledger, A: Ledger, F: Functions<M>>(
 }
 
 // Sets an atom where it has this value.
-pub(crate) fn compare_and_set<M: Meaning, C: Ledger, A: Ledger, F: Functions<M>>(
+pub(crate) fn compare_and_set<M: Meaning, C: Ledger, A: Ledger, K: Ledger, F: Functions<M>>(
     alloc: Global,
     funs: &F,
-    world: &mut World<M, C, A>,
-    share: &mut Share<C, A>,
+    world: &mut World<M, C, A, K>,
+    share: &mut Share<C, A, K>,
     n: u32,
     old: &Value,
     new: &Value,
@@ -109,10 +109,10 @@ pub(crate) fn compare_and_set<M: Meaning, C: Ledger, A: Ledger, F: Functions<M>>
 }
 
 // Makes a ref.
-pub(crate) fn make_ref<M: Meaning, C: Ledger, A: Ledger, F: Functions<M>>(
+pub(crate) fn make_ref<M: Meaning, C: Ledger, A: Ledger, K: Ledger, F: Functions<M>>(
     alloc: Global,
     funs: &F,
-    world: &mut World<M, C, A>,
+    world: &mut World<M, C, A, K>,
     value: &Value,
     rule: &Option<Rule>,
     tally: bool,
@@ -133,10 +133,10 @@ pub(crate) fn make_ref<M: Meaning, C: Ledger, A: Ledger, F: Functions<M>>(
 }
 
 // Makes an atom.
-pub(crate) fn make_atom<M: Meaning, C: Ledger, A: Ledger, F: Functions<M>>(
+pub(crate) fn make_atom<M: Meaning, C: Ledger, A: Ledger, K: Ledger, F: Functions<M>>(
     alloc: Global,
     funs: &F,
-    world: &mut World<M, C, A>,
+    world: &mut World<M, C, A, K>,
     value: &Value,
     rule: &Option<Rule>,
 ) -> Reply
@@ -156,10 +156,10 @@ pub(crate) fn make_atom<M: Meaning, C: Ledger, A: Ledger, F: Functions<M>>(
 }
 
 // Folds the entries up to a point into the base.
-pub(crate) fn checkpoint<M: Meaning, C: Ledger, A: Ledger, F: Functions<M>>(
+pub(crate) fn checkpoint<M: Meaning, C: Ledger, A: Ledger, K: Ledger, F: Functions<M>>(
     alloc: Global,
     funs: &F,
-    world: &mut World<M, C, A>,
+    world: &mut World<M, C, A, K>,
     point: u64,
 ) -> Reply
     ensures { (s : SimSeen) (actor : ℕ) → Serves M.means M.accepts (F.knows funs.now) (record s { world = world.old }) actor (acts.Checkpoint point) result

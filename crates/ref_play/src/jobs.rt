@@ -134,7 +134,7 @@ impl<M: Meaning> Jobs<M> {
     }
 
     // Puts all jobs back.
-    pub(crate) fn put_all_back<C: Ledger, A: Ledger>(self, world: &mut World<M, C, A>)
+    pub(crate) fn put_all_back<C: Ledger, A: Ledger, K: Ledger>(self, world: &mut World<M, C, A, K>)
         requires { AreHeld M.means world.old.agents.agents (jobs_of self) }
         ensures world { world.new ≡ with_agents world.old (all_back self world.old.agents) }
         ensures none { (g : ℕ) → is_out_at world.new.agents.agents g ≡ false }

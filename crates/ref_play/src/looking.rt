@@ -15,9 +15,9 @@ use std::alloc::{AllocError, Global};
 use std::sync::ledger::Ledger;
 
 // Gives a reference another rule, or none.
-pub(crate) fn set_validator<M: Meaning, C: Ledger, A: Ledger, F: Functions<M>>(
+pub(crate) fn set_validator<M: Meaning, C: Ledger, A: Ledger, K: Ledger, F: Functions<M>>(
     funs: &F,
-    world: &mut World<M, C, A>,
+    world: &mut World<M, C, A, K>,
     who: Who,
     rule: &Option<Rule>,
 ) -> Reply
@@ -34,9 +34,9 @@ pub(crate) fn set_validator<M: Meaning, C: Ledger, A: Ledger, F: Functions<M>>(
 }
 
 // Adds a watch to a reference.
-pub(crate) fn add_watch<M: Meaning, C: Ledger, A: Ledger>(
+pub(crate) fn add_watch<M: Meaning, C: Ledger, A: Ledger, K: Ledger>(
     alloc: Global,
-    world: &mut World<M, C, A>,
+    world: &mut World<M, C, A, K>,
     who: Who,
     key: &Value,
 ) -> Reply
@@ -53,8 +53,8 @@ pub(crate) fn add_watch<M: Meaning, C: Ledger, A: Ledger>(
 }
 
 // Takes a watch away from a reference.
-pub(crate) fn remove_watch<M: Meaning, C: Ledger, A: Ledger>(
-    world: &mut World<M, C, A>,
+pub(crate) fn remove_watch<M: Meaning, C: Ledger, A: Ledger, K: Ledger>(
+    world: &mut World<M, C, A, K>,
     who: Who,
     key: &Value,
 ) -> Reply
@@ -65,7 +65,10 @@ pub(crate) fn remove_watch<M: Meaning, C: Ledger, A: Ledger>(
 }
 
 // The value of a reference now, if it is there.
-pub(crate) fn value_of<M: Meaning, C: Ledger, A: Ledger>(world: &World<M, C, A>, who: Who) -> Reply
+pub(crate) fn value_of<M: Meaning, C: Ledger, A: Ledger, K: Ledger>(
+    world: &World<M, C, A, K>,
+    who: Who,
+) -> Reply
     ensures { (s : SimSeen) → ReadsValue (present (record s { world = world.now })) who result [] (present (record s { world = world.now })) }
 {
     let Some(value) = world.value_of(who) else {
@@ -78,7 +81,10 @@ pub(crate) fn value_of<M: Meaning, C: Ledger, A: Ledger>(world: &World<M, C, A>,
 }
 
 // The error of a failed agent.
-pub(crate) fn error_of<M: Meaning, C: Ledger, A: Ledger>(world: &World<M, C, A>, g: u32) -> Reply
+pub(crate) fn error_of<M: Meaning, C: Ledger, A: Ledger, K: Ledger>(
+    world: &World<M, C, A, K>,
+    g: u32,
+) -> Reply
     ensures { (s : SimSeen) → ReadsError (present (record s { world = world.now })) g result [] (present (record s { world = world.now })) }
 {
     Reply::ErrorOf(world.error_of(g))

@@ -14,9 +14,9 @@ use std::alloc::{AllocError, Global};
 use std::sync::ledger::Ledger;
 
 // Sends an action to an agent.
-pub(crate) fn send<M: Meaning, C: Ledger, A: Ledger>(
+pub(crate) fn send<M: Meaning, C: Ledger, A: Ledger, K: Ledger>(
     alloc: Global,
-    world: &mut World<M, C, A>,
+    world: &mut World<M, C, A, K>,
     g: u32,
     action: &Action,
 ) -> Reply
@@ -33,8 +33,8 @@ pub(crate) fn send<M: Meaning, C: Ledger, A: Ledger>(
 }
 
 // Lets the sends of a commit be taken.
-pub(crate) fn release<M: Meaning, C: Ledger, A: Ledger>(
-    world: &mut World<M, C, A>,
+pub(crate) fn release<M: Meaning, C: Ledger, A: Ledger, K: Ledger>(
+    world: &mut World<M, C, A, K>,
     point: u64,
 ) -> Reply
     ensures acts { (s : SimSeen) → Releases (present (record s { world = world.old })) point result [] (present (record s { world = world.new })) }
@@ -44,10 +44,10 @@ pub(crate) fn release<M: Meaning, C: Ledger, A: Ledger>(
 }
 
 // Restarts a failed agent.
-pub(crate) fn restart<M: Meaning, C: Ledger, A: Ledger, F: Functions<M>>(
+pub(crate) fn restart<M: Meaning, C: Ledger, A: Ledger, K: Ledger, F: Functions<M>>(
     alloc: Global,
     funs: &F,
-    world: &mut World<M, C, A>,
+    world: &mut World<M, C, A, K>,
     g: u32,
     state: &Value,
     clear: bool,
@@ -66,8 +66,8 @@ pub(crate) fn restart<M: Meaning, C: Ledger, A: Ledger, F: Functions<M>>(
 }
 
 // Sets what happens where an action of an agent fails.
-pub(crate) fn set_error_mode<M: Meaning, C: Ledger, A: Ledger>(
-    world: &mut World<M, C, A>,
+pub(crate) fn set_error_mode<M: Meaning, C: Ledger, A: Ledger, K: Ledger>(
+    world: &mut World<M, C, A, K>,
     g: u32,
     mode: ErrorMode,
 ) -> Reply
@@ -81,10 +81,10 @@ pub(crate) fn set_error_mode<M: Meaning, C: Ledger, A: Ledger>(
 }
 
 // Makes an agent.
-pub(crate) fn make_agent<M: Meaning, C: Ledger, A: Ledger, F: Functions<M>>(
+pub(crate) fn make_agent<M: Meaning, C: Ledger, A: Ledger, K: Ledger, F: Functions<M>>(
     alloc: Global,
     funs: &F,
-    world: &mut World<M, C, A>,
+    world: &mut World<M, C, A, K>,
     value: &Value,
     rule: &Option<Rule>,
     mode: ErrorMode,

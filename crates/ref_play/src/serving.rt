@@ -18,11 +18,11 @@ use std::alloc::Global;
 use std::sync::ledger::Ledger;
 
 // One event.
-pub(crate) fn serve<M: Meaning, C: Ledger, A: Ledger, F: Functions<M>>(
+pub(crate) fn serve<M: Meaning, C: Ledger, A: Ledger, K: Ledger, F: Functions<M>>(
     alloc: Global,
     funs: &F,
-    world: &mut World<M, C, A>,
-    share: &mut Share<C, A>,
+    world: &mut World<M, C, A, K>,
+    share: &mut Share<C, A, K>,
     actors: &mut Actors<M>,
     jobs: &mut Jobs<M>,
     event: &Event,

@@ -23,14 +23,14 @@ use std::sync::ledger::{Blank, Ledger};
 
 /// A world, its whole share, and of each actor at most one open transaction and one job. It has to be ended, since jobs have to be
 /// spent.
-pub struct Sim<M: Meaning, C: Ledger, A: Ledger> {
-    world: World<M, C, A>,
-    share: Share<C, A>,
+pub struct Sim<M: Meaning, C: Ledger, A: Ledger, K: Ledger> {
+    world: World<M, C, A, K>,
+    share: Share<C, A, K>,
     actors: Actors<M>,
     jobs: Jobs<M>,
 }
 
-impl<M: Meaning, C: Ledger, A: Ledger> Model for Sim<M, C, A> {
+impl<M: Meaning, C: Ledger, A: Ledger, K: Ledger> Model for Sim<M, C, A, K> {
     ghost use Rattle.std.specs.Coded.{codes};
     ghost use Rattle.ref_value.specs.Code.{edn_code};
     ghost use Rattle.ref_play.specs.Sims.{IsSim, SimSeen};
@@ -44,7 +44,7 @@ impl<M: Meaning, C: Ledger, A: Ledger> Model for Sim<M, C, A> {
     ghost invariant = { λ a. IsSim M.means (record { world = a.world; share = a.share; slots = a.actors; jobs = a.jobs }) };
 }
 
-impl<M: Meaning, C: Ledger, A: Ledger> Sim<M, C, A> {
+impl<M: Meaning, C: Ledger, A: Ledger, K: Ledger> Sim<M, C, A, K> {
     /// A new world with these references, as [`World::new`] makes it; no actor has anything.
     pub fn new<F: Functions<M>>(
         alloc: Global,
@@ -52,9 +52,11 @@ impl<M: Meaning, C: Ledger, A: Ledger> Sim<M, C, A> {
         start: Start,
         commits: Blank,
         added: Blank,
-    ) -> Result<Sim<M, C, A>, (Who, MakeFault)>
+        taken: Blank,
+    ) -> Result<Sim<M, C, A, K>, (Who, MakeFault)>
         requires commits { IsBlank commits C.name C.parts }
         requires added { IsBlank added A.name A.parts }
+        requires taken { IsBlank taken K.name K.parts }
         ensures ok { OnOk result (start_refusal M.accepts (F.knows funs.now).preds start ≡ None) }
         ensures refs { IfOk result (λ s. starts.declared_refs M.accepts (F.knows funs.now).preds start.refs.items
             ≡ Ok s.world.refs) }
@@ -72,7 +74,7 @@ impl<M: Meaning, C: Ledger, A: Ledger> Sim<M, C, A> {
         ensures memory { IfErr result (λ e. e.1 ≡ makes.Memory
             → first_refusal M.accepts (F.knows funs.now).preds start ≡ None) }
     {
-        let (world, share) = World::new(alloc, funs, start, commits, added)?;
+        let (world, share) = World::new(alloc, funs, start, commits, added, taken)?;
         Ok(Sim {
             world,
             share,
@@ -90,7 +92,7 @@ impl<M: Meaning, C: Ledger, A: Ledger> Sim<M, C, A> {
     }
 
     /// The world that its actors act on.
-    pub fn world(&self) -> &World<M, C, A>
+    pub fn world(&self) -> &World<M, C, A, K>
         ensures world { result.now ≡ self.now.world }
         // There is a machine that has seen what the log holds: the one that begins with it.
         ensures stands { Stands M.means (machine_of self.now) self.now }
@@ -131,7 +133,7 @@ impl<M: Meaning, C: Ledger, A: Ledger> Sim<M, C, A> {
     }
 
     /// Puts every job back, drops the open transactions, and returns the world and its whole share.
-    pub fn end(self) -> (World<M, C, A>, Share<C, A>)
+    pub fn end(self) -> (World<M, C, A, K>, Share<C, A, K>)
         ensures world { result.0 ≡ with_agents self.world (all_back self.jobs self.world.agents) }
         ensures share { result.1 ≡ self.share }
         ensures whole { result.1.parts ≡ all_parts }
@@ -150,7 +152,7 @@ impl<M: Meaning, C: Ledger, A: Ledger> Sim<M, C, A> {
 }
 
 // What is always so of a world.
-fn always_so<M: Meaning, C: Ledger, A: Ledger>(world: &World<M, C, A>)
+fn always_so<M: Meaning, C: Ledger, A: Ledger, K: Ledger>(world: &World<M, C, A, K>)
     ensures world { IsWorld M.means world.now.base world.now.log world.now.refs world.now.atoms world.now.agents.unreleased }
     ensures count { length world.now.refs.lasts ≡ length world.now.refs.values }
 {

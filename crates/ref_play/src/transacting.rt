@@ -16,9 +16,9 @@ use std::alloc::Global;
 use std::sync::ledger::Ledger;
 
 // Begins a transaction, where the actor has none open.
-pub(crate) fn begin<M: Meaning, C: Ledger, A: Ledger>(
+pub(crate) fn begin<M: Meaning, C: Ledger, A: Ledger, K: Ledger>(
     alloc: Global,
-    world: &World<M, C, A>,
+    world: &World<M, C, A, K>,
     actors: &mut Actors<M>,
     actor: u32,
 ) -> Reply

@@ -95,6 +95,7 @@ commit_fault_text (commits.Conflict c) = numbered (numbered (numbered (codes "co
 commit_fault_text (commits.Refused r cause) = numbered (codes "refused") r ++ space ++ cause_text cause
 commit_fault_text (commits.Invalid r) = numbered invalid_text r
 commit_fault_text commits.PointLimit = codes "point-limit"
+commit_fault_text commits.BookFull = codes "book-full"
 commit_fault_text commits.Memory = out_of_memory
 commit_fault_text (commits.NoSuchFun code) = no_such_fun
 

@@ -28,19 +28,21 @@ use std::alloc::Global;
 use std::sync::ledger::{Blank, Ledger};
 
 // The world that is declared, on which no actor has acted.
-fn begin<F: Functions<Core>, C: Ledger, A: Ledger>(
+fn begin<F: Functions<Core>, C: Ledger, A: Ledger, K: Ledger>(
     alloc: Global,
     funs: &F,
     start: Start,
     commits: Blank,
     added: Blank,
-) -> Result<Sim<Core, C, A>, RunFault>
+    taken: Blank,
+) -> Result<Sim<Core, C, A, K>, RunFault>
     requires commits { IsBlank commits C.name C.parts }
     requires added { IsBlank added A.name A.parts }
+    requires taken { IsBlank taken K.name K.parts }
     ensures begins { IfOk result (Begins (F.knows funs.now) start.refs.items start.atoms.items start.agents.items) }
     ensures inner { IfErr result IsOfPlan }
 {
-    match Sim::new(alloc, funs, start, commits, added) {
+    match Sim::new(alloc, funs, start, commits, added, taken) {
         Ok(sim) => Ok(sim),
         Err((_, MakeFault::Memory)) => Err(RunFault::Memory),
         // The rules of a list of events accept its values.
@@ -49,13 +51,13 @@ fn begin<F: Functions<Core>, C: Ledger, A: Ledger>(
 }
 
 // The replies, and the world that it came to.
-struct Played<C: Ledger, A: Ledger> {
+struct Played<C: Ledger, A: Ledger, K: Ledger> {
     replies: Vec<Reply>,
-    world: World<Core, C, A>,
+    world: World<Core, C, A, K>,
 }
 
 // Written by hand: a derived one would be written out wherever it is dropped.
-impl<C: Ledger, A: Ledger> Drop for Played<C, A> {
+impl<C: Ledger, A: Ledger, K: Ledger> Drop for Played<C, A, K> {
     fn drop(self) {
         let Played {
             replies: _replies,
@@ -65,10 +67,10 @@ impl<C: Ledger, A: Ledger> Drop for Played<C, A> {
 }
 
 // Plays the events on a world, where its table serves it.
-fn replies_of<F: Functions<Core>, C: Ledger, A: Ledger>(
+fn replies_of<F: Functions<Core>, C: Ledger, A: Ledger, K: Ledger>(
     alloc: Global,
     funs: &F,
-    sim: &mut Sim<Core, C, A>,
+    sim: &mut Sim<Core, C, A, K>,
     events: &[Event],
 ) -> Result<Vec<Reply>, RunFault>
     ensures plays { IfOk result (λ replies. PlaysTo (F.knows funs.now) sim.old events.now replies.items sim.new) }
@@ -85,12 +87,12 @@ fn replies_of<F: Functions<Core>, C: Ledger, A: Ledger>(
 }
 
 // Plays the events, and takes the world out.
-fn play<F: Functions<Core>, C: Ledger, A: Ledger>(
+fn play<F: Functions<Core>, C: Ledger, A: Ledger, K: Ledger>(
     alloc: Global,
     funs: &F,
-    mut sim: Sim<Core, C, A>,
+    mut sim: Sim<Core, C, A, K>,
     events: &[Event],
-) -> Result<Played<C, A>, RunFault>
+) -> Result<Played<C, A, K>, RunFault>
     ensures plays { IfOk result (λ p. Plays (F.knows funs.now) sim events.now p.replies.items p.world) }
     ensures inner { IfErr result IsOfPlan }
 {
@@ -103,12 +105,12 @@ fn play<F: Functions<Core>, C: Ledger, A: Ledger>(
 }
 
 // The lines of a play, and then the report of the world that it came to, which is audited.
-fn text_of<F: Functions<Core>, C: Ledger, A: Ledger>(
+fn text_of<F: Functions<Core>, C: Ledger, A: Ledger, K: Ledger>(
     alloc: Global,
     funs: &F,
     names: &Names,
     forms: &Items,
-    played: &Played<C, A>,
+    played: &Played<C, A, K>,
 ) -> Result<Vec<u8>, RunFault>
     requires { HasCore (F.knows funs.now) }
     ensures audited { OnOk result (verdict_on (dump_of (dumped played.now.world)) ≡ Ok verdicts.Ok) }
@@ -128,16 +130,18 @@ fn text_of<F: Functions<Core>, C: Ledger, A: Ledger>(
 
 /// What is written of a list of events that is played by a table of Core's functions: a line for each event, and the report of the
 /// world that it came to, where all jobs were put back and all open transactions dropped. The blanks become the books.
-pub fn output_of<F: Functions<Core>, C: Ledger, A: Ledger>(
+pub fn output_of<F: Functions<Core>, C: Ledger, A: Ledger, K: Ledger>(
     alloc: Global,
     funs: &F,
     script: Script,
     commits: Blank,
     added: Blank,
+    taken: Blank,
 ) -> Result<Vec<u8>, RunFault>
     requires core { HasCore (F.knows funs.now) }
     requires commits { IsBlank commits C.name C.parts }
     requires added { IsBlank added A.name A.parts }
+    requires taken { IsBlank taken K.name K.parts }
     ensures ok { IfOk result (λ output. IsPlayOf script output.items) }
     ensures inner { IfErr result IsOfPlan }
 {
@@ -147,7 +151,7 @@ pub fn output_of<F: Functions<Core>, C: Ledger, A: Ledger>(
         events,
         forms,
     } = script.into_parts();
-    let sim = begin::<F, C, A>(alloc, funs, start, commits, added)?;
+    let sim = begin::<F, C, A, K>(alloc, funs, start, commits, added, taken)?;
     let played = play(alloc, funs, sim, events.as_slice())?;
     text_of(alloc, funs, &names, &forms, &played)
 }

@@ -202,6 +202,7 @@ fn append_commit_fault(fault: CommitFault, out: &mut Vec<u8>) -> Result<(), Allo
         }
         CommitFault::Invalid(r) => append_numbered("invalid", u64::from(r), out),
         CommitFault::PointLimit => append_word("point-limit", out),
+        CommitFault::BookFull => append_word("book-full", out),
         CommitFault::Memory => append_word("out-of-memory", out),
         CommitFault::NoSuchFun(_) => append_word("no-such-fun", out),
     }

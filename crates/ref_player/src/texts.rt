@@ -62,8 +62,12 @@ pub fn play_text<F: Functions<Core>>(
 {
     let value = read_one(alloc, text)?;
     let script = script_of(alloc, &value)?;
-    let (commits, added) = (Blank::new(ALL_PARTS), Blank::new(ALL_PARTS));
-    match output_of::<F, Brand, Brand>(alloc, funs, script, commits, added) {
+    let (commits, added, taken) = (
+        Blank::new(ALL_PARTS),
+        Blank::new(ALL_PARTS),
+        Blank::new(ALL_PARTS),
+    );
+    match output_of::<F, Brand, Brand, Brand>(alloc, funs, script, commits, added, taken) {
         Ok(output) => Ok(output),
         Err(fault) => Err(PlayFault::Run(fault)),
     }

@@ -3,7 +3,7 @@
 -- A commit is asked for at a point, which comes right after the present one, by a caller that knows how many agents there are. What
 -- stands here speaks of the values and the last changes of all refs as they are before it, and of the transaction as a record:
 -- its read point, the values that it began with, its operations with their answers, and what it sends.
-use Rattle.std.specs.Prelude.{ℕ, ◌^◌, ◌==◌, nat_lt, Bool, true, false, not, ◌&&◌, if◌then◌else◌, List, [], ◌∷◌, ◌++◌, find, length, slice_get, slice_set, Option, None, Some, Result, Ok, Err}
+use Rattle.std.specs.Prelude.{ℕ, ◌^◌, ◌==◌, nat_lt, Bool, true, false, not, ◌&&◌, ◌||◌, if◌then◌else◌, List, [], ◌∷◌, ◌++◌, find, length, slice_get, slice_set, Option, None, Some, Result, Ok, Err}
 use Rattle.std.specs.List.{range_with_len}
 use Rattle.std.specs.Option.{option_map}
 use Rattle.std.specs.Ordering.{eq_by_cmp}
@@ -25,13 +25,14 @@ use Rattle.ref_log.specs.declared.operations.Op.{Op}
 use Rattle.ref_log.specs.declared.operations.Op.TheVariants.{Set, Alter, Commute, Ensure}
 use Rattle.ref_log.specs.declared.operations.Done.{Done}
 use Rattle.ref_log.specs.declared.sends.Sent.{Sent}
-use Rattle.ref_log.specs.Tally.{fit_tally}
+use Rattle.ref_log.specs.Tally.{fit_tally, moved_by_dones}
+use Rattle.ref_log.specs.declared.counting.Side.TheVariants.{Added, Taken}
 use Rattle.ref_tx.specs.Seen.{TxSeen}
 use Rattle.ref_refs.specs.Seen.{RefsSeen, changed_at}
 use Rattle.ref_refs.specs.Watches.{touched_refs}
 use Rattle.ref_refs.specs.declared.faults.Alien.TheVariants as aliens
 use Rattle.ref_refs.specs.declared.faults.CommitFault.{CommitFault}
-use Rattle.ref_refs.specs.declared.faults.CommitFault.TheVariants.{Foreign, Conflict, Refused, Invalid, PointLimit, NoSuchFun}
+use Rattle.ref_refs.specs.declared.faults.CommitFault.TheVariants.{Foreign, Conflict, Refused, Invalid, PointLimit, BookFull, NoSuchFun}
 
 abbrev pub or_fault : Option CommitFault → Option CommitFault → Option CommitFault
 or_fault (Some fault) later = Some fault
@@ -146,6 +147,13 @@ invalid accepts guards ds (Err fault) = None
 abbrev pub past_points : ℕ → Option CommitFault
 past_points at = if nat_lt (2 ^ 62) at then Some PointLimit else None
 
+-- ---- a book is full
+
+-- What is added to the tally is more than its book can take, or what is taken from it is.
+abbrev pub full_book : ℕ → ℕ → Option ℕ → List Done → Option CommitFault
+full_book most_added most_taken tally ds =
+    if nat_lt most_added (moved_by_dones Added tally ds) || nat_lt most_taken (moved_by_dones Taken tally ds) then Some BookFull else None
+
 -- ---- all together
 
 -- what is foreign, but for the values
@@ -165,13 +173,14 @@ early_refusal knows store at agents tx =
     (or_fault (conflict store tx)
     (alien_value store.values tx))))
 
--- The first fault of a commit at this point, where there are so many agents, if it has one.
-abbrev pub commit_refusal : Means → Accepts → Known → RefsSeen → ℕ → ℕ → TxSeen → Option CommitFault
-commit_refusal means accepts knows store at agents tx =
+-- The first fault of a commit at this point, where there are so many agents and the books can take so much, if it has one.
+abbrev pub commit_refusal : Means → Accepts → Known → RefsSeen → ℕ → ℕ → ℕ → ℕ → TxSeen → Option CommitFault
+commit_refusal means accepts knows store at agents most_added most_taken tx =
     or_fault (early_refusal knows store at agents tx)
     (or_fault (refused means tx.dones store.values)
     (or_fault (invalid accepts store.guards tx.dones (after_dones means tx.dones at tx.dones (Ok store.values)))
-    (past_points at)))
+    (or_fault (past_points at)
+    (full_book most_added most_taken store.tally tx.dones))))
 
 -- ---- the commit
 

@@ -1,5 +1,5 @@
 -- What a conflict that is returned says of the transaction.
-use Rattle.std.specs.Prelude.{◌≡◌, ℕ, ◌<◌, ◌^◌, nat_lt, Bool, true, false, not, cond, ◌&&◌, List, [], ◌∷◌, length, Option, None, Some, Result, Ok, Err, refl, slice_get, slice_set}
+use Rattle.std.specs.Prelude.{◌≡◌, ℕ, ◌<◌, ◌^◌, nat_lt, Bool, true, false, not, cond, ◌&&◌, ◌||◌, List, [], ◌∷◌, length, Option, None, Some, Result, Ok, Err, refl, slice_get, slice_set}
 use Rattle.std.proofs.Common.{subst}
 use Rattle.std.proofs.lemmas.Bool.{and_parts, ltb-true}
 use Rattle.std.specs.List.{find, range_with_len}
@@ -10,19 +10,20 @@ use Rattle.ref_fun.specs.Calls.{Known}
 use Rattle.ref_fun.specs.Meaning.{Means}
 use Rattle.ref_fun.specs.Rule.{Accepts, unknown}
 use Rattle.ref_log.specs.Replay.{after_dones, is_protected, missing, place}
-use Rattle.ref_log.specs.Tally.{fit_tally}
+use Rattle.ref_log.specs.Tally.{fit_tally, moved_by_dones}
+use Rattle.ref_log.specs.declared.counting.Side.TheVariants.{Added, Taken}
 use Rattle.ref_log.specs.Told.{TellsFault}
 use Rattle.ref_log.specs.declared.faults.AuditFault.{AuditFault}
 use Rattle.ref_log.specs.declared.guards.Guard.{Guard}
 use Rattle.ref_log.specs.declared.operations.Done.{Done}
 use Rattle.ref_log.specs.declared.sends.Sent.{Sent}
 use Rattle.ref_tx.specs.Seen.{TxSeen}
-use Rattle.ref_refs.specs.Commit.{alien, alien_agent, alien_point, alien_ref, alien_tally, alien_value, changed_after, commit_refusal, commuted_codes, conflict, conflict_on, differs_at, early_refusal, first_invalid, has_ref, invalid, lacking, lacking_rule, needed_rule, or_fault, past_points, refused, refused_at, unknown_at, first_protected}
+use Rattle.ref_refs.specs.Commit.{alien, alien_agent, alien_point, alien_ref, alien_tally, alien_value, changed_after, commit_refusal, commuted_codes, conflict, conflict_on, differs_at, early_refusal, first_invalid, full_book, has_ref, invalid, lacking, lacking_rule, needed_rule, or_fault, past_points, refused, refused_at, unknown_at, first_protected}
 use Rattle.ref_refs.specs.Seen.{RefsSeen, changed_at}
 use Rattle.ref_refs.specs.Watches.{touched_refs}
 use Rattle.ref_refs.specs.declared.faults.Alien.TheVariants as aliens
 use Rattle.ref_refs.specs.declared.faults.CommitFault.{CommitFault}
-use Rattle.ref_refs.specs.declared.faults.CommitFault.TheVariants.{Foreign, Conflict, Refused, Invalid, PointLimit, Memory, NoSuchFun}
+use Rattle.ref_refs.specs.declared.faults.CommitFault.TheVariants.{Foreign, Conflict, Refused, Invalid, PointLimit, BookFull, Memory, NoSuchFun}
 use Rattle.ref_refs.specs.declared.faults.Conflict as told
 
 -- A conflict of a transaction: on a ref that the transaction protects, with its read point, and a change of the ref after that.
@@ -101,8 +102,8 @@ invalid-fits : (tx : TxSeen) (accepts : Accepts) (guards : List Guard) (ds : Lis
 invalid-fits tx accepts guards ds (Ok after) = mapped-fits tx Invalid (first_invalid accepts guards after (touched_refs ds)) (λ r. tt)
 invalid-fits tx accepts guards ds (Err fault) = tt
 
-pub refusal-fits : (tx : TxSeen) (means : Means) (accepts : Accepts) (knows : Known) (store : RefsSeen) (at agents : ℕ) → Fits tx (commit_refusal means accepts knows store at agents tx)
-refusal-fits tx means accepts knows store at agents =
+pub refusal-fits : (tx : TxSeen) (means : Means) (accepts : Accepts) (knows : Known) (store : RefsSeen) (at agents most_added most_taken : ℕ) → Fits tx (commit_refusal means accepts knows store at agents most_added most_taken tx)
+refusal-fits tx means accepts knows store at agents most_added most_taken =
     let early = or-fits tx (alien store at agents tx) _ (alien-fits store at agents tx)
     (or-fits tx (lacking knows.funs tx.dones) _ (mapped-fits tx NoSuchFun (missing knows.funs (commuted_codes tx.dones)) (λ code. tt))
     (or-fits tx (lacking_rule knows.preds store.guards tx.dones) _ (lacking_rule-fits tx knows.preds store.guards tx.dones)
@@ -111,8 +112,9 @@ refusal-fits tx means accepts knows store at agents =
     let after = after_dones means tx.dones at tx.dones (Ok store.values) in
     or-fits tx (early_refusal knows store at agents tx) _ early
     (or-fits tx (refused means tx.dones store.values) _ (refused-fits tx means tx.dones store.values)
-    (or-fits tx (invalid accepts store.guards tx.dones after) (past_points at) (invalid-fits tx accepts store.guards tx.dones after)
-    (if-fits tx (nat_lt (2 ^ 62) at) (Some PointLimit) None tt tt)))
+    (or-fits tx (invalid accepts store.guards tx.dones after) _ (invalid-fits tx accepts store.guards tx.dones after)
+    (or-fits tx (past_points at) (full_book most_added most_taken store.tally tx.dones) (if-fits tx (nat_lt (2 ^ 62) at) (Some PointLimit) None tt tt)
+    (if-fits tx (nat_lt most_added (moved_by_dones Added store.tally tx.dones) || nat_lt most_taken (moved_by_dones Taken store.tally tx.dones)) (Some BookFull) None tt tt))))
 
 -- A fault of a call other than out of memory is its reason.
 pub told-fits : (tx : TxSeen) (early reason : Option CommitFault) (fault : CommitFault) → TellsFault Memory early reason fault → Fits tx reason → ConflictFits tx fault
@@ -121,5 +123,6 @@ told-fits tx early reason (Foreign what) tells fits = tt
 told-fits tx early reason (Refused r cause) tells fits = tt
 told-fits tx early reason (Invalid r) tells fits = tt
 told-fits tx early reason PointLimit tells fits = tt
+told-fits tx early reason BookFull tells fits = tt
 told-fits tx early reason Memory tells fits = tt
 told-fits tx early reason (NoSuchFun code) tells fits = tt

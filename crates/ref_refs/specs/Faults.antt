@@ -20,4 +20,5 @@ commit_fault_number (commits.Refused r cause) = 4
 commit_fault_number (commits.Invalid r) = 5
 commit_fault_number commits.PointLimit = 6
 commit_fault_number commits.Memory = 7
+commit_fault_number commits.BookFull = 8
 commit_fault_number (commits.NoSuchFun code) = 9

@@ -1,7 +1,7 @@
 //! The tests before a commit.
 ghost use Rattle.ref_log.specs.Told.{Tells};
-ghost use Rattle.std.specs.Prelude.{◌≡◌, ◌≢◌, [], ◌∷◌, None, IfErr};
-ghost use Rattle.ref_log.specs.Tally.{counted, fit_tally, is_count};
+ghost use Rattle.std.specs.Prelude.{◌≡◌, ◌≢◌, [], ◌∷◌, None, IfErr, IfSome, is_some, nat_lt, not};
+ghost use Rattle.ref_log.specs.Tally.{fit_tally, is_count, moved_by_dones};
 ghost use Rattle.ref_refs.specs.Commit.{alien_agent, alien_ref, changed_after, differs_at, first_protected, lacking};
 ghost use Rattle.ref_refs.specs.declared.faults.CommitFault.TheVariants.{Memory};
 ghost use Rattle.ref_refs.specs.Seen.{are_unchanged_since};
@@ -9,7 +9,8 @@ ghost use Rattle.ref_refs.specs.Smaller.{smaller};
 
 use crate::faults::{Alien, CommitFault};
 use ref_fun::{Functions, Meaning};
-use ref_log::{Done, Op, Sent};
+use ref_log::counting::moved_by_dones;
+use ref_log::{Done, Op, Sent, Side};
 use ref_tx::{Snapshot, Tx};
 use ref_value::{Node, Value};
 
@@ -161,12 +162,11 @@ pub(crate) fn is_count(value: &Value) -> bool
     }
 }
 
-// The number that a count is: an integer of 0 or more. It is 0 of all else.
-pub(crate) fn counted(value: &Value) -> u64
-    ensures { result ≡ counted (value.now ∷ []) }
+// How far these operations move the tally to a side, where that is at most so much.
+pub(crate) fn moved_within(side: Side, tally: Option<u32>, dones: &[Done], most: u64) -> Option<u64>
+    ensures some { IfSome result (λ n. n ≡ moved_by_dones side tally dones.now) }
+    ensures within { is_some result ≡ not (nat_lt most (moved_by_dones side tally dones.now)) }
 {
-    match value.node() {
-        Node::Int(n) if *n >= 0 => *n as u64,
-        _ => 0,
-    }
+    let moved = moved_by_dones(side, tally, dones)?;
+    if moved > most { None } else { Some(moved) }
 }

@@ -7,9 +7,10 @@ ghost use Rattle.ref_value.specs.Edn.{Edn};
 ghost use Rattle.ref_log.specs.Guards.{AreAccepted};
 ghost use Rattle.ref_log.specs.Replay.{after_dones, is_protected, is_touched, step};
 ghost use Rattle.ref_log.specs.declared.operations.Done.{Done};
-ghost use Rattle.ref_log.specs.Tally.{added_by_dones, fit_tally, tally_value};
+ghost use Rattle.ref_log.specs.Tally.{fit_tally, moved, moved_by_dones, tally_value};
+ghost use Rattle.ref_log.specs.declared.counting.Side.TheVariants.{Added, Taken};
 ghost use Rattle.ref_tx.specs.Inner.{inner_value};
-ghost use Rattle.ref_refs.specs.Commit.{alien, alien_ref, alien_value, changed_by, commit_refusal, conflict, early_refusal, entry_of, first_invalid, lacking, lacking_rule};
+ghost use Rattle.ref_refs.specs.Commit.{alien, alien_ref, alien_value, changed_by, commit_refusal, conflict, early_refusal, entry_of, first_invalid, full_book, lacking, lacking_rule};
 ghost use Rattle.ref_refs.specs.Conflicts.{ConflictFits};
 ghost use Rattle.ref_refs.specs.Seen.{changed_at, are_unchanged_since};
 ghost use Rattle.ref_refs.specs.Watches.{notices, touched_refs};
@@ -17,6 +18,7 @@ ghost use Rattle.ref_refs.specs.declared.faults.CommitFault.TheVariants as commi
 
 use crate::checking::{
     check_agents, check_refs, check_served, first_changed, first_differing, fits_tally,
+    moved_within,
 };
 use crate::faults::{Alien, CommitFault, Conflict};
 use crate::placing::place_all;
@@ -24,7 +26,7 @@ use crate::rules::{check_rules_known, first_invalid};
 use crate::store::RefStore;
 use crate::watches::{notices, touched_refs};
 use ref_fun::{Functions, Meaning};
-use ref_log::{Done, Entry, LAST_POINT, Notice, SharedVec, Stamp, Transaction, share_all};
+use ref_log::{Done, Entry, LAST_POINT, Notice, SharedVec, Side, Stamp, Transaction, share_all};
 use ref_tx::{Snapshot, Tx};
 use std::alloc::Global;
 
@@ -35,11 +37,13 @@ pub struct Landed {
     pub notices: Vec<Notice>,
 }
 
-/// A commit that was tested: all refs after it, and what is answered.
+/// A commit that was tested: all refs after it, what is returned, and how much it adds to the tally and takes from it.
 #[derive(Drop)]
 pub struct Prepared {
     pub refs: Snapshot,
     pub landed: Landed,
+    pub added: u64,
+    pub taken: u64,
 }
 
 /// The refs of [`RefStore::commit`]'s notices are those that the transaction changes.
@@ -55,12 +59,12 @@ impl<M: Meaning> RefStore<M> {
     /// The rules of the refs that it changes are asked of the values that they get. The notices for their watches are in the order of
     /// the refs, and those of one ref in the order of adding, also where the value is the same as before.
     ///
-    /// The caller says how many agents there are. What the transaction sends stands in the entry, and nothing else comes of it
-    /// here.
+    /// The caller says how many agents there are, and how much may still be added to the tally and taken from it. What the
+    /// transaction sends stands in the entry, and nothing else comes of it here.
     ///
     /// A refused commit changes nothing and returns the transaction. The tests are made in this order: what is foreign,
     /// functions and predicates that the table lacks, the conflict, a foreign value, a refusal over the latest values, a
-    /// rule that doesn't accept, the end of points.
+    /// rule that doesn't accept, the end of points, a full book.
     /// Each operation costs time logarithmic in the number of refs. A protected ref costs a comparison of its value with the one
     /// of the beginning, which is linear in its size; a `commute` of another ref costs its function, each changed ref the test
     /// of its rule and a notice for each of its watches.
@@ -70,13 +74,15 @@ impl<M: Meaning> RefStore<M> {
         funs: &F,
         at: u64,
         agents: usize,
+        most_added: u64,
+        most_taken: u64,
         stamp: Stamp,
         tx: Tx<M>,
     ) -> Result<Landed, (Tx<M>, CommitFault)>
         requires new { 1 ≤ at }
         requires last { are_unchanged_since self.old.lasts (at - 1) ≡ true }
         ensures refused { TellsBack commits.Memory (early_refusal (F.knows funs.now) self.old at agents tx)
-            (commit_refusal M.means M.accepts (F.knows funs.now) self.old at agents tx) result }
+            (commit_refusal M.means M.accepts (F.knows funs.now) self.old at agents most_added most_taken tx) result }
         ensures entry { IfOk result (λ landed. landed.entry ≡ entry_of stamp tx) }
         ensures notices { IfOk result (λ landed. landed.notices.items
             ≡ notices self.old.guards self.old.values self.new.values (touched_refs tx.dones)) }
@@ -88,15 +94,16 @@ impl<M: Meaning> RefStore<M> {
         ensures lasts { OnOk result ((r : ℕ) → changed_at self.new.lasts r ≡ changed_by self.old.lasts at tx.dones r) }
         ensures since { OnOk result (are_unchanged_since self.new.lasts at ≡ true) }
         ensures rest { OnOk result ((self.new.tally ≡ self.old.tally) × (self.new.guards ≡ self.old.guards)) }
-        // The tally goes up by what was commuted, and by nothing else.
+        // The tally moves by what was commuted, and by nothing else.
         ensures tally { OnOk result (tally_value self.new.tally self.new.values
-            ≡ tally_value self.old.tally self.old.values + added_by_dones self.old.tally tx.dones) }
+            ≡ moved (tally_value self.old.tally self.old.values) (moved_by_dones Added self.old.tally tx.dones)
+            (moved_by_dones Taken self.old.tally tx.dones)) }
         // A conflict is returned with a ref that the transaction protects, its read point and a later point.
         ensures conflict { IfErr result (λ e. ConflictFits tx e.1) }
         ensures back { IfErr result (λ e. e.0 ≡ tx) }
         ensures err { OnErr result (self.new ≡ self.old) }
     {
-        match self.prepare(alloc, funs, at, agents, stamp, &tx) {
+        match self.prepare(alloc, funs, at, agents, most_added, most_taken, stamp, &tx) {
             Ok(prepared) => {
                 self.install(at, prepared.refs, tx.dones());
                 Ok(prepared.landed)
@@ -112,11 +119,13 @@ impl<M: Meaning> RefStore<M> {
         funs: &F,
         at: u64,
         agents: usize,
+        most_added: u64,
+        most_taken: u64,
         stamp: Stamp,
         tx: &Tx<M>,
     ) -> Result<Prepared, CommitFault>
         ensures refused { TellsOrMemory commits.Memory (early_refusal (F.knows funs.now) self.now at agents tx.now)
-            (commit_refusal M.means M.accepts (F.knows funs.now) self.now at agents tx.now) result }
+            (commit_refusal M.means M.accepts (F.knows funs.now) self.now at agents most_added most_taken tx.now) result }
         ensures here { OnOk result (alien_ref self.now.values tx.now.dones ≡ None) }
         ensures values { IfOk result (λ p. (atoms : List Edn)
             → step M.means at (entry_of stamp tx.now) (record { refs = self.now.values; atoms = atoms })
@@ -134,6 +143,10 @@ impl<M: Meaning> RefStore<M> {
         ensures inner { IfOk result (λ p. (r : ℕ) → is_protected tx.now.dones r ≡ true
             → slice_get p.refs.values r ≡ inner_value M.means tx.now r) }
         ensures limit { OnOk result (at ≤ 2 ^ 62) }
+        // What the books are to count, which they can take.
+        ensures added { IfOk result (λ p. p.added ≡ moved_by_dones Added self.now.tally tx.now.dones) }
+        ensures taken { IfOk result (λ p. p.taken ≡ moved_by_dones Taken self.now.tally tx.now.dones) }
+        ensures books { IfOk result (λ p. (p.added ≤ most_added) × (p.taken ≤ most_taken)) }
     {
         self.check(funs, at, agents, tx)?;
         let dones = tx.dones();
@@ -142,6 +155,7 @@ impl<M: Meaning> RefStore<M> {
         if at > LAST_POINT {
             return Err(CommitFault::PointLimit);
         }
+        let (added, taken) = self.moves(dones, most_added, most_taken)?;
         let notices = notices(alloc, &self.guards, &self.refs, &refs, &touched)?;
         let entry = Entry::Trans(Transaction {
             stamp,
@@ -152,6 +166,8 @@ impl<M: Meaning> RefStore<M> {
         Ok(Prepared {
             refs,
             landed: Landed { entry, notices },
+            added,
+            taken,
         })
     }
 
@@ -170,7 +186,8 @@ impl<M: Meaning> RefStore<M> {
         ensures since { are_unchanged_since self.new.lasts at ≡ true }
         ensures rest { (self.new.tally ≡ self.old.tally) × (self.new.guards ≡ self.old.guards) }
         ensures tally { tally_value self.new.tally self.new.values
-            ≡ tally_value self.old.tally self.old.values + added_by_dones self.old.tally dones.now }
+            ≡ moved (tally_value self.old.tally self.old.values) (moved_by_dones Added self.old.tally dones.now)
+            (moved_by_dones Taken self.old.tally dones.now) }
     {
         self.refs = refs;
     }
@@ -198,6 +215,27 @@ impl<M: Meaning> RefStore<M> {
         match first_invalid(funs, &self.guards, refs, &touched) {
             None => Ok(touched),
             Some(r) => Err(CommitFault::Invalid(r)),
+        }
+    }
+
+    // How much these operations add to the tally and take from it, where the books can take that.
+    fn moves(
+        &self,
+        dones: &[Done],
+        most_added: u64,
+        most_taken: u64,
+    ) -> Result<(u64, u64), CommitFault>
+        ensures refused { Tells (full_book most_added most_taken self.now.tally dones.now) result }
+        ensures added { IfOk result (λ m. m.0 ≡ moved_by_dones Added self.now.tally dones.now) }
+        ensures taken { IfOk result (λ m. m.1 ≡ moved_by_dones Taken self.now.tally dones.now) }
+        ensures books { IfOk result (λ m. (m.0 ≤ most_added) × (m.1 ≤ most_taken)) }
+        ensures told { IfErr result (λ f. f ≢ commits.Memory) }
+    {
+        let added = moved_within(Side::Added, self.tally, dones, most_added);
+        let taken = moved_within(Side::Taken, self.tally, dones, most_taken);
+        match (added, taken) {
+            (Some(added), Some(taken)) => Ok((added, taken)),
+            _ => Err(CommitFault::BookFull),
         }
     }
 

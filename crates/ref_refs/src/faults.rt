@@ -18,8 +18,8 @@ pub enum Alien {
     /// There is no agent of this number here.
     #[error("there is no agent {0} here")]
     Agent(u32),
-    /// An operation changes the tally here and isn't `commute` of `+` with one integer of 0 or more.
-    #[error("the tally here can only be added to")]
+    /// An operation changes the tally here and isn't `commute` of `+` or `-` with one integer of 0 or more.
+    #[error("the tally here can only be added to and taken from")]
     Tally,
     /// The read point comes after the present one.
     #[error("point {0} is still to come")]
@@ -58,6 +58,9 @@ pub enum CommitFault {
     /// Points end at 2^62.
     #[error("no point is left")]
     PointLimit,
+    /// What is added to the tally, or what is taken from it, would pass what its book can hold.
+    #[error("a book of the tally is full")]
+    BookFull,
     #[error("out of memory")]
     Memory,
     /// The table has no function of this code, which a `commute` names, or no predicate of this code, which a rule names.
@@ -78,7 +81,8 @@ impl Alien {
 }
 
 impl CommitFault {
-    /// The number of the fault: its place in the order of the tests, and 9 where the table lacks a function or a predicate.
+    /// The number of the fault: its place in the order of the tests, but 8 where a book is full, which is tested before memory, and
+    /// 9 where the table lacks a function or a predicate.
     pub fn number(&self) -> u8
         ensures { result ≡ commit_fault_number self.now }
     {
@@ -88,6 +92,7 @@ impl CommitFault {
             CommitFault::Refused(_, _) => 4,
             CommitFault::Invalid(_) => 5,
             CommitFault::PointLimit => 6,
+            CommitFault::BookFull => 8,
             CommitFault::Memory => 7,
             CommitFault::NoSuchFun(_) => 9,
         }

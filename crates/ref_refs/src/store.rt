@@ -1,24 +1,25 @@
 //! The store of refs.
 ghost use Rattle.ref_log.specs.Told.{Tells};
 ghost use Rattle.std.specs.Prelude.{◌≡◌, ◌≤◌, ◌<◌, ◌^◌, ◌↔◌, [], IsTrue, true, false, not, None, IfOk, IfErr, OnErr, OnOk, length, option_copied, slice_get};
+ghost use Rattle.ref_fun.specs.Integers.{int_of};
 ghost use Rattle.ref_log.specs.Guards.{AreAccepted, are_known, keys_at, rule_at, rule_refusal, with_rule, with_watch, without_watch};
 ghost use Rattle.ref_log.specs.Tally.{IsTally, tally_value};
 ghost use Rattle.ref_log.specs.Watches.{has_key};
 ghost use Rattle.ref_log.specs.declared.faults.WatchFault.TheVariants as watches;
 ghost use Rattle.ref_refs.specs.Seen.{changed_at, are_unchanged_since, with_guards};
 
-use crate::checking::{are_unchanged_since, counted};
+use crate::checking::are_unchanged_since;
 use ref_fun::{Functions, Meaning, Rule};
 use ref_log::{Guards, RuleFault, WatchFault};
 use ref_tx::{Snapshot, Tx};
-use ref_value::Value;
+use ref_value::{Node, Value};
 use std::alloc::{AllocError, Global};
 use std::marker::{Model, PhantomData};
 
 /// The values of refs at one point. Contracts see the values by number, the point of each ref's last change, the number of
 /// the tally, and the rule and the watches of each ref.
 ///
-/// It is always so that each rule accepts the value of its ref, and that the tally is an integer of 0 or more.
+/// It is always so that each rule accepts the value of its ref, and that the tally is an integer.
 #[derive(Drop)]
 pub struct RefStore<M: Meaning> {
     pub(crate) refs: Snapshot,
@@ -92,14 +93,14 @@ impl<M: Meaning> RefStore<M> {
     }
 
     /// The tally's value, and 0 where there is no tally.
-    pub fn tally_value(&self) -> u64
+    pub fn tally_value(&self) -> i64
         ensures value { result ≡ tally_value self.now.tally self.now.values }
-        // The tally is an integer of 0 or more.
+        // The tally is an integer.
         ensures tally { IsTally self.now.tally self.now.values result }
     {
         match self.tally {
             Some(t) => match self.value_of(t) {
-                Some(value) => counted(value),
+                Some(value) => int_of(value),
                 None => 0,
             },
             None => 0,
@@ -187,5 +188,15 @@ impl<M: Meaning> RefStore<M> {
     {
         let refs = self.refs.share()?;
         Ok(Tx::start(alloc, point, refs, self.tally, agents))
+    }
+}
+
+// The integer that a value is. It is 0 of all else.
+fn int_of(value: &Value) -> i64
+    ensures { result ≡ int_of value.now }
+{
+    match value.node() {
+        Node::Int(n) => *n,
+        _ => 0,
     }
 }

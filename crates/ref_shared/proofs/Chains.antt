@@ -19,6 +19,7 @@ final (commits.Conflict c) conflict memory = conflict c refl
 final (commits.Refused r cause) conflict memory = tt
 final (commits.Invalid r) conflict memory = tt
 final commits.PointLimit conflict memory = tt
+final commits.BookFull conflict memory = tt
 final commits.Memory conflict memory = memory refl
 final (commits.NoSuchFun code) conflict memory = tt
 

@@ -72,6 +72,7 @@ IsFinal (commits.Conflict c) = ⊥
 IsFinal (commits.Refused r cause) = Unit {0}
 IsFinal (commits.Invalid r) = Unit {0}
 IsFinal commits.PointLimit = Unit {0}
+IsFinal commits.BookFull = Unit {0}
 IsFinal commits.Memory = ⊥
 IsFinal (commits.NoSuchFun code) = Unit {0}
 

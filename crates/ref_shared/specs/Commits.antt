@@ -3,7 +3,8 @@ use Rattle.std.specs.Prelude.{◌≡◌, ℕ, List, Option, true, slice_get}
 use Rattle.ref_value.specs.Edn.{Edn}
 use Rattle.ref_fun.specs.Meaning.{Means}
 use Rattle.ref_log.specs.Replay.{is_protected}
-use Rattle.ref_log.specs.Tally.{added_by_dones}
+use Rattle.ref_log.specs.Tally.{moved_by_dones}
+use Rattle.ref_log.specs.declared.counting.Side.TheVariants.{Added, Taken}
 use Rattle.ref_log.specs.Watches.{notices_of}
 use Rattle.ref_log.specs.declared.entries.Entry.{Entry}
 use Rattle.ref_log.specs.declared.entries.Stamp.{Stamp}
@@ -17,11 +18,11 @@ use Rattle.ref_tx.specs.Seen.{TxSeen}
 use Rattle.ref_world.specs.Seen.{ShareSeen}
 use Rattle.ref_world.specs.Shares.{with_commit, with_receipt}
 
--- One commit more, one receipt more, of this transaction whole, and of additions the arguments that it commuted on the tally:
--- there is a ref's number of which this holds, or none were added.
+-- One commit more, one receipt more, of this transaction whole, and of additions and takings the arguments that it commuted on the
+-- tally: there is a ref's number, the same for both, of which this holds, or the tally wasn't moved.
 pub record HasCommitted (stamp : Stamp) (tx : TxSeen) (point : ℕ) (old new : ShareSeen) : Type 0 where
   pub tally : Option ℕ
-  pub share : new ≡ with_commit old point (entry_of stamp tx) (added_by_dones tally tx.dones)
+  pub share : new ≡ with_commit old point (entry_of stamp tx) (moved_by_dones Added tally tx.dones) (moved_by_dones Taken tally tx.dones)
 
 -- The notices of a change of a reference: one for each of its watches, with the values before and after. There is no world to name the
 -- watches by: so there are such keys.

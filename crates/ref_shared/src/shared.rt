@@ -32,8 +32,8 @@ const PAUSES: &[u32] = &[1_024, 4_096, 16_384, 16_384, 16_384, 16_384];
 
 // What the lock is round: the world, and whether the shared world was closed.
 #[derive(Drop)]
-pub(crate) struct Held<M: Meaning, C: Ledger, A: Ledger> {
-    pub(crate) world: World<M, C, A>,
+pub(crate) struct Held<M: Meaning, C: Ledger, A: Ledger, K: Ledger> {
+    pub(crate) world: World<M, C, A, K>,
     pub(crate) is_closed: bool,
 }
 
@@ -48,15 +48,15 @@ pub(crate) struct Held<M: Meaning, C: Ledger, A: Ledger> {
 /// The calls may wait for the lock, and promise what they say where they return. A thread that never lets its body, its gate or
 /// its sink return holds up nobody who waits for the lock.
 #[derive(Drop)]
-pub struct Shared<M: Meaning, C: Ledger, A: Ledger> {
-    held: Mutex<Held<M, C, A>>,
+pub struct Shared<M: Meaning, C: Ledger, A: Ledger, K: Ledger> {
+    held: Mutex<Held<M, C, A, K>>,
     // Woken where an agent may have become ready, and at the end.
     pub(crate) ready: Condvar,
 }
 
-impl<M: Meaning, C: Ledger, A: Ledger> Shared<M, C, A> {
+impl<M: Meaning, C: Ledger, A: Ledger, K: Ledger> Shared<M, C, A, K> {
     /// Puts a world under a lock. It waits for nobody.
-    pub fn new(world: World<M, C, A>) -> Shared<M, C, A> {
+    pub fn new(world: World<M, C, A, K>) -> Shared<M, C, A, K> {
         let held = Held {
             world,
             is_closed: false,
@@ -69,7 +69,7 @@ impl<M: Meaning, C: Ledger, A: Ledger> Shared<M, C, A> {
 
     // The lock. It is free again where the guard is dropped. Whoever finds it held looks again after pauses, and then sleeps: a call
     // holds it for some microseconds, and to sleep and be woken takes longer.
-    pub(crate) fn lock<R: Wait>(&self, rt: &R) -> MutexGuard<'_, Held<M, C, A>> {
+    pub(crate) fn lock<R: Wait>(&self, rt: &R) -> MutexGuard<'_, Held<M, C, A, K>> {
         for pauses in PAUSES {
             if let Some(guard) = self.held.try_lock() {
                 return guard;
@@ -95,7 +95,7 @@ impl<M: Meaning, C: Ledger, A: Ledger> Shared<M, C, A> {
         rt: &R,
         alloc: Global,
         funs: &F,
-        share: &mut Share<C, A>,
+        share: &mut Share<C, A, K>,
         stamp: Stamp,
         tx: Tx<M>,
     ) -> Result<Receipt, (Tx<M>, CommitFault)>
@@ -210,7 +210,7 @@ impl<M: Meaning, C: Ledger, A: Ledger> Shared<M, C, A> {
         rt: &R,
         alloc: Global,
         funs: &F,
-        share: &mut Share<C, A>,
+        share: &mut Share<C, A, K>,
         a: u32,
         code: u32,
         args: Args,
@@ -230,7 +230,7 @@ impl<M: Meaning, C: Ledger, A: Ledger> Shared<M, C, A> {
         rt: &R,
         alloc: Global,
         funs: &F,
-        share: &mut Share<C, A>,
+        share: &mut Share<C, A, K>,
         a: u32,
         value: Value,
     ) -> Result<Swapped, AtomFault>
@@ -249,7 +249,7 @@ impl<M: Meaning, C: Ledger, A: Ledger> Shared<M, C, A> {
         rt: &R,
         alloc: Global,
         funs: &F,
-        share: &mut Share<C, A>,
+        share: &mut Share<C, A, K>,
         a: u32,
         old: &Value,
         new: Value,
@@ -339,11 +339,13 @@ impl<M: Meaning, C: Ledger, A: Ledger> Shared<M, C, A> {
     pub fn finish(
         self,
         alloc: Global,
-        share: Share<C, A>,
-    ) -> Result<(World<M, C, A>, Totals), (World<M, C, A>, Share<C, A>, GatherFault)>
+        share: Share<C, A, K>,
+    ) -> Result<(World<M, C, A, K>, Totals), (World<M, C, A, K>, Share<C, A, K>, GatherFault)>
         requires whole { share.parts ≡ all_parts }
-        ensures totals { IfOk result (λ r. (r.1.commits ≡ share.commits) × (r.1.added ≡ share.added)) }
-        ensures books { IfOk result (λ r. (r.1.commits ≡ r.0.books.commits) × (r.1.added ≡ r.0.books.added)) }
+        ensures totals { IfOk result (λ r. (r.1.commits ≡ share.commits) × (r.1.added ≡ share.added)
+            × (r.1.taken ≡ share.taken)) }
+        ensures books { IfOk result (λ r. (r.1.commits ≡ r.0.books.commits) × (r.1.added ≡ r.0.books.added)
+            × (r.1.taken ≡ r.0.books.taken)) }
         ensures ok { IfOk result (λ r. ReceiptsMatch r.0.base.point r.0.log share.receipts
             × InOrder r.0.base.point r.0.log) }
         ensures fault { IfErr result (λ e. GatherFails e.0.base.point e.0.log share.receipts e.2) }

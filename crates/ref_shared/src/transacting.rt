@@ -15,7 +15,7 @@ use std::alloc::Global;
 use std::sync::Wait;
 use std::sync::ledger::Ledger;
 
-impl<C: Ledger, A: Ledger> Shared<Core, C, A> {
+impl<C: Ledger, A: Ledger, K: Ledger> Shared<Core, C, A, K> {
     /// Runs a body on a transaction and commits it, as Clojure's `dosync`. Where the commit is in conflict all begins anew, with
     /// the values then, at most `tries` times, at least once. After a commit the sink gets the notices for the watches,
     /// and then what the transaction sent is released, which takes the lock once more where it sent something. The answer is what
@@ -39,7 +39,7 @@ impl<C: Ledger, A: Ledger> Shared<Core, C, A> {
         rt: &R,
         alloc: Global,
         funs: &F,
-        share: &mut Share<C, A>,
+        share: &mut Share<C, A, K>,
         stamp: Stamp,
         tries: u32,
         gate: &mut G,
@@ -74,7 +74,7 @@ impl<C: Ledger, A: Ledger> Shared<Core, C, A> {
         rt: &R,
         alloc: Global,
         funs: &F,
-        share: &mut Share<C, A>,
+        share: &mut Share<C, A, K>,
         stamp: Stamp,
         tries: u32,
         gate: &mut G,

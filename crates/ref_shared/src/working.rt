@@ -20,7 +20,7 @@ pub enum Worked {
     Closed,
 }
 
-impl<M: Meaning, C: Ledger, A: Ledger> Shared<M, C, A> {
+impl<M: Meaning, C: Ledger, A: Ledger, K: Ledger> Shared<M, C, A, K> {
     /// Waits for a ready agent, runs its next action with the lock free, ends it, and gives the sink the notices for the watches.
     /// Where [`Shared::close`] was called and no agent is ready, it says so and does nothing. A thread that calls this in
     /// a loop until then is one of a pool; as many of them as there are may run side by side, and no two of them run

@@ -17,7 +17,7 @@ pub enum TxFault {
     #[error("set after commute")]
     SetAfterCommute,
     /// The ref is the tally, which only `commute` of `+` with one integer of 0 or more may change.
-    #[error("the tally can only be added to")]
+    #[error("the tally can only be added to and taken from")]
     TallyOnly,
     /// The function refused.
     #[error("refused: {0}")]

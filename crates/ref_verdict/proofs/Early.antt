@@ -6,10 +6,11 @@ use Rattle.ref_value.specs.Edn as edn
 use Rattle.ref_log.specs.Told.{AnswersOrMemory}
 use Rattle.ref_forms.specs.Plain.{all_said, elements_of, list_said, number_of}
 use Rattle.ref_forms.specs.Plain.{under}
-use Rattle.ref_verdict.specs.DumpForm.{agent_of, dump_of, key_word, misfit, part_said, parts_said, parts_unless}
+use Rattle.ref_verdict.specs.DumpForm.{agent_of, dump_of, key_word, misfit, part_said, parts_said, parts_unless, version_of}
 use Rattle.ref_verdict.specs.Early.{fault_of_parts, first_fault, is_said, parts_fault}
 use Rattle.ref_verdict.specs.Verdict.{verdict, verdict_on}
 use Rattle.ref_verdict.specs.declared.reading.dumps.Dump.{Dump}
+use Rattle.ref_verdict.specs.declared.reading.dumps.Version.{Version}
 use Rattle.ref_verdict.specs.declared.reports.Verdict.{Verdict}
 use Rattle.ref_verdict.specs.declared.reading.faults.DumpFault.{DumpFault}
 use Rattle.ref_verdict.specs.declared.reading.faults.DumpFault.TheVariants.{BadPart, Memory}
@@ -43,31 +44,31 @@ same_fault f g e = cc
 bad_isnt_memory : (key : Key) (fault : DumpFault) → BadPart key ≡ fault → fault ≢ Memory
 bad_isnt_memory key fault is = λ memory. cc
 
-by_parts : (es : List (Edn × Edn)) (a b : Bool) (fault : DumpFault) → is_said es keys.Added number_of ≡ a → is_said es keys.Agents elements_of ≡ b
-    → cond (not a) (Some (BadPart keys.Added)) (cond (not b) (Some (BadPart keys.Agents)) None) ≡ Some fault → (parts_said es ≡ Err fault) × (fault ≢ Memory)
-by_parts es false b fault p q e =
+by_parts : (version : Version) (es : List (Edn × Edn)) (a b : Bool) (fault : DumpFault) → is_said es keys.Added number_of ≡ a → is_said es keys.Agents elements_of ≡ b
+    → cond (not a) (Some (BadPart keys.Added)) (cond (not b) (Some (BadPart keys.Agents)) None) ≡ Some fault → (parts_said version es ≡ Err fault) × (fault ≢ Memory)
+by_parts version es false b fault p q e =
     let is = same_fault (BadPart keys.Added) fault e in
     let added : part_said es keys.Added number_of ≡ Err (BadPart keys.Added) = none_said (option_and_then number_of (under es (key_word keys.Added))) keys.Added p in
     ((rw added refl) ∙ ap Err is, bad_isnt_memory keys.Added fault is)
-by_parts es true false fault p q e =
+by_parts version es true false fault p q e =
     let is = same_fault (BadPart keys.Agents) fault e in
     let added = some_said (option_and_then number_of (under es (key_word keys.Added))) keys.Added p in
     let agents : part_said es keys.Agents (list_said agent_of) ≡ Err (BadPart keys.Agents) =
     none_said (option_and_then (list_said agent_of) (under es (key_word keys.Agents))) keys.Agents (no_list (under es (key_word keys.Agents)) q) in
     ((rw (added.1, agents) refl) ∙ ap Err is, bad_isnt_memory keys.Agents fault is)
-by_parts es true true fault p q e = absurd cc
+by_parts version es true true fault p q e = absurd cc
 
-pub parts_told : (es : List (Edn × Edn)) (fault : DumpFault) → parts_fault es ≡ Some fault → (parts_said es ≡ Err fault) × (fault ≢ Memory)
-parts_told es fault e = by_parts es (is_said es keys.Added number_of) (is_said es keys.Agents elements_of) fault refl refl e
+pub parts_told : (version : Version) (es : List (Edn × Edn)) (fault : DumpFault) → parts_fault es ≡ Some fault → (parts_said version es ≡ Err fault) × (fault ≢ Memory)
+parts_told version es fault e = by_parts version es (is_said es keys.Added number_of) (is_said es keys.Agents elements_of) fault refl refl e
 
 -- ---- a value that is a dump
 
-no_parts_fault : (o : Option DumpFault) (es : List (Edn × Edn)) (dump : Dump) → parts_fault es ≡ o → parts_said es ≡ Ok dump → o ≡ None
-no_parts_fault None es dump p e = refl
-no_parts_fault (Some fault) es dump p e = let told = (parts_told es fault p).0 in absurd cc
+no_parts_fault : (version : Version) (o : Option DumpFault) (es : List (Edn × Edn)) (dump : Dump) → parts_fault es ≡ o → parts_said version es ≡ Ok dump → o ≡ None
+no_parts_fault version None es dump p e = refl
+no_parts_fault version (Some fault) es dump p e = let told = (parts_told version es fault p).0 in absurd cc
 
 no_fault : (wrong : Option DumpFault) (es : List (Edn × Edn)) (dump : Dump) → parts_unless wrong es ≡ Ok dump → fault_of_parts wrong es ≡ None
-no_fault None es dump e = no_parts_fault (parts_fault es) es dump refl e
+no_fault None es dump e = no_parts_fault (version_of es) (parts_fault es) es dump refl e
 no_fault (Some fault) es dump e = absurd cc
 
 no_first_fault : (value : Edn) (dump : Dump) → dump_of value ≡ Ok dump → first_fault value ≡ None

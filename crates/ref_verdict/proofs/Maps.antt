@@ -4,7 +4,7 @@ use Rattle.ref_value.specs.Edn.{Edn, entries_of, pairs_of-entries_of}
 use Rattle.ref_value.specs.Edn as edn
 use Rattle.ref_value.specs.Edn.{pairs_of}
 use Rattle.ref_forms.specs.Plain.{under}
-use Rattle.ref_verdict.specs.DumpForm.{dump_of, has_keys, is_version, misfit, parts_unless}
+use Rattle.ref_verdict.specs.DumpForm.{dump_of, has_keys, is_version, misfit, parts_unless, version_of}
 use Rattle.ref_verdict.specs.Words.{dump_key}
 use Rattle.ref_verdict.specs.declared.reading.faults.DumpFault.{DumpFault}
 use Rattle.ref_verdict.specs.declared.reading.faults.DumpFault.TheVariants.{BadVersion, Memory, NotDump}
@@ -19,4 +19,4 @@ one_of_two false b fault e = λ is. cc
 
 -- neither keys nor version say that memory is refused
 pub misfit_told : (es : List (Edn × Edn)) (fault : DumpFault) → misfit es ≡ Some fault → fault ≢ Memory
-misfit_told es fault e = one_of_two (has_keys es) (is_version (under es dump_key)) fault e
+misfit_told es fault e = one_of_two (has_keys (version_of es) es) (is_version (version_of es) (under es dump_key)) fault e

@@ -1,10 +1,10 @@
--- Which EDN data is a dump, and what it says. A dump is a map with exactly these keys:
+-- Which EDN data is a dump, and what it says. A dump of version 2 is a map with exactly these keys:
 --
---   :dump 1                      the version
+--   :dump 2                      the version
 --   :point N                     the point of the base
 --   :base-refs [[VALUE LAST] ..] the refs of the base; LAST is the point of the last change up to it
 --   :base-atoms [VALUE ..]
---   :folded [COMMITS ADDED]      the books up to the base
+--   :folded [COMMITS ADDED TAKEN]   the books up to the base
 --   :tally N                     the number of the tally, or nil
 --   :entries [ENTRY ..]
 --   :refs [[VALUE RULE] ..]      now; RULE is [P ARG ..] or nil
@@ -12,7 +12,9 @@
 --   :agents [[START HANDLED QUEUE VALUE STATUS RULE] ..]
 --   :commits N
 --   :added N
+--   :taken N
 --
+-- One of version 1 has :dump 1, :folded [COMMITS ADDED] and no :taken.
 -- Numbers are integers of 0 or more. What a form doesn't say, or says in another way, is no part of a dump: it is None here.
 use Rattle.std.specs.Prelude.{ℕ, pos, ◌+◌, ◌-◌, ◌^◌, ◌==◌, ok_or, min, Bool, true, false, not, ◌&&◌, if◌then◌else◌, List, [], ◌∷◌, Option, None, Some, is_some, option_map, option_and_then, Result, Ok, Err}
 use Rattle.std.specs.Prelude as lists
@@ -35,11 +37,13 @@ use Rattle.ref_agents.specs.declared.accounts.Mark.{Mark}
 use Rattle.ref_agents.specs.declared.accounts.Mark.TheVariants as marks
 use Rattle.ref_forms.specs.Calls.{action_of, any, rule_of}
 use Rattle.ref_forms.specs.Plain.{all_said, are_known, both, elements_of, elements_within, keyword_of, list_said, number_of, stamp_number, tagged_of, under}
-use Rattle.ref_verdict.specs.Words.{added_key, agents_key, all_keys, alter_tag, atoms_key, base_atoms_key, base_refs_key, commits_key, commute_tag, done_mark, dump_key, ensure_tag, entries_key, failed_mark, failed_status, folded_key, made_atom_tag, made_ref_tag, passed_mark, point_key, ready_status, refs_key, reset_tag, set_tag, swap_tag, tally_key, tx_tag}
+use Rattle.ref_verdict.specs.Words.{added_key, agents_key, alter_tag, atoms_key, base_atoms_key, base_refs_key, commits_key, commute_tag, done_mark, dump_key, ensure_tag, entries_key, failed_mark, failed_status, folded_key, keys_of, made_atom_tag, made_ref_tag, passed_mark, point_key, ready_status, refs_key, reset_tag, set_tag, swap_tag, taken_key, tally_key, tx_tag}
 use Rattle.ref_verdict.specs.declared.reading.dumps.Changed.{Changed}
 use Rattle.ref_verdict.specs.declared.reading.dumps.Dump.{Dump}
 use Rattle.ref_verdict.specs.declared.reading.dumps.Kept.{Kept}
 use Rattle.ref_verdict.specs.declared.reading.dumps.KeptAgent.{KeptAgent}
+use Rattle.ref_verdict.specs.declared.reading.dumps.Version.{Version}
+use Rattle.ref_verdict.specs.declared.reading.dumps.Version.TheVariants.{One, Two}
 use Rattle.ref_verdict.specs.declared.reading.faults.DumpFault.{DumpFault}
 use Rattle.ref_verdict.specs.declared.reading.faults.DumpFault.TheVariants.{NotDump, BadVersion, BadPart, BadEntry}
 use Rattle.ref_verdict.specs.declared.reading.faults.Key.{Key}
@@ -215,13 +219,19 @@ agent_of x = option_and_then agent_said (elements_of x)
 
 -- ---- the map
 
--- [COMMITS ADDED]
-abbrev pub folded_said : List Edn → Option (ℕ × ℕ)
-folded_said (commits ∷ added ∷ []) = both (λ c a. (c, a)) (number_of commits) (number_of added)
-folded_said xs = None
+-- commits, what was added and what was taken
+abbrev pub books_with : Option ℕ → Option ℕ → Option ℕ → Option (ℕ × ℕ × ℕ)
+books_with (Some commits) (Some added) (Some taken) = Some (commits, added, taken)
+books_with commits added taken = None
 
-abbrev pub folded_of : Edn → Option (ℕ × ℕ)
-folded_of x = option_and_then folded_said (elements_of x)
+-- [COMMITS ADDED], or [COMMITS ADDED TAKEN]
+abbrev pub folded_said : Version → List Edn → Option (ℕ × ℕ × ℕ)
+folded_said One (commits ∷ added ∷ []) = books_with (number_of commits) (number_of added) (Some 0)
+folded_said Two (commits ∷ added ∷ taken ∷ []) = books_with (number_of commits) (number_of added) (number_of taken)
+folded_said version xs = None
+
+abbrev pub folded_of : Version → Edn → Option (ℕ × ℕ × ℕ)
+folded_of version x = option_and_then (folded_said version) (elements_of x)
 
 -- the number of the tally, or nil where there is none
 abbrev pub tally_of : Edn → Option (Option ℕ)
@@ -241,11 +251,20 @@ key_word keys.Entries = entries_key
 key_word keys.Folded = folded_key
 key_word keys.Point = point_key
 key_word keys.Refs = refs_key
+key_word keys.Taken = taken_key
 key_word keys.Tally = tally_key
 
+-- The version whose keys a map can have: only one of version 2 has a book of what was taken.
+abbrev pub version_of : List (Edn × Edn) → Version
+version_of es = if is_some (under es taken_key) then Two else One
+
 -- Each key is one of these, and each of these is there.
-unfoldable pub has_keys : List (Edn × Edn) → Bool
-has_keys es = are_known all_keys es && list_all (λ word. is_some (under es word)) all_keys
+abbrev pub are_keys : List (List ℕ) → List (Edn × Edn) → Bool
+are_keys words es = are_known words es && list_all (λ word. is_some (under es word)) words
+
+-- The keys are those of this version.
+unfoldable pub has_keys : Version → List (Edn × Edn) → Bool
+has_keys version es = are_keys (keys_of version) es
 
 -- what stands under a key, or that it has a wrong form
 abbrev pub part_said : {A : Type 0} → List (Edn × Edn) → Key → (Edn → Option A) → Result A DumpFault
@@ -256,7 +275,7 @@ abbrev pub and_then : {A B : Type 0} → Result A DumpFault → (A → Result B 
 and_then (Ok x) more = more x
 and_then (Err fault) more = Err fault
 
-abbrev pub base_with : ℕ → List Changed → List Edn → Option ℕ → ℕ × ℕ → Base
+abbrev pub base_with : ℕ → List Changed → List Edn → Option ℕ → ℕ × ℕ × ℕ → Base
 base_with point refs atoms tally folded = record {
   point = point;
   refs = lists.map (λ c. c.value) refs;
@@ -265,11 +284,17 @@ base_with point refs atoms tally folded = record {
   tally = tally;
   commits = folded.0;
   added = folded.1;
+  taken = folded.2;
 }
 
+-- What was taken from the tally; version 1 doesn't say it, since nothing was.
+abbrev pub taken_said : Version → List (Edn × Edn) → Result ℕ DumpFault
+taken_said One es = Ok 0
+taken_said Two es = part_said es keys.Taken number_of
+
 -- What the parts say, read in the order of their keys, and the entries last. Of entries there are at most 2^62, as of points.
-abbrev pub parts_said : List (Edn × Edn) → Result Dump DumpFault
-parts_said es =
+abbrev pub parts_said : Version → List (Edn × Edn) → Result Dump DumpFault
+parts_said version es =
     and_then (part_said es keys.Added number_of) (λ added.
     and_then (part_said es keys.Agents (list_said agent_of)) (λ agents.
     and_then (part_said es keys.Atoms (values_said kept_of)) (λ atoms.
@@ -277,12 +302,14 @@ parts_said es =
     and_then (part_said es keys.BaseRefs (values_said changed_of)) (λ base_refs.
     and_then (part_said es keys.Commits number_of) (λ commits.
     and_then (part_said es keys.Entries (elements_within (2 ^ 62))) (λ forms.
-    and_then (part_said es keys.Folded folded_of) (λ folded.
+    and_then (part_said es keys.Folded (folded_of version)) (λ folded.
     and_then (part_said es keys.Point number_of) (λ point.
     and_then (part_said es keys.Refs (values_said kept_of)) (λ refs.
+    and_then (taken_said version es) (λ taken.
     and_then (part_said es keys.Tally tally_of) (λ tally.
     and_then (entries_from 1 forms) (λ entries.
     Ok (record {
+      version = version;
       base = base_with point base_refs base_atoms tally folded;
       entries = entries;
       refs = refs;
@@ -290,23 +317,28 @@ parts_said es =
       agents = agents;
       commits = commits;
       added = added;
-    })))))))))))))
+      taken = taken;
+    }))))))))))))))
 
--- The version is the integer 1.
-abbrev pub is_version : Option Edn → Bool
-is_version (Some (int (pos n))) = n == 1
-is_version x = false
+abbrev pub version_number : Version → ℕ
+version_number One = 1
+version_number Two = 2
+
+-- whether a value is the number of a version
+abbrev pub is_version : Version → Option Edn → Bool
+is_version version (Some (int (pos n))) = n == version_number version
+is_version version x = false
 
 -- why entries are those of no dump, as far as it is known from their keys and the version
 abbrev pub misfit : List (Edn × Edn) → Option DumpFault
 misfit es =
-    if not (has_keys es) then Some NotDump else
-    if not (is_version (under es dump_key)) then Some BadVersion else
+    if not (has_keys (version_of es) es) then Some NotDump else
+    if not (is_version (version_of es) (under es dump_key)) then Some BadVersion else
     None
 
 abbrev pub parts_unless : Option DumpFault → List (Edn × Edn) → Result Dump DumpFault
 parts_unless (Some fault) es = Err fault
-parts_unless None es = parts_said es
+parts_unless None es = parts_said (version_of es) es
 
 -- What a dump says, or the first fault.
 abbrev pub dump_of : Edn → Result Dump DumpFault

@@ -7,12 +7,12 @@
 --   RefRule N    the rule of ref N doesn't accept its value now; AtomRule N and AgentRule N likewise
 --   Fold N       the start of agent N, folded over its done actions, isn't its state, or a done action refuses
 --   Count        the books aren't those up to the base and what the entries add to them, or an entry changes the tally in
---                another way than by adding to it
+--                another way than by adding to it and, in version 2, taking from it
 --   Ok           none of these
 --
 -- Entries are replayed in order on the base, their operations in order. Stamps, read points, sends, the points of last changes,
 -- statuses, and the marks of actions that weren't done aren't asked.
-use Rattle.std.specs.Prelude.{ℕ, ◌+◌, ◌==◌, ◌&&◌, Bool, false, not, if◌then◌else◌, List, [], ◌∷◌, map, option_map, unwrap_or, Option, None, Some, Result, Ok, Err}
+use Rattle.std.specs.Prelude.{ℕ, ◌+◌, ◌==◌, ◌&&◌, ◌||◌, Bool, false, true, not, if◌then◌else◌, List, [], ◌∷◌, map, option_map, unwrap_or, Option, None, Some, Result, Ok, Err}
 use Rattle.std.specs.List.{list_all, position_from}
 use Rattle.std.specs.Option.{option_or}
 use Rattle.std.specs.Ordering.{eq_by_cmp}
@@ -22,7 +22,12 @@ use Rattle.ref_fun.specs.Core.{core_accepts, core_means}
 use Rattle.ref_fun.specs.Rule.{passes}
 use Rattle.ref_fun.specs.declared.faults.Cause.{Cause}
 use Rattle.ref_log.specs.Replay.{replay}
-use Rattle.ref_log.specs.Tally.{added_of, commits_of, fits_entry}
+use Rattle.ref_log.specs.Tally.{commits_of, fits_side, fits_tally, is_tally, moved_of}
+use Rattle.ref_log.specs.declared.counting.Side.TheVariants.{Added, Taken}
+use Rattle.ref_log.specs.declared.entries.Entry.{Entry}
+use Rattle.ref_log.specs.declared.entries.Entry.TheVariants.{Trans, Atom, MadeRef, MadeAtom}
+use Rattle.ref_log.specs.declared.operations.Done.{Done}
+use Rattle.ref_log.specs.declared.operations.Op.{Op}
 use Rattle.ref_log.specs.declared.faults.AuditFault.{AuditFault}
 use Rattle.ref_log.specs.declared.faults.AuditFault.TheVariants as faults
 use Rattle.ref_log.specs.declared.states.PlainState.{PlainState}
@@ -30,6 +35,8 @@ use Rattle.ref_agents.specs.Account.{after_handled}
 use Rattle.ref_verdict.specs.declared.reading.dumps.Dump.{Dump}
 use Rattle.ref_verdict.specs.declared.reading.dumps.Kept.{Kept}
 use Rattle.ref_verdict.specs.declared.reading.dumps.KeptAgent.{KeptAgent}
+use Rattle.ref_verdict.specs.declared.reading.dumps.Version.{Version}
+use Rattle.ref_verdict.specs.declared.reading.dumps.Version.TheVariants.{One, Two}
 use Rattle.ref_verdict.specs.declared.reading.faults.DumpFault.{DumpFault}
 use Rattle.ref_verdict.specs.declared.reports.Verdict.{Verdict}
 use Rattle.ref_verdict.specs.declared.reports.Verdict.TheVariants as verdicts
@@ -59,12 +66,27 @@ is_value v (Err cause) = false
 abbrev pub breaks_fold : KeptAgent → Bool
 breaks_fold agent = not (is_value agent.value (after_handled core_means agent.handled (Ok agent.start)))
 
+-- Whether the tally of a dump takes an operation: that of version 1 is only added to.
+abbrev pub fits_version : Version → Op → Bool
+fits_version One op = fits_side Added op
+fits_version Two op = fits_tally op
+
+abbrev pub fit_version : Version → Option ℕ → List Done → Bool
+fit_version version tally ds = list_all (λ d. not (is_tally tally d.r) || fits_version version d.op) ds
+
+abbrev pub fits_entry : Version → Option ℕ → Entry → Bool
+fits_entry version tally (Trans t) = fit_version version tally t.dones
+fits_entry version tally (Atom a op answer) = true
+fits_entry version tally (MadeRef v) = true
+fits_entry version tally (MadeAtom v) = true
+
 -- whether the books are right
 abbrev pub are_counts : Dump → Bool
 are_counts dump =
     (dump.commits == dump.base.commits + commits_of dump.entries)
-    && (dump.added == dump.base.added + added_of dump.base.tally dump.entries)
-    && list_all (fits_entry dump.base.tally) dump.entries
+    && (dump.added == dump.base.added + moved_of Added dump.base.tally dump.entries)
+    && (dump.taken == dump.base.taken + moved_of Taken dump.base.tally dump.entries)
+    && list_all (fits_entry dump.version dump.base.tally) dump.entries
 
 abbrev pub count_line : Dump → Option Verdict
 count_line dump = if are_counts dump then None else Some verdicts.Count

@@ -5,6 +5,8 @@ use Rattle.ref_value.specs.Edn.{Edn, nil, int, symbol, vector, items_of}
 use Rattle.ref_fun.specs.Names.{core_names, name_in}
 use Rattle.ref_fun.specs.declared.actions.Action.{Action}
 use Rattle.ref_fun.specs.declared.rules.Rule.{Rule}
+use Rattle.ref_verdict.specs.declared.reading.dumps.Version.{Version}
+use Rattle.ref_verdict.specs.declared.reading.dumps.Version.TheVariants.{One, Two}
 
 -- ---- the keys of the map
 
@@ -41,14 +43,20 @@ point_key = codes "point"
 abbrev pub refs_key : List ℕ
 refs_key = codes "refs"
 
+abbrev pub taken_key : List ℕ
+taken_key = codes "taken"
+
 abbrev pub tally_key : List ℕ
 tally_key = codes "tally"
 
--- all of them, in value order
-abbrev pub all_keys : List (List ℕ)
-all_keys =
+-- those of a version, in value order
+abbrev pub keys_of : Version → List (List ℕ)
+keys_of One =
     added_key ∷ agents_key ∷ atoms_key ∷ base_atoms_key ∷ base_refs_key ∷ commits_key
     ∷ dump_key ∷ entries_key ∷ folded_key ∷ point_key ∷ refs_key ∷ tally_key ∷ []
+keys_of Two =
+    added_key ∷ agents_key ∷ atoms_key ∷ base_atoms_key ∷ base_refs_key ∷ commits_key
+    ∷ dump_key ∷ entries_key ∷ folded_key ∷ point_key ∷ refs_key ∷ taken_key ∷ tally_key ∷ []
 
 -- ---- what an entry begins with
 

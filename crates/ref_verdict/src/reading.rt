@@ -2,7 +2,7 @@
 ghost use Rattle.std.specs.Prelude.{◌≡◌, ◌≤◌, ◌<◌, ◌^◌, List, Option, ℕ, IfErr, IfOk, None, map};
 ghost use Rattle.ref_log.specs.Replay.{point_after};
 ghost use Rattle.ref_log.specs.Told.{AnswersOrMemory};
-ghost use Rattle.ref_verdict.specs.DumpForm.{base_with, dump_of, parts_said};
+ghost use Rattle.ref_verdict.specs.DumpForm.{base_with, dump_of, parts_said, version_of};
 ghost use Rattle.ref_verdict.specs.Early.{first_fault, parts_fault};
 ghost use Rattle.ref_verdict.specs.OfCore.{IsOfCore};
 ghost use Rattle.ref_verdict.specs.Reading.{Told};
@@ -15,11 +15,11 @@ pub(crate) mod lists;
 pub(crate) mod parts;
 pub(crate) mod references;
 
-use crate::reading::dumps::{Changed, Dump};
+use crate::reading::dumps::{Changed, Dump, Version};
 use crate::reading::faults::{DumpFault, Key};
 use crate::reading::parts::{
-    entries_in, entry_forms, folded_part, list_part, misfit, number_part, parts_fault, tally_part,
-    values_part,
+    entries_in, entry_forms, folded_part, list_part, misfit, number_part, parts_fault, taken_part,
+    tally_part, values_part, version_of,
 };
 use ref_log::{Base, SharedVec};
 use ref_value::{Entries, Node, Value};
@@ -45,19 +45,20 @@ pub fn read_dump(alloc: Global, value: &Value) -> Result<Dump, DumpFault>
 // What the parts of a dump say, whose keys and version are right. That the first ones are wrong is found before any memory is taken.
 #[tactic(auto, using(crate::proofs::Early::parts_told))]
 fn checked_parts(alloc: Global, entries: &Entries) -> Result<Dump, DumpFault>
-    ensures reads { AnswersOrMemory Memory (parts_fault entries.now) (parts_said entries.now) result }
+    ensures reads { AnswersOrMemory Memory (parts_fault entries.now)
+        (parts_said (version_of entries.now) entries.now) result }
     ensures core { IfOk result IsOfCore }
     ensures points { IfOk result (λ dump. point_after dump.base dump.entries < 2 ^ 64) }
 {
     match parts_fault(entries) {
         Some(fault) => Err(fault),
-        None => parts_in(alloc, entries),
+        None => parts_in(alloc, version_of(entries), entries),
     }
 }
 
 #[tactic(auto, using(crate::proofs::Read::kept_part, crate::proofs::Read::rules_part, crate::proofs::Read::accounts_part, crate::proofs::Read::entries_pass))]
-fn parts_in(alloc: Global, entries: &Entries) -> Result<Dump, DumpFault>
-    ensures reads { Told (parts_said entries.now) result }
+fn parts_in(alloc: Global, version: Version, entries: &Entries) -> Result<Dump, DumpFault>
+    ensures reads { Told (parts_said version entries.now) result }
     ensures core { IfOk result IsOfCore }
     ensures points { IfOk result (λ dump. point_after dump.base dump.entries < 2 ^ 64) }
 {
@@ -68,13 +69,15 @@ fn parts_in(alloc: Global, entries: &Entries) -> Result<Dump, DumpFault>
     let base_refs = values_part(alloc, entries, Key::BaseRefs)?;
     let commits = number_part(entries, Key::Commits)?;
     let forms = entry_forms(entries)?;
-    let folded = folded_part(entries)?;
+    let folded = folded_part(version, entries)?;
     let point = number_part(entries, Key::Point)?;
     let refs = values_part(alloc, entries, Key::Refs)?;
+    let taken = taken_part(version, entries)?;
     let tally = tally_part(entries)?;
     let entries = entries_in(alloc, forms)?;
     let base = base_of(alloc, point, &base_refs, base_atoms, tally, folded)?;
     Ok(Dump {
+        version,
         base,
         entries,
         refs,
@@ -82,6 +85,7 @@ fn parts_in(alloc: Global, entries: &Entries) -> Result<Dump, DumpFault>
         agents,
         commits,
         added,
+        taken,
     })
 }
 
@@ -91,11 +95,11 @@ fn base_of(
     refs: &SharedVec<Changed>,
     atoms: SharedVec<Value>,
     tally: Option<u32>,
-    folded: (u64, u64),
+    folded: (u64, u64, u64),
 ) -> Result<Base, AllocError>
     ensures { IfOk result (λ base. base ≡ base_with point refs.now atoms tally folded) }
 {
-    let (commits, added) = folded;
+    let (commits, added, taken) = folded;
     Ok(Base {
         point,
         refs: SharedVec::of(alloc, values_of(alloc, refs.as_slice())?)?,
@@ -104,6 +108,7 @@ fn base_of(
         tally,
         commits,
         added,
+        taken,
     })
 }
 

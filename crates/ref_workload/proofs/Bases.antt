@@ -7,8 +7,8 @@ use Rattle.ref_workload.specs.Orderly.{base_declared}
 use Rattle.ref_start.specs.declared.starts.AtomStart.{AtomStart}
 use Rattle.ref_start.specs.declared.starts.RefStart.{RefStart}
 
-abbrev base_of : ℕ → List Edn → List ℕ → List Edn → Option ℕ → ℕ → ℕ → Base
-base_of point refs last atoms tally commits added = record {
+abbrev base_of : ℕ → List Edn → List ℕ → List Edn → Option ℕ → ℕ → ℕ → ℕ → Base
+base_of point refs last atoms tally commits added taken = record {
   point = point;
   refs = refs;
   last = last;
@@ -16,22 +16,24 @@ base_of point refs last atoms tally commits added = record {
   tally = tally;
   commits = commits;
   added = added;
+  taken = taken;
 }
 
 -- A base of these parts is the declared one.
 pub base_is : (b : Base) (refs : List RefStart) (atoms : List AtomStart)
-    → b.point ≡ 0 → b.commits ≡ 0 → b.added ≡ 0
+    → b.point ≡ 0 → b.commits ≡ 0 → b.added ≡ 0 → b.taken ≡ 0
     → b.tally ≡ position (λ (r : RefStart). r.tally) refs → b.refs ≡ map (λ (r : RefStart). r.value) refs
     → b.last ≡ map (λ (r : RefStart). 0) refs → b.atoms ≡ map (λ (a : AtomStart). a.value) atoms
     → b ≡ base_declared refs atoms
-base_is b refs atoms point commits added tally values lasts atom_values =
-    ap (λ x. base_of x b.refs b.last b.atoms b.tally b.commits b.added) point
-    ∙ (ap (λ x. base_of 0 x b.last b.atoms b.tally b.commits b.added) values
-    ∙ (ap (λ x. base_of 0 (map (λ (r : RefStart). r.value) refs) x b.atoms b.tally b.commits b.added) lasts
-    ∙ (ap (λ x. base_of 0 (map (λ (r : RefStart). r.value) refs) (map (λ (r : RefStart). 0) refs) x b.tally b.commits b.added) atom_values
-    ∙ (ap (λ x. base_of 0 (map (λ (r : RefStart). r.value) refs) (map (λ (r : RefStart). 0) refs) (map (λ (a : AtomStart). a.value) atoms) x b.commits b.added) tally
-    ∙ (ap (λ x. base_of 0 (map (λ (r : RefStart). r.value) refs) (map (λ (r : RefStart). 0) refs) (map (λ (a : AtomStart). a.value) atoms) (position (λ (r : RefStart). r.tally) refs) x b.added) commits
-    ∙ ap (λ x. base_of 0 (map (λ (r : RefStart). r.value) refs) (map (λ (r : RefStart). 0) refs) (map (λ (a : AtomStart). a.value) atoms) (position (λ (r : RefStart). r.tally) refs) 0 x) added)))))
+base_is b refs atoms point commits added taken tally values lasts atom_values =
+    ap (λ x. base_of x b.refs b.last b.atoms b.tally b.commits b.added b.taken) point
+    ∙ (ap (λ x. base_of 0 x b.last b.atoms b.tally b.commits b.added b.taken) values
+    ∙ (ap (λ x. base_of 0 (map (λ (r : RefStart). r.value) refs) x b.atoms b.tally b.commits b.added b.taken) lasts
+    ∙ (ap (λ x. base_of 0 (map (λ (r : RefStart). r.value) refs) (map (λ (r : RefStart). 0) refs) x b.tally b.commits b.added b.taken) atom_values
+    ∙ (ap (λ x. base_of 0 (map (λ (r : RefStart). r.value) refs) (map (λ (r : RefStart). 0) refs) (map (λ (a : AtomStart). a.value) atoms) x b.commits b.added b.taken) tally
+    ∙ (ap (λ x. base_of 0 (map (λ (r : RefStart). r.value) refs) (map (λ (r : RefStart). 0) refs) (map (λ (a : AtomStart). a.value) atoms) (position (λ (r : RefStart). r.tally) refs) x b.added b.taken) commits
+    ∙ (ap (λ x. base_of 0 (map (λ (r : RefStart). r.value) refs) (map (λ (r : RefStart). 0) refs) (map (λ (a : AtomStart). a.value) atoms) (position (λ (r : RefStart). r.tally) refs) 0 x b.taken) added
+    ∙ ap (λ x. base_of 0 (map (λ (r : RefStart). r.value) refs) (map (λ (r : RefStart). 0) refs) (map (λ (a : AtomStart). a.value) atoms) (position (λ (r : RefStart). r.tally) refs) 0 0 x) taken))))))
 
 -- A list of so many zeros.
 pub zeros : (refs : List RefStart) (lasts : List ℕ) → length refs ≡ length lasts → ((k : ℕ) → k < length refs → get_or lasts k 0 ≡ 0) → lasts ≡ map (λ (r : RefStart). 0) refs

@@ -161,9 +161,9 @@ progress_sync : IsSync Progress.the_row
 progress_sync = declared_sync Progress.the_type
     (search plain depth 60, (search plain depth 60, (search plain depth 60, (search plain depth 60, tt))))
 
-module _ (κ : NamedLft) (F C A : RattleType) (gC : Ledger.Ghosts C.Denot) (gA : Ledger.Ghosts A.Denot) where
-  pub run_sync : IsSync F → IsSync (Run.the_row κ F C A gC gA)
-  run_sync y = declared_sync (Run.the_type κ F C A gC gA) (
+module _ (κ : NamedLft) (F C A K : RattleType) (gC : Ledger.Ghosts C.Denot) (gA : Ledger.Ghosts A.Denot) (gK : Ledger.Ghosts K.Denot) where
+  pub run_sync : IsSync F → IsSync (Run.the_row κ F C A K gC gA gK)
+  run_sync y = declared_sync (Run.the_type κ F C A K gC gA gK) (
     search plain depth 60,
     (
       search (y, plain) depth 60,
@@ -174,13 +174,13 @@ module _ (κ : NamedLft) (F C A : RattleType) (gC : Ledger.Ghosts C.Denot) (gA :
     ),
   )
 
-module _ (C A : RattleType) (gC : Ledger.Ghosts C.Denot) (gA : Ledger.Ghosts A.Denot) where
-  pub ended_send : IsSend (Ended.the_row C A gC gA)
-  ended_send = declared_send (Ended.the_type C A gC gA)
+module _ (C A K : RattleType) (gC : Ledger.Ghosts C.Denot) (gA : Ledger.Ghosts A.Denot) (gK : Ledger.Ghosts K.Denot) where
+  pub ended_send : IsSend (Ended.the_row C A K gC gA gK)
+  ended_send = declared_send (Ended.the_type C A K gC gA gK)
       (search (shared_crosses, plain) depth 60, (search (refusal_send, plain) depth 60, (search plain depth 60, tt)))
 
-  pub job_send : (G : RattleType) → IsSend G → IsSend (Job.the_row C A G gC gA)
-  job_send G y = declared_send (Job.the_type C A G gC gA)
+  pub job_send : (G : RattleType) → IsSend G → IsSend (Job.the_row C A K G gC gA gK)
+  job_send G y = declared_send (Job.the_type C A K G gC gA gK)
       (search plain depth 60, (search (shared_crosses, plain) depth 60, (search (y, plain) depth 60, tt)))
 
 pub ruleset crosses = (shared_crosses, run_sync, ended_send, job_send)

@@ -115,6 +115,7 @@ base_declared refs atoms = record {
   tally = position (λ (r : RefStart). r.tally) refs;
   commits = 0;
   added = 0;
+  taken = 0;
 }
 
 -- The plan was run, each worker's steps in order, and nothing else was.

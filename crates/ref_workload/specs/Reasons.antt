@@ -56,6 +56,7 @@ commit_said (commits.Conflict conflict) = Err stops.Internal
 commit_said (commits.Refused r cause) = refused (reasons.Refused cause)
 commit_said (commits.Invalid r) = refused reasons.Invalid
 commit_said commits.PointLimit = refused reasons.PointLimit
+commit_said commits.BookFull = refused reasons.BookFull
 commit_said commits.Memory = Err stops.Memory
 commit_said (commits.NoSuchFun code) = Err stops.Internal
 

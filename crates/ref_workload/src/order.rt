@@ -23,10 +23,10 @@ use std::sync::ledger::Ledger;
 /// Whether this world and these refused steps are what running a plan may end with. The order of the log, which whoever takes a
 /// world out of a shared one has compared, is asked of the caller. Linear in the sizes of the plan, the log and the refused
 /// steps; it takes a byte for each step of the plan.
-pub fn is_orderly<C: Ledger, A: Ledger>(
+pub fn is_orderly<C: Ledger, A: Ledger, K: Ledger>(
     alloc: Global,
     plan: &Plan,
-    world: &World<Core, C, A>,
+    world: &World<Core, C, A, K>,
     refused: &[Refusal],
 ) -> Result<bool, AllocError>
     requires { InOrder world.now.base.point world.now.log }

@@ -25,8 +25,8 @@ use std::thread::Threads;
 
 /// What comes of a run: the world that is taken out, its totals, and the refused steps, by worker, then step.
 #[derive(Drop)]
-pub struct RunOut<C: Ledger, A: Ledger> {
-    pub world: World<Core, C, A>,
+pub struct RunOut<C: Ledger, A: Ledger, K: Ledger> {
+    pub world: World<Core, C, A, K>,
     pub totals: Totals,
     pub refused: Vec<Refusal>,
 }
@@ -39,7 +39,7 @@ pub struct RunOut<C: Ledger, A: Ledger> {
 /// meets a fault, the others run to their end before the fault is returned, the first of the workers by number and then of the
 /// pool. A table that lacks a function or a predicate that the plan names ends the run with [`RunFault::Internal`]. What comes
 /// out is compared with the plan, in time linear in both.
-pub fn run_plan<F, C, A, R, G>(
+pub fn run_plan<F, C, A, K, R, G>(
     rt: &R,
     alloc: Global,
     funs: &F,
@@ -48,32 +48,35 @@ pub fn run_plan<F, C, A, R, G>(
     gates: Vec<G>,
     commits: Blank,
     added: Blank,
-) -> Result<RunOut<C, A>, RunFault>
+    taken: Blank,
+) -> Result<RunOut<C, A, K>, RunFault>
 where
     F: Functions<Core> + Sync,
     C: Ledger + Send + Sync,
     A: Ledger + Send + Sync,
+    K: Ledger + Send + Sync,
     R: Threads + Wait + Sync,
     G: Gate + Send + Drop,
     requires gates { vec_len gates ≡ length plan.now.workers + plan.now.pool }
     requires commits { IsBlank commits C.name C.parts }
     requires added { IsBlank added A.name A.parts }
+    requires taken { IsBlank taken K.name K.parts }
     ensures orderly { IfOk result (λ out. IsOrderly plan.now out.world out.refused.items) }
     ensures order { IfOk result (λ out. AreInOrder out.refused.items) }
     ensures reasons { IfOk result (λ out. HaveReasons plan.now.workers out.refused.items) }
     ensures world { IfOk result (λ out. IsAlwaysSo out.world) }
     ensures totals { IfOk result (λ out. (out.totals.commits ≡ out.world.books.commits)
-        × (out.totals.added ≡ out.world.books.added)) }
+        × (out.totals.added ≡ out.world.books.added) × (out.totals.taken ≡ out.world.books.taken)) }
     ensures inner { IfErr result IsOfPlan }
 {
     let progress = Progress::new();
-    run_plan_with::<F, C, A, R, G>(
-        rt, alloc, funs, plan, tries, gates, &progress, commits, added,
+    run_plan_with::<F, C, A, K, R, G>(
+        rt, alloc, funs, plan, tries, gates, &progress, commits, added, taken,
     )
 }
 
 /// As [`run_plan`], and counts in `progress` how far it is.
-pub fn run_plan_with<F, C, A, R, G>(
+pub fn run_plan_with<F, C, A, K, R, G>(
     rt: &R,
     alloc: Global,
     funs: &F,
@@ -83,25 +86,28 @@ pub fn run_plan_with<F, C, A, R, G>(
     progress: &Progress,
     commits: Blank,
     added: Blank,
-) -> Result<RunOut<C, A>, RunFault>
+    taken: Blank,
+) -> Result<RunOut<C, A, K>, RunFault>
 where
     F: Functions<Core> + Sync,
     C: Ledger + Send + Sync,
     A: Ledger + Send + Sync,
+    K: Ledger + Send + Sync,
     R: Threads + Wait + Sync,
     G: Gate + Send + Drop,
     requires gates { vec_len gates ≡ length plan.now.workers + plan.now.pool }
     requires commits { IsBlank commits C.name C.parts }
     requires added { IsBlank added A.name A.parts }
+    requires taken { IsBlank taken K.name K.parts }
     ensures orderly { IfOk result (λ out. IsOrderly plan.now out.world out.refused.items) }
     ensures order { IfOk result (λ out. AreInOrder out.refused.items) }
     ensures reasons { IfOk result (λ out. HaveReasons plan.now.workers out.refused.items) }
     ensures world { IfOk result (λ out. IsAlwaysSo out.world) }
     ensures totals { IfOk result (λ out. (out.totals.commits ≡ out.world.books.commits)
-        × (out.totals.added ≡ out.world.books.added)) }
+        × (out.totals.added ≡ out.world.books.added) × (out.totals.taken ≡ out.world.books.taken)) }
     ensures inner { IfErr result IsOfPlan }
 {
-    let (world, mut share) = open_world::<F, C, A>(alloc, funs, plan, commits, added)?;
+    let (world, mut share) = open_world::<F, C, A, K>(alloc, funs, plan, commits, added, taken)?;
     let run = Run {
         alloc,
         funs,
@@ -126,15 +132,17 @@ fn count_steps(workers: &[SharedVec<Step>]) -> u64 {
 }
 
 // The world that a plan declares, with its whole share.
-fn open_world<F: Functions<Core>, C: Ledger, A: Ledger>(
+fn open_world<F: Functions<Core>, C: Ledger, A: Ledger, K: Ledger>(
     alloc: Global,
     funs: &F,
     plan: &Plan,
     commits: Blank,
     added: Blank,
-) -> Result<(World<Core, C, A>, Share<C, A>), Stop>
+    taken: Blank,
+) -> Result<(World<Core, C, A, K>, Share<C, A, K>), Stop>
     requires commits { IsBlank commits C.name C.parts }
     requires added { IsBlank added A.name A.parts }
+    requires taken { IsBlank taken K.name K.parts }
     ensures refs { IfOk result (λ r. declared_refs core_accepts (F.knows funs.now).preds plan.now.refs ≡ Ok r.0.refs) }
     ensures atoms { IfOk result (λ r. declared_atoms core_accepts (F.knows funs.now).preds plan.now.atoms ≡ Ok r.0.atoms) }
     ensures agents { IfOk result (λ r. declared_agents core_accepts (F.knows funs.now).preds plan.now.agents ≡ Ok r.0.agents) }
@@ -142,7 +150,7 @@ fn open_world<F: Functions<Core>, C: Ledger, A: Ledger>(
     ensures share { IfOk result (λ r. r.1 ≡ whole) }
 {
     let start = share_start(alloc, plan.start())?;
-    match World::new(alloc, funs, start, commits, added) {
+    match World::new(alloc, funs, start, commits, added, taken) {
         Ok(opened) => Ok(opened),
         Err((_, MakeFault::Memory)) => Err(Stop::Memory),
         Err((_, _)) => Err(Stop::Internal),
@@ -150,19 +158,19 @@ fn open_world<F: Functions<Core>, C: Ledger, A: Ledger>(
 }
 
 // Takes the world out of a shared one, and compares it with the plan.
-fn take_out<C: Ledger, A: Ledger>(
+fn take_out<C: Ledger, A: Ledger, K: Ledger>(
     alloc: Global,
     plan: &Plan,
-    shared: Shared<Core, C, A>,
-    share: Share<C, A>,
+    shared: Shared<Core, C, A, K>,
+    share: Share<C, A, K>,
     refused: Vec<Refusal>,
-) -> Result<RunOut<C, A>, RunFault>
+) -> Result<RunOut<C, A, K>, RunFault>
     ensures orderly { IfOk result (λ out. IsOrderly plan.now out.world out.refused.items) }
     ensures order { IfOk result (λ out. AreInOrder out.refused.items) }
     ensures reasons { IfOk result (λ out. HaveReasons plan.now.workers out.refused.items) }
     ensures world { IfOk result (λ out. IsAlwaysSo out.world) }
     ensures totals { IfOk result (λ out. (out.totals.commits ≡ out.world.books.commits)
-        × (out.totals.added ≡ out.world.books.added)) }
+        × (out.totals.added ≡ out.world.books.added) × (out.totals.taken ≡ out.world.books.taken)) }
     ensures inner { IfErr result IsOfPlan }
 {
     let (world, totals) = finished(alloc, shared, share)?;
@@ -175,14 +183,15 @@ fn take_out<C: Ledger, A: Ledger>(
 }
 
 // The world and its totals, where all shares were joined and their receipts fit its log.
-fn finished<C: Ledger, A: Ledger>(
+fn finished<C: Ledger, A: Ledger, K: Ledger>(
     alloc: Global,
-    shared: Shared<Core, C, A>,
-    share: Share<C, A>,
-) -> Result<(World<Core, C, A>, Totals), RunFault>
+    shared: Shared<Core, C, A, K>,
+    share: Share<C, A, K>,
+) -> Result<(World<Core, C, A, K>, Totals), RunFault>
     ensures order { IfOk result (λ r. InOrder r.0.base.point r.0.log) }
     ensures world { IfOk result (λ r. IsAlwaysSo r.0) }
-    ensures totals { IfOk result (λ r. (r.1.commits ≡ r.0.books.commits) × (r.1.added ≡ r.0.books.added)) }
+    ensures totals { IfOk result (λ r. (r.1.commits ≡ r.0.books.commits) × (r.1.added ≡ r.0.books.added)
+        × (r.1.taken ≡ r.0.books.taken)) }
     ensures inner { IfErr result IsOfPlan }
 {
     if !share.is_whole() {
@@ -199,10 +208,10 @@ fn finished<C: Ledger, A: Ledger>(
 }
 
 // Whether the world and the refused steps are those of a run of the plan.
-fn check<C: Ledger, A: Ledger>(
+fn check<C: Ledger, A: Ledger, K: Ledger>(
     alloc: Global,
     plan: &Plan,
-    world: &World<Core, C, A>,
+    world: &World<Core, C, A, K>,
     refused: &[Refusal],
 ) -> Result<(), RunFault>
     requires { InOrder world.now.base.point world.now.log }
@@ -225,7 +234,7 @@ fn check<C: Ledger, A: Ledger>(
 }
 
 // What is always so of a world. It changes nothing.
-fn ask_always_so<C: Ledger, A: Ledger>(world: &World<Core, C, A>)
+fn ask_always_so<C: Ledger, A: Ledger, K: Ledger>(world: &World<Core, C, A, K>)
     ensures { IsAlwaysSo world.now }
 {
     let _ = world.point();

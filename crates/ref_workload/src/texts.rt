@@ -98,9 +98,13 @@ pub fn run_text<F: Functions<Core> + Sync, R: Threads + Wait + Sync>(
     let plan = plan(alloc, &value)?;
     // A run needs its memory.
     drop(value);
-    let (commits, added) = (Blank::new(ALL_PARTS), Blank::new(ALL_PARTS));
-    match output_of_plan::<F, Brand, Brand, R>(
-        rt, alloc, funs, &plan, options, progress, commits, added,
+    let (commits, added, taken) = (
+        Blank::new(ALL_PARTS),
+        Blank::new(ALL_PARTS),
+        Blank::new(ALL_PARTS),
+    );
+    match output_of_plan::<F, Brand, Brand, Brand, R>(
+        rt, alloc, funs, &plan, options, progress, commits, added, taken,
     ) {
         Ok(output) => Ok(output),
         Err(fault) => Err(fault),
@@ -108,7 +112,7 @@ pub fn run_text<F: Functions<Core> + Sync, R: Threads + Wait + Sync>(
 }
 
 // What is written of a plan that is run.
-fn output_of_plan<F, C, A, R>(
+fn output_of_plan<F, C, A, K, R>(
     rt: &R,
     alloc: Global,
     funs: &F,
@@ -117,20 +121,23 @@ fn output_of_plan<F, C, A, R>(
     progress: &Progress,
     commits: Blank,
     added: Blank,
+    taken: Blank,
 ) -> Result<Vec<u8>, RunFault>
 where
     F: Functions<Core> + Sync,
     C: Ledger + Send + Sync,
     A: Ledger + Send + Sync,
+    K: Ledger + Send + Sync,
     R: Threads + Wait + Sync,
     requires core { HasCore (F.knows funs.now) }
     requires commits { IsBlank commits C.name C.parts }
     requires added { IsBlank added A.name A.parts }
+    requires taken { IsBlank taken K.name K.parts }
     ensures ok { IfOk result (λ output. IsPlanRun options.dump plan.now output.items) }
     ensures inner { IfErr result IsOfPlan }
 {
     let gates = open_gates(alloc, plan)?;
-    let ran = run_plan_with::<F, C, A, R, Open>(
+    let ran = run_plan_with::<F, C, A, K, R, Open>(
         rt,
         alloc,
         funs,
@@ -140,6 +147,7 @@ where
         progress,
         commits,
         added,
+        taken,
     );
     let out = ran?;
     if options.dump {
@@ -166,10 +174,10 @@ fn open_gates(alloc: Global, plan: &Plan) -> Result<Vec<Open>, RunFault>
 }
 
 // The dump of a world, which was audited and is ok. A world that a plan was run in has one.
-fn audited<F: Functions<Core>, C: Ledger, A: Ledger>(
+fn audited<F: Functions<Core>, C: Ledger, A: Ledger, K: Ledger>(
     alloc: Global,
     funs: &F,
-    world: &World<Core, C, A>,
+    world: &World<Core, C, A, K>,
 ) -> Result<Value, RunFault>
     requires { HasCore (F.knows funs.now) }
     ensures dumped { IfOk result (λ v. v ≡ dumped world.now) }
@@ -191,10 +199,10 @@ fn audited<F: Functions<Core>, C: Ledger, A: Ledger>(
 }
 
 /// Audits a world without its dump: no form is made of what nobody reads.
-pub fn check_audit<F: Functions<Core>, C: Ledger, A: Ledger>(
+pub fn check_audit<F: Functions<Core>, C: Ledger, A: Ledger, K: Ledger>(
     alloc: Global,
     funs: &F,
-    world: &World<Core, C, A>,
+    world: &World<Core, C, A, K>,
 ) -> Result<(), RunFault>
     requires { HasCore (F.knows funs.now) }
     ensures audited { OnOk result (verdict_on (dump_of (dumped world.now)) ≡ Ok verdicts.Ok) }
@@ -220,10 +228,10 @@ fn line_of(alloc: Global, dumped: &Value) -> Result<Vec<u8>, RunFault>
 }
 
 // The report of a run whose world was audited.
-fn report_of<C: Ledger, A: Ledger>(
+fn report_of<C: Ledger, A: Ledger, K: Ledger>(
     alloc: Global,
     plan: &Plan,
-    out: &RunOut<C, A>,
+    out: &RunOut<C, A, K>,
 ) -> Result<Vec<u8>, RunFault>
     ensures ok { IfOk result (λ text. text.items
         ≡ reported plan.now.names out.now.world out.now.refused.items verdicts.Ok) }

@@ -187,7 +187,7 @@ base_send = declared_send Base.the_type (
       search (lists.the_send, plain) depth 60,
       (
         search (value_send, value_sync, lists.the_send, plain) depth 60,
-        (search plain depth 60, (search plain depth 60, (search plain depth 60, tt))),
+        (search plain depth 60, (search plain depth 60, (search plain depth 60, (search plain depth 60, tt)))),
       ),
     ),
   ),
@@ -202,7 +202,7 @@ base_sync = declared_sync Base.the_type (
       search (lists.the_sync, plain) depth 60,
       (
         search (value_send, value_sync, lists.the_sync, plain) depth 60,
-        (search plain depth 60, (search plain depth 60, (search plain depth 60, tt))),
+        (search plain depth 60, (search plain depth 60, (search plain depth 60, (search plain depth 60, tt)))),
       ),
     ),
   ),
@@ -269,37 +269,46 @@ module _ (M : RattleType) (g : Meaning.Ghosts M.Denot) where
     (vector_send _ entry_send entry_sync, (search plain depth 60, tt)),
   ))
 
-module _ (C A : RattleType) (gC : Ledger.Ghosts C.Denot) (gA : Ledger.Ghosts A.Denot) where
-  pub share_send : IsSend (Share.the_row C A gC gA)
-  share_send = view_send _ _ _ _ _ (declared_send (InShare.the_type C A gC gA) (
+module _ (C A K : RattleType) (gC : Ledger.Ghosts C.Denot) (gA : Ledger.Ghosts A.Denot) (gK : Ledger.Ghosts K.Denot) where
+  pub share_send : IsSend (Share.the_row C A K gC gA gK)
+  share_send = view_send _ _ _ _ _ (declared_send (InShare.the_type C A K gC gA gK) (
     search plain depth 60,
     (
       search (part.the_send, plain) depth 60,
       (
         search (part.the_send, plain) depth 60,
-        (search (receipt_send, plain) depth 60, tt),
+        (
+          search (part.the_send, plain) depth 60,
+          (search (receipt_send, plain) depth 60, tt),
+        ),
       ),
     ),
   ))
 
-  books_send : IsSend (Books.the_row C A gC gA)
-  books_send = view_send _ _ _ _ _ (declared_send (InBooks.the_type C A gC gA) (
+  books_send : IsSend (Books.the_row C A K gC gA gK)
+  books_send = view_send _ _ _ _ _ (declared_send (InBooks.the_type C A K gC gA gK) (
     search plain depth 60,
     (
       search plain depth 60,
       (
         search plain depth 60,
         (
-          search (book.the_send, plain) depth 60,
-          (search (book.the_send, plain) depth 60, tt),
+          search plain depth 60,
+          (
+            search (book.the_send, plain) depth 60,
+            (
+              search (book.the_send, plain) depth 60,
+              (search (book.the_send, plain) depth 60, tt),
+            ),
+          ),
         ),
       ),
     ),
   ))
 
   module _ (M : RattleType) (gM : Meaning.Ghosts M.Denot) where
-    pub world_send : IsSend (World.the_row M C A gM gC gA)
-    world_send = view_send _ _ _ _ _ (declared_send (InWorld.the_type M C A gM gC gA) (
+    pub world_send : IsSend (World.the_row M C A K gM gC gA gK)
+    world_send = view_send _ _ _ _ _ (declared_send (InWorld.the_type M C A K gM gC gA gK) (
       Arc-send _ base_send base_sync,
       (
         vector_send _ entry_send entry_sync,

@@ -9,10 +9,12 @@ use Rattle.ref_value.specs.Edn.{Edn}
 use Rattle.ref_fun.specs.Meaning.{Means}
 use Rattle.ref_log.specs.Called.{codes_called, needed_is_called}
 use Rattle.ref_log.specs.Fold.{IsFolded}
-use Rattle.ref_log.specs.FoldLaws.{added_of-both, commits_of-both, last_change-fold, replay-fold, replay_from-both}
+use Rattle.ref_log.specs.FoldLaws.{commits_of-both, last_change-fold, moved_of-both, replay-fold, replay_from-both}
 use Rattle.ref_log.specs.Laws.{replay_from-Err}
 use Rattle.ref_log.specs.Replay.{needed, point_after, replay, replay_from, sets_atom, state_of}
-use Rattle.ref_log.specs.Tally.{added_of, commits_of, fits_entry}
+use Rattle.ref_log.specs.Tally.{commits_of, fits_entry, moved_of}
+use Rattle.ref_log.specs.declared.counting.Side.{Side}
+use Rattle.ref_log.specs.declared.counting.Side.TheVariants.{Added, Taken}
 use Rattle.ref_log.specs.declared.entries.Entry.{Entry}
 use Rattle.ref_log.specs.declared.faults.AuditFault.{AuditFault}
 use Rattle.ref_log.specs.declared.states.Base.{Base}
@@ -49,10 +51,10 @@ first_commits log n =
     let all = ap commits_of (take-append-drop n log) in
     omega (arith, both, all)
 
-pub first_added : (tally : Option ℕ) (log : List Entry) (n : ℕ) → added_of tally (take n log) ≤ added_of tally log
-first_added tally log n =
-    let both = added_of-both tally (take n log) (drop n log) in
-    let all = ap (added_of tally) (take-append-drop n log) in
+pub first_moved : (side : Side) (tally : Option ℕ) (log : List Entry) (n : ℕ) → moved_of side tally (take n log) ≤ moved_of side tally log
+first_moved side tally log n =
+    let both = moved_of-both side tally (take n log) (drop n log) in
+    let all = ap (moved_of side tally) (take-append-drop n log) in
     omega (arith, both, all)
 
 module _ (means : Means) (base : Base) (xs ys : List Entry) (after : Base) (is : IsFolded means base xs after) where
@@ -76,14 +78,19 @@ module _ (means : Means) (base : Base) (xs ys : List Entry) (after : Base) (is :
   books : (tally : Option ℕ) (values : List Edn) (seen : BooksSeen) → base.tally ≡ tally → AreBooks base (xs ++ ys) tally values seen → AreBooks after ys tally values seen
   books tally values seen same are =
       let commits = commits_of-both xs ys in
-      let added = added_of-both tally xs ys in
-      let first = subst (λ t. after.added ≡ base.added + added_of t xs) same is.added in
+      let up = moved_of-both Added tally xs ys in
+      let down = moved_of-both Taken tally xs ys in
+      let first_up = subst (λ t. after.added ≡ base.added + moved_of Added t xs) same is.added in
+      let first_down = subst (λ t. after.taken ≡ base.taken + moved_of Taken t xs) same is.taken in
       record {
         commits = omega (arith, commits, are.commits, is.commits);
-        added = omega (arith, added, are.added, first);
+        added = omega (arith, up, are.added, first_up);
+        taken = omega (arith, down, are.taken, first_down);
         lawful = all_later (fits_entry tally) xs ys are.lawful;
         holds = are.holds;
         limit = subst (λ p. seen.commits ≤ p) same_point are.limit;
+        most_added = are.most_added;
+        most_taken = are.most_taken;
       }
 
 -- with the first entries, so many, folded

@@ -1,5 +1,8 @@
 -- References that are declared, one by one.
-use Rattle.std.proofs.Common.{◌≡◌, ℕ, ◌<◌, ◌+◌, ◌++◌, ◌∷◌, [], List, Option, None, Some, Result, Ok, Err, take, drop, drop-cons, get_or, length, zero, suc, refl, ap, sym, ◌∙◌, add-one, slice_get}
+use Rattle.std.proofs.Common.{◌≡◌, ℕ, ◌<◌, ◌+◌, ◌++◌, ◌∷◌, ◌&&◌, ◌||◌, [], Bool, cond, false, is_some, not, true, List, Option, None, Some, Result, Ok, Err, take, drop, drop-cons, get_or, length, zero, suc, refl, ap, sym, ◌∙◌, add-one, slice_get}
+use Rattle.ref_value.specs.Edn.{Edn}
+use Rattle.ref_log.specs.Tally.{IsMoved, is_count, start_of}
+use Rattle.ref_log.specs.TallyLaws.{start-append, start-made}
 use Rattle.ref_log.specs.declared.faults.MakeFault.{MakeFault}
 use Rattle.ref_log.specs.declared.notices.Who.{Who}
 use Rattle.ref_world.specs.Starts.{first_refused, made_all, refusal_of}
@@ -31,6 +34,17 @@ first_made {Store = Store} make (s ∷ ss) store after next made none = by (make
   by : (r : Result Store (Who × MakeFault)) → made_all make ss r ≡ Ok after → refusal_of r ≡ None
   by (Ok x) e = refl
   by (Err x) e = let stays = refused_stays make ss x in absurd cc
+
+-- Where a ref is made, the tally begins with a count, as before.
+pub is_count_of : (some count : Bool) → (some || not count) ≡ false → count ≡ true
+is_count_of true count e = absurd cc
+is_count_of false true e = refl
+is_count_of false false e = absurd cc
+
+pub begins : (values : List Edn) (v : Edn) (tally : Option ℕ) (b : Bool) → (b && (is_some tally || not (is_count (v ∷ [])))) ≡ false → IsMoved tally values (start_of tally values) 0 0
+    → IsMoved (cond b (Some (length values)) tally) (values ++ v ∷ []) (start_of (cond b (Some (length values)) tally) (values ++ v ∷ [])) 0 0
+begins values v tally false good is = start-append tally values v is
+begins values v tally true good is = start-made values v (is_count_of (is_some tally) (is_count (v ∷ [])) good)
 
 -- One element more of a list.
 pub take_next : {X : Type 0} (xs : List X) (i : ℕ) (x : X) → slice_get xs i ≡ Some x → take (i + 1) xs ≡ take i xs ++ x ∷ []

@@ -7,10 +7,12 @@ use Rattle.ref_log.specs.declared.states.Base.{Base}
 use Rattle.ref_refs.specs.Seen.{RefsSeen}
 use Rattle.ref_world.specs.declared.shares.LogReceipt.{LogReceipt}
 
--- how many transactions were committed, how much they added to the tally, and what the tally began with: 0 where there is none
+-- how many transactions were committed, how much they added to the tally and took from it, and what the tally began with: 0 where
+-- there is none
 pub record BooksSeen : Type 0 where
   pub commits : ℕ
   pub added : ℕ
+  pub taken : ℕ
   pub start : ℕ
 
 -- the base, the log of the entries after it, all refs, atoms and agents as they are now, and the books
@@ -27,9 +29,11 @@ pub record ViewSeen : Type 0 where
   pub base : Base
   pub log : List Entry
 
--- of 2^32 parts these, and what was done with them: so many commits, so much added to the tally, and the receipts in order
+-- of 2^32 parts these, and what was done with them: so many commits, so much added to the tally and taken from it, and the receipts
+-- in order
 pub record ShareSeen : Type 0 where
   pub parts : ℕ
   pub commits : ℕ
   pub added : ℕ
+  pub taken : ℕ
   pub receipts : List LogReceipt

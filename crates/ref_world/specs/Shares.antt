@@ -14,17 +14,18 @@ IsBlank blank name parts = (blank.name ≡ name) × (blank.parts ≡ parts) × (
 
 -- a whole share of a world in which nothing was done
 abbrev pub whole : ShareSeen
-whole = record { parts = all_parts; commits = 0; added = 0; receipts = [] }
+whole = record { parts = all_parts; commits = 0; added = 0; taken = 0; receipts = [] }
 
 -- with the receipt of the entry at this point
 abbrev pub with_receipt : ShareSeen → ℕ → Entry → ShareSeen
 with_receipt share point e = record share { receipts = share.receipts ++ record { point = point; entry = e } ∷ [] }
 
--- with a commit at this point more, its receipt, and what it added to the tally
-abbrev pub with_commit : ShareSeen → ℕ → Entry → ℕ → ShareSeen
-with_commit share point e added = record share {
+-- with a commit at this point more, its receipt, and what it added to the tally and took from it
+abbrev pub with_commit : ShareSeen → ℕ → Entry → ℕ → ℕ → ShareSeen
+with_commit share point e added taken = record share {
   commits = share.commits + 1;
   added = share.added + added;
+  taken = share.taken + taken;
   receipts = share.receipts ++ record { point = point; entry = e } ∷ [];
 }
 
@@ -34,5 +35,6 @@ joined share other = record {
   parts = share.parts + other.parts;
   commits = share.commits + other.commits;
   added = share.added + other.added;
+  taken = share.taken + other.taken;
   receipts = share.receipts ++ other.receipts;
 }

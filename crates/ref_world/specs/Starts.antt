@@ -7,7 +7,7 @@ use Rattle.ref_agents.specs.Make as agents
 use Rattle.ref_atoms.specs.Atoms as atoms
 use Rattle.ref_atoms.specs.Atoms.{AtomsSeen}
 use Rattle.ref_log.specs.Make as makes
-use Rattle.ref_log.specs.Tally.{tally_value}
+use Rattle.ref_log.specs.Tally.{start_of}
 use Rattle.ref_log.specs.declared.faults.MakeFault.{MakeFault}
 use Rattle.ref_log.specs.declared.notices.Who.{Who}
 use Rattle.ref_log.specs.declared.notices.Who.TheVariants.{Ref, Atom, Agent}
@@ -71,11 +71,11 @@ declared_agents accepts knows starts = made_all (with_agent accepts knows) start
 
 -- the base of a world that begins with these
 abbrev pub base_of : RefsSeen → AtomsSeen → Base
-base_of refs atoms = record { point = 0; refs = refs.values; last = refs.lasts; atoms = atoms.values; tally = refs.tally; commits = 0; added = 0 }
+base_of refs atoms = record { point = 0; refs = refs.values; last = refs.lasts; atoms = atoms.values; tally = refs.tally; commits = 0; added = 0; taken = 0 }
 
 -- and its books, in which only the tally's start stands
 abbrev pub books_of : RefsSeen → BooksSeen
-books_of refs = record { commits = 0; added = 0; start = tally_value refs.tally refs.values }
+books_of refs = record { commits = 0; added = 0; taken = 0; start = start_of refs.tally refs.values }
 
 -- Why a world can't begin with these references: the first that can't be made.
 abbrev pub refusal_of : {Store : Type 0} → Result Store (Who × MakeFault) → Option (Who × MakeFault)

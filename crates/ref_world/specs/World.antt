@@ -1,11 +1,14 @@
 -- What is always so in a world, and what a call adds.
-use Rattle.std.specs.Prelude.{◌≡◌, ◌≤◌, ℕ, ◌^◌, ◌+◌, nat_lt, not, Bool, true, List, [], ◌∷◌, ◌++◌, if◌then◌else◌, length, Option, Ok}
+use Rattle.std.specs.Prelude.{◌≡◌, ◌≤◌, ℕ, ◌^◌, ◌+◌, ◌-◌, nat_lt, not, Bool, true, List, [], ◌∷◌, ◌++◌, if◌then◌else◌, length, Option, Ok}
 use Rattle.std.specs.List.{list_all}
 use Rattle.std.specs.Result.{is_ok}
 use Rattle.ref_value.specs.Edn.{Edn}
+use Rattle.ref_fun.specs.Calls.{Known}
 use Rattle.ref_fun.specs.Meaning.{Means}
+use Rattle.ref_fun.specs.Rule.{Accepts}
 use Rattle.ref_log.specs.Replay.{last_change, point_after, replay, sets_atom}
-use Rattle.ref_log.specs.Tally.{IsTally, added_in, added_of, commits_in, commits_of, counted, fits_entry}
+use Rattle.ref_log.specs.Tally.{IsMoved, commits_in, commits_of, counted, fits_entry, moved_in, moved_of}
+use Rattle.ref_log.specs.declared.counting.Side.TheVariants.{Added, Taken}
 use Rattle.ref_log.specs.declared.entries.Entry.{Entry}
 use Rattle.ref_log.specs.declared.entries.Entry.TheVariants.{MadeRef}
 use Rattle.ref_log.specs.declared.sends.Sent.{Sent}
@@ -14,7 +17,10 @@ use Rattle.ref_log.specs.declared.states.PlainState.{PlainState}
 use Rattle.ref_agents.specs.Agents as agents
 use Rattle.ref_agents.specs.Agents.{AgentsSeen}
 use Rattle.ref_atoms.specs.Atoms.{AtomsSeen}
+use Rattle.ref_refs.specs.Commit as refs
 use Rattle.ref_refs.specs.Seen.{RefsSeen, are_unchanged_since, changed_at}
+use Rattle.ref_refs.specs.declared.faults.CommitFault.{CommitFault}
+use Rattle.ref_tx.specs.Seen.{TxSeen}
 use Rattle.ref_world.specs.Seen.{BooksSeen, WorldSeen}
 
 -- the values of all refs and atoms now
@@ -54,19 +60,38 @@ pub record IsWorld (means : Means) (base : Base) (log : List Entry) (refs : Refs
   pub lasts : length base.last ≡ length base.refs
   pub sets : list_all sets_atom log ≡ true
 
+-- the most that can be added to the tally in all, and the most that can be taken from it
+abbrev pub most_booked : ℕ
+most_booked = 2 ^ 63 - 1
+
+-- how much a book that has so much can still take
+abbrev pub room : ℕ → ℕ
+room booked = most_booked - booked
+
 -- What the books say: the commits are those up to the base and the transactions of the log, and what was added to the tally is
--- what was added up to the base and the arguments of the commutes on the tally in the log. No entry changes the tally in another
--- way, and it holds its start plus what was added.
+-- what was added up to the base and the arguments of the commutes by `+` on the tally in the log; what was taken, likewise by `-`. No
+-- entry changes the tally in another way, and it holds its start plus what was added less what was taken.
 pub record AreBooks (base : Base) (log : List Entry) (tally : Option ℕ) (values : List Edn) (books : BooksSeen) : Type 0 where
   pub commits : books.commits ≡ base.commits + commits_of log
-  pub added : books.added ≡ base.added + added_of tally log
+  pub added : books.added ≡ base.added + moved_of Added tally log
+  pub taken : books.taken ≡ base.taken + moved_of Taken tally log
   pub lawful : list_all (fits_entry tally) log ≡ true
-  pub holds : IsTally tally values (books.start + books.added)
+  pub holds : IsMoved tally values books.start books.added books.taken
   pub limit : books.commits ≤ point_after base log
+  pub most_added : books.added ≤ most_booked
+  pub most_taken : books.taken ≤ most_booked
 
--- An entry that commits nothing and adds nothing to the tally.
+-- An entry that commits nothing and doesn't move the tally.
 abbrev pub IsUncounted : Option ℕ → Entry → Type 0
-IsUncounted tally e = (commits_in e ≡ 0) × (added_in tally e ≡ 0) × (fits_entry tally e ≡ true)
+IsUncounted tally e = (commits_in e ≡ 0) × (moved_in Added tally e ≡ 0) × (moved_in Taken tally e ≡ 0) × (fits_entry tally e ≡ true)
+
+-- The first fault of a commit of this transaction that is known before any memory is taken, and the first fault of all.
+abbrev pub early_refusal : Known → WorldSeen → TxSeen → Option CommitFault
+early_refusal knows world tx = refs.early_refusal knows world.refs (point_of world + 1) (length world.agents.agents) tx
+
+abbrev pub commit_refusal : Means → Accepts → Known → WorldSeen → TxSeen → Option CommitFault
+commit_refusal means accepts knows world tx =
+    refs.commit_refusal means accepts knows world.refs (point_of world + 1) (length world.agents.agents) (room world.books.added) (room world.books.taken) tx
 
 -- ---- a world after a call
 
@@ -74,9 +99,9 @@ IsUncounted tally e = (commits_in e ≡ 0) × (added_in tally e ≡ 0) × (fits_
 abbrev pub with_entry : WorldSeen → Entry → RefsSeen → AtomsSeen → WorldSeen
 with_entry world e refs atoms = record world { log = world.log ++ e ∷ []; refs = refs; atoms = atoms }
 
--- the books with a commit more, and what it added
-abbrev pub booked : BooksSeen → ℕ → BooksSeen
-booked books added = record books { commits = books.commits + 1; added = books.added + added }
+-- the books with a commit more, and what it added and took
+abbrev pub booked : BooksSeen → ℕ → ℕ → BooksSeen
+booked books added taken = record books { commits = books.commits + 1; added = books.added + added; taken = books.taken + taken }
 
 -- with a commit's entry, the refs after it, its sends at the ends of their queues, where they are held, and the books after it
 abbrev pub with_commit : WorldSeen → Entry → RefsSeen → List Sent → WorldSeen
@@ -84,7 +109,7 @@ with_commit world e refs sends = record world {
   log = world.log ++ e ∷ [];
   refs = refs;
   agents = agents.with_commit world.agents (point_of world + 1) sends;
-  books = booked world.books (added_in world.refs.tally e);
+  books = booked world.books (moved_in Added world.refs.tally e) (moved_in Taken world.refs.tally e);
 }
 
 -- with other refs, other atoms or other agents, and no entry

@@ -23,7 +23,7 @@ use ref_value::Value;
 use std::alloc::{AllocError, Global};
 use std::sync::ledger::Ledger;
 
-impl<M: Meaning, C: Ledger, A: Ledger> World<M, C, A> {
+impl<M: Meaning, C: Ledger, A: Ledger, K: Ledger> World<M, C, A, K> {
     /// Makes an agent with this state, this rule, if any, and this error mode, and answers its number. A transaction that was
     /// begun before knows no such agent. A refused call changes nothing.
     pub fn make_agent<F: Functions<M>>(

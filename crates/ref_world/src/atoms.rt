@@ -23,14 +23,14 @@ use ref_value::Value;
 use std::alloc::{AllocError, Global};
 use std::sync::ledger::Ledger;
 
-impl<M: Meaning, C: Ledger, A: Ledger> World<M, C, A> {
+impl<M: Meaning, C: Ledger, A: Ledger, K: Ledger> World<M, C, A, K> {
     /// Sets an atom to the function of its value and the arguments, as Clojure's `swap!`, and adds one entry. The atom's rule
     /// is asked of the new value. The share gets the entry's receipt. A refused call changes nothing.
     pub fn swap<F: Functions<M>>(
         &mut self,
         alloc: Global,
         funs: &F,
-        share: &mut Share<C, A>,
+        share: &mut Share<C, A, K>,
         a: u32,
         code: u32,
         args: Args,
@@ -67,7 +67,7 @@ impl<M: Meaning, C: Ledger, A: Ledger> World<M, C, A> {
         &mut self,
         alloc: Global,
         funs: &F,
-        share: &mut Share<C, A>,
+        share: &mut Share<C, A, K>,
         a: u32,
         value: Value,
     ) -> Result<Swapped, AtomFault>
@@ -101,7 +101,7 @@ impl<M: Meaning, C: Ledger, A: Ledger> World<M, C, A> {
         &mut self,
         alloc: Global,
         funs: &F,
-        share: &mut Share<C, A>,
+        share: &mut Share<C, A, K>,
         a: u32,
         old: &Value,
         new: Value,
@@ -145,7 +145,7 @@ impl<M: Meaning, C: Ledger, A: Ledger> World<M, C, A> {
     fn enter(
         &mut self,
         alloc: Global,
-        share: &mut Share<C, A>,
+        share: &mut Share<C, A, K>,
         a: u32,
         change: Change,
     ) -> Result<Swapped, AllocError>

@@ -4,7 +4,8 @@ ghost use Rattle.std.specs.Result.{is_ok};
 ghost use Rattle.ref_log.specs.Called.{codes_called};
 ghost use Rattle.ref_log.specs.Fold.{IsFolded};
 ghost use Rattle.ref_log.specs.Replay.{missing, needed, point_after, replay};
-ghost use Rattle.ref_log.specs.Tally.{added_of, commits_of};
+ghost use Rattle.ref_log.specs.Tally.{commits_of, moved_of};
+ghost use Rattle.ref_log.specs.declared.counting.Side.TheVariants.{Added, Taken};
 ghost use Rattle.ref_log.specs.Told.{TellsThenMemory};
 ghost use Rattle.ref_world.specs.Checkpoint.{checkpoint_refusal, folded_entries, lacks_fun, no_such_point, with_checkpoint};
 ghost use Rattle.ref_world.specs.declared.faults.CheckpointFault.TheVariants as checkpoints;
@@ -18,9 +19,9 @@ use std::alloc::{AllocError, Global};
 use std::sync::Arc;
 use std::sync::ledger::Ledger;
 
-impl<M: Meaning, C: Ledger, A: Ledger> World<M, C, A> {
+impl<M: Meaning, C: Ledger, A: Ledger, K: Ledger> World<M, C, A, K> {
     /// Folds the entries up to this point into the base, and answers how many these were: the base gets the values and the last
-    /// change of each ref at that point, and the commits and additions up to there. The log holds the entries after it. All
+    /// change of each ref at that point, and the commits, additions and takings up to there. The log holds the entries after it. All
     /// values, last changes, rules, agents and books stay, so that no later call answers otherwise. The table has to have the
     /// functions that the folded entries call, for they are replayed. Views stay as they were.
     ///
@@ -50,8 +51,8 @@ impl<M: Meaning, C: Ledger, A: Ledger> World<M, C, A> {
         if let Some(code) = lacking_fun::<M, F>(funs, &self.log, count as usize) {
             return Err(CheckpointFault::NoSuchFun(code));
         }
-        // What was added in all fits in 64 bits.
-        let _ = self.added();
+        // What was added in all fits in 64 bits, and so does what was taken.
+        let _ = (self.added(), self.taken());
         let (base, log) = parted(alloc, funs, &self.base, &self.log, count as usize)?;
         self.base = base;
         self.log = log;
@@ -71,7 +72,8 @@ fn parted<M: Meaning, F: Functions<M>>(
     requires served { missing (F.knows funs.now).funs (codes_called (take count log.now)) ≡ None }
     requires points { point_after base.now log.now < 2 ^ 64 }
     requires commits { base.now.commits + commits_of log.now < 2 ^ 64 }
-    requires added { base.now.added + added_of base.now.tally log.now < 2 ^ 64 }
+    requires added { base.now.added + moved_of Added base.now.tally log.now < 2 ^ 64 }
+    requires taken { base.now.taken + moved_of Taken base.now.tally log.now < 2 ^ 64 }
     requires lasts { length base.now.last ≡ length base.now.refs }
     ensures folded { IfOk result (λ p. IsFolded M.means base.now (take count log.now) p.0.value) }
     ensures rest { IfOk result (λ p. p.1 ≡ drop count log.now) }

@@ -2,17 +2,19 @@
 ghost use Rattle.ref_log.specs.Told.{TellsBack};
 ghost use Rattle.std.specs.Prelude.{◌≡◌, ◌+◌, ◌++◌, ◌∷◌, ℕ, [], true, Ok, IfOk, IfErr, OnErr, OnOk, length, slice_get};
 ghost use Rattle.ref_log.specs.Replay.{is_protected, step};
-ghost use Rattle.ref_refs.specs.Commit.{changed_by, commit_refusal, early_refusal, entry_of};
+ghost use Rattle.ref_refs.specs.Commit.{changed_by, entry_of};
 ghost use Rattle.ref_refs.specs.Conflicts.{ConflictFits};
 ghost use Rattle.ref_refs.specs.Seen.{changed_at};
 ghost use Rattle.ref_refs.specs.Watches.{notices, touched_refs};
 ghost use Rattle.ref_refs.specs.declared.faults.CommitFault.TheVariants as commits;
-ghost use Rattle.ref_log.specs.Tally.{added_by_dones};
+ghost use Rattle.ref_log.specs.Tally.{moved_by_dones};
+ghost use Rattle.ref_log.specs.declared.counting.Side.TheVariants.{Added, Taken};
 ghost use Rattle.ref_tx.specs.Inner.{inner_value};
 ghost use Rattle.ref_agents.specs.Agents as queues;
 ghost use Rattle.ref_world.specs.Shares as shares;
-ghost use Rattle.ref_world.specs.World.{point_of, values_now, with_commit};
+ghost use Rattle.ref_world.specs.World.{commit_refusal, early_refusal, point_of, values_now, with_commit};
 
+use crate::books::room;
 use crate::shares::{LogReceipt, Share};
 use crate::worlds::World;
 use ref_agents::AgentStore;
@@ -32,7 +34,7 @@ pub struct Receipt {
     pub notices: Vec<Notice>,
 }
 
-impl<M: Meaning, C: Ledger, A: Ledger> World<M, C, A> {
+impl<M: Meaning, C: Ledger, A: Ledger, K: Ledger> World<M, C, A, K> {
     /// Begins a transaction over the values as they are now. It takes no memory, and as long whatever the number of refs.
     pub fn begin(&self, alloc: Global) -> Result<Tx<M>, AllocError>
         ensures { IfOk result (λ tx. tx
@@ -51,11 +53,12 @@ impl<M: Meaning, C: Ledger, A: Ledger> World<M, C, A> {
     /// Commits a transaction at the next point, as one entry more of the log. What was commuted is made on the latest value;
     /// where a ref was set, altered or ensured too, it gets its in-transaction value. The stamp goes into the entry. What the
     /// transaction sends waits at the ends of its agents' queues, in order, and is held until [`World::release`] is called with
-    /// the commit's point; a failed agent takes it too. The share gets the commit, what it adds to the tally, and its receipt.
+    /// the commit's point; a failed agent takes it too. The share gets the commit, what it adds to the tally and takes from it, and its
+    /// receipt.
     ///
     /// A refused commit changes nothing and returns the transaction. The tests are made in this order: what is foreign,
     /// functions and predicates that the table lacks, the conflict, a foreign value, a refusal over the latest values, a rule
-    /// that doesn't accept, the end of points. All growths come before the first change, but for the sends, which are taken back
+    /// that doesn't accept, the end of points, a full book. All growths come before the first change, but for the sends, which are taken back
     /// where there is no memory for all of them. The cost is that of the store's commit, logarithmic in the number of refs for
     /// each operation; that of one entry more, as [`PVec::push`] or, where it sends, [`PVec::pushed`] has it; and a step for each
     /// send, logarithmic in the number of agents with actions that wait.
@@ -63,15 +66,12 @@ impl<M: Meaning, C: Ledger, A: Ledger> World<M, C, A> {
         &mut self,
         alloc: Global,
         funs: &F,
-        share: &mut Share<C, A>,
+        share: &mut Share<C, A, K>,
         stamp: Stamp,
         tx: Tx<M>,
     ) -> Result<Receipt, (Tx<M>, CommitFault)>
-        ensures refused { TellsBack commits.Memory
-            (early_refusal (F.knows funs.now) self.old.refs (point_of self.old + 1)
-            (length self.old.agents.agents) tx)
-            (commit_refusal M.means M.accepts (F.knows funs.now) self.old.refs (point_of self.old + 1)
-            (length self.old.agents.agents) tx) result }
+        ensures refused { TellsBack commits.Memory (early_refusal (F.knows funs.now) self.old tx)
+            (commit_refusal M.means M.accepts (F.knows funs.now) self.old tx) result }
         // The base stays, the log has one entry more, no atom is changed, and the sends stand in their queues.
         ensures entry { OnOk result (self.new ≡ with_commit self.old (entry_of stamp tx) self.new.refs tx.sends) }
         ensures values { OnOk result (step M.means (point_of self.old + 1) (entry_of stamp tx)
@@ -86,7 +86,7 @@ impl<M: Meaning, C: Ledger, A: Ledger> World<M, C, A> {
         ensures notices { IfOk result (λ receipt. receipt.notices.items
             ≡ notices self.old.refs.guards self.old.refs.values self.new.refs.values (touched_refs tx.dones)) }
         ensures share { OnOk result (share.new ≡ shares.with_commit share.old (point_of self.old + 1) (entry_of stamp tx)
-            (added_by_dones self.old.refs.tally tx.dones)) }
+            (moved_by_dones Added self.old.refs.tally tx.dones) (moved_by_dones Taken self.old.refs.tally tx.dones)) }
         // A conflict is returned with a ref that the transaction protects, its read point and a later point.
         ensures conflict { IfErr result (λ e. ConflictFits tx e.1) }
         ensures back { IfErr result (λ e. e.0 ≡ tx) }
@@ -95,11 +95,20 @@ impl<M: Meaning, C: Ledger, A: Ledger> World<M, C, A> {
     {
         let at = self.point() + 1;
         let agents = self.agents.len();
-        let prepared = match self.refs.prepare(alloc, funs, at, agents, stamp, &tx) {
+        let most_added = room(self.added());
+        let most_taken = room(self.taken());
+        let prepared = match self.refs.prepare(
+            alloc, funs, at, agents, most_added, most_taken, stamp, &tx,
+        ) {
             Ok(prepared) => prepared,
             Err(fault) => return Err((tx, fault)),
         };
-        let Prepared { refs, landed } = prepared;
+        let Prepared {
+            refs,
+            landed,
+            added,
+            taken,
+        } = prepared;
         let Landed { entry, notices } = landed;
         let Ok(kept) = entry.share() else {
             return Err((tx, CommitFault::Memory));
@@ -113,13 +122,12 @@ impl<M: Meaning, C: Ledger, A: Ledger> World<M, C, A> {
             return Err((tx, CommitFault::Memory));
         }
         // From here on nothing can fail.
-        let before = self.refs.tally_value();
         self.refs.install(at, refs, tx.dones());
         share.receipts.push_reserved(LogReceipt {
             point: at,
             entry: kept,
         });
-        self.books.book(share, self.refs.tally_value() - before);
+        self.books.book(share, added, taken);
         Ok(Receipt {
             point: at,
             stamp,

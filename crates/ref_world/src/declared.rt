@@ -1,5 +1,6 @@
 //! The references that a world begins with, and their base.
 ghost use Rattle.std.specs.Prelude.{◌≡◌, ◌≢◌, [], true, None, Ok, Err, IfOk, IfErr, OnOk, Option, length};
+ghost use Rattle.ref_log.specs.Tally.{IsMoved, start_of};
 ghost use Rattle.ref_log.specs.declared.faults.MakeFault.{MakeFault};
 ghost use Rattle.ref_log.specs.declared.faults.MakeFault.TheVariants as makes;
 ghost use Rattle.ref_log.specs.declared.notices.Who.{Who};
@@ -9,6 +10,7 @@ ghost use Rattle.ref_world.specs.Starts.{base_of, declared_agents, declared_atom
 use ref_agents::AgentStore;
 use ref_atoms::AtomStore;
 use ref_fun::{Functions, Meaning, Rule};
+use ref_log::counting::count;
 use ref_log::{Base, MakeFault, SharedVec, Who};
 use ref_refs::RefStore;
 use ref_start::{AgentStart, AtomStart, RefStart};
@@ -23,6 +25,7 @@ pub(crate) fn declared_refs<M: Meaning, F: Functions<M>>(
 ) -> Result<RefStore<M>, (Who, MakeFault)>
     ensures ok { IfOk result (λ refs. declared_refs M.accepts (F.knows funs.now).preds starts.now ≡ Ok refs) }
     ensures since { IfOk result (λ refs. are_unchanged_since refs.lasts 0 ≡ true) }
+    ensures counts { IfOk result (λ refs. IsMoved refs.tally refs.values (start_of refs.tally refs.values) 0 0) }
     ensures fault { IfErr result (λ e. e.1 ≢ makes.Memory
         → declared_refs M.accepts (F.knows funs.now).preds starts.now ≡ Err e) }
     ensures memory { IfErr result (λ e. e.1 ≡ makes.Memory → (next : Option (Who × MakeFault))
@@ -37,15 +40,18 @@ pub(crate) fn declared_refs<M: Meaning, F: Functions<M>>(
     Ok(refs)
 }
 
+#[tactic(auto, using(crate::proofs::Starting::begins))]
 fn declare_ref<M: Meaning, F: Functions<M>>(
     alloc: Global,
     funs: &F,
     start: &RefStart,
     refs: &mut RefStore<M>,
 ) -> Result<(), (Who, MakeFault)>
-    requires { are_unchanged_since refs.old.lasts 0 ≡ true }
+    requires since { are_unchanged_since refs.old.lasts 0 ≡ true }
+    requires counts { IsMoved refs.old.tally refs.old.values (start_of refs.old.tally refs.old.values) 0 0 }
     ensures ok { OnOk result (with_ref M.accepts (F.knows funs.now).preds start.now refs.old ≡ Ok refs.new) }
     ensures since { are_unchanged_since refs.new.lasts 0 ≡ true }
+    ensures counts { IsMoved refs.new.tally refs.new.values (start_of refs.new.tally refs.new.values) 0 0 }
     ensures fault { IfErr result (λ e. e.1 ≢ makes.Memory
         → with_ref M.accepts (F.knows funs.now).preds start.now refs.old ≡ Err e) }
     ensures memory { IfErr result (λ e. e.1 ≡ makes.Memory
@@ -186,7 +192,21 @@ pub(crate) fn base_of<M: Meaning>(
         tally: refs.tally(),
         commits: 0,
         added: 0,
+        taken: 0,
     })
+}
+
+// What the tally begins with; 0 where there is none.
+pub(crate) fn start_of<M: Meaning>(refs: &RefStore<M>) -> u64
+    ensures { result ≡ start_of refs.now.tally refs.now.values }
+{
+    match refs.tally() {
+        Some(t) => match refs.value_of(t) {
+            Some(value) => count(value),
+            None => 0,
+        },
+        None => 0,
+    }
 }
 
 #[tactic(auto, using(crate::proofs::Starting::take_next))]

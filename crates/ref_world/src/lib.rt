@@ -16,7 +16,7 @@
 //! | [`Start`], [`RefStart`], [`AtomStart`], [`AgentStart`] | what a world begins with ([`World::new`]), and the parts of that |
 //! | [`Share`] | what commits and changes of atoms are counted in. It is split and joined; one with [`ALL_PARTS`] has what the books have |
 //! | [`Receipt`], [`LogReceipt`] | what a commit returns; what a share stores of an entry: its point and the whole entry |
-//! | [`Totals`] | what the books say: how many commits there were, and how much they added to the tally |
+//! | [`Totals`] | what the books say: how many commits there were, and how much they added to the tally and took from it |
 //! | [`View`] | base and log as they were ([`World::view`]), to be read while the world goes on |
 //! | [`CheckpointFault`] | why [`World::checkpoint`] folded nothing. Other calls have the faults of the stores and of `ref_log` |
 //!
@@ -48,6 +48,7 @@ pub mod shares;
 pub mod views;
 pub mod worlds;
 
+pub use books::MOST_BOOKED;
 pub use commits::Receipt;
 pub use faults::CheckpointFault;
 pub use ref_start::{AgentStart, AtomStart, RefStart, Start, starts};

@@ -10,6 +10,7 @@ ghost use Rattle.ref_world.specs.World.{point_of, with_entry, with_made_ref, wit
 
 use crate::worlds::World;
 use ref_fun::{Functions, Meaning, Rule};
+use ref_log::counting::count;
 use ref_log::{Base, Entry, MakeFault};
 use ref_refs::RefStore;
 use ref_value::Value;
@@ -17,7 +18,7 @@ use std::alloc::{AllocError, Global};
 use std::sync::Arc;
 use std::sync::ledger::Ledger;
 
-impl<M: Meaning, C: Ledger, A: Ledger> World<M, C, A> {
+impl<M: Meaning, C: Ledger, A: Ledger, K: Ledger> World<M, C, A, K> {
     /// Makes a ref with this value and this rule, if any, the tally or not, and answers its number. It adds one entry, and the
     /// ref's last change is at its point. A transaction that was begun before knows no such ref. A refused call changes
     /// nothing.
@@ -43,10 +44,11 @@ impl<M: Meaning, C: Ledger, A: Ledger> World<M, C, A> {
         let log = self.log.pushed(alloc, entry)?;
         let next = next_tally(&self.refs, tally);
         let base = with_tally(alloc, &self.base, next)?;
+        let start = count(&value);
         let r = self.refs.add(alloc, at, value, rule, tally)?;
         self.log = log;
         self.base = base;
-        self.books.start(tally, self.refs.tally_value());
+        self.books.start(tally, start);
         Ok(r)
     }
 
@@ -103,6 +105,7 @@ fn with_tally(alloc: Global, base: &Arc<Base>, tally: Option<u32>) -> Result<Arc
         tally,
         commits: base.commits,
         added: base.added,
+        taken: base.taken,
     };
     let named = Arc::new(alloc, named)?;
     Ok(named)

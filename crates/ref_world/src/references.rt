@@ -13,7 +13,7 @@ use ref_value::Value;
 use std::alloc::Global;
 use std::sync::ledger::Ledger;
 
-impl<M: Meaning, C: Ledger, A: Ledger> World<M, C, A> {
+impl<M: Meaning, C: Ledger, A: Ledger, K: Ledger> World<M, C, A, K> {
     /// How many refs there are, at most 2^20.
     pub fn ref_count(&self) -> usize
         ensures value { result ≡ length self.now.refs.values }

@@ -16,22 +16,23 @@ pub struct LogReceipt {
     pub entry: Entry,
 }
 
-/// Some of the 2^32 parts of a world, and what was done with them: how many commits, how much they added to the tally, and the
-/// receipt of each entry that a commit or a change of an atom added, in the order of the calls, as long as no share was joined.
+/// Some of the 2^32 parts of a world, and what was done with them: how many commits, how much they added to the tally and took from
+/// it, and the receipt of each entry that a commit or a change of an atom added, in the order of the calls, as long as no share was joined.
 ///
 /// A world comes with one share, which has all parts. Whoever is to change it gets some of them by [`Share::split`]; the calls
-/// that add such an entry take the share and count in it. C and A name the world's books, so that a share fits no other
+/// that add such an entry take the share and count in it. C, A and K name the world's books, so that a share fits no other
 /// world and meets no share of one. Where all are joined again, what is in the share is what is in the world's books. A share
 /// that is dropped takes its parts with it.
 #[derive(Drop)]
-pub struct Share<C: Ledger, A: Ledger> {
+pub struct Share<C: Ledger, A: Ledger, K: Ledger> {
     parts: u64,
     pub(crate) commits: Part<C>,
     pub(crate) added: Part<A>,
+    pub(crate) taken: Part<K>,
     pub(crate) receipts: Vec<LogReceipt>,
 }
 
-impl<C: Ledger, A: Ledger> Model for Share<C, A> {
+impl<C: Ledger, A: Ledger, K: Ledger> Model for Share<C, A, K> {
     ghost use Rattle.std.specs.Prelude.{◌≡◌, ◌<◌, ◌≤◌};
     ghost use Rattle.std.specs.Coded.{codes};
     ghost use Rattle.ref_value.specs.Code.{edn_code};
@@ -46,19 +47,26 @@ impl<C: Ledger, A: Ledger> Model for Share<C, A> {
       parts = s.parts;
       commits = s.commits.amount;
       added = s.added.amount;
+      taken = s.taken.amount;
       receipts = s.receipts.items;
     } };
 
-    ghost invariant = { λ s. (s.commits.parts ≡ s.parts) × (s.added.parts ≡ s.parts) × (0 < s.parts)
-        × (s.parts ≤ all_parts) × (C.parts ≡ all_parts) × (A.parts ≡ all_parts) };
+    ghost invariant = { λ s. (s.commits.parts ≡ s.parts) × (s.added.parts ≡ s.parts) × (s.taken.parts ≡ s.parts)
+        × (0 < s.parts) × (s.parts ≤ all_parts) × (C.parts ≡ all_parts) × (A.parts ≡ all_parts)
+        × (K.parts ≡ all_parts) };
 }
 
-impl<C: Ledger, A: Ledger> Share<C, A> {
+impl<C: Ledger, A: Ledger, K: Ledger> Share<C, A, K> {
     // The share with all parts, of a world in which nothing was done.
-    pub(crate) fn whole(receipts: Vec<LogReceipt>, commits: Part<C>, added: Part<A>) -> Share<C, A>
-        requires parts { (commits.parts ≡ all_parts) × (added.parts ≡ all_parts) }
-        requires names { (C.parts ≡ all_parts) × (A.parts ≡ all_parts) }
-        requires amounts { (commits.amount ≡ 0) × (added.amount ≡ 0) }
+    pub(crate) fn whole(
+        receipts: Vec<LogReceipt>,
+        commits: Part<C>,
+        added: Part<A>,
+        taken: Part<K>,
+    ) -> Share<C, A, K>
+        requires parts { (commits.parts ≡ all_parts) × (added.parts ≡ all_parts) × (taken.parts ≡ all_parts) }
+        requires names { (C.parts ≡ all_parts) × (A.parts ≡ all_parts) × (K.parts ≡ all_parts) }
+        requires amounts { (commits.amount ≡ 0) × (added.amount ≡ 0) × (taken.amount ≡ 0) }
         requires receipts { receipts.items ≡ [] }
         ensures { result ≡ whole }
     {
@@ -66,6 +74,7 @@ impl<C: Ledger, A: Ledger> Share<C, A> {
             parts: ALL_PARTS,
             commits,
             added,
+            taken,
             receipts,
         }
     }
@@ -96,12 +105,12 @@ impl<C: Ledger, A: Ledger> Share<C, A> {
 
     /// Another share with so many of the parts, with which nothing was done; None for 0 of them, and for as many as it has or
     /// more. It takes no memory.
-    pub fn split(&mut self, parts: u64) -> Option<Share<C, A>>
+    pub fn split(&mut self, parts: u64) -> Option<Share<C, A, K>>
         ensures when { IsSome result ↔ ((0 < parts) × (parts < self.old.parts)) }
         ensures some { IfSome result (λ s. s ≡ record whole { parts = parts }) }
         ensures left { IfSome result (λ s. self.new.parts + parts ≡ self.old.parts) }
         ensures same { (self.new.commits ≡ self.old.commits) × (self.new.added ≡ self.old.added)
-            × (self.new.receipts ≡ self.old.receipts) }
+            × (self.new.taken ≡ self.old.taken) × (self.new.receipts ≡ self.old.receipts) }
         ensures none { IfNone result (self.new ≡ self.old) }
     {
         if parts == 0 || parts >= self.parts {
@@ -109,11 +118,13 @@ impl<C: Ledger, A: Ledger> Share<C, A> {
         }
         let commits = self.commits.split_off(parts, 0);
         let added = self.added.split_off(parts, 0);
+        let taken = self.taken.split_off(parts, 0);
         self.parts -= parts;
         Some(Share {
             parts,
             commits,
             added,
+            taken,
             receipts: Vec::new(*self.receipts.allocator()),
         })
     }
@@ -122,7 +133,7 @@ impl<C: Ledger, A: Ledger> Share<C, A> {
     /// so where both shares were used side by side, the receipts of the joined one needn't stand in the order of their points.
     /// Linear in the number of the other's receipts. Where there is no memory for these it changes nothing and returns the other
     /// share back; one without receipts takes no memory.
-    pub fn join(&mut self, other: Share<C, A>) -> Result<(), Share<C, A>>
+    pub fn join(&mut self, other: Share<C, A, K>) -> Result<(), Share<C, A, K>>
         ensures ok { OnOk result (self.new ≡ joined self.old other) }
         ensures back { IfErr result (λ s. s ≡ other) }
         ensures err { OnErr result (self.new ≡ self.old) }
@@ -136,11 +147,13 @@ impl<C: Ledger, A: Ledger> Share<C, A> {
             parts,
             commits,
             added,
+            taken,
             mut receipts,
         } = other;
         let _ = self.receipts.append(&mut receipts);
         self.commits.merge(commits);
         self.added.merge(added);
+        self.taken.merge(taken);
         self.parts += parts;
         Ok(())
     }

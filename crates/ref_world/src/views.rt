@@ -82,7 +82,7 @@ impl<M: Meaning> View<M> {
     }
 }
 
-impl<M: Meaning, C: Ledger, A: Ledger> World<M, C, A> {
+impl<M: Meaning, C: Ledger, A: Ledger, K: Ledger> World<M, C, A, K> {
     /// The base and the log as they are now. It takes no memory, and as long whatever the length of the log; only a count
     /// of owners can refuse.
     pub fn view(&self) -> Result<View<M>, AllocError>

@@ -2,16 +2,17 @@
 ghost use Rattle.std.specs.Prelude.{◌≡◌, ◌≢◌, ◌≤◌, ◌^◌, ◌+◌, [], true, length, None, Some, Ok, IfOk, IfErr, OnOk};
 ghost use Rattle.std.specs.List.{list_all};
 ghost use Rattle.ref_log.specs.Replay.{sets_atom};
-ghost use Rattle.ref_log.specs.Tally.{IsTally, added_of, commits_of, fits_entry};
+ghost use Rattle.ref_log.specs.Tally.{IsMoved, commits_of, fits_entry, moved_of};
+ghost use Rattle.ref_log.specs.declared.counting.Side.TheVariants.{Added, Taken};
 ghost use Rattle.ref_log.specs.declared.faults.MakeFault.TheVariants as makes;
 ghost use Rattle.ref_refs.specs.Seen.{are_unchanged_since};
 ghost use Rattle.ref_world.specs.Starts as starts;
 ghost use Rattle.ref_world.specs.Starts.{first_refusal, start_refusal};
 ghost use Rattle.ref_world.specs.Shares.{IsBlank, all_parts, whole};
-ghost use Rattle.ref_world.specs.World.{HasLastChanges, are_past, point_of};
+ghost use Rattle.ref_world.specs.World.{HasLastChanges, are_past, most_booked, point_of};
 
 use crate::books::Books;
-use crate::declared::{base_of, declared_agents, declared_atoms, declared_refs};
+use crate::declared::{base_of, declared_agents, declared_atoms, declared_refs, start_of};
 use crate::shares::Share;
 use ref_agents::AgentStore;
 use ref_atoms::AtomStore;
@@ -31,22 +32,23 @@ use std::sync::ledger::{Blank, Ledger};
 /// ref's last change is that of the last entry which made or touched it; that each agent's state is its start folded over its
 /// done actions, and an agent is failed exactly where its last handled action is marked failed; that each rule accepts; and
 /// that no commit whose sends are held comes after the present point. The books have how many transactions were committed and how
-/// much they added to the tally, as base and log say, and the tally holds its start plus what was added.
+/// much they added to the tally and took from it, as base and log say, and the tally holds its start plus what was added less what
+/// was taken.
 ///
-/// C and A name the two books, of commits and of what was added: the shares of a world have these names too, and what is in the
-/// books is what all of its shares have together.
+/// C, A and K name the three books, of commits, of what was added and of what was taken: the shares of a world have these names too,
+/// and what is in the books is what all of its shares have together.
 #[derive(Drop)]
-pub struct World<M: Meaning, C: Ledger, A: Ledger> {
+pub struct World<M: Meaning, C: Ledger, A: Ledger, K: Ledger> {
     // It may have several owners, and so may the log: views.
     pub(crate) base: Arc<Base>,
     pub(crate) log: PVec<Entry>,
     pub(crate) refs: RefStore<M>,
     pub(crate) atoms: AtomStore<M>,
     pub(crate) agents: AgentStore<M>,
-    pub(crate) books: Books<C, A>,
+    pub(crate) books: Books<C, A, K>,
 }
 
-impl<M: Meaning, C: Ledger, A: Ledger> Model for World<M, C, A> {
+impl<M: Meaning, C: Ledger, A: Ledger, K: Ledger> Model for World<M, C, A, K> {
     ghost use Rattle.std.specs.Coded.{codes};
     ghost use Rattle.ref_value.specs.Code.{edn_code};
     ghost use Rattle.ref_world.specs.Seen.{WorldSeen};
@@ -69,7 +71,7 @@ impl<M: Meaning, C: Ledger, A: Ledger> Model for World<M, C, A> {
         × AreBooks a.base.value a.log a.refs.tally a.refs.values a.books };
 }
 
-impl<M: Meaning, C: Ledger, A: Ledger> World<M, C, A> {
+impl<M: Meaning, C: Ledger, A: Ledger, K: Ledger> World<M, C, A, K> {
     /// A world that begins with these references, refs made before atoms before agents, at point 0 and with no entry, and its
     /// whole share. Where one of the references can't be made which and why is returned; where memory is refused, which one says
     /// nothing. The blanks become the books, and are spent where the world is refused, too.
@@ -80,9 +82,11 @@ impl<M: Meaning, C: Ledger, A: Ledger> World<M, C, A> {
         start: Start,
         commits: Blank,
         added: Blank,
-    ) -> Result<(World<M, C, A>, Share<C, A>), (Who, MakeFault)>
+        taken: Blank,
+    ) -> Result<(World<M, C, A, K>, Share<C, A, K>), (Who, MakeFault)>
         requires commits { IsBlank commits C.name C.parts }
         requires added { IsBlank added A.name A.parts }
+        requires taken { IsBlank taken K.name K.parts }
         ensures ok { OnOk result (start_refusal M.accepts (F.knows funs.now).preds start ≡ None) }
         ensures refs { IfOk result (λ r. starts.declared_refs M.accepts (F.knows funs.now).preds start.refs.items
             ≡ Ok r.0.refs) }
@@ -108,7 +112,12 @@ impl<M: Meaning, C: Ledger, A: Ledger> World<M, C, A> {
         let Ok(base) = Arc::new(alloc, base) else {
             return Err((Who::Ref(0), MakeFault::Memory));
         };
-        let (books, commit_parts, added_parts) = Books::open(refs.tally_value(), commits, added);
+        let (books, commit_parts, added_parts, taken_parts) = Books::open(
+            start_of(&refs),
+            commits,
+            added,
+            taken,
+        );
         let world = World {
             base,
             log: PVec::empty(),
@@ -119,7 +128,7 @@ impl<M: Meaning, C: Ledger, A: Ledger> World<M, C, A> {
         };
         Ok((
             world,
-            Share::whole(Vec::new(alloc), commit_parts, added_parts),
+            Share::whole(Vec::new(alloc), commit_parts, added_parts, taken_parts),
         ))
     }
 
@@ -165,23 +174,40 @@ impl<M: Meaning, C: Ledger, A: Ledger> World<M, C, A> {
         self.books.commits
     }
 
-    /// How much was added to the tally since its start; 0 where there is no tally.
+    /// How much was added to the tally since its start, at most 9223372036854775807; 0 where there is no tally.
     pub fn added(&self) -> u64
         ensures value { result ≡ self.now.books.added }
-        // What was added up to the base, and the arguments of the commutes on the tally in the log.
-        ensures books { result ≡ self.now.base.added + added_of self.now.refs.tally self.now.log }
-        // No entry changes the tally in another way, and it holds its start plus what was added.
+        // What was added up to the base, and the arguments of the commutes by `+` on the tally in the log.
+        ensures books { result ≡ self.now.base.added + moved_of Added self.now.refs.tally self.now.log }
+        ensures most { result ≤ most_booked }
+        // No entry changes the tally in another way than by `+` and `-`, and it holds its start plus what was added less what was
+        // taken.
         ensures lawful { list_all (fits_entry self.now.refs.tally) self.now.log ≡ true }
-        ensures tally { IsTally self.now.refs.tally self.now.refs.values (self.now.books.start + result) }
+        ensures tally { IsMoved self.now.refs.tally self.now.refs.values self.now.books.start result self.now.books.taken }
     {
         self.books.added
     }
 
-    /// What a share has of the books, where it is whole: all commits, and all that was added to the tally. It changes nothing.
-    pub fn totals(&mut self, share: &mut Share<C, A>) -> Totals
-        ensures value { result ≡ record { commits = self.old.books.commits; added = self.old.books.added } }
+    /// How much was taken from the tally since its start, at most 9223372036854775807; 0 where there is no tally.
+    pub fn taken(&self) -> u64
+        ensures value { result ≡ self.now.books.taken }
+        // What was taken up to the base, and the arguments of the commutes by `-` on the tally in the log.
+        ensures books { result ≡ self.now.base.taken + moved_of Taken self.now.refs.tally self.now.log }
+        ensures most { result ≤ most_booked }
+    {
+        self.books.taken
+    }
+
+    /// What a share has of the books, where it is whole: all commits, and all that was added to the tally and taken from it. It
+    /// changes nothing.
+    pub fn totals(&mut self, share: &mut Share<C, A, K>) -> Totals
+        ensures value { result ≡ record {
+          commits = self.old.books.commits;
+          added = self.old.books.added;
+          taken = self.old.books.taken;
+        } }
         ensures whole { share.old.parts ≡ all_parts
-            → (result.commits ≡ share.old.commits) × (result.added ≡ share.old.added) }
+            → (result.commits ≡ share.old.commits) × (result.added ≡ share.old.added) × (result.taken ≡ share.old.taken) }
         ensures world { self.new ≡ self.old }
         ensures share { share.new ≡ share.old }
     {
@@ -189,13 +215,15 @@ impl<M: Meaning, C: Ledger, A: Ledger> World<M, C, A> {
         Totals {
             commits: self.books.commits,
             added: self.books.added,
+            taken: self.books.taken,
         }
     }
 }
 
-/// How many transactions were committed, and how much they added to the tally.
+/// How many transactions were committed, and how much they added to the tally and took from it.
 #[derive(Clone, Copy, Debug, Drop, PartialEq, Eq)]
 pub struct Totals {
     pub commits: u64,
     pub added: u64,
+    pub taken: u64,
 }

@@ -49,11 +49,11 @@ fn start(alloc: Global) -> Result<Start, AllocError> {
 }
 
 // What a thread does: its transactions, one after the other. RENAME
-fn work<C: Ledger, A: Ledger, R: AllocGlobal + Wait>(
+fn work<C: Ledger, A: Ledger, K: Ledger, R: AllocGlobal + Wait>(
     rt: &R,
-    shared: &Shared<Core, C, A>,
+    shared: &Shared<Core, C, A, K>,
     worker: u32,
-    share: &mut Share<C, A>,
+    share: &mut Share<C, A, K>,
 ) -> Result<(), Trouble> {
     let (alloc, funs) = (rt.alloc(), &CoreFunctions);
     let (gate, board) = (&mut Open, &mut Quiet);
@@ -87,9 +87,9 @@ fn one_more(alloc: Global, votes: &Value, choice: Value) -> Result<Value, Troubl
 }
 
 // Prints what is in the world at the end. RENAME
-fn report<C: Ledger, A: Ledger, R: AllocGlobal + Print>(
+fn report<C: Ledger, A: Ledger, K: Ledger, R: AllocGlobal + Print>(
     rt: &R,
-    world: &World<Core, C, A>,
+    world: &World<Core, C, A, K>,
     totals: Totals,
 ) -> Result<(), Trouble> {
     let votes = text(rt.alloc(), world.value_of(Who::Ref(VOTES)).ok_or(Trouble)?)?;

@@ -24,19 +24,26 @@ const PARTS: u64 = ALL_PARTS / 8;
 
 /// Runs the program. The books of its world begin as blanks, each of which is named as it is made.
 pub(crate) fn run<R: AllocGlobal + Print + Threads + Wait + Sync>(rt: &R) -> Result<(), Trouble> {
-    run_world::<Brand, Brand, R>(rt, Blank::new(ALL_PARTS), Blank::new(ALL_PARTS))
+    run_world::<Brand, Brand, Brand, R>(
+        rt,
+        Blank::new(ALL_PARTS),
+        Blank::new(ALL_PARTS),
+        Blank::new(ALL_PARTS),
+    )
 }
 
-// The program in a world, whose books C and A name.
+// The program in a world, whose books C, A and K name.
 fn run_world<
     C: Ledger + Send + Sync,
     A: Ledger + Send + Sync,
+    K: Ledger + Send + Sync,
     R: AllocGlobal + Print + Threads + Wait + Sync,
->(rt: &R, commits: Blank, added: Blank) -> Result<(), Trouble>
+>(rt: &R, commits: Blank, added: Blank, taken: Blank) -> Result<(), Trouble>
     requires commits { IsBlank commits C.name C.parts }
     requires added { IsBlank added A.name A.parts }
+    requires taken { IsBlank taken K.name K.parts }
 {
-    let (shared, mut share) = open::<C, A>(rt.alloc(), commits, added)?;
+    let (shared, mut share) = open::<C, A, K>(rt.alloc(), commits, added, taken)?;
     match work_all(rt, &shared, &mut share) {
         Ok(()) => close(rt, shared, share),
         Err(Trouble) => {
@@ -47,15 +54,17 @@ fn run_world<
 }
 
 // Makes the world, and puts it under a lock. The share has all its parts.
-fn open<C: Ledger, A: Ledger>(
+fn open<C: Ledger, A: Ledger, K: Ledger>(
     alloc: Global,
     commits: Blank,
     added: Blank,
-) -> Result<(Shared<Core, C, A>, Share<C, A>), Trouble>
+    taken: Blank,
+) -> Result<(Shared<Core, C, A, K>, Share<C, A, K>), Trouble>
     requires commits { IsBlank commits C.name C.parts }
     requires added { IsBlank added A.name A.parts }
+    requires taken { IsBlank taken K.name K.parts }
 {
-    match World::new(alloc, &CoreFunctions, start(alloc)?, commits, added) {
+    match World::new(alloc, &CoreFunctions, start(alloc)?, commits, added, taken) {
         Ok((world, share)) => Ok((Shared::new(world), share)),
         Err(_) => Err(Trouble),
     }
@@ -65,8 +74,9 @@ fn open<C: Ledger, A: Ledger>(
 fn work_all<
     C: Ledger + Send + Sync,
     A: Ledger + Send + Sync,
+    K: Ledger + Send + Sync,
     R: AllocGlobal + Threads + Wait + Sync,
->(rt: &R, shared: &Shared<Core, C, A>, share: &mut Share<C, A>) -> Result<(), Trouble> {
+>(rt: &R, shared: &Shared<Core, C, A, K>, share: &mut Share<C, A, K>) -> Result<(), Trouble> {
     let parts = parts(rt.alloc(), share)?;
     let worked = thread::map_vec(
         rt,
@@ -77,10 +87,10 @@ fn work_all<
 }
 
 // A part of the share for each thread, with its number.
-fn parts<C: Ledger, A: Ledger>(
+fn parts<C: Ledger, A: Ledger, K: Ledger>(
     alloc: Global,
-    share: &mut Share<C, A>,
-) -> Result<Vec<(u32, Share<C, A>)>, AllocError> {
+    share: &mut Share<C, A, K>,
+) -> Result<Vec<(u32, Share<C, A, K>)>, AllocError> {
     let mut parts = Vec::new(alloc);
     for worker in 0..THREADS {
         let Some(part) = share.split(PARTS) else {
@@ -91,12 +101,12 @@ fn parts<C: Ledger, A: Ledger>(
     Ok(parts)
 }
 
-fn work_in<C: Ledger, A: Ledger, R: AllocGlobal + Wait>(
+fn work_in<C: Ledger, A: Ledger, K: Ledger, R: AllocGlobal + Wait>(
     rt: &R,
-    shared: &Shared<Core, C, A>,
+    shared: &Shared<Core, C, A, K>,
     worker: u32,
-    mut part: Share<C, A>,
-) -> Result<Share<C, A>, Trouble> {
+    mut part: Share<C, A, K>,
+) -> Result<Share<C, A, K>, Trouble> {
     match work(rt, shared, worker, &mut part) {
         Ok(()) => Ok(part),
         Err(Trouble) => {
@@ -106,9 +116,9 @@ fn work_in<C: Ledger, A: Ledger, R: AllocGlobal + Wait>(
     }
 }
 
-fn join_all<C: Ledger, A: Ledger>(
-    share: &mut Share<C, A>,
-    parts: Vec<Result<Share<C, A>, Trouble>>,
+fn join_all<C: Ledger, A: Ledger, K: Ledger>(
+    share: &mut Share<C, A, K>,
+    parts: Vec<Result<Share<C, A, K>, Trouble>>,
 ) -> Result<(), Trouble> {
     for part in parts {
         if let Err(part) = share.join(part?) {
@@ -120,10 +130,10 @@ fn join_all<C: Ledger, A: Ledger>(
 }
 
 // Takes the world out, and reports.
-fn close<C: Ledger, A: Ledger, R: AllocGlobal + Print>(
+fn close<C: Ledger, A: Ledger, K: Ledger, R: AllocGlobal + Print>(
     rt: &R,
-    shared: Shared<Core, C, A>,
-    share: Share<C, A>,
+    shared: Shared<Core, C, A, K>,
+    share: Share<C, A, K>,
 ) -> Result<(), Trouble> {
     let (world, totals) = take_out(rt.alloc(), shared, share)?;
     let reported = report(rt, &world, totals);
@@ -132,11 +142,11 @@ fn close<C: Ledger, A: Ledger, R: AllocGlobal + Print>(
 }
 
 // The world, and what the share counted. It compares the log with the receipts of all threads.
-fn take_out<C: Ledger, A: Ledger>(
+fn take_out<C: Ledger, A: Ledger, K: Ledger>(
     alloc: Global,
-    shared: Shared<Core, C, A>,
-    share: Share<C, A>,
-) -> Result<(World<Core, C, A>, Totals), Trouble> {
+    shared: Shared<Core, C, A, K>,
+    share: Share<C, A, K>,
+) -> Result<(World<Core, C, A, K>, Totals), Trouble> {
     if share.is_whole() {
         shared.finish(alloc, share).ok().ok_or(Trouble)
     } else {

@@ -33,7 +33,7 @@ fn one_transaction(rt: HostRuntime) -> Result<(), Fail> {
     let seen = seen(rt.alloc(), &ONE_REF, &[Step::Commit(&calls)])?;
     assert_eq!(rt;
         seen.dumped?.as_slice(),
-        b"{:added 0, :agents [], :atoms [], :base-atoms [], :base-refs [[0 0]], :commits 1, :dump 1, :entries [[:tx 0 0 0 [[:alter 0 + [5] 5] [:alter 0 + [1] 6]] []]], :folded [0 0], :point 0, :refs [[6 nil]], :tally nil}".as_slice()
+        b"{:added 0, :agents [], :atoms [], :base-atoms [], :base-refs [[0 0]], :commits 1, :dump 2, :entries [[:tx 0 0 0 [[:alter 0 + [5] 5] [:alter 0 + [1] 6]] []]], :folded [0 0 0], :point 0, :refs [[6 nil]], :taken 0, :tally nil}".as_slice()
     );
     Ok(())
 }
@@ -45,7 +45,7 @@ fn two_transactions(rt: HostRuntime) -> Result<(), Fail> {
     let seen = seen(rt.alloc(), &ONE_REF, &steps)?;
     assert_eq!(rt;
         seen.dumped?.as_slice(),
-        b"{:added 0, :agents [], :atoms [], :base-atoms [], :base-refs [[0 0]], :commits 2, :dump 1, :entries [[:tx 0 0 0 [[:alter 0 + [5] 5]] []] [:tx 0 1 1 [[:alter 0 + [1] 6]] []]], :folded [0 0], :point 0, :refs [[6 nil]], :tally nil}".as_slice()
+        b"{:added 0, :agents [], :atoms [], :base-atoms [], :base-refs [[0 0]], :commits 2, :dump 2, :entries [[:tx 0 0 0 [[:alter 0 + [5] 5]] []] [:tx 0 1 1 [[:alter 0 + [1] 6]] []]], :folded [0 0 0], :point 0, :refs [[6 nil]], :taken 0, :tally nil}".as_slice()
     );
     Ok(())
 }
@@ -63,7 +63,7 @@ fn a_checkpoint(rt: HostRuntime) -> Result<(), Fail> {
     let seen = seen(rt.alloc(), &ONE_REF, &steps)?;
     assert_eq!(rt;
         seen.dumped?.as_slice(),
-        b"{:added 0, :agents [], :atoms [], :base-atoms [], :base-refs [[2 2]], :commits 3, :dump 1, :entries [[:tx 0 2 2 [[:alter 0 + [1] 3]] []]], :folded [2 0], :point 2, :refs [[3 nil]], :tally nil}".as_slice()
+        b"{:added 0, :agents [], :atoms [], :base-atoms [], :base-refs [[2 2]], :commits 3, :dump 2, :entries [[:tx 0 2 2 [[:alter 0 + [1] 3]] []]], :folded [2 0 0], :point 2, :refs [[3 nil]], :taken 0, :tally nil}".as_slice()
     );
     Ok(())
 }
@@ -112,7 +112,7 @@ fn most_forms(rt: HostRuntime) -> Result<(), Fail> {
     let seen = seen(rt.alloc(), &declared, &steps)?;
     assert_eq!(rt;
         seen.dumped?.as_slice(),
-        b"{:added 2, :agents [[0 [[+ [1] :done]] [] 1 :ready [>= 0]]], :atoms [[[:seen] nil]], :base-atoms [[]], :base-refs [[0 0] [5 0]], :commits 2, :dump 1, :entries [[:tx 0 0 0 [[:alter 0 + [5] 5] [:commute 1 + [2] 7]] [[0 + [1]]]] [:swap 0 conj [:seen] [:seen]] [:tx 0 2 2 [[:ensure 0 5] [:set 0 3 3]] []]], :folded [0 0], :point 0, :refs [[3 [>= 0]] [7 nil]], :tally 1}".as_slice()
+        b"{:added 2, :agents [[0 [[+ [1] :done]] [] 1 :ready [>= 0]]], :atoms [[[:seen] nil]], :base-atoms [[]], :base-refs [[0 0] [5 0]], :commits 2, :dump 2, :entries [[:tx 0 0 0 [[:alter 0 + [5] 5] [:commute 1 + [2] 7]] [[0 + [1]]]] [:swap 0 conj [:seen] [:seen]] [:tx 0 2 2 [[:ensure 0 5] [:set 0 3 3]] []]], :folded [0 0 0], :point 0, :refs [[3 [>= 0]] [7 nil]], :taken 0, :tally 1}".as_slice()
     );
     Ok(())
 }

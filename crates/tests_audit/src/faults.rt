@@ -14,6 +14,7 @@ const KEYS: &[(Key, &str)] = &[
     (Key::Folded, "folded"),
     (Key::Point, "point"),
     (Key::Refs, "refs"),
+    (Key::Taken, "taken"),
     (Key::Tally, "tally"),
 ];
 
@@ -29,7 +30,7 @@ fn keys_say_their_names(rt: HostRuntime) -> Result<(), Fail> {
 
 const DUMP_FAULTS: &[(DumpFault, u8, &str)] = &[
     (DumpFault::NotDump, 1, "not a dump"),
-    (DumpFault::BadVersion, 2, "a version other than 1"),
+    (DumpFault::BadVersion, 2, "a version that isn't that of the keys"),
     (
         DumpFault::BadPart(Key::BaseRefs),
         3,

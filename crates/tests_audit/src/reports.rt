@@ -38,6 +38,7 @@ const REASONS: &[(Reason, &str)] = &[
     (Reason::Invalid, "invalid"),
     (Reason::GaveUp, "gave-up"),
     (Reason::PointLimit, "point-limit"),
+    (Reason::BookFull, "book-full"),
     (Reason::AgentFailed, "agent-failed"),
     (Reason::NotFailed, "not-failed"),
 ];

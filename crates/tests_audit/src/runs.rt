@@ -70,9 +70,9 @@ pub(crate) struct Seen {
 }
 
 #[derive(Drop)]
-struct Whole<C: Ledger, A: Ledger> {
-    world: World<Core, C, A>,
-    share: Share<C, A>,
+struct Whole<C: Ledger, A: Ledger, K: Ledger> {
+    world: World<Core, C, A, K>,
+    share: Share<C, A, K>,
 }
 
 /// What is seen of the world that is declared, after these steps.
@@ -85,8 +85,12 @@ pub(crate) fn run(
 ) -> Result<Seen, Fail> {
     let start = start_of(alloc, declared)?;
     let names = names_of(alloc, declared)?;
-    let (commits, added) = (Blank::new(ALL_PARTS), Blank::new(ALL_PARTS));
-    run_in::<Brand, Brand>(
+    let (commits, added, taken) = (
+        Blank::new(ALL_PARTS),
+        Blank::new(ALL_PARTS),
+        Blank::new(ALL_PARTS),
+    );
+    run_in::<Brand, Brand, Brand>(
         alloc,
         &CoreFunctions,
         start,
@@ -96,10 +100,11 @@ pub(crate) fn run(
         verdict,
         commits,
         added,
+        taken,
     )
 }
 
-fn run_in<C: Ledger, A: Ledger>(
+fn run_in<C: Ledger, A: Ledger, K: Ledger>(
     alloc: Global,
     funs: &CoreFunctions,
     start: Start,
@@ -109,20 +114,24 @@ fn run_in<C: Ledger, A: Ledger>(
     verdict: Verdict,
     commits: Blank,
     added: Blank,
+    taken: Blank,
 ) -> Result<Seen, Fail>
     requires commits { IsBlank commits C.name C.parts }
     requires added { IsBlank added A.name A.parts }
+    requires taken { IsBlank taken K.name K.parts }
 {
-    let (mut world, mut share) = World::<Core, C, A>::new(alloc, funs, start, commits, added)?;
+    let (mut world, mut share) = World::<Core, C, A, K>::new(
+        alloc, funs, start, commits, added, taken,
+    )?;
     take_steps(alloc, funs, &mut world, &mut share, steps)?;
     look_at(alloc, &world, names, refused, &verdict)
 }
 
-fn take_steps<C: Ledger, A: Ledger>(
+fn take_steps<C: Ledger, A: Ledger, K: Ledger>(
     alloc: Global,
     funs: &CoreFunctions,
-    world: &mut World<Core, C, A>,
-    share: &mut Share<C, A>,
+    world: &mut World<Core, C, A, K>,
+    share: &mut Share<C, A, K>,
     steps: &[Step],
 ) -> Result<(), Fail> {
     let mut number = 0;
@@ -133,9 +142,9 @@ fn take_steps<C: Ledger, A: Ledger>(
     Ok(())
 }
 
-fn look_at<C: Ledger, A: Ledger>(
+fn look_at<C: Ledger, A: Ledger, K: Ledger>(
     alloc: Global,
-    world: &World<Core, C, A>,
+    world: &World<Core, C, A, K>,
     names: &Names,
     refused: &[Refusal],
     verdict: &Verdict,
@@ -148,9 +157,9 @@ fn look_at<C: Ledger, A: Ledger>(
     })
 }
 
-fn dumped<C: Ledger, A: Ledger>(
+fn dumped<C: Ledger, A: Ledger, K: Ledger>(
     alloc: Global,
-    world: &World<Core, C, A>,
+    world: &World<Core, C, A, K>,
 ) -> Result<Result<Vec<u8>, DumpMakeFault>, Fail> {
     let verdict = audit_own_dump(alloc, &CoreFunctions::new(), world);
     let undumped = audit_world(alloc, &CoreFunctions::new(), world);
@@ -170,11 +179,11 @@ fn dumped<C: Ledger, A: Ledger>(
     }
 }
 
-fn take_step<C: Ledger, A: Ledger>(
+fn take_step<C: Ledger, A: Ledger, K: Ledger>(
     alloc: Global,
     funs: &CoreFunctions,
-    world: &mut World<Core, C, A>,
-    share: &mut Share<C, A>,
+    world: &mut World<Core, C, A, K>,
+    share: &mut Share<C, A, K>,
     number: u32,
     step: &Step,
 ) -> Result<(), Fail> {
@@ -210,11 +219,11 @@ fn take_step<C: Ledger, A: Ledger>(
     }
 }
 
-fn commit<C: Ledger, A: Ledger>(
+fn commit<C: Ledger, A: Ledger, K: Ledger>(
     alloc: Global,
     funs: &CoreFunctions,
-    world: &mut World<Core, C, A>,
-    share: &mut Share<C, A>,
+    world: &mut World<Core, C, A, K>,
+    share: &mut Share<C, A, K>,
     step: u32,
     calls: &[Call],
 ) -> Result<(), Fail> {
@@ -255,10 +264,10 @@ fn make_call(
     Ok(())
 }
 
-fn act<C: Ledger, A: Ledger>(
+fn act<C: Ledger, A: Ledger, K: Ledger>(
     alloc: Global,
     funs: &CoreFunctions,
-    world: &mut World<Core, C, A>,
+    world: &mut World<Core, C, A, K>,
 ) -> Result<(), Fail> {
     let Some(job) = world.take()? else {
         return Err(Fail::new("no agent is ready"));

@@ -27,21 +27,27 @@ fn are_receipts(receipts: &[LogReceipt], log: &[PlainEntry]) -> bool {
 }
 
 /// Whether the books have what the log has.
-pub(crate) fn are_books<C: Ledger, A: Ledger>(world: &World<Core, C, A>, model: &Model) -> bool {
-    world.commits() == model.commits() && world.added() == model.added()
+pub(crate) fn are_books<C: Ledger, A: Ledger, K: Ledger>(
+    world: &World<Core, C, A, K>,
+    model: &Model,
+) -> bool {
+    world.commits() == model.commits()
+        && world.added() == model.added()
+        && world.taken() == model.taken()
 }
 
 fn totals_of(model: &Model) -> Totals {
     Totals {
         commits: model.commits(),
         added: model.added(),
+        taken: model.taken(),
     }
 }
 
 /// Whether a whole share has what the books have, and each receipt.
-pub fn is_whole_share<C: Ledger, A: Ledger>(
-    world: &mut World<Core, C, A>,
-    share: &mut Share<C, A>,
+pub fn is_whole_share<C: Ledger, A: Ledger, K: Ledger>(
+    world: &mut World<Core, C, A, K>,
+    share: &mut Share<C, A, K>,
     model: &Model,
 ) -> bool {
     share.is_whole()

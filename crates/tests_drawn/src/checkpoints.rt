@@ -46,9 +46,9 @@ fn is_view(view: &View<Core>, model: &Model, first: usize) -> bool {
 }
 
 /// A checkpoint, with a view from before it, which stays as it was.
-pub(crate) fn checkpoint<C: Ledger, A: Ledger, M: Memory>(
+pub(crate) fn checkpoint<C: Ledger, A: Ledger, K: Ledger, M: Memory>(
     player: &mut Player<M>,
-    side: &mut Side<C, A>,
+    side: &mut Side<C, A, K>,
 ) -> Played {
     player.calls(Row::Checkpoint);
     let table = player.draws.table();

@@ -16,9 +16,9 @@ use tests_plain::tables::Table;
 use tests_plain::transactions::{PlainReceipt, PlainTx};
 
 /// Begins a transaction, unless that is refused.
-pub(crate) fn begin<C: Ledger, A: Ledger, M: Memory>(
+pub(crate) fn begin<C: Ledger, A: Ledger, K: Ledger, M: Memory>(
     player: &mut Player<M>,
-    side: &Side<C, A>,
+    side: &Side<C, A, K>,
 ) -> Result<Option<Open>, Stop> {
     player.calls(Row::Begin);
     player.memory.begin();
@@ -59,9 +59,9 @@ fn commit_number(wanted: &Result<PlainReceipt, CommitFault>) -> u8 {
 }
 
 // Whether a commit of this was answered as in the model. What came of it is counted.
-fn compare<C: Ledger, A: Ledger, M: Memory>(
+fn compare<C: Ledger, A: Ledger, K: Ledger, M: Memory>(
     player: &mut Player<M>,
-    side: &mut Side<C, A>,
+    side: &mut Side<C, A, K>,
     seen: &Result<Receipt, (Tx<Core>, CommitFault)>,
     with: (Table, Stamp),
     plain: &PlainTx,
@@ -73,9 +73,9 @@ fn compare<C: Ledger, A: Ledger, M: Memory>(
 }
 
 /// Commits a transaction. Where that is refused it comes back.
-pub(crate) fn commit<C: Ledger, A: Ledger, M: Memory>(
+pub(crate) fn commit<C: Ledger, A: Ledger, K: Ledger, M: Memory>(
     player: &mut Player<M>,
-    side: &mut Side<C, A>,
+    side: &mut Side<C, A, K>,
     open: Open,
 ) -> Result<Option<Open>, Stop> {
     player.calls(Row::CommitWith);

@@ -80,18 +80,20 @@ pub struct Drawn {
 }
 
 // Why a new world can't be made, if so.
-fn refusal<C: Ledger, A: Ledger, M: Memory>(
+fn refusal<C: Ledger, A: Ledger, K: Ledger, M: Memory>(
     player: &mut Player<M>,
     table: Table,
     start: Start,
     commits: Blank,
     added: Blank,
+    taken: Blank,
 ) -> Option<(Who, MakeFault)>
     requires commits { IsBlank commits C.name C.parts }
     requires added { IsBlank added A.name A.parts }
+    requires taken { IsBlank taken K.name K.parts }
 {
     player.memory.begin();
-    let made = World::<Core, C, A>::new(player.alloc, &table, start, commits, added);
+    let made = World::<Core, C, A, K>::new(player.alloc, &table, start, commits, added, taken);
     player.memory.end();
     match made {
         Ok(_made) => None,
@@ -111,8 +113,12 @@ fn try_new<M: Memory>(
     for number in 1..MOST_REQUESTS {
         player.tries(draws, number);
         let start = start_of(player.alloc, starts)?;
-        let (commits, added) = (Blank::new(ALL_PARTS), Blank::new(ALL_PARTS));
-        let seen = refusal::<Brand, Brand, M>(player, table, start, commits, added);
+        let (commits, added, taken) = (
+            Blank::new(ALL_PARTS),
+            Blank::new(ALL_PARTS),
+            Blank::new(ALL_PARTS),
+        );
+        let seen = refusal::<Brand, Brand, Brand, M>(player, table, start, commits, added, taken);
         if !player.refuses(matches!(seen, Some((_, MakeFault::Memory)))) {
             player.ends(number);
             return if seen == wanted {

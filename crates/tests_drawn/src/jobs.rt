@@ -20,9 +20,9 @@ use tests_plain::tables::Table;
 // ---- Jobs
 
 // Whether this job is that of an agent that is ready.
-fn taken<C: Ledger, A: Ledger, M: Memory>(
+fn taken<C: Ledger, A: Ledger, K: Ledger, M: Memory>(
     player: &mut Player<M>,
-    side: &mut Side<C, A>,
+    side: &mut Side<C, A, K>,
     agent: u32,
     hand: &Hand,
 ) -> Result<Slip, Stop> {
@@ -40,9 +40,9 @@ fn taken<C: Ledger, A: Ledger, M: Memory>(
 }
 
 /// Takes a job, which is that of some agent that is ready.
-pub(crate) fn take<C: Ledger, A: Ledger, M: Memory>(
+pub(crate) fn take<C: Ledger, A: Ledger, K: Ledger, M: Memory>(
     player: &mut Player<M>,
-    side: &mut Side<C, A>,
+    side: &mut Side<C, A, K>,
 ) -> Result<Option<Held>, Stop> {
     player.calls(Row::Take);
     player.memory.begin();
@@ -71,9 +71,9 @@ fn put_back_number(is_done: bool, is_near: bool) -> u8 {
 }
 
 // Whether a job was put back as in the model.
-fn compare_put_back<C: Ledger, A: Ledger, M: Memory>(
+fn compare_put_back<C: Ledger, A: Ledger, K: Ledger, M: Memory>(
     player: &mut Player<M>,
-    side: &mut Side<C, A>,
+    side: &mut Side<C, A, K>,
     left: Option<&Hand>,
     slip: Slip,
 ) -> Played {
@@ -85,9 +85,9 @@ fn compare_put_back<C: Ledger, A: Ledger, M: Memory>(
     player.told(is_same, put_back_number(is_done, side.number == slip.home))
 }
 
-fn put_back<C: Ledger, A: Ledger, M: Memory>(
+fn put_back<C: Ledger, A: Ledger, K: Ledger, M: Memory>(
     player: &mut Player<M>,
-    side: &mut Side<C, A>,
+    side: &mut Side<C, A, K>,
     job: Job,
     slip: Slip,
 ) -> Result<Option<Held>, Stop> {
@@ -110,9 +110,9 @@ fn put_back<C: Ledger, A: Ledger, M: Memory>(
 }
 
 // Whether a job ended as in the model.
-fn compare_finish<C: Ledger, A: Ledger, M: Memory>(
+fn compare_finish<C: Ledger, A: Ledger, K: Ledger, M: Memory>(
     player: &mut Player<M>,
-    side: &mut Side<C, A>,
+    side: &mut Side<C, A, K>,
     seen: Result<&Finished, (&Hand, FinishFault)>,
     (table, slip, ended): (Table, Slip, Ended),
 ) -> Played {
@@ -123,9 +123,9 @@ fn compare_finish<C: Ledger, A: Ledger, M: Memory>(
     player.told(is_same_end(seen, &wanted, slip), finish_number(&wanted))
 }
 
-fn finish<C: Ledger, A: Ledger, M: Memory>(
+fn finish<C: Ledger, A: Ledger, K: Ledger, M: Memory>(
     player: &mut Player<M>,
-    side: &mut Side<C, A>,
+    side: &mut Side<C, A, K>,
     ran: Ran<Core>,
     slip: Slip,
     ended: Ended,
@@ -152,9 +152,9 @@ fn finish<C: Ledger, A: Ledger, M: Memory>(
 }
 
 // A call with a job that hasn't run.
-fn go_on<C: Ledger, A: Ledger, M: Memory>(
+fn go_on<C: Ledger, A: Ledger, K: Ledger, M: Memory>(
     player: &mut Player<M>,
-    side: &mut Side<C, A>,
+    side: &mut Side<C, A, K>,
     job: Job,
     slip: Slip,
 ) -> Result<Option<Held>, Stop> {
@@ -169,9 +169,9 @@ fn go_on<C: Ledger, A: Ledger, M: Memory>(
 }
 
 /// A call with a job that is held, which is held afterwards if it comes back.
-pub(crate) fn call_on_job<C: Ledger, A: Ledger, M: Memory>(
+pub(crate) fn call_on_job<C: Ledger, A: Ledger, K: Ledger, M: Memory>(
     player: &mut Player<M>,
-    side: &mut Side<C, A>,
+    side: &mut Side<C, A, K>,
     held: Held,
 ) -> Result<Option<Held>, Stop> {
     let Held { hand, slip } = held;
@@ -185,9 +185,9 @@ pub(crate) fn call_on_job<C: Ledger, A: Ledger, M: Memory>(
 
 // ---- Sends, releases, restarts
 
-fn sent<C: Ledger, A: Ledger, M: Memory>(
+fn sent<C: Ledger, A: Ledger, K: Ledger, M: Memory>(
     player: &mut Player<M>,
-    side: &mut Side<C, A>,
+    side: &mut Side<C, A, K>,
     g: u32,
     call: PlainCall,
 ) -> Result<(), SendFault> {
@@ -198,7 +198,10 @@ fn sent<C: Ledger, A: Ledger, M: Memory>(
     seen
 }
 
-fn send<C: Ledger, A: Ledger, M: Memory>(player: &mut Player<M>, side: &mut Side<C, A>) -> Played {
+fn send<C: Ledger, A: Ledger, K: Ledger, M: Memory>(
+    player: &mut Player<M>,
+    side: &mut Side<C, A, K>,
+) -> Played {
     player.calls(Row::Send);
     let g = player.draws.number(&side.model, Kind::Agent);
     let call = player.draws.action();
@@ -222,9 +225,9 @@ fn release_number(is_released: bool, waits: bool) -> u8 {
     }
 }
 
-fn release<C: Ledger, A: Ledger, M: Memory>(
+fn release<C: Ledger, A: Ledger, K: Ledger, M: Memory>(
     player: &mut Player<M>,
-    side: &mut Side<C, A>,
+    side: &mut Side<C, A, K>,
 ) -> Played {
     player.calls(Row::Release);
     let point = player.draws.held_point(&side.model);
@@ -236,9 +239,9 @@ fn release<C: Ledger, A: Ledger, M: Memory>(
     player.told(seen == wanted, release_number(wanted, waits))
 }
 
-fn restarted<C: Ledger, A: Ledger, M: Memory>(
+fn restarted<C: Ledger, A: Ledger, K: Ledger, M: Memory>(
     player: &mut Player<M>,
-    side: &mut Side<C, A>,
+    side: &mut Side<C, A, K>,
     table: Table,
     g: u32,
     (state, clear): (Plain, bool),
@@ -259,9 +262,9 @@ fn restart_number(wanted: Result<(), RestartFault>, waits: bool, clear: bool) ->
     }
 }
 
-fn restart<C: Ledger, A: Ledger, M: Memory>(
+fn restart<C: Ledger, A: Ledger, K: Ledger, M: Memory>(
     player: &mut Player<M>,
-    side: &mut Side<C, A>,
+    side: &mut Side<C, A, K>,
 ) -> Played {
     player.calls(Row::Restart);
     let g = player.draws.failed(&side.model);
@@ -285,9 +288,9 @@ fn mode_number(wanted: Result<(), ModeFault>, is_failed: bool) -> u8 {
     }
 }
 
-fn set_error_mode<C: Ledger, A: Ledger, M: Memory>(
+fn set_error_mode<C: Ledger, A: Ledger, K: Ledger, M: Memory>(
     player: &mut Player<M>,
-    side: &mut Side<C, A>,
+    side: &mut Side<C, A, K>,
 ) -> Played {
     player.calls(Row::SetErrorMode);
     let g = player.draws.number(&side.model, Kind::Agent);
@@ -308,9 +311,9 @@ fn wants_restart<M: Memory>(player: &mut Player<M>, model: &Model) -> bool {
 }
 
 /// Makes one of these calls: mostly a send, unless there is something to release or to restart.
-pub(crate) fn call_on_agents<C: Ledger, A: Ledger, M: Memory>(
+pub(crate) fn call_on_agents<C: Ledger, A: Ledger, K: Ledger, M: Memory>(
     player: &mut Player<M>,
-    side: &mut Side<C, A>,
+    side: &mut Side<C, A, K>,
 ) -> Played {
     let releases = wants_release(player, &side.model);
     let restarts = wants_restart(player, &side.model);

@@ -11,9 +11,9 @@ use tests_plain::memory::Memory;
 use tests_plain::outcomes::Played;
 use tests_plain::player::Player;
 
-fn play_stage<C: Ledger, A: Ledger, D: Ledger, B: Ledger, M: Memory>(
+fn play_stage<C: Ledger, A: Ledger, K: Ledger, D: Ledger, B: Ledger, E: Ledger, M: Memory>(
     player: &mut Player<M>,
-    stage: &mut Stage<C, A, D, B>,
+    stage: &mut Stage<C, A, K, D, B, E>,
 ) -> Played {
     for place in 0..player.draws.length() {
         player.place = place;
@@ -24,26 +24,31 @@ fn play_stage<C: Ledger, A: Ledger, D: Ledger, B: Ledger, M: Memory>(
 }
 
 // Now and then the second world begins as the first. Each has its own blanks.
-fn play_worlds<C: Ledger, A: Ledger, D: Ledger, B: Ledger, M: Memory>(
+fn play_worlds<C: Ledger, A: Ledger, K: Ledger, D: Ledger, B: Ledger, E: Ledger, M: Memory>(
     player: &mut Player<M>,
     commits: Blank,
     added: Blank,
+    taken: Blank,
     other_commits: Blank,
     other_added: Blank,
+    other_taken: Blank,
 ) -> Played
     requires commits { IsBlank commits C.name C.parts }
     requires added { IsBlank added A.name A.parts }
+    requires taken { IsBlank taken K.name K.parts }
     requires other_commits { (other_commits.name ≡ D.name) × (other_commits.parts ≡ D.parts)
         × (other_commits.parts ≡ all_parts) }
     requires other_added { (other_added.name ≡ B.name) × (other_added.parts ≡ B.parts)
         × (other_added.parts ≡ all_parts) }
+    requires other_taken { (other_taken.name ≡ E.name) × (other_taken.parts ≡ E.parts)
+        × (other_taken.parts ≡ all_parts) }
 {
     let draws = player.draws;
-    let first = new_side::<C, A, M>(player, 0, commits, added)?;
+    let first = new_side::<C, A, K, M>(player, 0, commits, added, taken)?;
     if player.draws.once_in(2) {
         player.draws = draws;
     }
-    let second = new_side::<D, B, M>(player, 1, other_commits, other_added)?;
+    let second = new_side::<D, B, E, M>(player, 1, other_commits, other_added, other_taken)?;
     let mut stage = new_stage(player, first, second)?;
     play_stage(player, &mut stage)
 }
@@ -51,8 +56,10 @@ fn play_worlds<C: Ledger, A: Ledger, D: Ledger, B: Ledger, M: Memory>(
 /// Plays the list of this number. If the player has what refuses memory, each call is tried without each of its requests first.
 pub fn play_list<M: Memory>(player: &mut Player<M>, list: u64) -> Played {
     player.begins(list);
-    play_worlds::<Brand, Brand, Brand, Brand, M>(
+    play_worlds::<Brand, Brand, Brand, Brand, Brand, Brand, M>(
         player,
+        Blank::new(ALL_PARTS),
+        Blank::new(ALL_PARTS),
         Blank::new(ALL_PARTS),
         Blank::new(ALL_PARTS),
         Blank::new(ALL_PARTS),

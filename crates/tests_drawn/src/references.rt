@@ -26,9 +26,9 @@ fn drawn_op<M: Memory>(player: &mut Player<M>) -> PlainOp {
     }
 }
 
-fn reset<C: Ledger, A: Ledger, M: Memory>(
+fn reset<C: Ledger, A: Ledger, K: Ledger, M: Memory>(
     player: &mut Player<M>,
-    side: &mut Side<C, A>,
+    side: &mut Side<C, A, K>,
     table: Table,
     a: u32,
     value: Plain,
@@ -41,9 +41,9 @@ fn reset<C: Ledger, A: Ledger, M: Memory>(
     seen
 }
 
-fn swap<C: Ledger, A: Ledger, M: Memory>(
+fn swap<C: Ledger, A: Ledger, K: Ledger, M: Memory>(
     player: &mut Player<M>,
-    side: &mut Side<C, A>,
+    side: &mut Side<C, A, K>,
     table: Table,
     a: u32,
     call: PlainCall,
@@ -58,9 +58,9 @@ fn swap<C: Ledger, A: Ledger, M: Memory>(
     seen
 }
 
-fn changed<C: Ledger, A: Ledger, M: Memory>(
+fn changed<C: Ledger, A: Ledger, K: Ledger, M: Memory>(
     player: &mut Player<M>,
-    side: &mut Side<C, A>,
+    side: &mut Side<C, A, K>,
     table: Table,
     a: u32,
     op: PlainOp,
@@ -107,9 +107,9 @@ fn compare<M: Memory>(
     player.told(agree(seen, &wanted), number_of(fault))
 }
 
-fn swap_or_reset<C: Ledger, A: Ledger, M: Memory>(
+fn swap_or_reset<C: Ledger, A: Ledger, K: Ledger, M: Memory>(
     player: &mut Player<M>,
-    side: &mut Side<C, A>,
+    side: &mut Side<C, A, K>,
 ) -> Played {
     let op = drawn_op(player);
     let table = player.draws.table();
@@ -130,9 +130,9 @@ fn drawn_old<M: Memory>(player: &mut Player<M>, model: &Model, a: u32) -> Plain 
     }
 }
 
-fn compared<C: Ledger, A: Ledger, M: Memory>(
+fn compared<C: Ledger, A: Ledger, K: Ledger, M: Memory>(
     player: &mut Player<M>,
-    side: &mut Side<C, A>,
+    side: &mut Side<C, A, K>,
     (table, a): (Table, u32),
     old: Plain,
     new: Plain,
@@ -156,9 +156,9 @@ fn compared_number(wanted: &Result<Option<PlainChange>, AtomFault>) -> u8 {
     }
 }
 
-fn compare_and_set<C: Ledger, A: Ledger, M: Memory>(
+fn compare_and_set<C: Ledger, A: Ledger, K: Ledger, M: Memory>(
     player: &mut Player<M>,
-    side: &mut Side<C, A>,
+    side: &mut Side<C, A, K>,
 ) -> Played {
     player.calls(Row::CompareAndSet);
     let table = player.draws.table();
@@ -175,9 +175,9 @@ fn compare_and_set<C: Ledger, A: Ledger, M: Memory>(
 
 // ---- Makings
 
-fn made<C: Ledger, A: Ledger, M: Memory>(
+fn made<C: Ledger, A: Ledger, K: Ledger, M: Memory>(
     player: &mut Player<M>,
-    side: &mut Side<C, A>,
+    side: &mut Side<C, A, K>,
     table: Table,
     kind: Kind,
     start: PlainStart,
@@ -211,7 +211,10 @@ fn make_number(wanted: Result<u32, MakeFault>) -> u8 {
     }
 }
 
-fn make<C: Ledger, A: Ledger, M: Memory>(player: &mut Player<M>, side: &mut Side<C, A>) -> Played {
+fn make<C: Ledger, A: Ledger, K: Ledger, M: Memory>(
+    player: &mut Player<M>,
+    side: &mut Side<C, A, K>,
+) -> Played {
     let kind = player.draws.kind();
     player.calls(make_row(kind));
     let table = player.draws.table();
@@ -241,9 +244,9 @@ fn rule_number(wanted: Result<(), RuleFault>) -> u8 {
     }
 }
 
-fn set_validator<C: Ledger, A: Ledger, M: Memory>(
+fn set_validator<C: Ledger, A: Ledger, K: Ledger, M: Memory>(
     player: &mut Player<M>,
-    side: &mut Side<C, A>,
+    side: &mut Side<C, A, K>,
 ) -> Played {
     player.calls(Row::SetValidator);
     let table = player.draws.table();
@@ -268,9 +271,9 @@ fn watch_number(wanted: Result<bool, WatchFault>) -> u8 {
     }
 }
 
-pub(crate) fn add_watch<C: Ledger, A: Ledger, M: Memory>(
+pub(crate) fn add_watch<C: Ledger, A: Ledger, K: Ledger, M: Memory>(
     player: &mut Player<M>,
-    side: &mut Side<C, A>,
+    side: &mut Side<C, A, K>,
 ) -> Played {
     player.calls(Row::AddWatch);
     let who = player.draws.who(&side.model);
@@ -294,9 +297,9 @@ fn remove_number(was: bool, is_here: bool) -> u8 {
     }
 }
 
-fn remove_watch<C: Ledger, A: Ledger, M: Memory>(
+fn remove_watch<C: Ledger, A: Ledger, K: Ledger, M: Memory>(
     player: &mut Player<M>,
-    side: &mut Side<C, A>,
+    side: &mut Side<C, A, K>,
 ) -> Played {
     player.calls(Row::RemoveWatch);
     let who = player.draws.who(&side.model);
@@ -311,9 +314,9 @@ fn remove_watch<C: Ledger, A: Ledger, M: Memory>(
 }
 
 /// Makes one of these calls.
-pub(crate) fn call_on_references<C: Ledger, A: Ledger, M: Memory>(
+pub(crate) fn call_on_references<C: Ledger, A: Ledger, K: Ledger, M: Memory>(
     player: &mut Player<M>,
-    side: &mut Side<C, A>,
+    side: &mut Side<C, A, K>,
 ) -> Played {
     match player.draws.below(18) {
         0..=4 => swap_or_reset(player, side),

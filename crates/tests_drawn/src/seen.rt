@@ -12,8 +12,8 @@ use tests_plain::tables::Table;
 
 // ---- References
 
-fn is_reference<C: Ledger, A: Ledger>(
-    world: &World<Core, C, A>,
+fn is_reference<C: Ledger, A: Ledger, K: Ledger>(
+    world: &World<Core, C, A, K>,
     who: Who,
     wanted: Option<&Reference>,
 ) -> bool {
@@ -27,7 +27,10 @@ fn is_reference<C: Ledger, A: Ledger>(
 }
 
 // The references are there, and one more of each kind is not.
-fn are_references<C: Ledger, A: Ledger>(world: &World<Core, C, A>, model: &Model) -> bool {
+fn are_references<C: Ledger, A: Ledger, K: Ledger>(
+    world: &World<Core, C, A, K>,
+    model: &Model,
+) -> bool {
     let most = model
         .refs
         .len()
@@ -46,7 +49,10 @@ fn are_references<C: Ledger, A: Ledger>(world: &World<Core, C, A>, model: &Model
 // ---- Agents
 
 // The accounts are there, and one more is not.
-fn are_accounts<C: Ledger, A: Ledger>(world: &World<Core, C, A>, model: &Model) -> bool {
+fn are_accounts<C: Ledger, A: Ledger, K: Ledger>(
+    world: &World<Core, C, A, K>,
+    model: &Model,
+) -> bool {
     for (g, _) in (0..u32::MAX).zip(0..model.accounts.len().saturating_add(1)) {
         let is_one = match (world.account(g), model.accounts.get(g as usize)) {
             (Some(account), Some(plain)) => {
@@ -65,14 +71,17 @@ fn are_accounts<C: Ledger, A: Ledger>(world: &World<Core, C, A>, model: &Model) 
 // ---- The log
 
 /// Whether all entries are the same.
-pub fn is_whole_log<C: Ledger, A: Ledger>(world: &World<Core, C, A>, model: &Model) -> bool {
+pub fn is_whole_log<C: Ledger, A: Ledger, K: Ledger>(
+    world: &World<Core, C, A, K>,
+    model: &Model,
+) -> bool {
     shows::is_whole_log(world.log(), model.left())
 }
 
 /// Whether the replay of the log gives these values of refs and atoms, or lacks the first function that the table lacks.
-pub(crate) fn is_replayed<C: Ledger, A: Ledger>(
+pub(crate) fn is_replayed<C: Ledger, A: Ledger, K: Ledger>(
     alloc: Global,
-    world: &World<Core, C, A>,
+    world: &World<Core, C, A, K>,
     model: &Model,
     table: Table,
 ) -> Result<bool, AllocError> {
@@ -84,8 +93,8 @@ pub(crate) fn is_replayed<C: Ledger, A: Ledger>(
 }
 
 /// What isn't as in the model, of all that a world shows but the entries before the last.
-pub fn difference<C: Ledger, A: Ledger>(
-    world: &World<Core, C, A>,
+pub fn difference<C: Ledger, A: Ledger, K: Ledger>(
+    world: &World<Core, C, A, K>,
     model: &Model,
 ) -> Option<&'static str> {
     if !are_references(world, model) {

@@ -16,15 +16,15 @@ use tests_plain::player::Player;
 use tests_plain::tables::Table;
 
 /// A world with its whole share, and its model, with a number: 0 or 1.
-pub(crate) struct Side<C: Ledger, A: Ledger> {
+pub(crate) struct Side<C: Ledger, A: Ledger, K: Ledger> {
     pub(crate) number: usize,
-    pub(crate) world: World<Core, C, A>,
-    pub(crate) share: Share<C, A>,
+    pub(crate) world: World<Core, C, A, K>,
+    pub(crate) share: Share<C, A, K>,
     pub(crate) model: Model,
 }
 
 // A function of its own, which each place that drops one calls; a derived one would be written out there.
-impl<C: Ledger, A: Ledger> Drop for Side<C, A> {
+impl<C: Ledger, A: Ledger, K: Ledger> Drop for Side<C, A, K> {
     fn drop(self) {
         let Side {
             number: _,
@@ -36,9 +36,9 @@ impl<C: Ledger, A: Ledger> Drop for Side<C, A> {
 }
 
 // Whether a table serves the world as it does the model, and what of that is counted.
-fn check_served<C: Ledger, A: Ledger, M: Memory>(
+fn check_served<C: Ledger, A: Ledger, K: Ledger, M: Memory>(
     player: &mut Player<M>,
-    side: &Side<C, A>,
+    side: &Side<C, A, K>,
     table: Table,
     (yes, no): (u8, u8),
 ) -> Played {
@@ -51,9 +51,9 @@ fn check_served<C: Ledger, A: Ledger, M: Memory>(
 }
 
 /// Whether all that a world shows is as in the model.
-pub(crate) fn check<C: Ledger, A: Ledger, M: Memory>(
+pub(crate) fn check<C: Ledger, A: Ledger, K: Ledger, M: Memory>(
     player: &mut Player<M>,
-    side: &Side<C, A>,
+    side: &Side<C, A, K>,
 ) -> Played {
     if let Some(what) = difference(&side.world, &side.model) {
         return Err(Stop::Differs(what));
@@ -63,9 +63,9 @@ pub(crate) fn check<C: Ledger, A: Ledger, M: Memory>(
 }
 
 // Whether the log's replay by a table gives the values.
-fn check_replay<C: Ledger, A: Ledger, M: Memory>(
+fn check_replay<C: Ledger, A: Ledger, K: Ledger, M: Memory>(
     player: &mut Player<M>,
-    side: &Side<C, A>,
+    side: &Side<C, A, K>,
     table: Table,
 ) -> Played {
     let (world, model) = (&side.world, &side.model);
@@ -75,7 +75,7 @@ fn check_replay<C: Ledger, A: Ledger, M: Memory>(
 }
 
 /// Whether the whole log and the share are as in the model.
-pub(crate) fn check_whole<C: Ledger, A: Ledger>(side: &mut Side<C, A>) -> Played {
+pub(crate) fn check_whole<C: Ledger, A: Ledger, K: Ledger>(side: &mut Side<C, A, K>) -> Played {
     if !is_whole_log(&side.world, &side.model) {
         return Err(Stop::Differs("the whole log"));
     }
@@ -86,9 +86,9 @@ pub(crate) fn check_whole<C: Ledger, A: Ledger>(side: &mut Side<C, A>) -> Played
 }
 
 /// Whether the whole log and the share are as in the model, and whether the log's replay gives the values.
-pub(crate) fn check_end<C: Ledger, A: Ledger, M: Memory>(
+pub(crate) fn check_end<C: Ledger, A: Ledger, K: Ledger, M: Memory>(
     player: &mut Player<M>,
-    side: &mut Side<C, A>,
+    side: &mut Side<C, A, K>,
 ) -> Played {
     player.calls(Row::ReplayPlain);
     check_whole(side)?;
@@ -99,22 +99,24 @@ pub(crate) fn check_end<C: Ledger, A: Ledger, M: Memory>(
 // ---- New worlds
 
 // A new world and its model.
-fn made<C: Ledger, A: Ledger, M: Memory>(
+fn made<C: Ledger, A: Ledger, K: Ledger, M: Memory>(
     player: &Player<M>,
     number: usize,
     drawn: Drawn,
     commits: Blank,
     added: Blank,
-) -> Result<Side<C, A>, Stop>
+    taken: Blank,
+) -> Result<Side<C, A, K>, Stop>
     requires commits { IsBlank commits C.name C.parts }
     requires added { IsBlank added A.name A.parts }
+    requires taken { IsBlank taken K.name K.parts }
 {
     let Drawn {
         start,
         model,
         table,
     } = drawn;
-    match World::new(player.alloc, &table, start, commits, added) {
+    match World::new(player.alloc, &table, start, commits, added, taken) {
         Ok((world, share)) => Ok(Side {
             number,
             world,
@@ -125,9 +127,9 @@ fn made<C: Ledger, A: Ledger, M: Memory>(
     }
 }
 
-fn add_watches<C: Ledger, A: Ledger, M: Memory>(
+fn add_watches<C: Ledger, A: Ledger, K: Ledger, M: Memory>(
     player: &mut Player<M>,
-    side: &mut Side<C, A>,
+    side: &mut Side<C, A, K>,
 ) -> Played {
     for _ in 0..player.draws.below(6) {
         add_watch(player, side)?;
@@ -136,18 +138,20 @@ fn add_watches<C: Ledger, A: Ledger, M: Memory>(
 }
 
 /// A new world and its model, with some watches.
-pub(crate) fn new_side<C: Ledger, A: Ledger, M: Memory>(
+pub(crate) fn new_side<C: Ledger, A: Ledger, K: Ledger, M: Memory>(
     player: &mut Player<M>,
     number: usize,
     commits: Blank,
     added: Blank,
-) -> Result<Side<C, A>, Stop>
+    taken: Blank,
+) -> Result<Side<C, A, K>, Stop>
     requires commits { IsBlank commits C.name C.parts }
     requires added { IsBlank added A.name A.parts }
+    requires taken { IsBlank taken K.name K.parts }
 {
     player.calls(Row::New);
     let drawn = first_world(player)?;
-    let mut side = made(player, number, drawn, commits, added)?;
+    let mut side = made(player, number, drawn, commits, added, taken)?;
     player.count(Row::New, 0);
     check(player, &side)?;
     add_watches(player, &mut side)?;

@@ -13,15 +13,16 @@ use tests_plain::player::Player;
 use tests_plain::shows::Shows;
 
 /// Two worlds, and the open transactions and jobs that may be passed to either.
-pub(crate) struct Stage<C: Ledger, A: Ledger, D: Ledger, B: Ledger> {
-    pub(crate) first: Side<C, A>,
-    pub(crate) second: Side<D, B>,
+pub(crate) struct Stage<C: Ledger, A: Ledger, K: Ledger, D: Ledger, B: Ledger, E: Ledger> {
+    pub(crate) first: Side<C, A, K>,
+    pub(crate) second: Side<D, B, E>,
     open: Vec<Option<Open>>,
     jobs: Vec<Option<Held>>,
 }
 
 // A function of its own, which each place that drops one calls; a derived one would be written out there.
-impl<C: Ledger, A: Ledger, D: Ledger, B: Ledger> Drop for Stage<C, A, D, B> {
+impl<C: Ledger, A: Ledger, K: Ledger, D: Ledger, B: Ledger, E: Ledger> Drop
+    for Stage<C, A, K, D, B, E> {
     fn drop(self) {
         let Stage {
             first: _first,
@@ -42,11 +43,19 @@ fn places<T: Drop>(alloc: Global) -> Result<Vec<Option<T>>, Stop> {
 }
 
 /// Nothing is open on it, and no job is held.
-pub(crate) fn new_stage<C: Ledger, A: Ledger, D: Ledger, B: Ledger, M: Memory>(
+pub(crate) fn new_stage<
+    C: Ledger,
+    A: Ledger,
+    K: Ledger,
+    D: Ledger,
+    B: Ledger,
+    E: Ledger,
+    M: Memory,
+>(
     player: &Player<M>,
-    first: Side<C, A>,
-    second: Side<D, B>,
-) -> Result<Stage<C, A, D, B>, Stop> {
+    first: Side<C, A, K>,
+    second: Side<D, B, E>,
+) -> Result<Stage<C, A, K, D, B, E>, Stop> {
     Ok(Stage {
         first,
         second,
@@ -77,9 +86,9 @@ fn near<M: Memory>(player: &mut Player<M>, home: usize) -> usize {
     }
 }
 
-fn call_on_world<C: Ledger, A: Ledger, M: Memory>(
+fn call_on_world<C: Ledger, A: Ledger, K: Ledger, M: Memory>(
     player: &mut Player<M>,
-    side: &mut Side<C, A>,
+    side: &mut Side<C, A, K>,
     of_agents: bool,
 ) -> Played {
     if of_agents {
@@ -90,9 +99,9 @@ fn call_on_world<C: Ledger, A: Ledger, M: Memory>(
     check(player, side)
 }
 
-fn play_on_world<C: Ledger, A: Ledger, D: Ledger, B: Ledger, M: Memory>(
+fn play_on_world<C: Ledger, A: Ledger, K: Ledger, D: Ledger, B: Ledger, E: Ledger, M: Memory>(
     player: &mut Player<M>,
-    stage: &mut Stage<C, A, D, B>,
+    stage: &mut Stage<C, A, K, D, B, E>,
     of_agents: bool,
 ) -> Played {
     match player.draws.below(2) {
@@ -101,9 +110,9 @@ fn play_on_world<C: Ledger, A: Ledger, D: Ledger, B: Ledger, M: Memory>(
     }
 }
 
-fn begun<C: Ledger, A: Ledger, D: Ledger, B: Ledger, M: Memory>(
+fn begun<C: Ledger, A: Ledger, K: Ledger, D: Ledger, B: Ledger, E: Ledger, M: Memory>(
     player: &mut Player<M>,
-    stage: &Stage<C, A, D, B>,
+    stage: &Stage<C, A, K, D, B, E>,
 ) -> Result<Option<Open>, Stop> {
     match player.draws.below(2) {
         0 => begin(player, &stage.first),
@@ -112,9 +121,9 @@ fn begun<C: Ledger, A: Ledger, D: Ledger, B: Ledger, M: Memory>(
 }
 
 // A refused one is dropped or tried again.
-fn commit_on<C: Ledger, A: Ledger, M: Memory>(
+fn commit_on<C: Ledger, A: Ledger, K: Ledger, M: Memory>(
     player: &mut Player<M>,
-    side: &mut Side<C, A>,
+    side: &mut Side<C, A, K>,
     open: Open,
 ) -> Result<Option<Open>, Stop> {
     let left = commit(player, side, open)?;
@@ -127,9 +136,9 @@ fn commit_on<C: Ledger, A: Ledger, M: Memory>(
 }
 
 // A commit comes mostly after some operations.
-fn go_on<C: Ledger, A: Ledger, D: Ledger, B: Ledger, M: Memory>(
+fn go_on<C: Ledger, A: Ledger, K: Ledger, D: Ledger, B: Ledger, E: Ledger, M: Memory>(
     player: &mut Player<M>,
-    stage: &mut Stage<C, A, D, B>,
+    stage: &mut Stage<C, A, K, D, B, E>,
     mut open: Open,
 ) -> Result<Option<Open>, Stop> {
     let operations = open
@@ -147,9 +156,9 @@ fn go_on<C: Ledger, A: Ledger, D: Ledger, B: Ledger, M: Memory>(
     }
 }
 
-fn play_transaction<C: Ledger, A: Ledger, D: Ledger, B: Ledger, M: Memory>(
+fn play_transaction<C: Ledger, A: Ledger, K: Ledger, D: Ledger, B: Ledger, E: Ledger, M: Memory>(
     player: &mut Player<M>,
-    stage: &mut Stage<C, A, D, B>,
+    stage: &mut Stage<C, A, K, D, B, E>,
 ) -> Played {
     let i = player.draws.below(stage.open.len());
     let left = match taken(&mut stage.open, i) {
@@ -160,9 +169,9 @@ fn play_transaction<C: Ledger, A: Ledger, D: Ledger, B: Ledger, M: Memory>(
     Ok(())
 }
 
-fn take_on<C: Ledger, A: Ledger, M: Memory>(
+fn take_on<C: Ledger, A: Ledger, K: Ledger, M: Memory>(
     player: &mut Player<M>,
-    side: &mut Side<C, A>,
+    side: &mut Side<C, A, K>,
 ) -> Result<Option<Held>, Stop> {
     let held = take(player, side)?;
     check(player, side)?;
@@ -170,9 +179,9 @@ fn take_on<C: Ledger, A: Ledger, M: Memory>(
 }
 
 // Mostly from a world that has an agent that is ready.
-fn taken_job<C: Ledger, A: Ledger, D: Ledger, B: Ledger, M: Memory>(
+fn taken_job<C: Ledger, A: Ledger, K: Ledger, D: Ledger, B: Ledger, E: Ledger, M: Memory>(
     player: &mut Player<M>,
-    stage: &mut Stage<C, A, D, B>,
+    stage: &mut Stage<C, A, K, D, B, E>,
 ) -> Result<Option<Held>, Stop> {
     let is_first = if player.draws.once_in(2) {
         stage.first.model.is_one_ready()
@@ -186,9 +195,9 @@ fn taken_job<C: Ledger, A: Ledger, D: Ledger, B: Ledger, M: Memory>(
     }
 }
 
-fn work_on<C: Ledger, A: Ledger, M: Memory>(
+fn work_on<C: Ledger, A: Ledger, K: Ledger, M: Memory>(
     player: &mut Player<M>,
-    side: &mut Side<C, A>,
+    side: &mut Side<C, A, K>,
     held: Held,
 ) -> Result<Option<Held>, Stop> {
     let left = call_on_job(player, side, held)?;
@@ -196,9 +205,9 @@ fn work_on<C: Ledger, A: Ledger, M: Memory>(
     Ok(left)
 }
 
-fn work<C: Ledger, A: Ledger, D: Ledger, B: Ledger, M: Memory>(
+fn work<C: Ledger, A: Ledger, K: Ledger, D: Ledger, B: Ledger, E: Ledger, M: Memory>(
     player: &mut Player<M>,
-    stage: &mut Stage<C, A, D, B>,
+    stage: &mut Stage<C, A, K, D, B, E>,
     held: Held,
 ) -> Result<Option<Held>, Stop> {
     match near(player, held.slip.home) {
@@ -207,13 +216,15 @@ fn work<C: Ledger, A: Ledger, D: Ledger, B: Ledger, M: Memory>(
     }
 }
 
-fn is_one_ready<C: Ledger, A: Ledger, D: Ledger, B: Ledger>(stage: &Stage<C, A, D, B>) -> bool {
+fn is_one_ready<C: Ledger, A: Ledger, K: Ledger, D: Ledger, B: Ledger, E: Ledger>(
+    stage: &Stage<C, A, K, D, B, E>,
+) -> bool {
     stage.first.model.is_one_ready() || stage.second.model.is_one_ready()
 }
 
-fn play_job<C: Ledger, A: Ledger, D: Ledger, B: Ledger, M: Memory>(
+fn play_job<C: Ledger, A: Ledger, K: Ledger, D: Ledger, B: Ledger, E: Ledger, M: Memory>(
     player: &mut Player<M>,
-    stage: &mut Stage<C, A, D, B>,
+    stage: &mut Stage<C, A, K, D, B, E>,
 ) -> Played {
     let i = player.draws.below(stage.jobs.len());
     let left = match taken(&mut stage.jobs, i) {
@@ -228,9 +239,9 @@ fn play_job<C: Ledger, A: Ledger, D: Ledger, B: Ledger, M: Memory>(
 }
 
 // A call that is drawn. Where it's refused for a request that was, both worlds and all that is open are as before.
-fn make<C: Ledger, A: Ledger, D: Ledger, B: Ledger, M: Memory>(
+fn make<C: Ledger, A: Ledger, K: Ledger, D: Ledger, B: Ledger, E: Ledger, M: Memory>(
     player: &mut Player<M>,
-    stage: &mut Stage<C, A, D, B>,
+    stage: &mut Stage<C, A, K, D, B, E>,
 ) -> Played {
     let (transactions, jobs) = if player.of_agents { (3, 7) } else { (6, 7) };
     match player.draws.below(10) {
@@ -267,9 +278,9 @@ fn are_held(jobs: &[Option<Held>]) -> bool {
 }
 
 // Whether all is as in the model, which a refused call doesn't change.
-fn check_refused<C: Ledger, A: Ledger, D: Ledger, B: Ledger, M: Memory>(
+fn check_refused<C: Ledger, A: Ledger, K: Ledger, D: Ledger, B: Ledger, E: Ledger, M: Memory>(
     player: &mut Player<M>,
-    stage: &mut Stage<C, A, D, B>,
+    stage: &mut Stage<C, A, K, D, B, E>,
 ) -> Played {
     check(player, &stage.first)?;
     check(player, &stage.second)?;
@@ -283,9 +294,9 @@ fn check_refused<C: Ledger, A: Ledger, D: Ledger, B: Ledger, M: Memory>(
 }
 
 /// Makes a call that is drawn, without its first request for memory, without its second, and so on, until it isn't refused for that.
-pub(crate) fn play<C: Ledger, A: Ledger, D: Ledger, B: Ledger, M: Memory>(
+pub(crate) fn play<C: Ledger, A: Ledger, K: Ledger, D: Ledger, B: Ledger, E: Ledger, M: Memory>(
     player: &mut Player<M>,
-    stage: &mut Stage<C, A, D, B>,
+    stage: &mut Stage<C, A, K, D, B, E>,
 ) -> Played {
     let draws = player.draws;
     for number in 1..MOST_REQUESTS {

@@ -63,7 +63,11 @@ fn faults_of_a_replay(rt: HostRuntime) -> Result<(), Fail> {
 const TX_FAULTS: &[(TxFault, u8, &str)] = &[
     (TxFault::NoSuchRef, 1, "no such ref"),
     (TxFault::SetAfterCommute, 2, "set after commute"),
-    (TxFault::TallyOnly, 3, "the tally can only be added to"),
+    (
+        TxFault::TallyOnly,
+        3,
+        "the tally can only be added to and taken from",
+    ),
     (
         TxFault::Refused(Cause::Overflow),
         4,
@@ -144,7 +148,7 @@ const COMMIT_FAULTS: &[(CommitFault, u8, &str)] = &[
     (
         CommitFault::Foreign(Alien::Tally),
         1,
-        "a transaction of another store: the tally here can only be added to",
+        "a transaction of another store: the tally here can only be added to and taken from",
     ),
     (
         CommitFault::Foreign(Alien::Point(3)),
@@ -168,6 +172,7 @@ const COMMIT_FAULTS: &[(CommitFault, u8, &str)] = &[
         "the rule of ref 3 doesn't accept its value",
     ),
     (CommitFault::PointLimit, 6, "no point is left"),
+    (CommitFault::BookFull, 8, "a book of the tally is full"),
     (CommitFault::Memory, 7, "out of memory"),
     (CommitFault::NoSuchFun(3), 9, "the table lacks code 3"),
 ];

@@ -23,9 +23,9 @@ use tests_rows::words::{form, open_form, told_form, variant_form, vector};
 
 // ---- Calls of this crate's own
 
-fn begin<R: Input, C: Ledger, A: Ledger>(
+fn begin<R: Input, C: Ledger, A: Ledger, K: Ledger>(
     tables: &Tables,
-    stage: &mut Stage<'_, R, C, A>,
+    stage: &mut Stage<'_, R, C, A, K>,
     i: usize,
 ) -> Result<Value, AllocError> {
     let alloc = tables.all.alloc;
@@ -40,9 +40,9 @@ fn begin<R: Input, C: Ledger, A: Ledger>(
     Ok(told)
 }
 
-fn commit<R: Input, C: Ledger, A: Ledger>(
+fn commit<R: Input, C: Ledger, A: Ledger, K: Ledger>(
     tables: &Tables,
-    stage: &mut Stage<'_, R, C, A>,
+    stage: &mut Stage<'_, R, C, A, K>,
     i: usize,
 ) -> Result<Value, AllocError> {
     let alloc = tables.all.alloc;
@@ -62,9 +62,9 @@ fn commit<R: Input, C: Ledger, A: Ledger>(
 }
 
 // Of a job that has run already nothing more is done.
-fn run<R: Input, C: Ledger, A: Ledger>(
+fn run<R: Input, C: Ledger, A: Ledger, K: Ledger>(
     tables: &Tables,
-    stage: &mut Stage<'_, R, C, A>,
+    stage: &mut Stage<'_, R, C, A, K>,
 ) -> Result<Value, AllocError> {
     let alloc = tables.all.alloc;
     if stage.ran.is_some() {
@@ -86,9 +86,9 @@ fn run<R: Input, C: Ledger, A: Ledger>(
     }
 }
 
-fn finish<R: Input, C: Ledger, A: Ledger>(
+fn finish<R: Input, C: Ledger, A: Ledger, K: Ledger>(
     tables: &Tables,
-    stage: &mut Stage<'_, R, C, A>,
+    stage: &mut Stage<'_, R, C, A, K>,
 ) -> Result<Value, AllocError> {
     let alloc = tables.all.alloc;
     let Some(ran) = stage.ran.take() else {
@@ -103,9 +103,9 @@ fn finish<R: Input, C: Ledger, A: Ledger>(
     }
 }
 
-fn checkpoint<R: Input, C: Ledger, A: Ledger>(
+fn checkpoint<R: Input, C: Ledger, A: Ledger, K: Ledger>(
     tables: &Tables,
-    stage: &mut Stage<'_, R, C, A>,
+    stage: &mut Stage<'_, R, C, A, K>,
 ) -> Result<Value, AllocError> {
     let point = stage.point().saturating_sub(1);
     stage.refuser().begin();
@@ -121,9 +121,9 @@ fn checkpoint<R: Input, C: Ledger, A: Ledger>(
 // The most actions that are run.
 const MOST_ACTIONS: usize = 200;
 
-fn act_all<R: Input, C: Ledger, A: Ledger>(
+fn act_all<R: Input, C: Ledger, A: Ledger, K: Ledger>(
     tables: &Tables,
-    stage: &mut Stage<'_, R, C, A>,
+    stage: &mut Stage<'_, R, C, A, K>,
 ) -> Result<Value, AllocError> {
     let alloc = tables.all.alloc;
     let (act, none) = (read(alloc, "act")?, form(alloc, ":none")?);
@@ -138,9 +138,9 @@ fn act_all<R: Input, C: Ledger, A: Ledger>(
     Err(AllocError)
 }
 
-fn release_all<R: Input, C: Ledger, A: Ledger>(
+fn release_all<R: Input, C: Ledger, A: Ledger, K: Ledger>(
     alloc: Global,
-    stage: &mut Stage<'_, R, C, A>,
+    stage: &mut Stage<'_, R, C, A, K>,
 ) -> Result<Value, AllocError> {
     let mut all = Vec::new(alloc);
     for point in 0..stage.point() {
@@ -152,9 +152,9 @@ fn release_all<R: Input, C: Ledger, A: Ledger>(
 // ---- All calls
 
 /// What a call answers.
-pub(crate) fn told<R: Input, C: Ledger, A: Ledger>(
+pub(crate) fn told<R: Input, C: Ledger, A: Ledger, K: Ledger>(
     tables: &Tables,
-    stage: &mut Stage<'_, R, C, A>,
+    stage: &mut Stage<'_, R, C, A, K>,
     call: &[Value],
 ) -> Result<Value, AllocError> {
     let i = number_at(call, 1) as usize;
@@ -200,9 +200,9 @@ fn call_of(alloc: Global, form: &Value, round: u64, point: u64) -> Result<Vec<Va
 }
 
 /// Makes the calls of a row in a round, and answers what the last of them answers.
-pub(crate) fn make<R: Input, C: Ledger, A: Ledger>(
+pub(crate) fn make<R: Input, C: Ledger, A: Ledger, K: Ledger>(
     tables: &Tables,
-    stage: &mut Stage<'_, R, C, A>,
+    stage: &mut Stage<'_, R, C, A, K>,
     row: &str,
     round: u64,
 ) -> Result<Value, AllocError> {

@@ -60,10 +60,10 @@ impl<'a, R: Input + Print> Free<'a, R> {
 }
 
 // Makes the calls on a full world.
-fn call_all<R: AllocGlobal + Input + Print + Wait, C: Ledger, A: Ledger>(
+fn call_all<R: AllocGlobal + Input + Print + Wait, C: Ledger, A: Ledger, K: Ledger>(
     free: &mut Free<'_, R>,
     tables: &Tables,
-    stage: &mut Stage<'_, R, C, A>,
+    stage: &mut Stage<'_, R, C, A, K>,
 ) -> Result<(), Trouble> {
     let _ = make(tables, stage, FULL, 0)?;
     data::call_all(free, tables)?;
@@ -74,17 +74,19 @@ fn call_all<R: AllocGlobal + Input + Print + Wait, C: Ledger, A: Ledger>(
     Ok(())
 }
 
-fn call_in<R: AllocGlobal + Input + Print + Wait, C: Ledger, A: Ledger>(
+fn call_in<R: AllocGlobal + Input + Print + Wait, C: Ledger, A: Ledger, K: Ledger>(
     free: &mut Free<'_, R>,
     tables: &Tables,
     commits: Blank,
     added: Blank,
+    taken: Blank,
 ) -> Result<(), Trouble>
     requires commits { IsBlank commits C.name C.parts }
     requires added { IsBlank added A.name A.parts }
+    requires taken { IsBlank taken K.name K.parts }
 {
     let rt = free.rt;
-    let mut stage = opened::<R, C, A>(rt, tables, commits, added)?;
+    let mut stage = opened::<R, C, A, K>(rt, tables, commits, added, taken)?;
     call_all(free, tables, &mut stage)?;
     shares::share_world(free, rt, tables.all.alloc, stage);
     Ok(())
@@ -94,8 +96,12 @@ fn call_new<R: AllocGlobal + Input + Print + Wait>(
     free: &mut Free<'_, R>,
     tables: &Tables,
 ) -> Result<(), Trouble> {
-    let (commits, added) = (Blank::new(ALL_PARTS), Blank::new(ALL_PARTS));
-    call_in::<R, Brand, Brand>(free, tables, commits, added)
+    let (commits, added, taken) = (
+        Blank::new(ALL_PARTS),
+        Blank::new(ALL_PARTS),
+        Blank::new(ALL_PARTS),
+    );
+    call_in::<R, Brand, Brand, Brand>(free, tables, commits, added, taken)
 }
 
 // What is done by the tables of functions.

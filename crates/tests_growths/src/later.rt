@@ -10,9 +10,9 @@ use tests_rows::tables::Tables;
 use tests_rows::words::vector;
 
 /// What shows of a world, what calls then show of it, and what shows after them.
-pub(crate) fn shown_later<R: Input, C: Ledger, A: Ledger>(
+pub(crate) fn shown_later<R: Input, C: Ledger, A: Ledger, K: Ledger>(
     tables: &Tables,
-    stage: &mut Stage<'_, R, C, A>,
+    stage: &mut Stage<'_, R, C, A, K>,
 ) -> Result<Value, Trouble> {
     let alloc = tables.all.alloc;
     let mut all = vec![in alloc; shown(alloc, stage)?]?;

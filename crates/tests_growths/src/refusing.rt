@@ -22,13 +22,13 @@ pub(crate) fn stamp_after(point: u64) -> Stamp {
 }
 
 /// A world with its share, and what refuses a request of its next call.
-pub(crate) struct Refusing<'a, R: Input, C: Ledger, A: Ledger> {
+pub(crate) struct Refusing<'a, R: Input, C: Ledger, A: Ledger, K: Ledger> {
     pub(crate) refuser: Refuser<'a, R>,
-    pub(crate) whole: Whole<C, A>,
+    pub(crate) whole: Whole<C, A, K>,
 }
 
 // A function of its own, which each place that drops one calls; a derived one would be written out there.
-impl<'a, R: Input, C: Ledger, A: Ledger> Drop for Refusing<'a, R, C, A> {
+impl<'a, R: Input, C: Ledger, A: Ledger, K: Ledger> Drop for Refusing<'a, R, C, A, K> {
     fn drop(self) {
         let Refusing {
             refuser: _refuser,
@@ -37,15 +37,15 @@ impl<'a, R: Input, C: Ledger, A: Ledger> Drop for Refusing<'a, R, C, A> {
     }
 }
 
-impl<'a, R: Input, C: Ledger, A: Ledger> Refusing<'a, R, C, A> {
+impl<'a, R: Input, C: Ledger, A: Ledger, K: Ledger> Refusing<'a, R, C, A, K> {
     /// The world with its share, and what refuses.
-    pub(crate) fn parted(self) -> (Refuser<'a, R>, Whole<C, A>) {
+    pub(crate) fn parted(self) -> (Refuser<'a, R>, Whole<C, A, K>) {
         let Refusing { refuser, whole } = self;
         (refuser, whole)
     }
 }
 
-impl<'a, R: Input, C: Ledger, A: Ledger> Subject for Refusing<'a, R, C, A> {
+impl<'a, R: Input, C: Ledger, A: Ledger, K: Ledger> Subject for Refusing<'a, R, C, A, K> {
     fn begin(&self, alloc: Global) -> Result<Open, AllocError> {
         self.whole.begin(alloc)
     }

@@ -84,11 +84,11 @@ fn body(alloc: Global, funs: &FunTable, tx: &mut Tx<Core>) -> Result<(), TxFault
 type Answer = Result<(Value, bool), AllocError>;
 
 // `transact`, of which what follows the body is counted.
-fn transact<R: Input + Wait, C: Ledger, A: Ledger>(
+fn transact<R: Input + Wait, C: Ledger, A: Ledger, K: Ledger>(
     rt: &R,
     by: By,
-    shared: &Shared<Core, C, A>,
-    share: &mut Share<C, A>,
+    shared: &Shared<Core, C, A, K>,
+    share: &mut Share<C, A, K>,
     stamp: Stamp,
     request: usize,
 ) -> Answer {
@@ -109,11 +109,11 @@ fn transact<R: Input + Wait, C: Ledger, A: Ledger>(
 }
 
 // A commit of transaction 1. A refused one is open still.
-fn commit<R: Input + Wait, C: Ledger, A: Ledger>(
+fn commit<R: Input + Wait, C: Ledger, A: Ledger, K: Ledger>(
     rt: &R,
     by: By,
-    shared: &Shared<Core, C, A>,
-    share: &mut Share<C, A>,
+    shared: &Shared<Core, C, A, K>,
+    share: &mut Share<C, A, K>,
     stamp: Stamp,
     opens: &mut Vec<Option<Open>>,
     request: usize,
@@ -160,10 +160,10 @@ fn work_form(
 }
 
 // `work_once`, of which what follows a spot is counted. It waits for nobody.
-fn work<R: Input + Wait, C: Ledger, A: Ledger>(
+fn work<R: Input + Wait, C: Ledger, A: Ledger, K: Ledger>(
     rt: &R,
     by: By,
-    shared: &Shared<Core, C, A>,
+    shared: &Shared<Core, C, A, K>,
     from: Spot,
     request: usize,
 ) -> Answer {
@@ -177,11 +177,11 @@ fn work<R: Input + Wait, C: Ledger, A: Ledger>(
     Ok((said, gate.refuser.was_refused()))
 }
 
-fn called<R: Input + Wait, C: Ledger, A: Ledger>(
+fn called<R: Input + Wait, C: Ledger, A: Ledger, K: Ledger>(
     rt: &R,
     by: By,
-    shared: &Shared<Core, C, A>,
-    share: &mut Share<C, A>,
+    shared: &Shared<Core, C, A, K>,
+    share: &mut Share<C, A, K>,
     stamp: Stamp,
     opens: &mut Vec<Option<Open>>,
     call: SharedCall,
@@ -198,17 +198,17 @@ fn called<R: Input + Wait, C: Ledger, A: Ledger>(
 // ---- Ends
 
 // How a shared world ended.
-type Ended<C, A> = Result<
-    (World<Core, C, A>, Totals),
-    (World<Core, C, A>, Share<C, A>, GatherFault),
+type Ended<C, A, K> = Result<
+    (World<Core, C, A, K>, Totals),
+    (World<Core, C, A, K>, Share<C, A, K>, GatherFault),
 >;
 
-fn finished<R: Input, C: Ledger, A: Ledger>(
+fn finished<R: Input, C: Ledger, A: Ledger, K: Ledger>(
     alloc: Global,
-    shared: Shared<Core, C, A>,
-    share: Share<C, A>,
+    shared: Shared<Core, C, A, K>,
+    share: Share<C, A, K>,
     refuser: &mut Refuser<'_, R>,
-) -> Result<Ended<C, A>, Trouble> {
+) -> Result<Ended<C, A, K>, Trouble> {
     if !share.is_whole() {
         return Err(Trouble);
     }
@@ -219,12 +219,12 @@ fn finished<R: Input, C: Ledger, A: Ledger>(
 }
 
 // The world and its share again: `finish` returns both if it is refused memory.
-fn taken_out<R: Input, C: Ledger, A: Ledger>(
+fn taken_out<R: Input, C: Ledger, A: Ledger, K: Ledger>(
     alloc: Global,
-    shared: Shared<Core, C, A>,
-    share: Share<C, A>,
+    shared: Shared<Core, C, A, K>,
+    share: Share<C, A, K>,
     refuser: &mut Refuser<'_, R>,
-) -> Result<Whole<C, A>, Trouble> {
+) -> Result<Whole<C, A, K>, Trouble> {
     refuser.arm(1);
     match finished(alloc, shared, share, refuser)? {
         Err((world, share, GatherFault::Memory)) => Ok(Whole { world, share }),
@@ -235,13 +235,13 @@ fn taken_out<R: Input, C: Ledger, A: Ledger>(
 // ---- Trials
 
 // What a call answered, whether a request was refused, and the world again.
-struct Returned<'a, R: Input, C: Ledger, A: Ledger> {
+struct Returned<'a, R: Input, C: Ledger, A: Ledger, K: Ledger> {
     answer: Value,
     was_hit: bool,
-    stage: Stage<'a, R, C, A>,
+    stage: Stage<'a, R, C, A, K>,
 }
 
-impl<'a, R: Input, C: Ledger, A: Ledger> Drop for Returned<'a, R, C, A> {
+impl<'a, R: Input, C: Ledger, A: Ledger, K: Ledger> Drop for Returned<'a, R, C, A, K> {
     fn drop(self) {
         let Returned {
             answer: _answer,
@@ -251,8 +251,8 @@ impl<'a, R: Input, C: Ledger, A: Ledger> Drop for Returned<'a, R, C, A> {
     }
 }
 
-impl<'a, R: Input, C: Ledger, A: Ledger> Returned<'a, R, C, A> {
-    fn parted(self) -> (Value, bool, Stage<'a, R, C, A>) {
+impl<'a, R: Input, C: Ledger, A: Ledger, K: Ledger> Returned<'a, R, C, A, K> {
+    fn parted(self) -> (Value, bool, Stage<'a, R, C, A, K>) {
         let Returned {
             answer,
             was_hit,
@@ -262,13 +262,13 @@ impl<'a, R: Input, C: Ledger, A: Ledger> Returned<'a, R, C, A> {
     }
 }
 
-fn called_on<'a, R: AllocGlobal + Input + Wait, C: Ledger, A: Ledger>(
+fn called_on<'a, R: AllocGlobal + Input + Wait, C: Ledger, A: Ledger, K: Ledger>(
     rt: &R,
     by: By,
-    stage: Stage<'a, R, C, A>,
+    stage: Stage<'a, R, C, A, K>,
     call: SharedCall,
     request: usize,
-) -> Result<Returned<'a, R, C, A>, Trouble> {
+) -> Result<Returned<'a, R, C, A, K>, Trouble> {
     let stamp = stamp_after(stage.point());
     let (mut refuser, whole, mut opens) = stage.parted();
     let (world, mut share) = whole.parted();
@@ -285,10 +285,10 @@ fn called_on<'a, R: AllocGlobal + Input + Wait, C: Ledger, A: Ledger>(
 }
 
 // Makes a refused call once more.
-fn lent_again<R: AllocGlobal + Input + Wait, C: Ledger, A: Ledger>(
+fn lent_again<R: AllocGlobal + Input + Wait, C: Ledger, A: Ledger, K: Ledger>(
     rt: &R,
     tables: &Tables,
-    stage: Stage<'_, R, C, A>,
+    stage: Stage<'_, R, C, A, K>,
     call: SharedCall,
     (was_hit, was_same): (bool, bool),
 ) -> Result<Trial, Trouble> {
@@ -303,10 +303,10 @@ fn lent_again<R: AllocGlobal + Input + Wait, C: Ledger, A: Ledger>(
 }
 
 // Makes a call on a world that is shared for it.
-fn on_lent<R: AllocGlobal + Input + Wait, C: Ledger, A: Ledger>(
+fn on_lent<R: AllocGlobal + Input + Wait, C: Ledger, A: Ledger, K: Ledger>(
     rt: &R,
     tables: &Tables,
-    stage: Stage<'_, R, C, A>,
+    stage: Stage<'_, R, C, A, K>,
     call: SharedCall,
     plan: Plan,
 ) -> Result<Trial, Trouble> {
@@ -329,22 +329,27 @@ fn on_lent<R: AllocGlobal + Input + Wait, C: Ledger, A: Ledger>(
 }
 
 // What shows of a shared world that has ended.
-fn end_form<C: Ledger, A: Ledger>(
+fn end_form<C: Ledger, A: Ledger, K: Ledger>(
     alloc: Global,
-    world: &World<Core, C, A>,
+    world: &World<Core, C, A, K>,
     totals: Totals,
 ) -> Result<Value, Trouble> {
     let Ok(dumped) = dump(alloc, world) else {
         return Err(Trouble);
     };
-    let totals = vec![in alloc; number(totals.commits)?, number(totals.added)?, dumped]?;
+    let totals = vec![in alloc;
+        number(totals.commits)?,
+        number(totals.added)?,
+        number(totals.taken)?,
+        dumped,
+    ]?;
     Ok(vector(alloc, totals)?)
 }
 
 // The end of a shared world that came out again: a second one, if it is to be.
-fn end_again<R: Input, C: Ledger, A: Ledger>(
+fn end_again<R: Input, C: Ledger, A: Ledger, K: Ledger>(
     tables: &Tables,
-    stage: Stage<'_, R, C, A>,
+    stage: Stage<'_, R, C, A, K>,
     plan: Plan,
 ) -> Result<(Value, Value), Trouble> {
     let alloc = tables.all.alloc;
@@ -362,9 +367,9 @@ fn end_again<R: Input, C: Ledger, A: Ledger>(
 }
 
 // Ends a world that is shared for it.
-fn on_ended<R: Input, C: Ledger, A: Ledger>(
+fn on_ended<R: Input, C: Ledger, A: Ledger, K: Ledger>(
     tables: &Tables,
-    stage: Stage<'_, R, C, A>,
+    stage: Stage<'_, R, C, A, K>,
     plan: Plan,
 ) -> Result<Trial, Trouble> {
     let alloc = tables.all.alloc;
@@ -400,10 +405,10 @@ fn on_ended<R: Input, C: Ledger, A: Ledger>(
 }
 
 /// Makes a call on a world that is shared for it.
-pub(crate) fn on_shared<R: AllocGlobal + Input + Wait, C: Ledger, A: Ledger>(
+pub(crate) fn on_shared<R: AllocGlobal + Input + Wait, C: Ledger, A: Ledger, K: Ledger>(
     rt: &R,
     tables: &Tables,
-    stage: Stage<'_, R, C, A>,
+    stage: Stage<'_, R, C, A, K>,
     call: SharedCall,
     plan: Plan,
 ) -> Result<Trial, Trouble> {

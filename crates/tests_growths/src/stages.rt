@@ -19,13 +19,13 @@ use tests_rows::whole::Whole;
 use tests_rows::words::{form, open_form, vector};
 
 /// A world, as rows have it, and a job of it that has run.
-pub(crate) struct Stage<'a, R: Input, C: Ledger, A: Ledger> {
-    pub(crate) rows: Rows<Refusing<'a, R, C, A>>,
+pub(crate) struct Stage<'a, R: Input, C: Ledger, A: Ledger, K: Ledger> {
+    pub(crate) rows: Rows<Refusing<'a, R, C, A, K>>,
     pub(crate) ran: Option<Ran<Core>>,
 }
 
 // A job is spent.
-impl<'a, R: Input, C: Ledger, A: Ledger> Drop for Stage<'a, R, C, A> {
+impl<'a, R: Input, C: Ledger, A: Ledger, K: Ledger> Drop for Stage<'a, R, C, A, K> {
     fn drop(self) {
         let Stage { rows: _rows, ran } = self;
         if let Some(ran) = ran {
@@ -34,13 +34,13 @@ impl<'a, R: Input, C: Ledger, A: Ledger> Drop for Stage<'a, R, C, A> {
     }
 }
 
-impl<'a, R: Input, C: Ledger, A: Ledger> Stage<'a, R, C, A> {
+impl<'a, R: Input, C: Ledger, A: Ledger, K: Ledger> Stage<'a, R, C, A, K> {
     /// A world with its share and open transactions.
     pub(crate) fn of(
         refuser: Refuser<'a, R>,
-        whole: Whole<C, A>,
+        whole: Whole<C, A, K>,
         open: Vec<Option<Open>>,
-    ) -> Stage<'a, R, C, A> {
+    ) -> Stage<'a, R, C, A, K> {
         let subject = Refusing { refuser, whole };
         Stage {
             rows: Rows { subject, open },
@@ -52,13 +52,13 @@ impl<'a, R: Input, C: Ledger, A: Ledger> Stage<'a, R, C, A> {
     pub(crate) fn with_nothing_open(
         alloc: Global,
         refuser: Refuser<'a, R>,
-        whole: Whole<C, A>,
-    ) -> Result<Stage<'a, R, C, A>, Trouble> {
+        whole: Whole<C, A, K>,
+    ) -> Result<Stage<'a, R, C, A, K>, Trouble> {
         Ok(Stage::of(refuser, whole, no_open(alloc)?))
     }
 
     /// What it was made of. A job that has run is spent.
-    pub(crate) fn parted(self) -> (Refuser<'a, R>, Whole<C, A>, Vec<Option<Open>>) {
+    pub(crate) fn parted(self) -> (Refuser<'a, R>, Whole<C, A, K>, Vec<Option<Open>>) {
         let Stage { rows, ran } = self;
         if let Some(ran) = ran {
             ran.into_job().forsake();
@@ -87,9 +87,9 @@ impl<'a, R: Input, C: Ledger, A: Ledger> Stage<'a, R, C, A> {
 // ---- What a world shows
 
 // A receipt's point, and whether its entry is that of the log there. What was folded isn't in the log.
-fn receipt_form<R: Input, C: Ledger, A: Ledger>(
+fn receipt_form<R: Input, C: Ledger, A: Ledger, K: Ledger>(
     alloc: Global,
-    stage: &Stage<'_, R, C, A>,
+    stage: &Stage<'_, R, C, A, K>,
     receipt: &LogReceipt,
 ) -> Result<Value, AllocError> {
     let world = &stage.rows.subject.whole.world;
@@ -106,9 +106,9 @@ fn receipt_form<R: Input, C: Ledger, A: Ledger>(
 }
 
 // The receipts of the share, and how many parts it has.
-fn share_form<R: Input, C: Ledger, A: Ledger>(
+fn share_form<R: Input, C: Ledger, A: Ledger, K: Ledger>(
     alloc: Global,
-    stage: &Stage<'_, R, C, A>,
+    stage: &Stage<'_, R, C, A, K>,
 ) -> Result<Value, AllocError> {
     let share = &stage.rows.subject.whole.share;
     let mut all = vec![in alloc; number(share.parts())?]?;
@@ -119,22 +119,26 @@ fn share_form<R: Input, C: Ledger, A: Ledger>(
 }
 
 // The totals.
-fn totals_form<R: Input, C: Ledger, A: Ledger>(
+fn totals_form<R: Input, C: Ledger, A: Ledger, K: Ledger>(
     alloc: Global,
-    stage: &mut Stage<'_, R, C, A>,
+    stage: &mut Stage<'_, R, C, A, K>,
 ) -> Result<Value, AllocError> {
     let whole = &mut stage.rows.subject.whole;
     let totals = whole.world.totals(&mut whole.share);
     vector(
         alloc,
-        vec![in alloc; number(totals.commits)?, number(totals.added)?]?,
+        vec![in alloc;
+            number(totals.commits)?,
+            number(totals.added)?,
+            number(totals.taken)?,
+        ]?,
     )
 }
 
 // The open transactions.
-fn opens_form<R: Input, C: Ledger, A: Ledger>(
+fn opens_form<R: Input, C: Ledger, A: Ledger, K: Ledger>(
     alloc: Global,
-    stage: &Stage<'_, R, C, A>,
+    stage: &Stage<'_, R, C, A, K>,
 ) -> Result<Value, AllocError> {
     let mut all = Vec::new(alloc);
     for place in &stage.rows.open {
@@ -147,9 +151,9 @@ fn opens_form<R: Input, C: Ledger, A: Ledger>(
 }
 
 /// What shows without a call that changes something: the dump, the share, the totals, and the transactions that are open.
-pub(crate) fn shown<R: Input, C: Ledger, A: Ledger>(
+pub(crate) fn shown<R: Input, C: Ledger, A: Ledger, K: Ledger>(
     alloc: Global,
-    stage: &mut Stage<'_, R, C, A>,
+    stage: &mut Stage<'_, R, C, A, K>,
 ) -> Result<Value, Trouble> {
     let Ok(dumped) = dump(alloc, &stage.rows.subject.whole.world) else {
         return Err(Trouble);

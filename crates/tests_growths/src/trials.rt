@@ -98,18 +98,20 @@ impl Drop for Trial {
 }
 
 /// A new world with its share, and what refuses.
-pub(crate) fn opened<'a, R: AllocGlobal + Input, C: Ledger, A: Ledger>(
+pub(crate) fn opened<'a, R: AllocGlobal + Input, C: Ledger, A: Ledger, K: Ledger>(
     rt: &'a R,
     tables: &Tables,
     commits: Blank,
     added: Blank,
-) -> Result<Stage<'a, R, C, A>, Trouble>
+    taken: Blank,
+) -> Result<Stage<'a, R, C, A, K>, Trouble>
     requires commits { IsBlank commits C.name C.parts }
     requires added { IsBlank added A.name A.parts }
+    requires taken { IsBlank taken K.name K.parts }
 {
     let alloc = rt.alloc();
     let start = declared(alloc, starts_of(alloc, &read(alloc, STARTS)?)?)?;
-    match World::<Core, C, A>::new(alloc, tables.all.funs, start, commits, added) {
+    match World::<Core, C, A, K>::new(alloc, tables.all.funs, start, commits, added, taken) {
         Ok((world, share)) => {
             Stage::with_nothing_open(alloc, Refuser::new(rt), Whole { world, share })
         }
@@ -118,9 +120,9 @@ pub(crate) fn opened<'a, R: AllocGlobal + Input, C: Ledger, A: Ledger>(
 }
 
 // Makes the rounds of a call, and what comes before the next one.
-fn make_rounds<R: Input, C: Ledger, A: Ledger>(
+fn make_rounds<R: Input, C: Ledger, A: Ledger, K: Ledger>(
     tables: &Tables,
-    stage: &mut Stage<'_, R, C, A>,
+    stage: &mut Stage<'_, R, C, A, K>,
     case: &Case,
     rounds: u64,
 ) -> Result<(), AllocError> {
@@ -134,9 +136,9 @@ fn make_rounds<R: Input, C: Ledger, A: Ledger>(
 }
 
 // Makes up to forty drawn rows.
-fn make_drawn<R: Input, C: Ledger, A: Ledger>(
+fn make_drawn<R: Input, C: Ledger, A: Ledger, K: Ledger>(
     tables: &Tables,
-    stage: &mut Stage<'_, R, C, A>,
+    stage: &mut Stage<'_, R, C, A, K>,
     number: u64,
 ) -> Result<(), AllocError> {
     let mut draws = Draws::of(number);
@@ -150,9 +152,9 @@ fn make_drawn<R: Input, C: Ledger, A: Ledger>(
 }
 
 // Makes the state of a call.
-fn fill<R: Input, C: Ledger, A: Ledger>(
+fn fill<R: Input, C: Ledger, A: Ledger, K: Ledger>(
     tables: &Tables,
-    stage: &mut Stage<'_, R, C, A>,
+    stage: &mut Stage<'_, R, C, A, K>,
     case: &Case,
     state: State,
 ) -> Result<(), AllocError> {
@@ -170,9 +172,9 @@ fn fill<R: Input, C: Ledger, A: Ledger>(
 }
 
 // Makes a call on a world.
-fn on_world<R: Input, C: Ledger, A: Ledger>(
+fn on_world<R: Input, C: Ledger, A: Ledger, K: Ledger>(
     tables: &Tables,
-    stage: &mut Stage<'_, R, C, A>,
+    stage: &mut Stage<'_, R, C, A, K>,
     row: &str,
     round: u64,
     plan: Plan,
@@ -198,9 +200,9 @@ fn on_world<R: Input, C: Ledger, A: Ledger>(
 }
 
 // What a world shows in which the call isn't made.
-fn left<R: Input, C: Ledger, A: Ledger>(
+fn left<R: Input, C: Ledger, A: Ledger, K: Ledger>(
     tables: &Tables,
-    stage: &mut Stage<'_, R, C, A>,
+    stage: &mut Stage<'_, R, C, A, K>,
 ) -> Result<Trial, Trouble> {
     Ok(Trial {
         answer: form(tables.all.alloc, ":none")?,
@@ -211,7 +213,7 @@ fn left<R: Input, C: Ledger, A: Ledger>(
     })
 }
 
-fn tried_in<R: AllocGlobal + Input + Wait, C: Ledger, A: Ledger>(
+fn tried_in<R: AllocGlobal + Input + Wait, C: Ledger, A: Ledger, K: Ledger>(
     rt: &R,
     tables: &Tables,
     case: &Case,
@@ -219,11 +221,13 @@ fn tried_in<R: AllocGlobal + Input + Wait, C: Ledger, A: Ledger>(
     plan: Plan,
     commits: Blank,
     added: Blank,
+    taken: Blank,
 ) -> Result<Trial, Trouble>
     requires commits { IsBlank commits C.name C.parts }
     requires added { IsBlank added A.name A.parts }
+    requires taken { IsBlank taken K.name K.parts }
 {
-    let mut stage = opened::<R, C, A>(rt, tables, commits, added)?;
+    let mut stage = opened::<R, C, A, K>(rt, tables, commits, added, taken)?;
     fill(tables, &mut stage, case, state)?;
     match case.call {
         _ if plan == Plan::Never => left(tables, &mut stage),
@@ -240,6 +244,10 @@ pub(crate) fn tried<R: AllocGlobal + Input + Wait>(
     state: State,
     plan: Plan,
 ) -> Result<Trial, Trouble> {
-    let (commits, added) = (Blank::new(ALL_PARTS), Blank::new(ALL_PARTS));
-    tried_in::<R, Brand, Brand>(rt, tables, case, state, plan, commits, added)
+    let (commits, added, taken) = (
+        Blank::new(ALL_PARTS),
+        Blank::new(ALL_PARTS),
+        Blank::new(ALL_PARTS),
+    );
+    tried_in::<R, Brand, Brand, Brand>(rt, tables, case, state, plan, commits, added, taken)
 }

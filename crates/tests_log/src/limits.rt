@@ -228,3 +228,29 @@ fn points_end(rt: HostRuntime) -> Result<(), Fail> {
         "##,
     )
 }
+
+// Each commit here may add so much to the tally and take so much from it as `room` says, whatever was added and taken before. A
+// commit is refused for that where nothing else refuses it before.
+#[test]
+fn books_fill_up(rt: HostRuntime) -> Result<(), Fail> {
+    check_apart(
+        rt.alloc(),
+        "",
+        r##"
+            [[tally 0]] [] [] [room 5 3 :ok] [begin 1 0] [1 commute a + 5 5] [1 commute a - 3 2] [commit 1 1] [now a 2] [changed a 1]
+            [[tally 0]] [] [] [room 5 3 :ok] [begin 1 0] [1 commute a + 3 3] [1 commute a + 3 6] [commit 1 :book-full] [now a 0] [changed a 0] [entries 0] [room 6 0 :ok] [commit 1 1] [now a 6]
+            [[tally 9]] [] [] [room 5 3 :ok] [begin 1 0] [1 commute a - 4 5] [commit 1 :book-full] [now a 9] [entries 0] [room 0 4 :ok] [commit 1 1] [now a 5]
+            // What adds is no taking, and what takes adds nothing.
+            [[tally 9]] [] [] [room 9 0 :ok] [begin 1 0] [1 commute a + 9 18] [commit 1 1] [room 0 9 :ok] [begin 2 1] [2 commute a - 9 9] [commit 2 2]
+            // The book of another ref: there is none.
+            [0 [tally 0]] [] [] [room 0 0 :ok] [begin 1 0] [1 alter a - 2 -2] [1 commute a + 9 7] [1 ensure b 0] [1 commute b + 0 0] [1 commute b - 0 0] [commit 1 1] [now a 7]
+            // Sums of more than 64 bits.
+            [[tally 0]] [] [] [begin 1 0] [1 commute a + 9223372036854775807 9223372036854775807] [1 commute a - 9223372036854775807 0] [1 commute a + 9223372036854775807 9223372036854775807] [1 commute a - 9223372036854775807 0] [1 commute a + 9223372036854775807 9223372036854775807] [commit 1 :book-full] [now a 0]
+            // A conflict, a refusal, a rule and the end of points come before.
+            [[tally 0] 0] [] [] [room 0 0 :ok] [begin 1 0] [1 commute a + 1 1] [1 set b 1 1] [begin 2 0] [2 set b 2 2] [commit 2 1] [commit 1 [:conflict 1 0 1]]
+            [[tally 0] 0] [] [] [room 0 0 :ok] [begin 1 0] [1 commute a + 1 1] [1 commute b + 1 1] [begin 2 0] [2 set b :k :k] [commit 2 1] [commit 1 [:refused 1 :wrong-kind]]
+            [[tally 0] [rule 0 [>= 0]]] [] [] [room 0 0 :ok] [begin 1 0] [1 commute a + 1 1] [1 set b -1 -1] [commit 1 [:invalid 1]]
+            [[tally 0]] [] [] [room 0 0 :ok] [begin 1 0] [1 commute a - 1 -1] [at 4611686018427387904 :ok] [commit 1 :point-limit] [at 5 :ok] [commit 1 :book-full] [room 0 1 :ok] [commit 1 6] [now a -1]
+        "##,
+    )
+}

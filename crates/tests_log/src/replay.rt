@@ -84,6 +84,7 @@ fn base_of(alloc: Global, point: u32) -> Result<Base, AllocError>
         tally: None,
         commits: 0,
         added: 0,
+        taken: 0,
     })
 }
 

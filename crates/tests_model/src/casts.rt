@@ -70,11 +70,11 @@ fn require(player: &mut Player<Ample>, actor: &Actor, table: Table, r: u32) -> T
     Ok((Act::Require(r, rule_from(player.alloc, rule)?), wanted))
 }
 
-fn drawn_op(player: &mut Player<Ample>) -> PlainOp {
+fn drawn_op(player: &mut Player<Ample>, is_tally: bool) -> PlainOp {
     match player.draws.below(12) {
         0..=2 => PlainOp::Set(player.draws.value()),
         3..=5 => PlainOp::Alter(player.draws.function()),
-        6..=9 => PlainOp::Commute(player.draws.function()),
+        6..=9 => PlainOp::Commute(player.draws.commuted(is_tally)),
         _ => PlainOp::Ensure,
     }
 }
@@ -89,7 +89,11 @@ fn act_of(alloc: Global, r: u32, op: PlainOp) -> Result<Act, AllocError> {
 }
 
 fn operate(player: &mut Player<Ample>, actor: &mut Actor, table: Table, r: u32) -> Told {
-    let op = drawn_op(player);
+    let is_tally = match &actor.tx {
+        Some(tx) => tx.tally == Some(r),
+        None => false,
+    };
+    let op = drawn_op(player, is_tally);
     let act = act_of(player.alloc, r, op)?;
     let wanted = match &mut actor.tx {
         Some(tx) => Wanted::Operate(op, tx.operate(table, r, op)?),

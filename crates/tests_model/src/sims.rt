@@ -161,9 +161,9 @@ fn serves(cast: &Cast, table: Table) -> bool {
 }
 
 // A table that serves what there is.
-fn drawn_table<C: Ledger, A: Ledger>(
+fn drawn_table<C: Ledger, A: Ledger, K: Ledger>(
     player: &mut Player<Ample>,
-    sim: &Sim<Core, C, A>,
+    sim: &Sim<Core, C, A, K>,
     cast: &Cast,
 ) -> Result<Table, Stop> {
     let is_served = sim.served_by(&Table::FEWER);
@@ -179,9 +179,9 @@ fn drawn_table<C: Ledger, A: Ledger>(
 
 // ---- Sims
 
-fn play_list<C: Ledger, A: Ledger>(
+fn play_list<C: Ledger, A: Ledger, K: Ledger>(
     player: &mut Player<Ample>,
-    sim: &mut Sim<Core, C, A>,
+    sim: &mut Sim<Core, C, A, K>,
     cast: &mut Cast,
     came: &mut Came,
 ) -> Played {
@@ -198,9 +198,9 @@ fn play_list<C: Ledger, A: Ledger>(
     }
 }
 
-fn play_lists<C: Ledger, A: Ledger>(
+fn play_lists<C: Ledger, A: Ledger, K: Ledger>(
     player: &mut Player<Ample>,
-    sim: &mut Sim<Core, C, A>,
+    sim: &mut Sim<Core, C, A, K>,
     cast: &mut Cast,
     came: &mut Came,
 ) -> Played {
@@ -212,9 +212,9 @@ fn play_lists<C: Ledger, A: Ledger>(
 }
 
 // Whether all is as in the model, where each job was put back.
-fn check_end<C: Ledger, A: Ledger>(
-    world: &mut World<Core, C, A>,
-    share: &mut Share<C, A>,
+fn check_end<C: Ledger, A: Ledger, K: Ledger>(
+    world: &mut World<Core, C, A, K>,
+    share: &mut Share<C, A, K>,
     cast: &mut Cast,
 ) -> Played {
     for actor in &cast.actors {
@@ -232,7 +232,10 @@ fn check_end<C: Ledger, A: Ledger>(
 }
 
 // Takes every job that there is, which are those of the model.
-fn check_jobs<C: Ledger, A: Ledger>(world: &mut World<Core, C, A>, cast: &mut Cast) -> Played {
+fn check_jobs<C: Ledger, A: Ledger, K: Ledger>(
+    world: &mut World<Core, C, A, K>,
+    cast: &mut Cast,
+) -> Played {
     for _ in 0..cast.model.accounts.len() {
         if let Some(job) = world.take()? {
             let (agent, number) = (job.agent(), job.number());
@@ -251,9 +254,9 @@ fn check_jobs<C: Ledger, A: Ledger>(world: &mut World<Core, C, A>, cast: &mut Ca
 }
 
 // Plays lists, and ends what they were played on, whatever came of them.
-fn play_to_end<C: Ledger, A: Ledger>(
+fn play_to_end<C: Ledger, A: Ledger, K: Ledger>(
     player: &mut Player<Ample>,
-    mut sim: Sim<Core, C, A>,
+    mut sim: Sim<Core, C, A, K>,
     cast: &mut Cast,
     came: &mut Came,
 ) -> Played {
@@ -264,14 +267,16 @@ fn play_to_end<C: Ledger, A: Ledger>(
     check_jobs(&mut world, cast)
 }
 
-fn play_in<C: Ledger, A: Ledger>(
+fn play_in<C: Ledger, A: Ledger, K: Ledger>(
     player: &mut Player<Ample>,
     came: &mut Came,
     commits: Blank,
     added: Blank,
+    taken: Blank,
 ) -> Played
     requires commits { IsBlank commits C.name C.parts }
     requires added { IsBlank added A.name A.parts }
+    requires taken { IsBlank taken K.name K.parts }
 {
     let Drawn {
         start,
@@ -280,7 +285,7 @@ fn play_in<C: Ledger, A: Ledger>(
     } = first_world(player)?;
     let actors = drawn_actors(player)?;
     let mut cast = Cast { model, actors };
-    match Sim::<Core, C, A>::new(player.alloc, &table, start, commits, added) {
+    match Sim::<Core, C, A, K>::new(player.alloc, &table, start, commits, added, taken) {
         Ok(sim) => play_to_end(player, sim, &mut cast, came),
         Err(_refused) => Err(Stop::Differs("the new world")),
     }
@@ -288,8 +293,12 @@ fn play_in<C: Ledger, A: Ledger>(
 
 fn play(player: &mut Player<Ample>, came: &mut Came, list: u64) -> Played {
     player.begins(list);
-    let (commits, added) = (Blank::new(ALL_PARTS), Blank::new(ALL_PARTS));
-    play_in::<Brand, Brand>(player, came, commits, added)
+    let (commits, added, taken) = (
+        Blank::new(ALL_PARTS),
+        Blank::new(ALL_PARTS),
+        Blank::new(ALL_PARTS),
+    );
+    play_in::<Brand, Brand, Brand>(player, came, commits, added, taken)
 }
 
 // Plays 2,500 times, and looks whether each kind of reply came.

@@ -1,5 +1,5 @@
 //! The base of the model: what was declared, and the entries that are folded.
-use crate::books::added_in;
+use crate::books::{added_in, taken_in};
 use crate::model::{Model, PlainEntry};
 use crate::plain::Plain;
 use crate::tables::Table;
@@ -15,6 +15,7 @@ pub struct PlainBase {
     pub atoms: Vec<Plain>,
     pub commits: u64,
     pub added: u64,
+    pub taken: u64,
 }
 
 impl PlainBase {
@@ -26,6 +27,7 @@ impl PlainBase {
             atoms: Vec::new(alloc),
             commits: 0,
             added: 0,
+            taken: 0,
         }
     }
 
@@ -50,7 +52,8 @@ impl PlainBase {
             }
         }
         self.commits = self.commits.wrapping_add(1);
-        self.added = self.added.wrapping_add(added_in(tally, &tx.dones));
+        self.added = self.added.saturating_add(added_in(tally, &tx.dones));
+        self.taken = self.taken.saturating_add(taken_in(tally, &tx.dones));
     }
 
     // Folds one entry more.

@@ -5,6 +5,9 @@ use crate::tables::Table;
 use ref_agents::ErrorMode;
 use ref_log::Who;
 
+// Half of what a book can hold, and one more.
+const HALF: i64 = 4_611_686_018_427_387_904;
+
 /// Numbers that follow one another as if by chance. The same first one gives the same row.
 #[derive(Clone, Copy, Drop)]
 pub struct Draws {
@@ -78,6 +81,17 @@ impl Draws {
             self.given()
         };
         PlainCall { code, given }
+    }
+
+    /// A function that is commuted. On the tally it is now and then `+` or `-` with a count of which a book holds one alone.
+    pub fn commuted(&mut self, is_tally: bool) -> PlainCall {
+        if !is_tally || !self.once_in(2) {
+            return self.function();
+        }
+        PlainCall {
+            code: if self.once_in(2) { 1 } else { 2 },
+            given: Given::One(Plain::Int(HALF)),
+        }
     }
 
     /// An action. Two of them are drawn often: one that fails, and one that may be the same in two worlds.

@@ -41,7 +41,7 @@ impl Open {
 
 // ---- While it is open
 
-fn drawn_op<M: Memory>(player: &mut Player<M>) -> PlainOp {
+fn drawn_op<M: Memory>(player: &mut Player<M>, is_tally: bool) -> PlainOp {
     match player.draws.below(12) {
         0..=2 => {
             player.calls(Row::RefSet);
@@ -53,7 +53,7 @@ fn drawn_op<M: Memory>(player: &mut Player<M>) -> PlainOp {
         }
         6..=9 => {
             player.calls(Row::Commute);
-            PlainOp::Commute(player.draws.function())
+            PlainOp::Commute(player.draws.commuted(is_tally))
         }
         _ => {
             player.calls(Row::Ensure);
@@ -159,7 +159,7 @@ fn compare<M: Memory>(
 }
 
 fn operate<M: Memory>(player: &mut Player<M>, open: &mut Open, r: u32) -> Played {
-    let op = drawn_op(player);
+    let op = drawn_op(player, open.plain.tally == Some(r));
     let table = player.draws.table();
     let seen = operated(player, table, &mut open.tx, r, op);
     if player.refuses(matches!(&seen, Err(TxFault::Memory))) {

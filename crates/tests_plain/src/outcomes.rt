@@ -92,7 +92,7 @@ const ROWS: &[(&str, &str)] = &[
     ("require", "ok NoSuchRef - - - NoSuchFun - NotMet"),
     (
         "commit_with",
-        "ok Foreign Conflict Value Refused Invalid - - - NoSuchFun",
+        "ok Foreign Conflict Value Refused Invalid - - BookFull NoSuchFun",
     ),
     ("foreign", "ref agent tally point value"),
     ("function at a commit", "- WrongKind - Overflow"),

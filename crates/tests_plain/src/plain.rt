@@ -116,7 +116,8 @@ pub fn fits_tally(op: PlainOp) -> bool {
     match op {
         PlainOp::Ensure => true,
         PlainOp::Commute(call) => {
-            call.code == 1 && matches!(call.given, Given::One(Plain::Int(n)) if n >= 0)
+            (call.code == 1 || call.code == 2)
+                && matches!(call.given, Given::One(Plain::Int(n)) if n >= 0)
         }
         PlainOp::Set(_) | PlainOp::Alter(_) => false,
     }

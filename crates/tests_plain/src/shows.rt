@@ -259,6 +259,7 @@ pub fn is_base(base: &Base, model: &Model) -> bool {
     base.point == plain.point()
         && base.commits == plain.commits
         && base.added == plain.added
+        && base.taken == plain.taken
         && base.tally == model.tally
         && base.last.as_slice() == plain.lasts.as_slice()
         && show(base.refs.as_slice(), &plain.refs)

@@ -386,6 +386,9 @@ impl Model {
         if let Some(r) = self.first_invalid(tx, &after) {
             return Ok(Err(CommitFault::Invalid(r)));
         }
+        if self.is_book_full(&tx.dones) {
+            return Ok(Err(CommitFault::BookFull));
+        }
         Ok(Ok(self.land(stamp, tx, &after)?))
     }
 }

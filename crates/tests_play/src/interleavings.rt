@@ -10,9 +10,9 @@ fn transactions_interleave(rt: HostRuntime) -> Result<(), Fail> {
         rt.alloc(),
         r##"
             // The second of two transactions that change a ref is refused, and stays open until it is dropped.
-            [0] [] [0] [0 begin 0] [0 alter a + 1 1] [1 begin 0] [1 ref-set a 5 5] [1 commit 1 0 [1 1 0]] [0 commit 0 0 [:conflict 0 0 1]] [0 commit 0 0 [:conflict 0 0 1]] [0 begin :busy] [0 abort :ok] [0 commit 0 0 :no-tx] [0 value-of a 5] [entries 1] [end] [totals [1 0]] [receipts 1]
+            [0] [] [0] [0 begin 0] [0 alter a + 1 1] [1 begin 0] [1 ref-set a 5 5] [1 commit 1 0 [1 1 0]] [0 commit 0 0 [:conflict 0 0 1]] [0 commit 0 0 [:conflict 0 0 1]] [0 begin :busy] [0 abort :ok] [0 commit 0 0 :no-tx] [0 value-of a 5] [entries 1] [end] [totals [1 0 0]] [receipts 1]
             // Commutes meet no conflict, and both are in the sum. Each actor still has the answer that it got.
-            [[tally 0]] [] [] [0 begin 0] [0 commute a + 1 1] [1 begin 0] [1 commute a + 10 10] [1 commit 1 0 [1 1 0]] [0 deref a 1] [0 commit 0 0 [2 0 0]] [0 value-of a 11] [added 11] [commits 2] [end] [totals [2 11]] [receipts 2]
+            [[tally 0]] [] [] [0 begin 0] [0 commute a + 1 1] [1 begin 0] [1 commute a + 10 10] [1 commit 1 0 [1 1 0]] [0 deref a 1] [0 commit 0 0 [2 0 0]] [0 value-of a 11] [added 11] [commits 2] [end] [totals [2 11 0]] [receipts 2]
             // Points are compared, and not values.
             [0 0] [] [] [0 begin 0] [0 ref-set b 1 1] [0 ensure a 0] [1 begin 0] [1 ref-set a 1 1] [1 commit 1 0 [1 1 0]] [2 begin 1] [2 ref-set a 0 0] [2 commit 2 0 [2 2 0]] [0 commit 0 0 [:conflict 0 0 2]] [0 value-of b 0] [entries 2]
             // Each reads what the other sets: with `ensure` the second is refused, with `deref` both are committed.
@@ -51,11 +51,11 @@ fn checkpoints_come_between(rt: HostRuntime) -> Result<(), Fail> {
         rt.alloc(),
         r##"
             // An open transaction still meets a conflict with an entry that was folded.
-            [0] [] [] [0 begin 0] [1 begin 0] [1 ref-set a 5 5] [1 commit 1 0 [1 1 0]] [2 checkpoint 1 1] [0 ref-set a 7 7] [0 commit 0 0 [:conflict 0 0 1]] [entries 0] [base [1 [5] [] [1]]] [commits 1] [end] [totals [1 0]] [receipts 1]
+            [0] [] [] [0 begin 0] [1 begin 0] [1 ref-set a 5 5] [1 commit 1 0 [1 1 0]] [2 checkpoint 1 1] [0 ref-set a 7 7] [0 commit 0 0 [:conflict 0 0 1]] [entries 0] [base [1 [5] [] [1]]] [commits 1] [end] [totals [1 0 0]] [receipts 1]
             // Points before the base's and after the present aren't there.
-            [0] [] [] [0 begin 0] [0 alter a + 1 1] [0 commit 0 0 [1 0 0]] [0 begin 1] [0 alter a + 1 2] [0 commit 0 1 [2 0 1]] [0 begin 2] [0 alter a + 1 3] [0 commit 0 2 [3 0 2]] [1 checkpoint 2 2] [1 checkpoint 2 0] [1 checkpoint 1 :no-such-point] [1 checkpoint 4 :no-such-point] [entries 1] [entry 1 [0 2 2]] [base [2 [2] [] [2]]] [commits 3] [point 3] [0 value-of a 3] [end] [totals [3 0]] [receipts 3]
+            [0] [] [] [0 begin 0] [0 alter a + 1 1] [0 commit 0 0 [1 0 0]] [0 begin 1] [0 alter a + 1 2] [0 commit 0 1 [2 0 1]] [0 begin 2] [0 alter a + 1 3] [0 commit 0 2 [3 0 2]] [1 checkpoint 2 2] [1 checkpoint 2 0] [1 checkpoint 1 :no-such-point] [1 checkpoint 4 :no-such-point] [entries 1] [entry 1 [0 2 2]] [base [2 [2] [] [2]]] [commits 3] [point 3] [0 value-of a 3] [end] [totals [3 0 0]] [receipts 3]
             // Changes of atoms and makings are folded too, and a transaction goes on over the values that it began with.
-            [0 5] [1] [] [0 begin 0] [0 deref b 5] [1 swap x + 1 [1 2]] [1 make-ref 7 c] [1 begin 2] [1 alter b + 1 6] [1 commit 1 0 [3 1 0]] [1 make-atom 8 y] [1 checkpoint 3 3] [0 deref b 5] [0 commute b + 10 15] [0 commit 0 0 [5 0 0]] [1 value-of b 16] [entries 2] [base [3 [0 6 7] [2] [0 3 2]]] [1 checkpoint 5 2] [base [5 [0 16 7] [2 8] [0 5 2]]] [commits 2] [end] [totals [2 0]] [receipts 3]
+            [0 5] [1] [] [0 begin 0] [0 deref b 5] [1 swap x + 1 [1 2]] [1 make-ref 7 c] [1 begin 2] [1 alter b + 1 6] [1 commit 1 0 [3 1 0]] [1 make-atom 8 y] [1 checkpoint 3 3] [0 deref b 5] [0 commute b + 10 15] [0 commit 0 0 [5 0 0]] [1 value-of b 16] [entries 2] [base [3 [0 6 7] [2] [0 3 2]]] [1 checkpoint 5 2] [base [5 [0 16 7] [2 8] [0 5 2]]] [commits 2] [end] [totals [2 0 0]] [receipts 3]
             // A function that an entry needs, of a commit or of an atom, and that the table lacks: nothing is folded.
             [0] [5] [] [0 begin 0] [0 alter a - 1 -1] [0 commit 0 0 [1 0 0]] [0 swap x inc [5 6]] [1 checkpoint-by-fewer 1 [:no-such-fun 2]] [entries 2] [1 checkpoint 1 1] [1 checkpoint-by-fewer 2 [:no-such-fun 3]] [1 checkpoint-by-fewer 1 0] [entries 1] [1 checkpoint 2 1] [entries 0]
         "##,

@@ -8,13 +8,13 @@ fn references_are_made(rt: HostRuntime) -> Result<(), Fail> {
         rt.alloc(),
         r##"
             // Refs and atoms by an entry each, agents without. They are there for transactions that begin later.
-            [] [] [] [0 value-of a :none] [0 value-of x :none] [0 value-of g :none] [0 make-ref 5 a] [1 make-atom 6 x] [0 make-agent 7 g] [1 make-ref :k b] [0 make-atom :l y] [1 make-agent :m h] [0 value-of a 5] [0 value-of x 6] [0 value-of g 7] [0 value-of b :k] [0 value-of y :l] [0 value-of h :m] [entries 4] [0 begin 4] [0 alter a + 1 6] [0 send-in-tx g + 1 :ok] [0 commit 0 0 [5 0 0]] [0 value-of a 6] [end] [totals [1 0]] [receipts 1]
+            [] [] [] [0 value-of a :none] [0 value-of x :none] [0 value-of g :none] [0 make-ref 5 a] [1 make-atom 6 x] [0 make-agent 7 g] [1 make-ref :k b] [0 make-atom :l y] [1 make-agent :m h] [0 value-of a 5] [0 value-of x 6] [0 value-of g 7] [0 value-of b :k] [0 value-of y :l] [0 value-of h :m] [entries 4] [0 begin 4] [0 alter a + 1 6] [0 send-in-tx g + 1 :ok] [0 commit 0 0 [5 0 0]] [0 value-of a 6] [end] [totals [1 0 0]] [receipts 1]
             // With a rule, which holds from then on.
             [0] [1] [2] [0 make-ref [rule 5 [>= 4]] b] [0 make-atom [rule 6 [<= 6]] y] [0 make-agent [rule 7 [>= 7]] h] [rule b [>= 4]] [rule y [<= 6]] [rule h [>= 7]] [0 swap y + 1 :invalid] [0 begin 2] [0 ref-set b 3 3] [0 commit 0 0 [:invalid 1]] [0 send h - 1 :ok] [0 take [h 0]] [0 run :ok] [0 finish [:failed :invalid]] [0 make-agent [continue 7 [>= 7]] i] [0 send i - 1 :ok] [0 take [i 0]] [0 run :ok] [0 finish [:continued :invalid]]
             // A value that the rule refuses, a predicate that the table lacks: the predicate is asked for first.
             [] [] [] [0 make-ref [rule 5 [>= 6]] :invalid] [0 make-atom [rule 5 [<= 4]] :invalid] [0 make-agent [rule 5 [>= 6]] :invalid] [0 make-ref [rule 5 [= 5]] [:no-such-fun 103]] [0 make-atom-by-fewer [rule 5 [<= 4]] [:no-such-fun 102]] [0 make-agent-by-fewer [rule 5 [<= 5]] [:no-such-fun 102]] [0 make-ref-by-fewer [rule 5 [<= 5]] [:no-such-fun 102]] [0 make-ref-by-fewer [rule 5 [>= 5]] a] [point 1] [0 value-of b :none] [0 value-of x :none] [0 value-of g :none]
             // One tally, an integer of 0 or more.
-            [0] [] [] [0 make-ref [tally -1] :bad-tally] [0 make-ref [tally :k] :bad-tally] [1 make-ref [tally 3] b] [0 make-ref [tally 0] :bad-tally] [0 begin 1] [0 ref-set b 1 :tally-only] [0 commute b + 4 7] [0 ref-set b 1 :set-after-commute] [0 commit 0 0 [2 0 0]] [added 4] [0 value-of b 7] [end] [totals [1 4]]
+            [0] [] [] [0 make-ref [tally -1] :bad-tally] [0 make-ref [tally :k] :bad-tally] [1 make-ref [tally 3] b] [0 make-ref [tally 0] :bad-tally] [0 begin 1] [0 ref-set b 1 :tally-only] [0 commute b + 4 7] [0 ref-set b 1 :set-after-commute] [0 commit 0 0 [2 0 0]] [added 4] [0 value-of b 7] [end] [totals [1 4 0]]
             // A transaction that began before the tally was made.
             [0] [] [] [0 begin 0] [0 ref-set a 1 1] [1 make-ref [tally 3] b] [0 commit 0 0 [2 0 0]] [0 value-of a 1] [0 value-of b 3] [added 0]
         "##,
@@ -40,7 +40,7 @@ fn worlds_begin_or_are_refused(rt: HostRuntime) -> Result<(), Fail> {
     check_all(
         rt.alloc(),
         r##"
-            [0 [rule 5 [>= 5]] [tally 7]] [[rule 1 [<= 1]] 6] [[continue 2 [>= 2]] [rule 3 [<= 3]]] [0 value-of a 0] [0 value-of b 5] [0 value-of c 7] [0 value-of x 1] [0 value-of y 6] [0 value-of g 2] [0 value-of h 3] [0 value-of d :none] [0 value-of z :none] [0 value-of i :none] [rule b [>= 5]] [rule x [<= 1]] [rule g [>= 2]] [rule h [<= 3]] [rule a :none] [rule c :none] [rule y :none] [point 0] [entries 0] [commits 0] [added 0] [base [0 [0 5 7] [1 6] [0 0 0]]] [account g [2 0]] [account h [3 0]] [0 begin 0] [0 alter c + 1 :tally-only] [0 send g - 1 :ok] [0 take [g 0]] [0 run :ok] [0 finish [:continued :invalid]] [0 send h + 1 :ok] [0 take [h 0]] [0 run :ok] [0 finish [:failed :invalid]] [end] [totals [0 0]]
+            [0 [rule 5 [>= 5]] [tally 7]] [[rule 1 [<= 1]] 6] [[continue 2 [>= 2]] [rule 3 [<= 3]]] [0 value-of a 0] [0 value-of b 5] [0 value-of c 7] [0 value-of x 1] [0 value-of y 6] [0 value-of g 2] [0 value-of h 3] [0 value-of d :none] [0 value-of z :none] [0 value-of i :none] [rule b [>= 5]] [rule x [<= 1]] [rule g [>= 2]] [rule h [<= 3]] [rule a :none] [rule c :none] [rule y :none] [point 0] [entries 0] [commits 0] [added 0] [base [0 [0 5 7] [1 6] [0 0 0]]] [account g [2 0]] [account h [3 0]] [0 begin 0] [0 alter c + 1 :tally-only] [0 send g - 1 :ok] [0 take [g 0]] [0 run :ok] [0 finish [:continued :invalid]] [0 send h + 1 :ok] [0 take [h 0]] [0 run :ok] [0 finish [:failed :invalid]] [end] [totals [0 0 0]]
             // Where one can't be made, the first that is refused is returned: refs come before atoms, and atoms before agents.
             [1 [rule 0 [>= 1]]] [] [] [refused b :invalid]
             [[rule 0 [<= -1]]] [] [] [refused a :invalid]

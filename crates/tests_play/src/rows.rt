@@ -26,7 +26,7 @@
 //! A look at the world stands between events and ends a list of them, as `[entries 1]`: `point`, `entries`, `entry` (a commit's stamp
 //! and read point), `base` (its point, refs, atoms and last changes), `commits`, `added`, `now`, `rule`, `account`, and whether a
 //! table serves what is there, as `[served true]` and `[served-by-fewer false]`. After `[end]` the looks are at the world and the
-//! share that are left: also `[take [g 0]]` (a job that is lost), `[takes [[g 0] [h 0]]]` (all jobs), `[totals [2 10]]` (of a whole
+//! share that are left: also `[take [g 0]]` (a job that is lost), `[takes [[g 0] [h 0]]]` (all jobs), `[totals [2 10 0]]` (of a whole
 //! share) and `[receipts 2]`.
 ghost use Rattle.std.specs.Prelude.{◌≡◌};
 ghost use Rattle.ref_world.specs.Shares.{IsBlank};
@@ -131,9 +131,9 @@ fn check_replies(alloc: Global, row: &[Value], first: usize, replies: &[Reply]) 
 }
 
 // Plays a list of events, where the table serves the world and its actors.
-fn play<C: Ledger, A: Ledger>(
+fn play<C: Ledger, A: Ledger, K: Ledger>(
     alloc: Global,
-    sim: &mut Sim<Core, C, A>,
+    sim: &mut Sim<Core, C, A, K>,
     row: &[Value],
     list: &List,
 ) -> Checked {
@@ -156,9 +156,9 @@ enum Lists {
     Long,
 }
 
-fn served_form<C: Ledger, A: Ledger>(
+fn served_form<C: Ledger, A: Ledger, K: Ledger>(
     alloc: Global,
-    sim: &Sim<Core, C, A>,
+    sim: &Sim<Core, C, A, K>,
     parts: &[Value],
 ) -> Form {
     match word_at(parts, 0) {
@@ -201,9 +201,9 @@ fn list_of(alloc: Global, row: &[Value], first: usize, end: usize) -> Result<Lis
 }
 
 // The first difference in the list or the look that begins at a place, and the place after it.
-fn next<C: Ledger, A: Ledger>(
+fn next<C: Ledger, A: Ledger, K: Ledger>(
     alloc: Global,
-    sim: &mut Sim<Core, C, A>,
+    sim: &mut Sim<Core, C, A, K>,
     row: &[Value],
     place: usize,
     lists: Lists,
@@ -237,9 +237,9 @@ fn end_of(alloc: Global, row: &[Value]) -> Result<usize, AllocError> {
     Ok(row.len())
 }
 
-fn check_events<C: Ledger, A: Ledger>(
+fn check_events<C: Ledger, A: Ledger, K: Ledger>(
     alloc: Global,
-    sim: &mut Sim<Core, C, A>,
+    sim: &mut Sim<Core, C, A, K>,
     row: &[Value],
     lists: Lists,
 ) -> Checked {
@@ -257,10 +257,10 @@ fn check_events<C: Ledger, A: Ledger>(
     Ok(None)
 }
 
-fn check_end<C: Ledger, A: Ledger>(
+fn check_end<C: Ledger, A: Ledger, K: Ledger>(
     alloc: Global,
-    world: &mut World<Core, C, A>,
-    share: &mut Share<C, A>,
+    world: &mut World<Core, C, A, K>,
+    share: &mut Share<C, A, K>,
     row: &[Value],
     first: usize,
 ) -> Checked {
@@ -279,9 +279,9 @@ fn check_end<C: Ledger, A: Ledger>(
 }
 
 // Plays a row, and ends what it was played on, whatever came of it.
-fn check_row<C: Ledger, A: Ledger>(
+fn check_row<C: Ledger, A: Ledger, K: Ledger>(
     alloc: Global,
-    mut sim: Sim<Core, C, A>,
+    mut sim: Sim<Core, C, A, K>,
     row: &[Value],
     end: usize,
     lists: Lists,
@@ -363,26 +363,32 @@ fn check_refused(alloc: Global, row: &[Value], refused: (Who, MakeFault)) -> Che
     }
 }
 
-fn run_in<C: Ledger, A: Ledger>(
+fn run_in<C: Ledger, A: Ledger, K: Ledger>(
     alloc: Global,
     row: &[Value],
     lists: Lists,
     commits: Blank,
     added: Blank,
+    taken: Blank,
 ) -> Checked
     requires commits { IsBlank commits C.name C.parts }
     requires added { IsBlank added A.name A.parts }
+    requires taken { IsBlank taken K.name K.parts }
 {
     let (start, end) = (start_of(alloc, row)?, end_of(alloc, row)?);
-    match Sim::<Core, C, A>::new(alloc, &Table::FULL, start, commits, added) {
+    match Sim::<Core, C, A, K>::new(alloc, &Table::FULL, start, commits, added, taken) {
         Ok(sim) => check_row(alloc, sim, row, end, lists),
         Err(refused) => check_refused(alloc, row, refused),
     }
 }
 
 fn run(alloc: Global, row: &[Value], lists: Lists) -> Checked {
-    let (commits, added) = (Blank::new(ALL_PARTS), Blank::new(ALL_PARTS));
-    run_in::<Brand, Brand>(alloc, row, lists, commits, added)
+    let (commits, added, taken) = (
+        Blank::new(ALL_PARTS),
+        Blank::new(ALL_PARTS),
+        Blank::new(ALL_PARTS),
+    );
+    run_in::<Brand, Brand, Brand>(alloc, row, lists, commits, added, taken)
 }
 
 // The first difference in a row, which is played in both ways.

@@ -1,5 +1,6 @@
 //! The stores side by side as the subject of rows. They are called as a world calls them; the present point and the log are stored
-//! here. The present point can be set by hand, so that rows reach the last one.
+//! here. The present point can be set by hand, so that rows reach the last one, and so can how much each commit may add to the tally and
+//! take from it.
 use crate::forms::Start;
 use crate::subjects::{
     By, Committed, Extent, Ground, Kind, Look, Open, Receipt, STAMP, Starts, Subject, Visit,
@@ -23,6 +24,8 @@ pub struct Apart {
     base: Base,
     point: u64,
     log: PVec<Entry>,
+    most_added: u64,
+    most_taken: u64,
 }
 
 // A function of its own, which each place that drops one calls; a derived one would be written out there.
@@ -35,6 +38,8 @@ impl Drop for Apart {
             base: _base,
             point: _point,
             log: _log,
+            most_added: _,
+            most_taken: _,
         } = self;
     }
 }
@@ -58,6 +63,7 @@ fn base_of(alloc: Global, starts: &Starts) -> Result<Base, AllocError> {
         tally: None,
         commits: 0,
         added: 0,
+        taken: 0,
     })
 }
 
@@ -81,6 +87,8 @@ impl Apart {
             base,
             point: 0,
             log: PVec::empty(),
+            most_added: u64::MAX,
+            most_taken: u64::MAX,
         })
     }
 
@@ -220,7 +228,8 @@ impl Subject for Apart {
         }
         let at = self.point + 1;
         let (By { alloc, funs }, agents) = (by, self.agents.len());
-        match self.refs.commit(alloc, funs, at, agents, STAMP, open) {
+        let (most_added, most_taken) = (self.most_added, self.most_taken);
+        match self.refs.commit(alloc, funs, at, agents, most_added, most_taken, STAMP, open) {
             Ok(landed) => Ok(Ok(self.land(alloc, at, landed)?)),
             Err(refused) => Ok(Err(refused)),
         }
@@ -339,6 +348,12 @@ impl Subject for Apart {
             self.point = point;
         }
         can_be
+    }
+
+    fn set_room(&mut self, added: u64, taken: u64) -> bool {
+        self.most_added = added;
+        self.most_taken = taken;
+        true
     }
 
     fn send(&mut self, alloc: Global, g: u32, action: Action) -> Result<(), SendFault> {

@@ -375,8 +375,9 @@ fn look<S: Subject>(
 
 // ---- All calls
 
-fn set_point<S: Subject>(alloc: Global, subject: &mut S, point: u64) -> Answer {
-    if subject.set_point(point) {
+// What is set by hand, where the subject lets it be set.
+fn set(alloc: Global, is_set: bool) -> Answer {
+    if is_set {
         made(word(alloc, "ok")?)
     } else {
         wrong(alloc, "not-allowed")
@@ -416,7 +417,11 @@ fn subject_answer<S: Subject>(by: By, subject: &mut S, called: &str, call: &[Val
         "make-ref" => make(by, subject, Kind::Ref, call),
         "make-atom" => make(by, subject, Kind::Atom, call),
         "make-agent" => make(by, subject, Kind::Agent, call),
-        "at" => set_point(by.alloc, subject, number_at(call, 1)),
+        "at" => set(by.alloc, subject.set_point(number_at(call, 1))),
+        "room" => {
+            let is_set = subject.set_room(number_at(call, 1), number_at(call, 2));
+            set(by.alloc, is_set)
+        }
         _ if is_of_agents(called) => agents_answer(by, subject, called, call),
         _ => reference_answer(by, subject, who, called, call),
     }

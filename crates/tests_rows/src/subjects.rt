@@ -207,6 +207,9 @@ pub trait Subject: Drop + Sized {
     /// Sets the present point by hand, where the subject lets it be set and no ref has changed after it.
     fn set_point(&mut self, point: u64) -> bool;
 
+    /// Sets how much each commit may add to the tally and take from it, where the subject lets that be set.
+    fn set_room(&mut self, added: u64, taken: u64) -> bool;
+
     fn send(&mut self, alloc: Global, g: u32, action: Action) -> Result<(), SendFault>;
 
     fn release(&mut self, point: u64) -> bool;

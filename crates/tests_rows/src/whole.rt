@@ -19,13 +19,13 @@ use std::marker::Brand;
 use std::sync::ledger::{Blank, Ledger};
 
 /// A world, and its whole share.
-pub struct Whole<C: Ledger, A: Ledger> {
-    pub world: World<Core, C, A>,
-    pub share: Share<C, A>,
+pub struct Whole<C: Ledger, A: Ledger, K: Ledger> {
+    pub world: World<Core, C, A, K>,
+    pub share: Share<C, A, K>,
 }
 
 // A function of its own, which each place that drops one calls; a derived one would be written out there.
-impl<C: Ledger, A: Ledger> Drop for Whole<C, A> {
+impl<C: Ledger, A: Ledger, K: Ledger> Drop for Whole<C, A, K> {
     fn drop(self) {
         let Whole {
             world: _world,
@@ -34,9 +34,9 @@ impl<C: Ledger, A: Ledger> Drop for Whole<C, A> {
     }
 }
 
-impl<C: Ledger, A: Ledger> Whole<C, A> {
+impl<C: Ledger, A: Ledger, K: Ledger> Whole<C, A, K> {
     /// The world and the share.
-    pub fn parted(self) -> (World<Core, C, A>, Share<C, A>) {
+    pub fn parted(self) -> (World<Core, C, A, K>, Share<C, A, K>) {
         let Whole { world, share } = self;
         (world, share)
     }
@@ -51,26 +51,32 @@ impl Ground for Worlds {
         starts: Starts,
         visit: V,
     ) -> Result<V::Out, (Who, MakeFault)> {
-        let (commits, added) = (Blank::new(ALL_PARTS), Blank::new(ALL_PARTS));
-        with_world::<Brand, Brand, V>(tables, starts, visit, commits, added)
+        let (commits, added, taken) = (
+            Blank::new(ALL_PARTS),
+            Blank::new(ALL_PARTS),
+            Blank::new(ALL_PARTS),
+        );
+        with_world::<Brand, Brand, Brand, V>(tables, starts, visit, commits, added, taken)
     }
 }
 
-fn with_world<C: Ledger, A: Ledger, V: Visit>(
+fn with_world<C: Ledger, A: Ledger, K: Ledger, V: Visit>(
     tables: &Tables,
     starts: Starts,
     visit: V,
     commits: Blank,
     added: Blank,
+    taken: Blank,
 ) -> Result<V::Out, (Who, MakeFault)>
     requires commits { IsBlank commits C.name C.parts }
     requires added { IsBlank added A.name A.parts }
+    requires taken { IsBlank taken K.name K.parts }
 {
     let By { alloc, funs } = tables.all;
     let Ok(start) = declared(alloc, starts) else {
         return Err((Who::Ref(0), MakeFault::Memory));
     };
-    let (world, share) = World::<Core, C, A>::new(alloc, funs, start, commits, added)?;
+    let (world, share) = World::<Core, C, A, K>::new(alloc, funs, start, commits, added, taken)?;
     Ok(visit.visit(tables, Whole { world, share }))
 }
 
@@ -148,7 +154,7 @@ fn last_change(base: &Base, log: &PVec<Entry>, r: u32) -> u64 {
 }
 
 // How many agents there are, where there are fewer than 8.
-fn agents_of<C: Ledger, A: Ledger>(world: &World<Core, C, A>) -> usize {
+fn agents_of<C: Ledger, A: Ledger, K: Ledger>(world: &World<Core, C, A, K>) -> usize {
     for g in 0..8u32 {
         if world.account(g).is_none() {
             return g as usize;
@@ -157,7 +163,7 @@ fn agents_of<C: Ledger, A: Ledger>(world: &World<Core, C, A>) -> usize {
     8
 }
 
-impl<C: Ledger, A: Ledger> Subject for Whole<C, A> {
+impl<C: Ledger, A: Ledger, K: Ledger> Subject for Whole<C, A, K> {
     fn begin(&self, alloc: Global) -> Result<Open, AllocError> {
         self.world.begin(alloc)
     }
@@ -259,6 +265,10 @@ impl<C: Ledger, A: Ledger> Subject for Whole<C, A> {
     }
 
     fn set_point(&mut self, _point: u64) -> bool {
+        false
+    }
+
+    fn set_room(&mut self, _added: u64, _taken: u64) -> bool {
         false
     }
 

@@ -35,22 +35,22 @@ struct Committing;
 impl<R: Wait> Scenario<R> for Committing {
     type Outcome = Read;
 
-    fn run<C: Ledger, A: Ledger>(
+    fn run<C: Ledger, A: Ledger, K: Ledger>(
         &self,
         rt: &R,
         alloc: Global,
-        shared: &Shared<Core, C, A>,
-        share: &mut Share<C, A>,
+        shared: &Shared<Core, C, A, K>,
+        share: &mut Share<C, A, K>,
     ) -> Result<Read, Stop> {
         let point = commit_set(rt, alloc, shared, share, STAMP, "5")?;
         read_after(rt, alloc, shared, point)
     }
 }
 
-fn read_after<C: Ledger, A: Ledger, R: Wait>(
+fn read_after<C: Ledger, A: Ledger, K: Ledger, R: Wait>(
     rt: &R,
     alloc: Global,
-    shared: &Shared<Core, C, A>,
+    shared: &Shared<Core, C, A, K>,
     point: u64,
 ) -> Result<Read, Stop> {
     let tx = shared.begin(rt, alloc)?;
@@ -114,17 +114,17 @@ fn first_answers(
 struct Counted {
     kept: Vec<(Stamp, Option<i64>)>,
     totals: Totals,
-    // Commits and additions by the world's books.
-    books: (u64, u64),
+    // Commits, additions and takings by the world's books.
+    books: (u64, u64, u64),
 }
 
 const OTHER: Stamp = Stamp { worker: 1, step: 0 };
 
 // A transaction that commutes the tally, and what that answers.
-fn begin_counting<C: Ledger, A: Ledger, R: Wait>(
+fn begin_counting<C: Ledger, A: Ledger, K: Ledger, R: Wait>(
     rt: &R,
     alloc: Global,
-    shared: &Shared<Core, C, A>,
+    shared: &Shared<Core, C, A, K>,
     n: &str,
 ) -> Result<(Tx<Core>, Option<i64>), Stop> {
     let mut tx = shared.begin(rt, alloc)?;
@@ -133,11 +133,11 @@ fn begin_counting<C: Ledger, A: Ledger, R: Wait>(
 }
 
 // Two transactions that commute the tally, of which the first is committed last, and what they answered.
-fn count_both<C: Ledger, A: Ledger, R: Wait>(
+fn count_both<C: Ledger, A: Ledger, K: Ledger, R: Wait>(
     rt: &R,
     alloc: Global,
-    shared: &Shared<Core, C, A>,
-    share: &mut Share<C, A>,
+    shared: &Shared<Core, C, A, K>,
+    share: &mut Share<C, A, K>,
 ) -> Result<(Option<i64>, Option<i64>), Stop> {
     let (first, one) = begin_counting(rt, alloc, shared, "1")?;
     let (second, ten) = begin_counting(rt, alloc, shared, "10")?;
@@ -153,12 +153,12 @@ struct Counting;
 impl<R: Wait> Scenario<R> for Counting {
     type Outcome = ((Option<i64>, Option<i64>), Option<i64>);
 
-    fn run<C: Ledger, A: Ledger>(
+    fn run<C: Ledger, A: Ledger, K: Ledger>(
         &self,
         rt: &R,
         alloc: Global,
-        shared: &Shared<Core, C, A>,
-        share: &mut Share<C, A>,
+        shared: &Shared<Core, C, A, K>,
+        share: &mut Share<C, A, K>,
     ) -> Result<((Option<i64>, Option<i64>), Option<i64>), Stop> {
         let answers = count_both(rt, alloc, shared, share)?;
         Ok((answers, int_at(rt, shared, Who::Ref(0))))
@@ -168,16 +168,16 @@ impl<R: Wait> Scenario<R> for Counting {
 impl Inspection for Counting {
     type Seen = Counted;
 
-    fn inspect<C: Ledger, A: Ledger>(
+    fn inspect<C: Ledger, A: Ledger, K: Ledger>(
         &self,
         alloc: Global,
-        world: &World<Core, C, A>,
+        world: &World<Core, C, A, K>,
         totals: Totals,
     ) -> Result<Counted, Stop> {
         Ok(Counted {
             kept: first_answers(alloc, world.log())?,
             totals,
-            books: (world.commits(), world.added()),
+            books: (world.commits(), world.added(), world.taken()),
         })
     }
 }
@@ -192,8 +192,9 @@ fn what_is_commuted_is_made_on_the_latest_value(rt: HostRuntime) -> Result<(), F
         totals: Totals {
             commits: 2,
             added: 11,
+            taken: 0,
         },
-        books: (2, 11),
+        books: (2, 11, 0),
     };
     same(&rt, counted, wanted);
     Ok(())
@@ -206,12 +207,12 @@ struct Telling;
 impl<R: Wait> Scenario<R> for Telling {
     type Outcome = (Vec<Told>, Vec<Told>);
 
-    fn run<C: Ledger, A: Ledger>(
+    fn run<C: Ledger, A: Ledger, K: Ledger>(
         &self,
         rt: &R,
         alloc: Global,
-        shared: &Shared<Core, C, A>,
-        share: &mut Share<C, A>,
+        shared: &Shared<Core, C, A, K>,
+        share: &mut Share<C, A, K>,
     ) -> Result<(Vec<Told>, Vec<Told>), Stop> {
         watch(rt, alloc, shared, Who::Ref(0), ":k")?;
         watch(rt, alloc, shared, Who::Ref(0), ":j")?;
@@ -224,11 +225,11 @@ impl<R: Wait> Scenario<R> for Telling {
     }
 }
 
-fn change_both<C: Ledger, A: Ledger, R: Wait>(
+fn change_both<C: Ledger, A: Ledger, K: Ledger, R: Wait>(
     rt: &R,
     alloc: Global,
-    shared: &Shared<Core, C, A>,
-    share: &mut Share<C, A>,
+    shared: &Shared<Core, C, A, K>,
+    share: &mut Share<C, A, K>,
     sink: &mut Listener,
 ) -> Result<Vec<Told>, Stop> {
     let (_, receipt) = done(shared.transact(
@@ -277,11 +278,11 @@ struct Compared {
 }
 
 // Whether a comparison of the atom was true, and how many receipts the share has then.
-fn compare<C: Ledger, A: Ledger, R: Wait>(
+fn compare<C: Ledger, A: Ledger, K: Ledger, R: Wait>(
     rt: &R,
     alloc: Global,
-    shared: &Shared<Core, C, A>,
-    share: &mut Share<C, A>,
+    shared: &Shared<Core, C, A, K>,
+    share: &mut Share<C, A, K>,
     old: &str,
     new: &str,
 ) -> Result<(bool, usize), Stop> {
@@ -296,12 +297,12 @@ struct Comparing;
 impl<R: Wait> Scenario<R> for Comparing {
     type Outcome = Compared;
 
-    fn run<C: Ledger, A: Ledger>(
+    fn run<C: Ledger, A: Ledger, K: Ledger>(
         &self,
         rt: &R,
         alloc: Global,
-        shared: &Shared<Core, C, A>,
-        share: &mut Share<C, A>,
+        shared: &Shared<Core, C, A, K>,
+        share: &mut Share<C, A, K>,
     ) -> Result<Compared, Stop> {
         let (first, _) = compare(rt, alloc, shared, share, "1", "2")?;
         let (second, receipts) = compare(rt, alloc, shared, share, "1", "3")?;
@@ -317,10 +318,10 @@ impl<R: Wait> Scenario<R> for Comparing {
 impl Inspection for Comparing {
     type Seen = (usize, u64);
 
-    fn inspect<C: Ledger, A: Ledger>(
+    fn inspect<C: Ledger, A: Ledger, K: Ledger>(
         &self,
         _alloc: Global,
-        world: &World<Core, C, A>,
+        world: &World<Core, C, A, K>,
         totals: Totals,
     ) -> Result<(usize, u64), Stop> {
         Ok((world.log().len(), totals.commits))
@@ -367,22 +368,22 @@ fn change_of(alloc: Global, swapped: Swapped) -> Result<Change, AllocError> {
     })
 }
 
-fn swap_one<C: Ledger, A: Ledger, R: Wait>(
+fn swap_one<C: Ledger, A: Ledger, K: Ledger, R: Wait>(
     rt: &R,
     alloc: Global,
-    shared: &Shared<Core, C, A>,
-    share: &mut Share<C, A>,
+    shared: &Shared<Core, C, A, K>,
+    share: &mut Share<C, A, K>,
 ) -> Result<Change, Stop> {
     let one = one_arg(alloc, "1")?;
     let swapped = done(shared.swap(rt, alloc, &CoreFunctions, share, 0, PLUS, one))?;
     Ok(change_of(alloc, swapped)?)
 }
 
-fn reset_to_seven<C: Ledger, A: Ledger, R: Wait>(
+fn reset_to_seven<C: Ledger, A: Ledger, K: Ledger, R: Wait>(
     rt: &R,
     alloc: Global,
-    shared: &Shared<Core, C, A>,
-    share: &mut Share<C, A>,
+    shared: &Shared<Core, C, A, K>,
+    share: &mut Share<C, A, K>,
 ) -> Result<Change, Stop> {
     let seven = value(alloc, "7")?;
     let reset = done(shared.reset(rt, alloc, &CoreFunctions, share, 0, seven))?;
@@ -390,11 +391,11 @@ fn reset_to_seven<C: Ledger, A: Ledger, R: Wait>(
 }
 
 // All changes of an atom that is 1 and has a watch.
-fn change_atom<C: Ledger, A: Ledger, R: Wait>(
+fn change_atom<C: Ledger, A: Ledger, K: Ledger, R: Wait>(
     rt: &R,
     alloc: Global,
-    shared: &Shared<Core, C, A>,
-    share: &mut Share<C, A>,
+    shared: &Shared<Core, C, A, K>,
+    share: &mut Share<C, A, K>,
 ) -> Result<Changes, Stop> {
     let swap = swap_one(rt, alloc, shared, share)?;
     let reset = reset_to_seven(rt, alloc, shared, share)?;
@@ -416,12 +417,12 @@ struct Changing;
 impl<R: Wait> Scenario<R> for Changing {
     type Outcome = Changes;
 
-    fn run<C: Ledger, A: Ledger>(
+    fn run<C: Ledger, A: Ledger, K: Ledger>(
         &self,
         rt: &R,
         alloc: Global,
-        shared: &Shared<Core, C, A>,
-        share: &mut Share<C, A>,
+        shared: &Shared<Core, C, A, K>,
+        share: &mut Share<C, A, K>,
     ) -> Result<Changes, Stop> {
         watch(rt, alloc, shared, Who::Atom(0), ":k")?;
         change_atom(rt, alloc, shared, share)
@@ -470,10 +471,10 @@ struct Made {
     values: (Option<i64>, Option<i64>, Option<i64>),
 }
 
-fn make_refs<C: Ledger, A: Ledger, R: Wait>(
+fn make_refs<C: Ledger, A: Ledger, K: Ledger, R: Wait>(
     rt: &R,
     alloc: Global,
-    shared: &Shared<Core, C, A>,
+    shared: &Shared<Core, C, A, K>,
 ) -> Result<Two, Stop> {
     let (five, six) = (value(alloc, "5")?, value(alloc, "6")?);
     Ok((
@@ -482,10 +483,10 @@ fn make_refs<C: Ledger, A: Ledger, R: Wait>(
     ))
 }
 
-fn make_atoms<C: Ledger, A: Ledger, R: Wait>(
+fn make_atoms<C: Ledger, A: Ledger, K: Ledger, R: Wait>(
     rt: &R,
     alloc: Global,
-    shared: &Shared<Core, C, A>,
+    shared: &Shared<Core, C, A, K>,
 ) -> Result<Two, Stop> {
     let (seven, eight) = (value(alloc, "7")?, value(alloc, "8")?);
     Ok((
@@ -494,10 +495,10 @@ fn make_atoms<C: Ledger, A: Ledger, R: Wait>(
     ))
 }
 
-fn make_agents<C: Ledger, A: Ledger, R: Wait>(
+fn make_agents<C: Ledger, A: Ledger, K: Ledger, R: Wait>(
     rt: &R,
     alloc: Global,
-    shared: &Shared<Core, C, A>,
+    shared: &Shared<Core, C, A, K>,
 ) -> Result<Two, Stop> {
     let (nine, ten) = (value(alloc, "9")?, value(alloc, "10")?);
     Ok((
@@ -507,10 +508,10 @@ fn make_agents<C: Ledger, A: Ledger, R: Wait>(
 }
 
 // Rules for the first ref, which is 5.
-fn give_rules<C: Ledger, A: Ledger, R: Wait>(
+fn give_rules<C: Ledger, A: Ledger, K: Ledger, R: Wait>(
     rt: &R,
     alloc: Global,
-    shared: &Shared<Core, C, A>,
+    shared: &Shared<Core, C, A, K>,
 ) -> Result<(Result<(), RuleFault>, Result<(), RuleFault>), Stop> {
     let (five, six) = (at_least(alloc, "5")?, at_least(alloc, "6")?);
     Ok((
@@ -519,19 +520,19 @@ fn give_rules<C: Ledger, A: Ledger, R: Wait>(
     ))
 }
 
-fn make_what_is_refused<C: Ledger, A: Ledger, R: Wait>(
+fn make_what_is_refused<C: Ledger, A: Ledger, K: Ledger, R: Wait>(
     rt: &R,
     alloc: Global,
-    shared: &Shared<Core, C, A>,
+    shared: &Shared<Core, C, A, K>,
 ) -> Result<Result<u32, MakeFault>, Stop> {
     let (five, six) = (value(alloc, "5")?, at_least(alloc, "6")?);
     Ok(shared.make_atom(rt, alloc, &CoreFunctions, five, Some(six)))
 }
 
-fn give_watches<C: Ledger, A: Ledger, R: Wait>(
+fn give_watches<C: Ledger, A: Ledger, K: Ledger, R: Wait>(
     rt: &R,
     alloc: Global,
-    shared: &Shared<Core, C, A>,
+    shared: &Shared<Core, C, A, K>,
 ) -> Result<(bool, bool, bool, bool), Stop> {
     let key = value(alloc, ":k")?;
     let (first, again) = (key.share()?, key.share()?);
@@ -543,10 +544,10 @@ fn give_watches<C: Ledger, A: Ledger, R: Wait>(
     ))
 }
 
-fn make_all<C: Ledger, A: Ledger, R: Wait>(
+fn make_all<C: Ledger, A: Ledger, K: Ledger, R: Wait>(
     rt: &R,
     alloc: Global,
-    shared: &Shared<Core, C, A>,
+    shared: &Shared<Core, C, A, K>,
 ) -> Result<Made, Stop> {
     Ok(Made {
         refs: make_refs(rt, alloc, shared)?,
@@ -569,12 +570,12 @@ struct Making;
 impl<R: Wait> Scenario<R> for Making {
     type Outcome = Made;
 
-    fn run<C: Ledger, A: Ledger>(
+    fn run<C: Ledger, A: Ledger, K: Ledger>(
         &self,
         rt: &R,
         alloc: Global,
-        shared: &Shared<Core, C, A>,
-        _share: &mut Share<C, A>,
+        shared: &Shared<Core, C, A, K>,
+        _share: &mut Share<C, A, K>,
     ) -> Result<Made, Stop> {
         make_all(rt, alloc, shared)
     }

@@ -25,17 +25,17 @@ fn other(step: u32) -> Stamp {
 
 // A gate that lets another caller set a to 10 after the first bodies, and counts the bodies.
 #[derive(Drop)]
-struct Between<'a, 'b, R: Wait, C: Ledger, A: Ledger> {
+struct Between<'a, 'b, R: Wait, C: Ledger, A: Ledger, K: Ledger> {
     rt: &'a R,
-    shared: &'b Shared<Core, C, A>,
+    shared: &'b Shared<Core, C, A, K>,
     alloc: Global,
-    share: Share<C, A>,
+    share: Share<C, A, K>,
     left: u32,
     step: u32,
     bodies: u32,
 }
 
-impl<'a, 'b, R: Wait, C: Ledger, A: Ledger> Gate for Between<'a, 'b, R, C, A> {
+impl<'a, 'b, R: Wait, C: Ledger, A: Ledger, K: Ledger> Gate for Between<'a, 'b, R, C, A, K> {
     fn pass(&mut self, spot: Spot) {
         match spot {
             Spot::BeforeBody => self.bodies = self.bodies.saturating_add(1),
@@ -52,11 +52,11 @@ impl<'a, 'b, R: Wait, C: Ledger, A: Ledger> Gate for Between<'a, 'b, R, C, A> {
     }
 }
 
-fn set_ten<R: Wait, C: Ledger, A: Ledger>(
+fn set_ten<R: Wait, C: Ledger, A: Ledger, K: Ledger>(
     rt: &R,
     alloc: Global,
-    shared: &Shared<Core, C, A>,
-    share: &mut Share<C, A>,
+    shared: &Shared<Core, C, A, K>,
+    share: &mut Share<C, A, K>,
     stamp: Stamp,
 ) -> Result<(), Stop> {
     let _ = commit_set(rt, alloc, shared, share, stamp, "10")?;
@@ -97,12 +97,12 @@ fn alter(alloc: Global, case: Case, tx: &mut Tx<Core>) -> Result<(), Stop> {
 }
 
 // The tries of a case next to a gate. It returns what came of them and how many times the body was called.
-fn transact<C: Ledger, A: Ledger, R: Wait, G: Gate>(
+fn transact<C: Ledger, A: Ledger, K: Ledger, R: Wait, G: Gate>(
     rt: &R,
     alloc: Global,
     case: Case,
-    shared: &Shared<Core, C, A>,
-    share: &mut Share<C, A>,
+    shared: &Shared<Core, C, A, K>,
+    share: &mut Share<C, A, K>,
     gate: &mut G,
 ) -> (Result<(), TransactFault<Stop>>, u32) {
     let mut calls = 0u32;
@@ -127,14 +127,14 @@ fn transact<C: Ledger, A: Ledger, R: Wait, G: Gate>(
 }
 
 // The tries of a case, and what a gate saw of them, which has this share and gives it back.
-fn try_between<C: Ledger, A: Ledger, R: Wait>(
+fn try_between<C: Ledger, A: Ledger, K: Ledger, R: Wait>(
     rt: &R,
     alloc: Global,
     case: Case,
-    shared: &Shared<Core, C, A>,
-    share: &mut Share<C, A>,
-    other: Share<C, A>,
-) -> (Tried, Share<C, A>) {
+    shared: &Shared<Core, C, A, K>,
+    share: &mut Share<C, A, K>,
+    other: Share<C, A, K>,
+) -> (Tried, Share<C, A, K>) {
     let mut gate = Between {
         rt,
         shared,
@@ -156,12 +156,12 @@ fn try_between<C: Ledger, A: Ledger, R: Wait>(
 }
 
 // The same, where the gate has a part of the share, which is joined again.
-fn try_beside<C: Ledger, A: Ledger, R: Wait>(
+fn try_beside<C: Ledger, A: Ledger, K: Ledger, R: Wait>(
     rt: &R,
     alloc: Global,
     case: Case,
-    shared: &Shared<Core, C, A>,
-    share: &mut Share<C, A>,
+    shared: &Shared<Core, C, A, K>,
+    share: &mut Share<C, A, K>,
 ) -> Result<Tried, Stop> {
     let other = done(share.split(1).ok_or(Stop::Refused))?;
     let (tried, other) = try_between(rt, alloc, case, shared, share, other);
@@ -169,10 +169,10 @@ fn try_beside<C: Ledger, A: Ledger, R: Wait>(
     Ok(tried)
 }
 
-fn give_rule<C: Ledger, A: Ledger, R: Wait>(
+fn give_rule<C: Ledger, A: Ledger, K: Ledger, R: Wait>(
     rt: &R,
     alloc: Global,
-    shared: &Shared<Core, C, A>,
+    shared: &Shared<Core, C, A, K>,
 ) -> Result<(), Stop> {
     let rule = at_least(alloc, "0")?;
     done(shared.set_validator(rt, &CoreFunctions, Who::Ref(0), Some(rule)))
@@ -181,12 +181,12 @@ fn give_rule<C: Ledger, A: Ledger, R: Wait>(
 impl<R: Wait> Scenario<R> for Case {
     type Outcome = Tried;
 
-    fn run<C: Ledger, A: Ledger>(
+    fn run<C: Ledger, A: Ledger, K: Ledger>(
         &self,
         rt: &R,
         alloc: Global,
-        shared: &Shared<Core, C, A>,
-        share: &mut Share<C, A>,
+        shared: &Shared<Core, C, A, K>,
+        share: &mut Share<C, A, K>,
     ) -> Result<Tried, Stop> {
         give_rule(rt, alloc, shared)?;
         try_beside(rt, alloc, *self, shared, share)

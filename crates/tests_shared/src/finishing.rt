@@ -23,12 +23,12 @@ struct TwoCommits {
 impl<R: Wait> Scenario<R> for TwoCommits {
     type Outcome = ();
 
-    fn run<C: Ledger, A: Ledger>(
+    fn run<C: Ledger, A: Ledger, K: Ledger>(
         &self,
         rt: &R,
         alloc: Global,
-        shared: &Shared<Core, C, A>,
-        share: &mut Share<C, A>,
+        shared: &Shared<Core, C, A, K>,
+        share: &mut Share<C, A, K>,
     ) -> Result<(), Stop> {
         if self.together {
             commit_together(rt, alloc, shared, share, self.stamps)
@@ -39,11 +39,11 @@ impl<R: Wait> Scenario<R> for TwoCommits {
 }
 
 // Two commits of empty transactions, the second begun after the first.
-fn commit_in_turn<C: Ledger, A: Ledger, R: Wait>(
+fn commit_in_turn<C: Ledger, A: Ledger, K: Ledger, R: Wait>(
     rt: &R,
     alloc: Global,
-    shared: &Shared<Core, C, A>,
-    share: &mut Share<C, A>,
+    shared: &Shared<Core, C, A, K>,
+    share: &mut Share<C, A, K>,
     stamps: (Stamp, Stamp),
 ) -> Result<(), Stop> {
     let first = shared.begin(rt, alloc)?;
@@ -54,11 +54,11 @@ fn commit_in_turn<C: Ledger, A: Ledger, R: Wait>(
 }
 
 // Two commits of empty transactions, both begun before the first.
-fn commit_together<C: Ledger, A: Ledger, R: Wait>(
+fn commit_together<C: Ledger, A: Ledger, K: Ledger, R: Wait>(
     rt: &R,
     alloc: Global,
-    shared: &Shared<Core, C, A>,
-    share: &mut Share<C, A>,
+    shared: &Shared<Core, C, A, K>,
+    share: &mut Share<C, A, K>,
     stamps: (Stamp, Stamp),
 ) -> Result<(), Stop> {
     let first = shared.begin(rt, alloc)?;

@@ -16,10 +16,10 @@ pub type Work = Result<Worked, WorkFault>;
 
 pub const CLOSED: Work = Ok(Worked::Closed);
 
-pub fn work<R: Wait, C: Ledger, A: Ledger>(
+pub fn work<R: Wait, C: Ledger, A: Ledger, K: Ledger>(
     rt: &R,
     alloc: Global,
-    shared: &Shared<Core, C, A>,
+    shared: &Shared<Core, C, A, K>,
 ) -> Work {
     shared.work_once(rt, alloc, &CoreFunctions, &mut Open, &mut Quiet)
 }
@@ -40,11 +40,11 @@ pub fn send_four(alloc: Global, tx: &mut Tx<Core>) -> Result<(), Stop> {
 }
 
 /// Commits `send h + 4`, which is held, and returns the point.
-pub fn commit_four<C: Ledger, A: Ledger, R: Wait>(
+pub fn commit_four<C: Ledger, A: Ledger, K: Ledger, R: Wait>(
     rt: &R,
     alloc: Global,
-    shared: &Shared<Core, C, A>,
-    share: &mut Share<C, A>,
+    shared: &Shared<Core, C, A, K>,
+    share: &mut Share<C, A, K>,
 ) -> Result<u64, Stop> {
     let mut tx = shared.begin(rt, alloc)?;
     send_four(alloc, &mut tx)?;
@@ -52,9 +52,9 @@ pub fn commit_four<C: Ledger, A: Ledger, R: Wait>(
 }
 
 /// The numbers that both agents hold now.
-pub fn agents_at<C: Ledger, A: Ledger, R: Wait>(
+pub fn agents_at<C: Ledger, A: Ledger, K: Ledger, R: Wait>(
     rt: &R,
-    shared: &Shared<Core, C, A>,
+    shared: &Shared<Core, C, A, K>,
 ) -> (Option<i64>, Option<i64>) {
     (
         int_at(rt, shared, Who::Agent(0)),

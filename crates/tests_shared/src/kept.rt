@@ -18,7 +18,9 @@ use std::sync::ledger::{Blank, Ledger};
 use std::test::Fail;
 
 // The agent whose job is taken, which stays out.
-fn taken<C: Ledger, A: Ledger>(world: &mut World<Core, C, A>) -> Result<Option<u32>, AllocError> {
+fn taken<C: Ledger, A: Ledger, K: Ledger>(
+    world: &mut World<Core, C, A, K>,
+) -> Result<Option<u32>, AllocError> {
     match world.take()? {
         Some(job) => {
             let agent = job.agent();
@@ -30,9 +32,9 @@ fn taken<C: Ledger, A: Ledger>(world: &mut World<Core, C, A>) -> Result<Option<u
 }
 
 // How a job ends that is run.
-fn ended<C: Ledger, A: Ledger>(
+fn ended<C: Ledger, A: Ledger, K: Ledger>(
     alloc: Global,
-    world: &mut World<Core, C, A>,
+    world: &mut World<Core, C, A, K>,
     job: Job,
 ) -> Result<Finished, Stop> {
     let ran = match job.run(alloc, &CoreFunctions) {
@@ -52,9 +54,9 @@ fn ended<C: Ledger, A: Ledger>(
 }
 
 // The agent whose job is taken and run, and the error with which it goes on.
-fn continued<C: Ledger, A: Ledger>(
+fn continued<C: Ledger, A: Ledger, K: Ledger>(
     alloc: Global,
-    world: &mut World<Core, C, A>,
+    world: &mut World<Core, C, A, K>,
 ) -> Result<Option<(u32, AgentError)>, Stop> {
     let Some(job) = world.take()? else {
         return Ok(None);
@@ -67,9 +69,9 @@ fn continued<C: Ledger, A: Ledger>(
 }
 
 // Adds a watch to the ref, and sends h, which goes on after an error, an action that its function refuses.
-fn watch_and_send<C: Ledger, A: Ledger>(
+fn watch_and_send<C: Ledger, A: Ledger, K: Ledger>(
     alloc: Global,
-    world: &mut World<Core, C, A>,
+    world: &mut World<Core, C, A, K>,
 ) -> Result<(), Stop> {
     let key = value(alloc, ":w")?;
     done(world.add_watch(alloc, Who::Ref(0), key))?;
@@ -84,10 +86,10 @@ fn send_one(alloc: Global, tx: &mut Tx<Core>) -> Result<(), Stop> {
 }
 
 // Commits `send g + 1`, which is held, and returns the point.
-fn commit_send<C: Ledger, A: Ledger>(
+fn commit_send<C: Ledger, A: Ledger, K: Ledger>(
     alloc: Global,
-    world: &mut World<Core, C, A>,
-    share: &mut Share<C, A>,
+    world: &mut World<Core, C, A, K>,
+    share: &mut Share<C, A, K>,
 ) -> Result<u64, Stop> {
     let mut tx = world.begin(alloc)?;
     send_one(alloc, &mut tx)?;
@@ -95,46 +97,50 @@ fn commit_send<C: Ledger, A: Ledger>(
     Ok(receipt.point)
 }
 
-fn prepare<C: Ledger, A: Ledger>(
+fn prepare<C: Ledger, A: Ledger, K: Ledger>(
     alloc: Global,
-    world: &mut World<Core, C, A>,
-    share: &mut Share<C, A>,
+    world: &mut World<Core, C, A, K>,
+    share: &mut Share<C, A, K>,
 ) -> Result<u64, Stop> {
     watch_and_send(alloc, world)?;
     commit_send(alloc, world, share)
 }
 
-fn two_agents_made<C: Ledger, A: Ledger>(
+fn two_agents_made<C: Ledger, A: Ledger, K: Ledger>(
     alloc: Global,
     commits: Blank,
     added: Blank,
-) -> Result<(World<Core, C, A>, Share<C, A>), Stop>
+    taken: Blank,
+) -> Result<(World<Core, C, A, K>, Share<C, A, K>), Stop>
     requires commits { IsBlank commits C.name C.parts }
     requires added { IsBlank added A.name A.parts }
+    requires taken { IsBlank taken K.name K.parts }
 {
     let start = two_agents(alloc)?;
-    done(World::<Core, C, A>::new(alloc, &CoreFunctions, start, commits, added))
+    done(World::<Core, C, A, K>::new(alloc, &CoreFunctions, start, commits, added, taken))
 }
 
 // The world of two agents: a ref with a watch; h, which goes on after an error, with an action that its function refuses; and an action
 // of g that a commit sent and that is held. It is shared, and comes out again.
-fn shared_and_back<C: Ledger, A: Ledger>(
+fn shared_and_back<C: Ledger, A: Ledger, K: Ledger>(
     alloc: Global,
     commits: Blank,
     added: Blank,
-) -> Result<(World<Core, C, A>, u64), Stop>
+    taken: Blank,
+) -> Result<(World<Core, C, A, K>, u64), Stop>
     requires commits { IsBlank commits C.name C.parts }
     requires added { IsBlank added A.name A.parts }
+    requires taken { IsBlank taken K.name K.parts }
 {
-    let (mut world, mut share) = two_agents_made::<C, A>(alloc, commits, added)?;
+    let (mut world, mut share) = two_agents_made::<C, A, K>(alloc, commits, added, taken)?;
     let point = prepare(alloc, &mut world, &mut share)?;
     let (world, _totals) = closed(alloc, Shared::new(world), share)?;
     Ok((world, point))
 }
 
 // Whose jobs are taken before and after the release of what a commit sent, and whether that was held.
-fn taken_around_release<C: Ledger, A: Ledger>(
-    world: &mut World<Core, C, A>,
+fn taken_around_release<C: Ledger, A: Ledger, K: Ledger>(
+    world: &mut World<Core, C, A, K>,
     point: u64,
 ) -> Result<([Option<u32>; 2], bool), AllocError> {
     let before = taken(world)?;
@@ -153,9 +159,9 @@ struct Kept {
     was_watched: bool,
 }
 
-fn look_at<C: Ledger, A: Ledger>(
+fn look_at<C: Ledger, A: Ledger, K: Ledger>(
     alloc: Global,
-    world: &mut World<Core, C, A>,
+    world: &mut World<Core, C, A, K>,
     point: u64,
 ) -> Result<Kept, Stop> {
     let key = value(alloc, ":w")?;
@@ -169,19 +175,29 @@ fn look_at<C: Ledger, A: Ledger>(
     })
 }
 
-fn try_kept<C: Ledger, A: Ledger>(alloc: Global, commits: Blank, added: Blank) -> Result<Kept, Stop>
+fn try_kept<C: Ledger, A: Ledger, K: Ledger>(
+    alloc: Global,
+    commits: Blank,
+    added: Blank,
+    taken: Blank,
+) -> Result<Kept, Stop>
     requires commits { IsBlank commits C.name C.parts }
     requires added { IsBlank added A.name A.parts }
+    requires taken { IsBlank taken K.name K.parts }
 {
-    let (mut world, point) = shared_and_back::<C, A>(alloc, commits, added)?;
+    let (mut world, point) = shared_and_back::<C, A, K>(alloc, commits, added, taken)?;
     look_at(alloc, &mut world, point)
 }
 
 #[test]
 fn a_shared_world_keeps_what_the_world_had(rt: HostRuntime) -> Result<(), Fail> {
     let alloc = rt.alloc();
-    let (commits, added) = (Blank::new(ALL_PARTS), Blank::new(ALL_PARTS));
-    let kept = try_kept::<Brand, Brand>(alloc, commits, added)?;
+    let (commits, added, taken) = (
+        Blank::new(ALL_PARTS),
+        Blank::new(ALL_PARTS),
+        Blank::new(ALL_PARTS),
+    );
+    let kept = try_kept::<Brand, Brand, Brand>(alloc, commits, added, taken)?;
     let wanted = Kept {
         first: Some((1, AgentError::Refused(Cause::WrongKind))),
         others: [None, Some(0)],

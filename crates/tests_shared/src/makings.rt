@@ -31,12 +31,12 @@ struct Making;
 impl<R: Wait> Scenario<R> for Making {
     type Outcome = Made;
 
-    fn run<C: Ledger, A: Ledger>(
+    fn run<C: Ledger, A: Ledger, K: Ledger>(
         &self,
         rt: &R,
         alloc: Global,
-        shared: &Shared<Core, C, A>,
-        share: &mut Share<C, A>,
+        shared: &Shared<Core, C, A, K>,
+        share: &mut Share<C, A, K>,
     ) -> Result<Made, Stop> {
         let rule = at_least(alloc, "0")?;
         done(shared.make_ref(
@@ -60,11 +60,11 @@ impl<R: Wait> Scenario<R> for Making {
 }
 
 // A ref with a rule is made, and what a commit that sets it to -1 comes to.
-fn set_below<C: Ledger, A: Ledger, R: Wait>(
+fn set_below<C: Ledger, A: Ledger, K: Ledger, R: Wait>(
     rt: &R,
     alloc: Global,
-    shared: &Shared<Core, C, A>,
-    share: &mut Share<C, A>,
+    shared: &Shared<Core, C, A, K>,
+    share: &mut Share<C, A, K>,
 ) -> Result<Option<CommitFault>, Stop> {
     let rule = at_least(alloc, "0")?;
     done(shared.make_ref(
@@ -110,12 +110,12 @@ struct Minding;
 impl<R: Wait> Scenario<R> for Minding {
     type Outcome = Modes;
 
-    fn run<C: Ledger, A: Ledger>(
+    fn run<C: Ledger, A: Ledger, K: Ledger>(
         &self,
         rt: &R,
         alloc: Global,
-        shared: &Shared<Core, C, A>,
-        _share: &mut Share<C, A>,
+        shared: &Shared<Core, C, A, K>,
+        _share: &mut Share<C, A, K>,
     ) -> Result<Modes, Stop> {
         make_agent(rt, alloc, shared, ErrorMode::Continue)?;
         make_agent(rt, alloc, shared, ErrorMode::Fail)?;
@@ -131,10 +131,10 @@ impl<R: Wait> Scenario<R> for Minding {
 }
 
 // An agent with the state 1 and the rule that it is 0 or more.
-fn make_agent<C: Ledger, A: Ledger, R: Wait>(
+fn make_agent<C: Ledger, A: Ledger, K: Ledger, R: Wait>(
     rt: &R,
     alloc: Global,
-    shared: &Shared<Core, C, A>,
+    shared: &Shared<Core, C, A, K>,
     mode: ErrorMode,
 ) -> Result<(), Stop> {
     let (one, rule) = (value(alloc, "1")?, at_least(alloc, "0")?);

@@ -16,12 +16,12 @@ use std::sync::ledger::{Blank, Ledger};
 pub trait Scenario<R> {
     type Outcome: Drop;
 
-    fn run<C: Ledger, A: Ledger>(
+    fn run<C: Ledger, A: Ledger, K: Ledger>(
         &self,
         rt: &R,
         alloc: Global,
-        shared: &Shared<Core, C, A>,
-        share: &mut Share<C, A>,
+        shared: &Shared<Core, C, A, K>,
+        share: &mut Share<C, A, K>,
     ) -> Result<Self::Outcome, Stop>;
 }
 
@@ -29,10 +29,10 @@ pub trait Scenario<R> {
 pub trait Inspection {
     type Seen: Drop;
 
-    fn inspect<C: Ledger, A: Ledger>(
+    fn inspect<C: Ledger, A: Ledger, K: Ledger>(
         &self,
         alloc: Global,
-        world: &World<Core, C, A>,
+        world: &World<Core, C, A, K>,
         totals: Totals,
     ) -> Result<Self::Seen, Stop>;
 }
@@ -44,10 +44,10 @@ pub struct CommitCount;
 impl Inspection for CommitCount {
     type Seen = u64;
 
-    fn inspect<C: Ledger, A: Ledger>(
+    fn inspect<C: Ledger, A: Ledger, K: Ledger>(
         &self,
         _alloc: Global,
-        _world: &World<Core, C, A>,
+        _world: &World<Core, C, A, K>,
         totals: Totals,
     ) -> Result<u64, Stop> {
         Ok(totals.commits)
@@ -68,10 +68,10 @@ pub struct AllCommits;
 impl Inspection for AllCommits {
     type Seen = Commits;
 
-    fn inspect<C: Ledger, A: Ledger>(
+    fn inspect<C: Ledger, A: Ledger, K: Ledger>(
         &self,
         alloc: Global,
-        world: &World<Core, C, A>,
+        world: &World<Core, C, A, K>,
         totals: Totals,
     ) -> Result<Commits, Stop> {
         Ok(Commits {
@@ -98,22 +98,28 @@ pub fn run_shared<R: Wait, S: Scenario<R>>(
     start: Start,
     scenario: &S,
 ) -> Result<S::Outcome, Stop> {
-    let (commits, added) = (Blank::new(ALL_PARTS), Blank::new(ALL_PARTS));
-    run_in::<Brand, Brand, R, S>(rt, alloc, start, scenario, commits, added)
+    let (commits, added, taken) = (
+        Blank::new(ALL_PARTS),
+        Blank::new(ALL_PARTS),
+        Blank::new(ALL_PARTS),
+    );
+    run_in::<Brand, Brand, Brand, R, S>(rt, alloc, start, scenario, commits, added, taken)
 }
 
-fn run_in<C: Ledger, A: Ledger, R: Wait, S: Scenario<R>>(
+fn run_in<C: Ledger, A: Ledger, K: Ledger, R: Wait, S: Scenario<R>>(
     rt: &R,
     alloc: Global,
     start: Start,
     scenario: &S,
     commits: Blank,
     added: Blank,
+    taken: Blank,
 ) -> Result<S::Outcome, Stop>
     requires commits { IsBlank commits C.name C.parts }
     requires added { IsBlank added A.name A.parts }
+    requires taken { IsBlank taken K.name K.parts }
 {
-    let (shared, mut share) = opened::<C, A>(alloc, start, commits, added)?;
+    let (shared, mut share) = opened::<C, A, K>(alloc, start, commits, added, taken)?;
     scenario.run(rt, alloc, &shared, &mut share)
 }
 
@@ -125,11 +131,17 @@ pub fn run_to_end<R: Wait, S: Scenario<R>, I: Inspection>(
     scenario: &S,
     inspection: &I,
 ) -> Result<(S::Outcome, I::Seen), Stop> {
-    let (commits, added) = (Blank::new(ALL_PARTS), Blank::new(ALL_PARTS));
-    run_to_end_in::<Brand, Brand, R, S, I>(rt, alloc, start, scenario, inspection, commits, added)
+    let (commits, added, taken) = (
+        Blank::new(ALL_PARTS),
+        Blank::new(ALL_PARTS),
+        Blank::new(ALL_PARTS),
+    );
+    run_to_end_in::<Brand, Brand, Brand, R, S, I>(
+        rt, alloc, start, scenario, inspection, commits, added, taken,
+    )
 }
 
-fn run_to_end_in<C: Ledger, A: Ledger, R: Wait, S: Scenario<R>, I: Inspection>(
+fn run_to_end_in<C: Ledger, A: Ledger, K: Ledger, R: Wait, S: Scenario<R>, I: Inspection>(
     rt: &R,
     alloc: Global,
     start: Start,
@@ -137,21 +149,23 @@ fn run_to_end_in<C: Ledger, A: Ledger, R: Wait, S: Scenario<R>, I: Inspection>(
     inspection: &I,
     commits: Blank,
     added: Blank,
+    taken: Blank,
 ) -> Result<(S::Outcome, I::Seen), Stop>
     requires commits { IsBlank commits C.name C.parts }
     requires added { IsBlank added A.name A.parts }
+    requires taken { IsBlank taken K.name K.parts }
 {
-    let (shared, mut share) = opened::<C, A>(alloc, start, commits, added)?;
+    let (shared, mut share) = opened::<C, A, K>(alloc, start, commits, added, taken)?;
     let outcome = scenario.run(rt, alloc, &shared, &mut share)?;
     let seen = seen_at_end(alloc, shared, share, inspection)?;
     Ok((outcome, seen))
 }
 
 /// What is read of the world that a shared world ends with, where the share is whole and log and receipts fit.
-pub fn seen_at_end<C: Ledger, A: Ledger, I: Inspection>(
+pub fn seen_at_end<C: Ledger, A: Ledger, K: Ledger, I: Inspection>(
     alloc: Global,
-    shared: Shared<Core, C, A>,
-    share: Share<C, A>,
+    shared: Shared<Core, C, A, K>,
+    share: Share<C, A, K>,
     inspection: &I,
 ) -> Result<I::Seen, Stop> {
     let (world, totals) = closed(alloc, shared, share)?;
@@ -165,31 +179,39 @@ pub fn run_and_finish<R: Wait, S: Scenario<R>>(
     start: Start,
     scenario: &S,
 ) -> Result<End, Stop> {
-    let (commits, added) = (Blank::new(ALL_PARTS), Blank::new(ALL_PARTS));
-    run_and_finish_in::<Brand, Brand, R, S>(rt, alloc, start, scenario, commits, added)
+    let (commits, added, taken) = (
+        Blank::new(ALL_PARTS),
+        Blank::new(ALL_PARTS),
+        Blank::new(ALL_PARTS),
+    );
+    run_and_finish_in::<Brand, Brand, Brand, R, S>(
+        rt, alloc, start, scenario, commits, added, taken,
+    )
 }
 
-fn run_and_finish_in<C: Ledger, A: Ledger, R: Wait, S: Scenario<R>>(
+fn run_and_finish_in<C: Ledger, A: Ledger, K: Ledger, R: Wait, S: Scenario<R>>(
     rt: &R,
     alloc: Global,
     start: Start,
     scenario: &S,
     commits: Blank,
     added: Blank,
+    taken: Blank,
 ) -> Result<End, Stop>
     requires commits { IsBlank commits C.name C.parts }
     requires added { IsBlank added A.name A.parts }
+    requires taken { IsBlank taken K.name K.parts }
 {
-    let (shared, mut share) = opened::<C, A>(alloc, start, commits, added)?;
+    let (shared, mut share) = opened::<C, A, K>(alloc, start, commits, added, taken)?;
     let _ = scenario.run(rt, alloc, &shared, &mut share)?;
     finished(alloc, shared, share)
 }
 
 // Ends a shared world whose share is whole.
-fn finished<C: Ledger, A: Ledger>(
+fn finished<C: Ledger, A: Ledger, K: Ledger>(
     alloc: Global,
-    shared: Shared<Core, C, A>,
-    share: Share<C, A>,
+    shared: Shared<Core, C, A, K>,
+    share: Share<C, A, K>,
 ) -> Result<End, Stop> {
     if !share.is_whole() {
         return Err(Stop::Refused);

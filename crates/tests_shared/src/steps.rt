@@ -10,10 +10,10 @@ use std::sync::Wait;
 use std::sync::ledger::Ledger;
 
 /// Adds a watch with this key.
-pub fn watch<C: Ledger, A: Ledger, R: Wait>(
+pub fn watch<C: Ledger, A: Ledger, K: Ledger, R: Wait>(
     rt: &R,
     alloc: Global,
-    shared: &Shared<Core, C, A>,
+    shared: &Shared<Core, C, A, K>,
     who: Who,
     key: &str,
 ) -> Result<(), Stop> {
@@ -23,10 +23,10 @@ pub fn watch<C: Ledger, A: Ledger, R: Wait>(
 }
 
 /// Sends an action of one argument to an agent.
-pub fn send<C: Ledger, A: Ledger, R: Wait>(
+pub fn send<C: Ledger, A: Ledger, K: Ledger, R: Wait>(
     rt: &R,
     alloc: Global,
-    shared: &Shared<Core, C, A>,
+    shared: &Shared<Core, C, A, K>,
     g: u32,
     code: u32,
     argument: &str,
@@ -43,11 +43,11 @@ pub fn set(alloc: Global, tx: &mut Tx<Core>, r: u32, text: &str) -> Result<(), S
 }
 
 /// Commits a transaction, and returns the point.
-pub fn commit<C: Ledger, A: Ledger, R: Wait>(
+pub fn commit<C: Ledger, A: Ledger, K: Ledger, R: Wait>(
     rt: &R,
     alloc: Global,
-    shared: &Shared<Core, C, A>,
-    share: &mut Share<C, A>,
+    shared: &Shared<Core, C, A, K>,
+    share: &mut Share<C, A, K>,
     stamp: Stamp,
     tx: Tx<Core>,
 ) -> Result<u64, Stop> {
@@ -56,11 +56,11 @@ pub fn commit<C: Ledger, A: Ledger, R: Wait>(
 }
 
 /// Commits `ref-set 0 text`, and returns the point.
-pub fn commit_set<C: Ledger, A: Ledger, R: Wait>(
+pub fn commit_set<C: Ledger, A: Ledger, K: Ledger, R: Wait>(
     rt: &R,
     alloc: Global,
-    shared: &Shared<Core, C, A>,
-    share: &mut Share<C, A>,
+    shared: &Shared<Core, C, A, K>,
+    share: &mut Share<C, A, K>,
     stamp: Stamp,
     text: &str,
 ) -> Result<u64, Stop> {
@@ -70,11 +70,11 @@ pub fn commit_set<C: Ledger, A: Ledger, R: Wait>(
 }
 
 /// Commits `alter 0 + 1`.
-pub fn commit_add<C: Ledger, A: Ledger, R: Wait>(
+pub fn commit_add<C: Ledger, A: Ledger, K: Ledger, R: Wait>(
     rt: &R,
     alloc: Global,
-    shared: &Shared<Core, C, A>,
-    share: &mut Share<C, A>,
+    shared: &Shared<Core, C, A, K>,
+    share: &mut Share<C, A, K>,
     stamp: Stamp,
 ) -> Result<(), Stop> {
     let mut tx = shared.begin(rt, alloc)?;

@@ -60,12 +60,12 @@ struct Begun {
 impl<R: Wait> Scenario<R> for Begun {
     type Outcome = Tx<Core>;
 
-    fn run<C: Ledger, A: Ledger>(
+    fn run<C: Ledger, A: Ledger, K: Ledger>(
         &self,
         rt: &R,
         alloc: Global,
-        shared: &Shared<Core, C, A>,
-        share: &mut Share<C, A>,
+        shared: &Shared<Core, C, A, K>,
+        share: &mut Share<C, A, K>,
     ) -> Result<Tx<Core>, Stop> {
         for _ in 0..self.commits {
             let _ = commit_set(rt, alloc, shared, share, STAMP, "0")?;
@@ -86,11 +86,11 @@ struct Tried {
 }
 
 // The transaction, if it comes back, and why.
-fn refused<C: Ledger, A: Ledger, R: Wait>(
+fn refused<C: Ledger, A: Ledger, K: Ledger, R: Wait>(
     rt: &R,
     alloc: Global,
-    shared: &Shared<Core, C, A>,
-    share: &mut Share<C, A>,
+    shared: &Shared<Core, C, A, K>,
+    share: &mut Share<C, A, K>,
     tx: Tx<Core>,
 ) -> Result<(Tx<Core>, CommitFault), Stop> {
     match shared.commit(rt, alloc, &CoreFunctions, share, STAMP, tx) {
@@ -102,12 +102,12 @@ fn refused<C: Ledger, A: Ledger, R: Wait>(
 impl<R: Wait> Scenario<R> for Case {
     type Outcome = Tried;
 
-    fn run<C: Ledger, A: Ledger>(
+    fn run<C: Ledger, A: Ledger, K: Ledger>(
         &self,
         rt: &R,
         alloc: Global,
-        shared: &Shared<Core, C, A>,
-        share: &mut Share<C, A>,
+        shared: &Shared<Core, C, A, K>,
+        share: &mut Share<C, A, K>,
     ) -> Result<Tried, Stop> {
         let begun = Begun {
             commits: self.commits,

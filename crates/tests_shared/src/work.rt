@@ -23,12 +23,12 @@ struct Nothing;
 impl<R: Wait> Scenario<R> for Nothing {
     type Outcome = Work;
 
-    fn run<C: Ledger, A: Ledger>(
+    fn run<C: Ledger, A: Ledger, K: Ledger>(
         &self,
         rt: &R,
         alloc: Global,
-        shared: &Shared<Core, C, A>,
-        _share: &mut Share<C, A>,
+        shared: &Shared<Core, C, A, K>,
+        _share: &mut Share<C, A, K>,
     ) -> Result<Work, Stop> {
         shared.close(rt);
         Ok(work(rt, alloc, shared))
@@ -49,12 +49,12 @@ struct Closed;
 impl<R: Wait> Scenario<R> for Closed {
     type Outcome = (Result<(), SendFault>, Work, Work);
 
-    fn run<C: Ledger, A: Ledger>(
+    fn run<C: Ledger, A: Ledger, K: Ledger>(
         &self,
         rt: &R,
         alloc: Global,
-        shared: &Shared<Core, C, A>,
-        _share: &mut Share<C, A>,
+        shared: &Shared<Core, C, A, K>,
+        _share: &mut Share<C, A, K>,
     ) -> Result<(Result<(), SendFault>, Work, Work), Stop> {
         shared.close(rt);
         let sent = shared.send(rt, alloc, 1, action(alloc, PLUS, "1")?);
@@ -91,10 +91,10 @@ struct Restarted {
 }
 
 // `+ 1`, `- 5`, which fails g, and `+ 2`. What the first two came to is answered.
-fn send_and_fail<C: Ledger, A: Ledger, R: Wait>(
+fn send_and_fail<C: Ledger, A: Ledger, K: Ledger, R: Wait>(
     rt: &R,
     alloc: Global,
-    shared: &Shared<Core, C, A>,
+    shared: &Shared<Core, C, A, K>,
 ) -> Result<(Work, Work), Stop> {
     send(rt, alloc, shared, 0, PLUS, "1")?;
     send(rt, alloc, shared, 0, MINUS, "5")?;
@@ -110,10 +110,10 @@ struct Waiting;
 impl Inspection for Waiting {
     type Seen = Option<usize>;
 
-    fn inspect<C: Ledger, A: Ledger>(
+    fn inspect<C: Ledger, A: Ledger, K: Ledger>(
         &self,
         _alloc: Global,
-        world: &World<Core, C, A>,
+        world: &World<Core, C, A, K>,
         _totals: Totals,
     ) -> Result<Option<usize>, Stop> {
         match world.account(0) {
@@ -129,12 +129,12 @@ struct Failing;
 impl<R: Wait> Scenario<R> for Failing {
     type Outcome = (Work, Work);
 
-    fn run<C: Ledger, A: Ledger>(
+    fn run<C: Ledger, A: Ledger, K: Ledger>(
         &self,
         rt: &R,
         alloc: Global,
-        shared: &Shared<Core, C, A>,
-        _share: &mut Share<C, A>,
+        shared: &Shared<Core, C, A, K>,
+        _share: &mut Share<C, A, K>,
     ) -> Result<(Work, Work), Stop> {
         send_and_fail(rt, alloc, shared)
     }
@@ -150,10 +150,10 @@ fn a_failed_agent_holds_its_queue(rt: HostRuntime) -> Result<(), Fail> {
 }
 
 // The agent fails, refuses what is sent to it, and has no action that may be run.
-fn fail<C: Ledger, A: Ledger, R: Wait>(
+fn fail<C: Ledger, A: Ledger, K: Ledger, R: Wait>(
     rt: &R,
     alloc: Global,
-    shared: &Shared<Core, C, A>,
+    shared: &Shared<Core, C, A, K>,
 ) -> Result<Failed, Stop> {
     let worked = send_and_fail(rt, alloc, shared)?;
     let error = shared.error_of(rt, 0);
@@ -170,10 +170,10 @@ fn fail<C: Ledger, A: Ledger, R: Wait>(
 }
 
 // Then it is restarted with 10.
-fn restart<C: Ledger, A: Ledger, R: Wait>(
+fn restart<C: Ledger, A: Ledger, K: Ledger, R: Wait>(
     rt: &R,
     alloc: Global,
-    shared: &Shared<Core, C, A>,
+    shared: &Shared<Core, C, A, K>,
     clear: bool,
 ) -> Result<Restarted, Stop> {
     let ten = value(alloc, "10")?;
@@ -196,12 +196,12 @@ struct Restarting {
 impl<R: Wait> Scenario<R> for Restarting {
     type Outcome = (Failed, Restarted);
 
-    fn run<C: Ledger, A: Ledger>(
+    fn run<C: Ledger, A: Ledger, K: Ledger>(
         &self,
         rt: &R,
         alloc: Global,
-        shared: &Shared<Core, C, A>,
-        _share: &mut Share<C, A>,
+        shared: &Shared<Core, C, A, K>,
+        _share: &mut Share<C, A, K>,
     ) -> Result<(Failed, Restarted), Stop> {
         let failed = fail(rt, alloc, shared)?;
         Ok((failed, restart(rt, alloc, shared, self.clear)?))
@@ -252,12 +252,12 @@ struct Lacking;
 impl<R: Wait> Scenario<R> for Lacking {
     type Outcome = (Work, Work, Option<i64>);
 
-    fn run<C: Ledger, A: Ledger>(
+    fn run<C: Ledger, A: Ledger, K: Ledger>(
         &self,
         rt: &R,
         alloc: Global,
-        shared: &Shared<Core, C, A>,
-        _share: &mut Share<C, A>,
+        shared: &Shared<Core, C, A, K>,
+        _share: &mut Share<C, A, K>,
     ) -> Result<(Work, Work, Option<i64>), Stop> {
         send(rt, alloc, shared, 1, 999, "1")?;
         let first = work(rt, alloc, shared);
@@ -279,12 +279,12 @@ fn an_action_without_its_function_waits_again(rt: HostRuntime) -> Result<(), Fai
 impl<R: Wait> Scenario<R> for Poor {
     type Outcome = (Work, Work, Option<i64>);
 
-    fn run<C: Ledger, A: Ledger>(
+    fn run<C: Ledger, A: Ledger, K: Ledger>(
         &self,
         rt: &R,
         alloc: Global,
-        shared: &Shared<Core, C, A>,
-        _share: &mut Share<C, A>,
+        shared: &Shared<Core, C, A, K>,
+        _share: &mut Share<C, A, K>,
     ) -> Result<(Work, Work, Option<i64>), Stop> {
         send(rt, alloc, shared, 0, PLUS, "1")?;
         shared.close(rt);
@@ -326,12 +326,12 @@ struct Telling;
 impl<R: Wait> Scenario<R> for Telling {
     type Outcome = (Work, Vec<Told>);
 
-    fn run<C: Ledger, A: Ledger>(
+    fn run<C: Ledger, A: Ledger, K: Ledger>(
         &self,
         rt: &R,
         alloc: Global,
-        shared: &Shared<Core, C, A>,
-        _share: &mut Share<C, A>,
+        shared: &Shared<Core, C, A, K>,
+        _share: &mut Share<C, A, K>,
     ) -> Result<(Work, Vec<Told>), Stop> {
         watch(rt, alloc, shared, Who::Agent(1), ":k")?;
         watch(rt, alloc, shared, Who::Agent(1), ":j")?;
@@ -358,11 +358,11 @@ fn a_sink_is_told_what_an_action_changed(rt: HostRuntime) -> Result<(), Fail> {
     Ok(())
 }
 
-fn transact_four<C: Ledger, A: Ledger, R: Wait>(
+fn transact_four<C: Ledger, A: Ledger, K: Ledger, R: Wait>(
     rt: &R,
     alloc: Global,
-    shared: &Shared<Core, C, A>,
-    share: &mut Share<C, A>,
+    shared: &Shared<Core, C, A, K>,
+    share: &mut Share<C, A, K>,
 ) -> Result<(), Stop> {
     let _ = done(shared.transact(
         rt,
@@ -384,12 +384,12 @@ struct Transacting;
 impl<R: Wait> Scenario<R> for Transacting {
     type Outcome = (Work, Option<i64>);
 
-    fn run<C: Ledger, A: Ledger>(
+    fn run<C: Ledger, A: Ledger, K: Ledger>(
         &self,
         rt: &R,
         alloc: Global,
-        shared: &Shared<Core, C, A>,
-        share: &mut Share<C, A>,
+        shared: &Shared<Core, C, A, K>,
+        share: &mut Share<C, A, K>,
     ) -> Result<(Work, Option<i64>), Stop> {
         transact_four(rt, alloc, shared, share)?;
         shared.close(rt);
@@ -422,12 +422,12 @@ struct Releasing;
 impl<R: Wait> Scenario<R> for Releasing {
     type Outcome = Released;
 
-    fn run<C: Ledger, A: Ledger>(
+    fn run<C: Ledger, A: Ledger, K: Ledger>(
         &self,
         rt: &R,
         alloc: Global,
-        shared: &Shared<Core, C, A>,
-        share: &mut Share<C, A>,
+        shared: &Shared<Core, C, A, K>,
+        share: &mut Share<C, A, K>,
     ) -> Result<Released, Stop> {
         let point = commit_four(rt, alloc, shared, share)?;
         shared.close(rt);

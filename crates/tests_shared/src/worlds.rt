@@ -108,31 +108,34 @@ pub fn agent(value: Value, rule: Option<Rule>) -> AgentStart {
 }
 
 /// A shared world of these references, and its whole share.
-pub fn opened<C: Ledger, A: Ledger>(
+pub fn opened<C: Ledger, A: Ledger, K: Ledger>(
     alloc: Global,
     start: Start,
     commits: Blank,
     added: Blank,
-) -> Result<(Shared<Core, C, A>, Share<C, A>), Stop>
+    taken: Blank,
+) -> Result<(Shared<Core, C, A, K>, Share<C, A, K>), Stop>
     requires commits { IsBlank commits C.name C.parts }
     requires added { IsBlank added A.name A.parts }
+    requires taken { IsBlank taken K.name K.parts }
 {
-    let (world, share) = done(World::<Core, C, A>::new(
+    let (world, share) = done(World::<Core, C, A, K>::new(
         alloc,
         &CoreFunctions,
         start,
         commits,
         added,
+        taken,
     ))?;
     Ok((Shared::new(world), share))
 }
 
 /// The world that a shared world ends with, and its totals, where the share is whole and log and receipts fit.
-pub fn closed<C: Ledger, A: Ledger>(
+pub fn closed<C: Ledger, A: Ledger, K: Ledger>(
     alloc: Global,
-    shared: Shared<Core, C, A>,
-    share: Share<C, A>,
-) -> Result<(World<Core, C, A>, Totals), Stop> {
+    shared: Shared<Core, C, A, K>,
+    share: Share<C, A, K>,
+) -> Result<(World<Core, C, A, K>, Totals), Stop> {
     if !share.is_whole() {
         return Err(Stop::Refused);
     }
@@ -140,9 +143,9 @@ pub fn closed<C: Ledger, A: Ledger>(
 }
 
 /// The number that a reference holds now, if it is there and holds one.
-pub fn int_at<C: Ledger, A: Ledger, R: Wait>(
+pub fn int_at<C: Ledger, A: Ledger, K: Ledger, R: Wait>(
     rt: &R,
-    shared: &Shared<Core, C, A>,
+    shared: &Shared<Core, C, A, K>,
     who: Who,
 ) -> Option<i64> {
     int_of(&shared.value_of(rt, who).ok()??)

@@ -29,10 +29,10 @@ struct Seen {
 }
 
 // Checkpoints at a point, at it again, before it, and past the last.
-fn fold<R: Wait, C: Ledger, A: Ledger>(
+fn fold<R: Wait, C: Ledger, A: Ledger, K: Ledger>(
     rt: &R,
     alloc: Global,
-    shared: &Shared<Core, C, A>,
+    shared: &Shared<Core, C, A, K>,
 ) -> Result<Vec<Result<u64, CheckpointFault>>, AllocError> {
     let mut answers = Vec::new(alloc);
     for point in [2, 2, 1, 4] {
@@ -51,10 +51,15 @@ fn read(alloc: Global, view: View<Core>) -> (usize, Option<i64>) {
 }
 
 // The checkpoints by one thread, and the view by another.
-fn fold_beside<C: Ledger + Send + Sync, A: Ledger + Send + Sync, R: Threads + Wait + Sync>(
+fn fold_beside<
+    C: Ledger + Send + Sync,
+    A: Ledger + Send + Sync,
+    K: Ledger + Send + Sync,
+    R: Threads + Wait + Sync,
+>(
     rt: &R,
     alloc: Global,
-    shared: &Shared<Core, C, A>,
+    shared: &Shared<Core, C, A, K>,
     view: View<Core>,
 ) -> Result<(Vec<Result<u64, CheckpointFault>>, (usize, Option<i64>)), AllocError> {
     let (answers, viewed) = thread::join(
@@ -65,17 +70,18 @@ fn fold_beside<C: Ledger + Send + Sync, A: Ledger + Send + Sync, R: Threads + Wa
     Ok((answers?, viewed))
 }
 
-fn try_checkpoints<C: Ledger + Send + Sync, A: Ledger + Send + Sync, R: Threads + Wait + Sync>(
-    rt: &R,
-    alloc: Global,
-    commits: Blank,
-    added: Blank,
-) -> Result<Seen, Stop>
+fn try_checkpoints<
+    C: Ledger + Send + Sync,
+    A: Ledger + Send + Sync,
+    K: Ledger + Send + Sync,
+    R: Threads + Wait + Sync,
+>(rt: &R, alloc: Global, commits: Blank, added: Blank, taken: Blank) -> Result<Seen, Stop>
     requires commits { IsBlank commits C.name C.parts }
     requires added { IsBlank added A.name A.parts }
+    requires taken { IsBlank taken K.name K.parts }
 {
     let start = plain_start(alloc, "0", "")?;
-    let (shared, mut share) = opened::<C, A>(alloc, start, commits, added)?;
+    let (shared, mut share) = opened::<C, A, K>(alloc, start, commits, added, taken)?;
     for step in 0..3u32 {
         let mut tx = shared.begin(rt, alloc)?;
         let one = one_arg(alloc, "1")?;
@@ -103,7 +109,11 @@ fn try_checkpoints<C: Ledger + Send + Sync, A: Ledger + Send + Sync, R: Threads 
 #[test]
 fn entries_are_folded_and_a_view_keeps_them(rt: HostRuntime) -> Result<(), Fail> {
     let alloc = rt.alloc();
-    let (commits, added) = (Blank::new(ALL_PARTS), Blank::new(ALL_PARTS));
+    let (commits, added, taken) = (
+        Blank::new(ALL_PARTS),
+        Blank::new(ALL_PARTS),
+        Blank::new(ALL_PARTS),
+    );
     let none = CheckpointFault::NoSuchPoint;
     let wanted = Seen {
         answers: vec![in alloc; Ok(2), Ok(0), Err(none), Err(none)]?,
@@ -112,7 +122,7 @@ fn entries_are_folded_and_a_view_keeps_them(rt: HostRuntime) -> Result<(), Fail>
         entries: 1,
         commits: 3,
     };
-    let seen = try_checkpoints::<Brand, Brand, _>(&rt, alloc, commits, added)?;
+    let seen = try_checkpoints::<Brand, Brand, Brand, _>(&rt, alloc, commits, added, taken)?;
     assert_eq!(rt; seen, wanted);
     Ok(())
 }

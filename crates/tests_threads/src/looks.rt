@@ -86,9 +86,9 @@ impl<'a, 'b, R: Clock> Functions<Core> for Pause<'a, 'b, R> {
 type Look = Result<(Option<i64>, Work), Stop>;
 
 // Looks once the other is there, and says so.
-fn look<R: AllocGlobal + Wait + Clock, C: Ledger, A: Ledger>(
+fn look<R: AllocGlobal + Wait + Clock, C: Ledger, A: Ledger, K: Ledger>(
     rt: &R,
-    shared: &Shared<Core, C, A>,
+    shared: &Shared<Core, C, A, K>,
     who: Who,
     flags: &Flags,
 ) -> Look {
@@ -114,13 +114,13 @@ struct Looked {
 // ---- A transaction
 
 // Adds 1 to a and sends `+ 4` to h. It answers the share, and whether it was committed.
-fn transact<R: AllocGlobal + Wait + Clock, C: Ledger, A: Ledger>(
+fn transact<R: AllocGlobal + Wait + Clock, C: Ledger, A: Ledger, K: Ledger>(
     rt: &R,
-    shared: &Shared<Core, C, A>,
-    mut share: Share<C, A>,
+    shared: &Shared<Core, C, A, K>,
+    mut share: Share<C, A, K>,
     place: Place,
     flags: &Flags,
-) -> (Share<C, A>, bool) {
+) -> (Share<C, A, K>, bool) {
     let alloc = rt.alloc();
     let mut gate = Pause { rt, flags, place };
     let mut sink = Pause { rt, flags, place };
@@ -150,14 +150,15 @@ fn add_and_send(alloc: Global, tx: &mut Tx<Core>) -> Result<(), Stop> {
 fn transact_and_look<
     C: Ledger + Send + Sync,
     A: Ledger + Send + Sync,
+    K: Ledger + Send + Sync,
     R: AllocGlobal + Threads + Wait + Clock + Sync,
 >(
     rt: &R,
-    shared: &Shared<Core, C, A>,
-    share: Share<C, A>,
+    shared: &Shared<Core, C, A, K>,
+    share: Share<C, A, K>,
     place: Place,
     flags: &Flags,
-) -> ((Share<C, A>, bool), Look) {
+) -> ((Share<C, A, K>, bool), Look) {
     let (mine, seen) = thread::join(
         rt,
         move || transact(rt, shared, share, place, flags),
@@ -170,12 +171,21 @@ fn transact_and_look<
 fn try_transaction<
     C: Ledger + Send + Sync,
     A: Ledger + Send + Sync,
+    K: Ledger + Send + Sync,
     R: AllocGlobal + Threads + Wait + Clock + Sync,
->(rt: &R, alloc: Global, place: Place, commits: Blank, added: Blank) -> Result<Looked, Stop>
+>(
+    rt: &R,
+    alloc: Global,
+    place: Place,
+    commits: Blank,
+    added: Blank,
+    taken: Blank,
+) -> Result<Looked, Stop>
     requires commits { IsBlank commits C.name C.parts }
     requires added { IsBlank added A.name A.parts }
+    requires taken { IsBlank taken K.name K.parts }
 {
-    let (shared, share) = opened::<C, A>(alloc, two_agents(alloc)?, commits, added)?;
+    let (shared, share) = opened::<C, A, K>(alloc, two_agents(alloc)?, commits, added, taken)?;
     let _ = done(shared.add_watch(rt, alloc, Who::Ref(0), value(alloc, ":k")?))?;
     shared.close(rt);
     let flags = Flags::new();
@@ -205,8 +215,14 @@ const OF_A_TRANSACTION: &[(Place, i64)] = &[
 fn the_lock_is_free_at_each_step_of_a_transaction(rt: HostRuntime) -> Result<(), Fail> {
     let alloc = rt.alloc();
     for (place, seen) in OF_A_TRANSACTION {
-        let (commits, added) = (Blank::new(ALL_PARTS), Blank::new(ALL_PARTS));
-        let looked = try_transaction::<Brand, Brand, _>(&rt, alloc, *place, commits, added)?;
+        let (commits, added, taken) = (
+            Blank::new(ALL_PARTS),
+            Blank::new(ALL_PARTS),
+            Blank::new(ALL_PARTS),
+        );
+        let looked = try_transaction::<Brand, Brand, Brand, _>(
+            &rt, alloc, *place, commits, added, taken,
+        )?;
         let wanted = Looked {
             is_ok: true,
             in_time: true,
@@ -221,9 +237,9 @@ fn the_lock_is_free_at_each_step_of_a_transaction(rt: HostRuntime) -> Result<(),
 // ---- An action
 
 // Runs the action of h, and answers whether it did.
-fn act<R: AllocGlobal + Wait + Clock, C: Ledger, A: Ledger>(
+fn act<R: AllocGlobal + Wait + Clock, C: Ledger, A: Ledger, K: Ledger>(
     rt: &R,
-    shared: &Shared<Core, C, A>,
+    shared: &Shared<Core, C, A, K>,
     place: Place,
     flags: &Flags,
 ) -> bool {
@@ -237,8 +253,9 @@ fn act<R: AllocGlobal + Wait + Clock, C: Ledger, A: Ledger>(
 fn act_and_look<
     C: Ledger + Send + Sync,
     A: Ledger + Send + Sync,
+    K: Ledger + Send + Sync,
     R: AllocGlobal + Threads + Wait + Clock + Sync,
->(rt: &R, shared: &Shared<Core, C, A>, place: Place, flags: &Flags) -> (bool, Look) {
+>(rt: &R, shared: &Shared<Core, C, A, K>, place: Place, flags: &Flags) -> (bool, Look) {
     let (is_ok, seen) = thread::join(
         rt,
         move || act(rt, shared, place, flags),
@@ -251,12 +268,21 @@ fn act_and_look<
 fn try_action<
     C: Ledger + Send + Sync,
     A: Ledger + Send + Sync,
+    K: Ledger + Send + Sync,
     R: AllocGlobal + Threads + Wait + Clock + Sync,
->(rt: &R, alloc: Global, place: Place, commits: Blank, added: Blank) -> Result<Looked, Stop>
+>(
+    rt: &R,
+    alloc: Global,
+    place: Place,
+    commits: Blank,
+    added: Blank,
+    taken: Blank,
+) -> Result<Looked, Stop>
     requires commits { IsBlank commits C.name C.parts }
     requires added { IsBlank added A.name A.parts }
+    requires taken { IsBlank taken K.name K.parts }
 {
-    let (shared, _share) = opened::<C, A>(alloc, two_agents(alloc)?, commits, added)?;
+    let (shared, _share) = opened::<C, A, K>(alloc, two_agents(alloc)?, commits, added, taken)?;
     let _ = done(shared.add_watch(rt, alloc, Who::Agent(1), value(alloc, ":k")?))?;
     done(shared.send(rt, alloc, 1, action(alloc, PLUS, "4")?))?;
     shared.close(rt);
@@ -282,8 +308,14 @@ const OF_AN_ACTION: &[(Place, i64)] = &[
 fn the_lock_is_free_at_each_step_of_an_action(rt: HostRuntime) -> Result<(), Fail> {
     let alloc = rt.alloc();
     for (place, seen) in OF_AN_ACTION {
-        let (commits, added) = (Blank::new(ALL_PARTS), Blank::new(ALL_PARTS));
-        let looked = try_action::<Brand, Brand, _>(&rt, alloc, *place, commits, added)?;
+        let (commits, added, taken) = (
+            Blank::new(ALL_PARTS),
+            Blank::new(ALL_PARTS),
+            Blank::new(ALL_PARTS),
+        );
+        let looked = try_action::<Brand, Brand, Brand, _>(
+            &rt, alloc, *place, commits, added, taken,
+        )?;
         let wanted = Looked {
             is_ok: true,
             in_time: true,

@@ -48,9 +48,9 @@ impl<'a, 'b, 'c, R: Clock> Gate for Meet<'a, 'b, 'c, R> {
 }
 
 // Runs one action, and answers whether it met the other.
-pub(crate) fn work_and_meet<R: AllocGlobal + Wait + Clock, C: Ledger, A: Ledger>(
+pub(crate) fn work_and_meet<R: AllocGlobal + Wait + Clock, C: Ledger, A: Ledger, K: Ledger>(
     rt: &R,
-    shared: &Shared<Core, C, A>,
+    shared: &Shared<Core, C, A, K>,
     here: &AtomicBool,
     there: &AtomicBool,
 ) -> (bool, bool) {
@@ -77,8 +77,9 @@ struct Met {
 fn work_side_by_side<
     C: Ledger + Send + Sync,
     A: Ledger + Send + Sync,
+    K: Ledger + Send + Sync,
     R: AllocGlobal + Threads + Wait + Clock + Sync,
->(rt: &R, shared: &Shared<Core, C, A>) -> ((bool, bool), (bool, bool)) {
+>(rt: &R, shared: &Shared<Core, C, A, K>) -> ((bool, bool), (bool, bool)) {
     let flags = Flags::new();
     let lent = &flags;
     let (one, two) = thread::join(
@@ -92,12 +93,14 @@ fn work_side_by_side<
 fn try_meeting<
     C: Ledger + Send + Sync,
     A: Ledger + Send + Sync,
+    K: Ledger + Send + Sync,
     R: AllocGlobal + Threads + Wait + Clock + Sync,
->(rt: &R, alloc: Global, commits: Blank, added: Blank) -> Result<Met, Stop>
+>(rt: &R, alloc: Global, commits: Blank, added: Blank, taken: Blank) -> Result<Met, Stop>
     requires commits { IsBlank commits C.name C.parts }
     requires added { IsBlank added A.name A.parts }
+    requires taken { IsBlank taken K.name K.parts }
 {
-    let (shared, _share) = opened::<C, A>(alloc, two_agents(alloc)?, commits, added)?;
+    let (shared, _share) = opened::<C, A, K>(alloc, two_agents(alloc)?, commits, added, taken)?;
     done(shared.send(rt, alloc, 0, action(alloc, PLUS, "1")?))?;
     done(shared.send(rt, alloc, 1, action(alloc, PLUS, "2")?))?;
     let (one, two) = work_side_by_side(rt, &shared);
@@ -114,8 +117,12 @@ fn try_meeting<
 #[test]
 fn actions_of_two_agents_run_side_by_side(rt: HostRuntime) -> Result<(), Fail> {
     let alloc = rt.alloc();
-    let (commits, added) = (Blank::new(ALL_PARTS), Blank::new(ALL_PARTS));
-    let met = try_meeting::<Brand, Brand, _>(&rt, alloc, commits, added)?;
+    let (commits, added, taken) = (
+        Blank::new(ALL_PARTS),
+        Blank::new(ALL_PARTS),
+        Blank::new(ALL_PARTS),
+    );
+    let met = try_meeting::<Brand, Brand, Brand, _>(&rt, alloc, commits, added, taken)?;
     let wanted = Met {
         one: (true, true),
         two: (true, true),
@@ -126,10 +133,10 @@ fn actions_of_two_agents_run_side_by_side(rt: HostRuntime) -> Result<(), Fail> {
 }
 
 // Runs one action by a table, held until the other waits for the next one, and closes once that one was run.
-pub(crate) fn work_first<R: Wait + Clock, C: Ledger, A: Ledger, F: Functions<Core>>(
+pub(crate) fn work_first<R: Wait + Clock, C: Ledger, A: Ledger, K: Ledger, F: Functions<Core>>(
     rt: &R,
     alloc: Global,
-    shared: &Shared<Core, C, A>,
+    shared: &Shared<Core, C, A, K>,
     funs: &F,
     flags: &Flags,
 ) -> (Work, bool) {
@@ -146,10 +153,10 @@ pub(crate) fn work_first<R: Wait + Clock, C: Ledger, A: Ledger, F: Functions<Cor
 }
 
 // Waits for the next action while the first is on its way, and runs it.
-pub(crate) fn work_next<R: Wait + Clock, C: Ledger, A: Ledger>(
+pub(crate) fn work_next<R: Wait + Clock, C: Ledger, A: Ledger, K: Ledger>(
     rt: &R,
     alloc: Global,
-    shared: &Shared<Core, C, A>,
+    shared: &Shared<Core, C, A, K>,
     flags: &Flags,
 ) -> (Work, bool) {
     let in_time = wait_for(rt, &flags.first);
@@ -168,11 +175,12 @@ struct InTurn {
 }
 
 // Two threads that run two actions of one agent.
-fn take_turns<C: Ledger + Send + Sync, A: Ledger + Send + Sync, R: Threads + Wait + Clock + Sync>(
-    rt: &R,
-    alloc: Global,
-    shared: &Shared<Core, C, A>,
-) -> ((Work, bool), (Work, bool)) {
+fn take_turns<
+    C: Ledger + Send + Sync,
+    A: Ledger + Send + Sync,
+    K: Ledger + Send + Sync,
+    R: Threads + Wait + Clock + Sync,
+>(rt: &R, alloc: Global, shared: &Shared<Core, C, A, K>) -> ((Work, bool), (Work, bool)) {
     let flags = Flags::new();
     let lent = &flags;
     let (next, first) = thread::join(
@@ -183,16 +191,17 @@ fn take_turns<C: Ledger + Send + Sync, A: Ledger + Send + Sync, R: Threads + Wai
     (next, first)
 }
 
-fn try_turns<C: Ledger + Send + Sync, A: Ledger + Send + Sync, R: Threads + Wait + Clock + Sync>(
-    rt: &R,
-    alloc: Global,
-    commits: Blank,
-    added: Blank,
-) -> Result<InTurn, Stop>
+fn try_turns<
+    C: Ledger + Send + Sync,
+    A: Ledger + Send + Sync,
+    K: Ledger + Send + Sync,
+    R: Threads + Wait + Clock + Sync,
+>(rt: &R, alloc: Global, commits: Blank, added: Blank, taken: Blank) -> Result<InTurn, Stop>
     requires commits { IsBlank commits C.name C.parts }
     requires added { IsBlank added A.name A.parts }
+    requires taken { IsBlank taken K.name K.parts }
 {
-    let (shared, _share) = opened::<C, A>(alloc, two_agents(alloc)?, commits, added)?;
+    let (shared, _share) = opened::<C, A, K>(alloc, two_agents(alloc)?, commits, added, taken)?;
     done(shared.send(rt, alloc, 0, action(alloc, PLUS, "1")?))?;
     done(shared.send(rt, alloc, 0, action(alloc, PLUS, "2")?))?;
     let (next, first) = take_turns(rt, alloc, &shared);
@@ -206,8 +215,12 @@ fn try_turns<C: Ledger + Send + Sync, A: Ledger + Send + Sync, R: Threads + Wait
 #[test]
 fn an_agents_next_action_waits_for_the_first(rt: HostRuntime) -> Result<(), Fail> {
     let alloc = rt.alloc();
-    let (commits, added) = (Blank::new(ALL_PARTS), Blank::new(ALL_PARTS));
-    let turns = try_turns::<Brand, Brand, _>(&rt, alloc, commits, added)?;
+    let (commits, added, taken) = (
+        Blank::new(ALL_PARTS),
+        Blank::new(ALL_PARTS),
+        Blank::new(ALL_PARTS),
+    );
+    let turns = try_turns::<Brand, Brand, Brand, _>(&rt, alloc, commits, added, taken)?;
     let wanted = InTurn {
         first: (Ok(Worked::Did(0)), true),
         next: (Ok(Worked::Did(0)), true),
@@ -246,9 +259,9 @@ struct Did {
 }
 
 // Runs one action, and says so once the call has returned.
-fn work_beside<R: AllocGlobal + Wait + Clock, C: Ledger, A: Ledger>(
+fn work_beside<R: AllocGlobal + Wait + Clock, C: Ledger, A: Ledger, K: Ledger>(
     rt: &R,
-    shared: &Shared<Core, C, A>,
+    shared: &Shared<Core, C, A, K>,
     flags: &Flags,
 ) -> Did {
     let alloc = rt.alloc();
@@ -279,8 +292,9 @@ struct Held {
 fn work_by_two<
     C: Ledger + Send + Sync,
     A: Ledger + Send + Sync,
+    K: Ledger + Send + Sync,
     R: AllocGlobal + Threads + Wait + Clock + Sync,
->(rt: &R, shared: &Shared<Core, C, A>) -> (Did, Did) {
+>(rt: &R, shared: &Shared<Core, C, A, K>) -> (Did, Did) {
     let flags = Flags::new();
     let lent = &flags;
     let (one, two) = thread::join(
@@ -300,12 +314,14 @@ fn are_of_both(one: Work, two: Work) -> bool {
 fn try_holding<
     C: Ledger + Send + Sync,
     A: Ledger + Send + Sync,
+    K: Ledger + Send + Sync,
     R: AllocGlobal + Threads + Wait + Clock + Sync,
->(rt: &R, alloc: Global, commits: Blank, added: Blank) -> Result<Held, Stop>
+>(rt: &R, alloc: Global, commits: Blank, added: Blank, taken: Blank) -> Result<Held, Stop>
     requires commits { IsBlank commits C.name C.parts }
     requires added { IsBlank added A.name A.parts }
+    requires taken { IsBlank taken K.name K.parts }
 {
-    let (shared, _share) = opened::<C, A>(alloc, two_agents(alloc)?, commits, added)?;
+    let (shared, _share) = opened::<C, A, K>(alloc, two_agents(alloc)?, commits, added, taken)?;
     done(shared.send(rt, alloc, 0, action(alloc, PLUS, "1")?))?;
     done(shared.send(rt, alloc, 1, action(alloc, PLUS, "2")?))?;
     let (one, two) = work_by_two(rt, &shared);
@@ -320,8 +336,12 @@ fn try_holding<
 #[test]
 fn an_action_ends_while_another_one_is_held(rt: HostRuntime) -> Result<(), Fail> {
     let alloc = rt.alloc();
-    let (commits, added) = (Blank::new(ALL_PARTS), Blank::new(ALL_PARTS));
-    let held = try_holding::<Brand, Brand, _>(&rt, alloc, commits, added)?;
+    let (commits, added, taken) = (
+        Blank::new(ALL_PARTS),
+        Blank::new(ALL_PARTS),
+        Blank::new(ALL_PARTS),
+    );
+    let held = try_holding::<Brand, Brand, Brand, _>(&rt, alloc, commits, added, taken)?;
     let wanted = Held {
         first: 1,
         in_time: 1,

@@ -2,7 +2,7 @@
 ghost use Rattle.std.specs.Prelude.{◌≡◌};
 ghost use Rattle.ref_world.specs.Shares.{IsBlank};
 
-use ref_fun::codes::PLUS;
+use ref_fun::codes::{MINUS, PLUS};
 use ref_fun::{Core, CoreFunctions};
 use ref_log::{Stamp, Who};
 use ref_shared::{Open, Quiet, Shared, Worked};
@@ -59,18 +59,19 @@ fn change(alloc: Global, tx: &mut Tx<Core>, n: u32) -> Result<(), Stop> {
     let refs = refs_of(tx);
     add(alloc, tx, on_turn(n, refs), "1")?;
     add(alloc, tx, on_turn(n.saturating_add(1), refs), "1")?;
-    let _ = done(tx.commute(alloc, &CoreFunctions, refs, PLUS, one_arg(alloc, "1")?))?;
+    let _ = done(tx.commute(alloc, &CoreFunctions, refs, PLUS, one_arg(alloc, "3")?))?;
+    let _ = done(tx.commute(alloc, &CoreFunctions, refs, MINUS, one_arg(alloc, "2")?))?;
     done(tx.send(alloc, &CoreFunctions, n % 2, PLUS, one_arg(alloc, "1")?))
 }
 
 // Fifty rounds of a transaction and a change of the atom. It answers the share, and whether none was refused.
-fn fifty<R: Wait, C: Ledger, A: Ledger>(
+fn fifty<R: Wait, C: Ledger, A: Ledger, K: Ledger>(
     rt: &R,
     alloc: Global,
-    shared: &Shared<Core, C, A>,
-    mut share: Share<C, A>,
+    shared: &Shared<Core, C, A, K>,
+    mut share: Share<C, A, K>,
     worker: u32,
-) -> (Share<C, A>, Result<(), Stop>) {
+) -> (Share<C, A, K>, Result<(), Stop>) {
     for step in 0..50u32 {
         if let Err(stop) = round(rt, alloc, shared, &mut share, Stamp { worker, step }) {
             return (share, Err(stop));
@@ -79,11 +80,11 @@ fn fifty<R: Wait, C: Ledger, A: Ledger>(
     (share, Ok(()))
 }
 
-fn round<R: Wait, C: Ledger, A: Ledger>(
+fn round<R: Wait, C: Ledger, A: Ledger, K: Ledger>(
     rt: &R,
     alloc: Global,
-    shared: &Shared<Core, C, A>,
-    share: &mut Share<C, A>,
+    shared: &Shared<Core, C, A, K>,
+    share: &mut Share<C, A, K>,
     stamp: Stamp,
 ) -> Result<(), Stop> {
     let n = stamp.worker.saturating_add(stamp.step);
@@ -104,13 +105,18 @@ fn round<R: Wait, C: Ledger, A: Ledger>(
 }
 
 // Two threads' rounds, each with a part of the share. It answers the parts joined, and whether none was refused.
-fn two_by_fifty<C: Ledger + Send + Sync, A: Ledger + Send + Sync, R: Threads + Wait + Sync>(
+fn two_by_fifty<
+    C: Ledger + Send + Sync,
+    A: Ledger + Send + Sync,
+    K: Ledger + Send + Sync,
+    R: Threads + Wait + Sync,
+>(
     rt: &R,
     alloc: Global,
-    shared: &Shared<Core, C, A>,
-    mut share: Share<C, A>,
+    shared: &Shared<Core, C, A, K>,
+    mut share: Share<C, A, K>,
     worker: u32,
-) -> (Share<C, A>, Result<(), Stop>) {
+) -> (Share<C, A, K>, Result<(), Stop>) {
     let Some(other) = share.split(1) else {
         return (share, Err(Stop::Refused));
     };
@@ -124,10 +130,10 @@ fn two_by_fifty<C: Ledger + Send + Sync, A: Ledger + Send + Sync, R: Threads + W
 }
 
 // Two shares joined, and what came of both.
-fn together<C: Ledger, A: Ledger>(
-    mine: (Share<C, A>, Result<(), Stop>),
-    theirs: (Share<C, A>, Result<(), Stop>),
-) -> (Share<C, A>, Result<(), Stop>) {
+fn together<C: Ledger, A: Ledger, K: Ledger>(
+    mine: (Share<C, A, K>, Result<(), Stop>),
+    theirs: (Share<C, A, K>, Result<(), Stop>),
+) -> (Share<C, A, K>, Result<(), Stop>) {
     let (mut share, mine) = mine;
     let (other, theirs) = theirs;
     let joined = match share.join(other) {
@@ -138,12 +144,17 @@ fn together<C: Ledger, A: Ledger>(
 }
 
 // Four threads' rounds; then the shared world is closed.
-fn four_by_fifty<C: Ledger + Send + Sync, A: Ledger + Send + Sync, R: Threads + Wait + Sync>(
+fn four_by_fifty<
+    C: Ledger + Send + Sync,
+    A: Ledger + Send + Sync,
+    K: Ledger + Send + Sync,
+    R: Threads + Wait + Sync,
+>(
     rt: &R,
     alloc: Global,
-    shared: &Shared<Core, C, A>,
-    mut share: Share<C, A>,
-) -> (Share<C, A>, Result<(), Stop>) {
+    shared: &Shared<Core, C, A, K>,
+    mut share: Share<C, A, K>,
+) -> (Share<C, A, K>, Result<(), Stop>) {
     let Some(other) = share.split(2) else {
         return (share, Err(Stop::Refused));
     };
@@ -157,10 +168,10 @@ fn four_by_fifty<C: Ledger + Send + Sync, A: Ledger + Send + Sync, R: Threads + 
 }
 
 // Runs actions until the shared world is closed and no agent is ready, and answers how many.
-fn pool<R: Wait, C: Ledger, A: Ledger>(
+fn pool<R: Wait, C: Ledger, A: Ledger, K: Ledger>(
     rt: &R,
     alloc: Global,
-    shared: &Shared<Core, C, A>,
+    shared: &Shared<Core, C, A, K>,
 ) -> Result<u32, Stop> {
     for did in 0..1_000u32 {
         match done(shared.work_once(rt, alloc, &CoreFunctions, &mut Open, &mut Quiet))? {
@@ -172,11 +183,12 @@ fn pool<R: Wait, C: Ledger, A: Ledger>(
 }
 
 // How many actions two threads ran.
-fn two_pools<C: Ledger + Send + Sync, A: Ledger + Send + Sync, R: Threads + Wait + Sync>(
-    rt: &R,
-    alloc: Global,
-    shared: &Shared<Core, C, A>,
-) -> Result<u32, Stop> {
+fn two_pools<
+    C: Ledger + Send + Sync,
+    A: Ledger + Send + Sync,
+    K: Ledger + Send + Sync,
+    R: Threads + Wait + Sync,
+>(rt: &R, alloc: Global, shared: &Shared<Core, C, A, K>) -> Result<u32, Stop> {
     let (one, two) = thread::join(
         rt,
         move || pool(rt, alloc, shared),
@@ -185,12 +197,12 @@ fn two_pools<C: Ledger + Send + Sync, A: Ledger + Send + Sync, R: Threads + Wait
     Ok(one?.saturating_add(two?))
 }
 
-fn held<C: Ledger, A: Ledger>(world: &World<Core, C, A>, who: Who) -> Option<i64> {
+fn held<C: Ledger, A: Ledger, K: Ledger>(world: &World<Core, C, A, K>, who: Who) -> Option<i64> {
     int_of(world.value_of(who)?)
 }
 
 // What so many refs come to.
-fn sum_of<C: Ledger, A: Ledger>(world: &World<Core, C, A>, refs: u32) -> i64 {
+fn sum_of<C: Ledger, A: Ledger, K: Ledger>(world: &World<Core, C, A, K>, refs: u32) -> i64 {
     let mut sum = 0i64;
     for r in 0..refs {
         sum = sum.saturating_add(held(world, Who::Ref(r)).unwrap_or(0));
@@ -199,7 +211,7 @@ fn sum_of<C: Ledger, A: Ledger>(world: &World<Core, C, A>, refs: u32) -> i64 {
 }
 
 // How many actions of an agent wait.
-fn waiting<C: Ledger, A: Ledger>(world: &World<Core, C, A>, g: u32) -> Option<usize> {
+fn waiting<C: Ledger, A: Ledger, K: Ledger>(world: &World<Core, C, A, K>, g: u32) -> Option<usize> {
     Some(world.account(g)?.waiting())
 }
 
@@ -217,15 +229,21 @@ struct Sums {
     // The totals.
     commits: u64,
     added: u64,
+    taken: u64,
 }
 
 // Two threads that run actions, and four threads' rounds.
-fn six<C: Ledger + Send + Sync, A: Ledger + Send + Sync, R: Threads + Wait + Sync>(
+fn six<
+    C: Ledger + Send + Sync,
+    A: Ledger + Send + Sync,
+    K: Ledger + Send + Sync,
+    R: Threads + Wait + Sync,
+>(
     rt: &R,
     alloc: Global,
-    shared: &Shared<Core, C, A>,
-    share: Share<C, A>,
-) -> (Result<u32, Stop>, (Share<C, A>, Result<(), Stop>)) {
+    shared: &Shared<Core, C, A, K>,
+    share: Share<C, A, K>,
+) -> (Result<u32, Stop>, (Share<C, A, K>, Result<(), Stop>)) {
     let (actions, all) = thread::join(
         rt,
         move || two_pools(rt, alloc, shared),
@@ -234,17 +252,24 @@ fn six<C: Ledger + Send + Sync, A: Ledger + Send + Sync, R: Threads + Wait + Syn
     (actions, all)
 }
 
-fn try_all<C: Ledger + Send + Sync, A: Ledger + Send + Sync, R: Threads + Wait + Sync>(
+fn try_all<
+    C: Ledger + Send + Sync,
+    A: Ledger + Send + Sync,
+    K: Ledger + Send + Sync,
+    R: Threads + Wait + Sync,
+>(
     rt: &R,
     alloc: Global,
     refs: u32,
     commits: Blank,
     added: Blank,
+    taken: Blank,
 ) -> Result<Sums, Stop>
     requires commits { IsBlank commits C.name C.parts }
     requires added { IsBlank added A.name A.parts }
+    requires taken { IsBlank taken K.name K.parts }
 {
-    let (shared, share) = opened::<C, A>(alloc, start(alloc, refs)?, commits, added)?;
+    let (shared, share) = opened::<C, A, K>(alloc, start(alloc, refs)?, commits, added, taken)?;
     let (actions, all) = six(rt, alloc, &shared, share);
     let (share, went) = all;
     went?;
@@ -261,6 +286,7 @@ fn try_all<C: Ledger + Send + Sync, A: Ledger + Send + Sync, R: Threads + Wait +
         receipts,
         commits: totals.commits,
         added: totals.added,
+        taken: totals.taken,
     })
 }
 
@@ -275,15 +301,20 @@ fn wanted() -> Sums {
         waiting: (Some(0), Some(0)),
         receipts: 400,
         commits: 200,
-        added: 200,
+        added: 600,
+        taken: 400,
     }
 }
 
 #[test]
 fn the_sums_of_six_threads_are_right(rt: HostRuntime) -> Result<(), Fail> {
     let alloc = rt.alloc();
-    let (commits, added) = (Blank::new(ALL_PARTS), Blank::new(ALL_PARTS));
-    let sums = try_all::<Brand, Brand, _>(&rt, alloc, FEW, commits, added)?;
+    let (commits, added, taken) = (
+        Blank::new(ALL_PARTS),
+        Blank::new(ALL_PARTS),
+        Blank::new(ALL_PARTS),
+    );
+    let sums = try_all::<Brand, Brand, Brand, _>(&rt, alloc, FEW, commits, added, taken)?;
     assert_eq!(rt; sums, wanted());
     Ok(())
 }
@@ -291,8 +322,12 @@ fn the_sums_of_six_threads_are_right(rt: HostRuntime) -> Result<(), Fail> {
 #[test]
 fn the_sums_are_right_on_many_refs(rt: HostRuntime) -> Result<(), Fail> {
     let alloc = rt.alloc();
-    let (commits, added) = (Blank::new(ALL_PARTS), Blank::new(ALL_PARTS));
-    let sums = try_all::<Brand, Brand, _>(&rt, alloc, MANY, commits, added)?;
+    let (commits, added, taken) = (
+        Blank::new(ALL_PARTS),
+        Blank::new(ALL_PARTS),
+        Blank::new(ALL_PARTS),
+    );
+    let sums = try_all::<Brand, Brand, Brand, _>(&rt, alloc, MANY, commits, added, taken)?;
     assert_eq!(rt; sums, wanted());
     Ok(())
 }

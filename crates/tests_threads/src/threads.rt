@@ -36,13 +36,13 @@ struct Sum {
 }
 
 // A hundred commits that add 1 to a. It answers the share, and how many weren't committed.
-fn hundred<R: Wait, C: Ledger, A: Ledger>(
+fn hundred<R: Wait, C: Ledger, A: Ledger, K: Ledger>(
     rt: &R,
     alloc: Global,
-    shared: &Shared<Core, C, A>,
-    mut share: Share<C, A>,
+    shared: &Shared<Core, C, A, K>,
+    mut share: Share<C, A, K>,
     worker: u32,
-) -> (Share<C, A>, u32) {
+) -> (Share<C, A, K>, u32) {
     let mut refused = 0u32;
     for step in 0..100u32 {
         let committed = shared.transact(
@@ -64,13 +64,18 @@ fn hundred<R: Wait, C: Ledger, A: Ledger>(
 }
 
 // A hundred commits of each of two threads, with these shares.
-fn two_hundred<C: Ledger + Send + Sync, A: Ledger + Send + Sync, R: Threads + Wait + Sync>(
+fn two_hundred<
+    C: Ledger + Send + Sync,
+    A: Ledger + Send + Sync,
+    K: Ledger + Send + Sync,
+    R: Threads + Wait + Sync,
+>(
     rt: &R,
     alloc: Global,
-    shared: &Shared<Core, C, A>,
-    share: Share<C, A>,
-    other: Share<C, A>,
-) -> ((Share<C, A>, u32), (Share<C, A>, u32)) {
+    shared: &Shared<Core, C, A, K>,
+    share: Share<C, A, K>,
+    other: Share<C, A, K>,
+) -> ((Share<C, A, K>, u32), (Share<C, A, K>, u32)) {
     let (mine, theirs) = thread::join(
         rt,
         move || hundred(rt, alloc, shared, share, 0),
@@ -79,17 +84,18 @@ fn two_hundred<C: Ledger + Send + Sync, A: Ledger + Send + Sync, R: Threads + Wa
     (mine, theirs)
 }
 
-fn try_sum<C: Ledger + Send + Sync, A: Ledger + Send + Sync, R: Threads + Wait + Sync>(
-    rt: &R,
-    alloc: Global,
-    commits: Blank,
-    added: Blank,
-) -> Result<Sum, Stop>
+fn try_sum<
+    C: Ledger + Send + Sync,
+    A: Ledger + Send + Sync,
+    K: Ledger + Send + Sync,
+    R: Threads + Wait + Sync,
+>(rt: &R, alloc: Global, commits: Blank, added: Blank, taken: Blank) -> Result<Sum, Stop>
     requires commits { IsBlank commits C.name C.parts }
     requires added { IsBlank added A.name A.parts }
+    requires taken { IsBlank taken K.name K.parts }
 {
     let start = plain_start(alloc, "0", "")?;
-    let (shared, mut share) = opened::<C, A>(alloc, start, commits, added)?;
+    let (shared, mut share) = opened::<C, A, K>(alloc, start, commits, added, taken)?;
     let other = done(share.split(1).ok_or(Stop::Refused))?;
     let (mine, theirs) = two_hundred(rt, alloc, &shared, share, other);
     let (mut share, refused) = mine;
@@ -107,8 +113,12 @@ fn try_sum<C: Ledger + Send + Sync, A: Ledger + Send + Sync, R: Threads + Wait +
 #[test]
 fn no_commit_of_two_threads_is_lost(rt: HostRuntime) -> Result<(), Fail> {
     let alloc = rt.alloc();
-    let (commits, added) = (Blank::new(ALL_PARTS), Blank::new(ALL_PARTS));
-    let sum = try_sum::<Brand, Brand, _>(&rt, alloc, commits, added)?;
+    let (commits, added, taken) = (
+        Blank::new(ALL_PARTS),
+        Blank::new(ALL_PARTS),
+        Blank::new(ALL_PARTS),
+    );
+    let sum = try_sum::<Brand, Brand, Brand, _>(&rt, alloc, commits, added, taken)?;
     let wanted = Sum {
         refused: 0,
         value: Some(200),
@@ -148,11 +158,11 @@ fn read_and_add(alloc: Global, tx: &mut Tx<Core>) -> Result<Option<i64>, Stop> {
 }
 
 // Adds 1 to a next to a gate, and returns the commit's point, and what the last body read.
-fn add_beside<R: Wait, C: Ledger, A: Ledger, G: Gate>(
+fn add_beside<R: Wait, C: Ledger, A: Ledger, K: Ledger, G: Gate>(
     rt: &R,
     alloc: Global,
-    shared: &Shared<Core, C, A>,
-    share: &mut Share<C, A>,
+    shared: &Shared<Core, C, A, K>,
+    share: &mut Share<C, A, K>,
     gate: &mut G,
 ) -> Result<(u64, Option<i64>), Stop> {
     let (read, receipt) = done(shared.transact(
@@ -178,12 +188,12 @@ struct Held {
 }
 
 // Adds 1 to a, held after its first body.
-fn add_held<R: AllocGlobal + Wait + Clock, C: Ledger, A: Ledger>(
+fn add_held<R: AllocGlobal + Wait + Clock, C: Ledger, A: Ledger, K: Ledger>(
     rt: &R,
-    shared: &Shared<Core, C, A>,
-    mut share: Share<C, A>,
+    shared: &Shared<Core, C, A, K>,
+    mut share: Share<C, A, K>,
     flags: &Flags,
-) -> (Share<C, A>, Result<Held, Stop>) {
+) -> (Share<C, A, K>, Result<Held, Stop>) {
     let alloc = rt.alloc();
     let mut gate = Hold {
         rt,
@@ -206,12 +216,12 @@ fn add_held<R: AllocGlobal + Wait + Clock, C: Ledger, A: Ledger>(
 }
 
 // Adds 10 to a while the other is held. It answers the share, and the commit's point.
-fn add_meanwhile<R: AllocGlobal + Wait + Clock, C: Ledger, A: Ledger>(
+fn add_meanwhile<R: AllocGlobal + Wait + Clock, C: Ledger, A: Ledger, K: Ledger>(
     rt: &R,
-    shared: &Shared<Core, C, A>,
-    mut share: Share<C, A>,
+    shared: &Shared<Core, C, A, K>,
+    mut share: Share<C, A, K>,
     flags: &Flags,
-) -> (Share<C, A>, Result<u64, Stop>) {
+) -> (Share<C, A, K>, Result<u64, Stop>) {
     let alloc = rt.alloc();
     if !wait_for(rt, &flags.first) {
         return (share, Err(Stop::Late));
@@ -249,15 +259,16 @@ struct Overtaken {
 fn overtake<
     C: Ledger + Send + Sync,
     A: Ledger + Send + Sync,
+    K: Ledger + Send + Sync,
     R: AllocGlobal + Threads + Wait + Clock + Sync,
 >(
     rt: &R,
-    shared: &Shared<Core, C, A>,
-    share: Share<C, A>,
-    other: Share<C, A>,
+    shared: &Shared<Core, C, A, K>,
+    share: Share<C, A, K>,
+    other: Share<C, A, K>,
 ) -> (
-    (Share<C, A>, Result<Held, Stop>),
-    (Share<C, A>, Result<u64, Stop>),
+    (Share<C, A, K>, Result<Held, Stop>),
+    (Share<C, A, K>, Result<u64, Stop>),
 ) {
     let flags = Flags::new();
     let lent = &flags;
@@ -272,13 +283,15 @@ fn overtake<
 fn try_overtaking<
     C: Ledger + Send + Sync,
     A: Ledger + Send + Sync,
+    K: Ledger + Send + Sync,
     R: AllocGlobal + Threads + Wait + Clock + Sync,
->(rt: &R, alloc: Global, commits: Blank, added: Blank) -> Result<Overtaken, Stop>
+>(rt: &R, alloc: Global, commits: Blank, added: Blank, taken: Blank) -> Result<Overtaken, Stop>
     requires commits { IsBlank commits C.name C.parts }
     requires added { IsBlank added A.name A.parts }
+    requires taken { IsBlank taken K.name K.parts }
 {
     let start = plain_start(alloc, "0", "")?;
-    let (shared, mut share) = opened::<C, A>(alloc, start, commits, added)?;
+    let (shared, mut share) = opened::<C, A, K>(alloc, start, commits, added, taken)?;
     let other = done(share.split(1).ok_or(Stop::Refused))?;
     let (mine, theirs) = overtake(rt, &shared, share, other);
     let (mut share, first) = mine;
@@ -298,8 +311,12 @@ fn try_overtaking<
 #[test]
 fn who_is_overtaken_begins_anew(rt: HostRuntime) -> Result<(), Fail> {
     let alloc = rt.alloc();
-    let (commits, added) = (Blank::new(ALL_PARTS), Blank::new(ALL_PARTS));
-    let overtaken = try_overtaking::<Brand, Brand, _>(&rt, alloc, commits, added)?;
+    let (commits, added, taken) = (
+        Blank::new(ALL_PARTS),
+        Blank::new(ALL_PARTS),
+        Blank::new(ALL_PARTS),
+    );
+    let overtaken = try_overtaking::<Brand, Brand, Brand, _>(&rt, alloc, commits, added, taken)?;
     let wanted = Overtaken {
         held: Ok(Held {
             point: 2,
@@ -344,11 +361,11 @@ struct Delivered {
 }
 
 // Adds 1 to a, whose notices go to a sink, and returns what the receipt says of them.
-fn add_to<R: Wait, C: Ledger, A: Ledger, W: WatchSink>(
+fn add_to<R: Wait, C: Ledger, A: Ledger, K: Ledger, W: WatchSink>(
     rt: &R,
     alloc: Global,
-    shared: &Shared<Core, C, A>,
-    share: &mut Share<C, A>,
+    shared: &Shared<Core, C, A, K>,
+    share: &mut Share<C, A, K>,
     sink: &mut W,
 ) -> Result<Vec<Told>, Stop> {
     let (_, receipt) = done(shared.transact(
@@ -366,12 +383,12 @@ fn add_to<R: Wait, C: Ledger, A: Ledger, W: WatchSink>(
 }
 
 // Adds 1 to a, and returns the share, and the notices.
-fn add_told<R: AllocGlobal + Wait + Clock, C: Ledger, A: Ledger>(
+fn add_told<R: AllocGlobal + Wait + Clock, C: Ledger, A: Ledger, K: Ledger>(
     rt: &R,
-    shared: &Shared<Core, C, A>,
-    mut share: Share<C, A>,
+    shared: &Shared<Core, C, A, K>,
+    mut share: Share<C, A, K>,
     flags: &Flags,
-) -> (Share<C, A>, Result<Delivered, Stop>) {
+) -> (Share<C, A, K>, Result<Delivered, Stop>) {
     let alloc = rt.alloc();
     let mut sink = Watcher {
         rt,
@@ -395,9 +412,9 @@ fn add_told<R: AllocGlobal + Wait + Clock, C: Ledger, A: Ledger>(
 }
 
 // What a holds once the sink is called.
-fn look<R: Wait + Clock, C: Ledger, A: Ledger>(
+fn look<R: Wait + Clock, C: Ledger, A: Ledger, K: Ledger>(
     rt: &R,
-    shared: &Shared<Core, C, A>,
+    shared: &Shared<Core, C, A, K>,
     flags: &Flags,
 ) -> Result<Option<i64>, Stop> {
     if !wait_for(rt, &flags.first) {
@@ -420,13 +437,14 @@ struct Telling {
 fn tell<
     C: Ledger + Send + Sync,
     A: Ledger + Send + Sync,
+    K: Ledger + Send + Sync,
     R: AllocGlobal + Threads + Wait + Clock + Sync,
 >(
     rt: &R,
-    shared: &Shared<Core, C, A>,
-    share: Share<C, A>,
+    shared: &Shared<Core, C, A, K>,
+    share: Share<C, A, K>,
 ) -> (
-    (Share<C, A>, Result<Delivered, Stop>),
+    (Share<C, A, K>, Result<Delivered, Stop>),
     Result<Option<i64>, Stop>,
 ) {
     let flags = Flags::new();
@@ -442,13 +460,15 @@ fn tell<
 fn try_telling<
     C: Ledger + Send + Sync,
     A: Ledger + Send + Sync,
+    K: Ledger + Send + Sync,
     R: AllocGlobal + Threads + Wait + Clock + Sync,
->(rt: &R, alloc: Global, commits: Blank, added: Blank) -> Result<Telling, Stop>
+>(rt: &R, alloc: Global, commits: Blank, added: Blank, taken: Blank) -> Result<Telling, Stop>
     requires commits { IsBlank commits C.name C.parts }
     requires added { IsBlank added A.name A.parts }
+    requires taken { IsBlank taken K.name K.parts }
 {
     let start = plain_start(alloc, "0", "")?;
-    let (shared, share) = opened::<C, A>(alloc, start, commits, added)?;
+    let (shared, share) = opened::<C, A, K>(alloc, start, commits, added, taken)?;
     let _ = done(shared.add_watch(rt, alloc, Who::Ref(0), value(alloc, ":k")?))?;
     let (mine, seen) = tell(rt, &shared, share);
     let (share, told) = mine;
@@ -463,8 +483,12 @@ fn try_telling<
 #[test]
 fn others_read_while_a_watch_is_told(rt: HostRuntime) -> Result<(), Fail> {
     let alloc = rt.alloc();
-    let (commits, added) = (Blank::new(ALL_PARTS), Blank::new(ALL_PARTS));
-    let telling = try_telling::<Brand, Brand, _>(&rt, alloc, commits, added)?;
+    let (commits, added, taken) = (
+        Blank::new(ALL_PARTS),
+        Blank::new(ALL_PARTS),
+        Blank::new(ALL_PARTS),
+    );
+    let telling = try_telling::<Brand, Brand, Brand, _>(&rt, alloc, commits, added, taken)?;
     let notice = (Who::Ref(0), true, Some(0), Some(1));
     let wanted = Telling {
         told: Ok(Delivered {

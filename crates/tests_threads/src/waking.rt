@@ -25,7 +25,11 @@ use tests_shared::jobs::{CLOSED, Work, send_four, two_agents, work};
 use tests_shared::worlds::{STAMP, Stop, action, done, int_at, one_arg, opened, value};
 
 // Wakes one who waits, so that a test ends which has failed.
-fn nudge<R: Wait, C: Ledger, A: Ledger>(rt: &R, alloc: Global, shared: &Shared<Core, C, A>) {
+fn nudge<R: Wait, C: Ledger, A: Ledger, K: Ledger>(
+    rt: &R,
+    alloc: Global,
+    shared: &Shared<Core, C, A, K>,
+) {
     if let Ok(action) = action(alloc, PLUS, "1") {
         let _ = shared.send(rt, alloc, 1, action);
     }
@@ -34,10 +38,10 @@ fn nudge<R: Wait, C: Ledger, A: Ledger>(rt: &R, alloc: Global, shared: &Shared<C
 // ---- By a send, by a release, and at the end
 
 // Works three times, and says before each that it comes, and when it has ended.
-fn work_thrice<R: Wait, C: Ledger, A: Ledger>(
+fn work_thrice<R: Wait, C: Ledger, A: Ledger, K: Ledger>(
     rt: &R,
     alloc: Global,
-    shared: &Shared<Core, C, A>,
+    shared: &Shared<Core, C, A, K>,
     flags: &Flags,
 ) -> (Work, Work, Work) {
     flags.first.store(true, Ordering::SeqCst);
@@ -52,10 +56,10 @@ fn work_thrice<R: Wait, C: Ledger, A: Ledger>(
 
 // Sends to g, lets out what a commit sent to h, and closes, each while the other waits. It answers whether the other was there and
 // woken in time, and nothing was refused.
-fn wake<R: Wait + Clock, C: Ledger, A: Ledger>(
+fn wake<R: Wait + Clock, C: Ledger, A: Ledger, K: Ledger>(
     rt: &R,
     alloc: Global,
-    shared: &Shared<Core, C, A>,
+    shared: &Shared<Core, C, A, K>,
     action: Action,
     point: u64,
     flags: &Flags,
@@ -85,11 +89,12 @@ struct Woken {
 fn work_and_wake<
     C: Ledger + Send + Sync,
     A: Ledger + Send + Sync,
+    K: Ledger + Send + Sync,
     R: Threads + Wait + Clock + Sync,
 >(
     rt: &R,
     alloc: Global,
-    shared: &Shared<Core, C, A>,
+    shared: &Shared<Core, C, A, K>,
     action: Action,
     point: u64,
 ) -> ((Work, Work, Work), bool) {
@@ -103,16 +108,17 @@ fn work_and_wake<
     (works, woke)
 }
 
-fn try_waking<C: Ledger + Send + Sync, A: Ledger + Send + Sync, R: Threads + Wait + Clock + Sync>(
-    rt: &R,
-    alloc: Global,
-    commits: Blank,
-    added: Blank,
-) -> Result<Woken, Stop>
+fn try_waking<
+    C: Ledger + Send + Sync,
+    A: Ledger + Send + Sync,
+    K: Ledger + Send + Sync,
+    R: Threads + Wait + Clock + Sync,
+>(rt: &R, alloc: Global, commits: Blank, added: Blank, taken: Blank) -> Result<Woken, Stop>
     requires commits { IsBlank commits C.name C.parts }
     requires added { IsBlank added A.name A.parts }
+    requires taken { IsBlank taken K.name K.parts }
 {
-    let (shared, mut share) = opened::<C, A>(alloc, two_agents(alloc)?, commits, added)?;
+    let (shared, mut share) = opened::<C, A, K>(alloc, two_agents(alloc)?, commits, added, taken)?;
     let mut tx = shared.begin(rt, alloc)?;
     send_four(alloc, &mut tx)?;
     let receipt = done(shared.commit(rt, alloc, &CoreFunctions, &mut share, STAMP, tx))?;
@@ -132,8 +138,12 @@ fn try_waking<C: Ledger + Send + Sync, A: Ledger + Send + Sync, R: Threads + Wai
 #[test]
 fn who_waits_for_an_agent_is_woken(rt: HostRuntime) -> Result<(), Fail> {
     let alloc = rt.alloc();
-    let (commits, added) = (Blank::new(ALL_PARTS), Blank::new(ALL_PARTS));
-    let woken = try_waking::<Brand, Brand, _>(&rt, alloc, commits, added)?;
+    let (commits, added, taken) = (
+        Blank::new(ALL_PARTS),
+        Blank::new(ALL_PARTS),
+        Blank::new(ALL_PARTS),
+    );
+    let woken = try_waking::<Brand, Brand, Brand, _>(&rt, alloc, commits, added, taken)?;
     let wanted = Woken {
         works: (Ok(Worked::Did(0)), Ok(Worked::Did(1)), CLOSED),
         woke: true,
@@ -146,10 +156,10 @@ fn who_waits_for_an_agent_is_woken(rt: HostRuntime) -> Result<(), Fail> {
 // ---- By a restart
 
 // Works once, and says before that it comes, and when it has ended.
-fn work_between<R: Wait, C: Ledger, A: Ledger>(
+fn work_between<R: Wait, C: Ledger, A: Ledger, K: Ledger>(
     rt: &R,
     alloc: Global,
-    shared: &Shared<Core, C, A>,
+    shared: &Shared<Core, C, A, K>,
     here: &AtomicBool,
     ended: &AtomicBool,
 ) -> Work {
@@ -160,10 +170,10 @@ fn work_between<R: Wait, C: Ledger, A: Ledger>(
 }
 
 // Restarts g while the other waits, and answers whether that one was woken in time.
-fn restart<R: Wait + Clock, C: Ledger, A: Ledger>(
+fn restart<R: Wait + Clock, C: Ledger, A: Ledger, K: Ledger>(
     rt: &R,
     alloc: Global,
-    shared: &Shared<Core, C, A>,
+    shared: &Shared<Core, C, A, K>,
     state: Value,
     flags: &Flags,
 ) -> bool {
@@ -177,8 +187,9 @@ fn restart<R: Wait + Clock, C: Ledger, A: Ledger>(
 fn work_and_restart<
     C: Ledger + Send + Sync,
     A: Ledger + Send + Sync,
+    K: Ledger + Send + Sync,
     R: Threads + Wait + Clock + Sync,
->(rt: &R, alloc: Global, shared: &Shared<Core, C, A>, state: Value) -> (Work, bool) {
+>(rt: &R, alloc: Global, shared: &Shared<Core, C, A, K>, state: Value) -> (Work, bool) {
     let flags = Flags::new();
     let lent = &flags;
     let (worked, woke) = thread::join(
@@ -190,16 +201,23 @@ fn work_and_restart<
 }
 
 // `- 5`, which fails g, and `+ 2`, which is held until it is restarted with 10.
-fn try_restart<C: Ledger + Send + Sync, A: Ledger + Send + Sync, R: Threads + Wait + Clock + Sync>(
+fn try_restart<
+    C: Ledger + Send + Sync,
+    A: Ledger + Send + Sync,
+    K: Ledger + Send + Sync,
+    R: Threads + Wait + Clock + Sync,
+>(
     rt: &R,
     alloc: Global,
     commits: Blank,
     added: Blank,
+    taken: Blank,
 ) -> Result<(Work, bool, Option<i64>), Stop>
     requires commits { IsBlank commits C.name C.parts }
     requires added { IsBlank added A.name A.parts }
+    requires taken { IsBlank taken K.name K.parts }
 {
-    let (shared, _share) = opened::<C, A>(alloc, two_agents(alloc)?, commits, added)?;
+    let (shared, _share) = opened::<C, A, K>(alloc, two_agents(alloc)?, commits, added, taken)?;
     done(shared.send(rt, alloc, 0, action(alloc, MINUS, "5")?))?;
     done(shared.send(rt, alloc, 0, action(alloc, PLUS, "2")?))?;
     let _ = done(work(rt, alloc, &shared))?;
@@ -210,8 +228,12 @@ fn try_restart<C: Ledger + Send + Sync, A: Ledger + Send + Sync, R: Threads + Wa
 #[test]
 fn a_restart_wakes_who_waits(rt: HostRuntime) -> Result<(), Fail> {
     let alloc = rt.alloc();
-    let (commits, added) = (Blank::new(ALL_PARTS), Blank::new(ALL_PARTS));
-    let restarted = try_restart::<Brand, Brand, _>(&rt, alloc, commits, added)?;
+    let (commits, added, taken) = (
+        Blank::new(ALL_PARTS),
+        Blank::new(ALL_PARTS),
+        Blank::new(ALL_PARTS),
+    );
+    let restarted = try_restart::<Brand, Brand, Brand, _>(&rt, alloc, commits, added, taken)?;
     assert_eq!(rt; restarted, (Ok(Worked::Did(0)), true, Some(12)));
     Ok(())
 }
@@ -219,10 +241,10 @@ fn a_restart_wakes_who_waits(rt: HostRuntime) -> Result<(), Fail> {
 // ---- By an action that is put back
 
 // Takes an action and has no function for it, once the other waits.
-fn work_without<R: Wait + Clock, C: Ledger, A: Ledger>(
+fn work_without<R: Wait + Clock, C: Ledger, A: Ledger, K: Ledger>(
     rt: &R,
     alloc: Global,
-    shared: &Shared<Core, C, A>,
+    shared: &Shared<Core, C, A, K>,
     flags: &Flags,
 ) -> (Work, bool) {
     let funs = FunTable::empty(alloc);
@@ -230,11 +252,12 @@ fn work_without<R: Wait + Clock, C: Ledger, A: Ledger>(
 }
 
 // Two threads and one action, which the first can't run.
-fn hand_on<C: Ledger + Send + Sync, A: Ledger + Send + Sync, R: Threads + Wait + Clock + Sync>(
-    rt: &R,
-    alloc: Global,
-    shared: &Shared<Core, C, A>,
-) -> ((Work, bool), (Work, bool)) {
+fn hand_on<
+    C: Ledger + Send + Sync,
+    A: Ledger + Send + Sync,
+    K: Ledger + Send + Sync,
+    R: Threads + Wait + Clock + Sync,
+>(rt: &R, alloc: Global, shared: &Shared<Core, C, A, K>) -> ((Work, bool), (Work, bool)) {
     let flags = Flags::new();
     let lent = &flags;
     let (next, first) = thread::join(
@@ -256,12 +279,14 @@ struct HandedOn {
 fn try_handing_on<
     C: Ledger + Send + Sync,
     A: Ledger + Send + Sync,
+    K: Ledger + Send + Sync,
     R: Threads + Wait + Clock + Sync,
->(rt: &R, alloc: Global, commits: Blank, added: Blank) -> Result<HandedOn, Stop>
+>(rt: &R, alloc: Global, commits: Blank, added: Blank, taken: Blank) -> Result<HandedOn, Stop>
     requires commits { IsBlank commits C.name C.parts }
     requires added { IsBlank added A.name A.parts }
+    requires taken { IsBlank taken K.name K.parts }
 {
-    let (shared, _share) = opened::<C, A>(alloc, two_agents(alloc)?, commits, added)?;
+    let (shared, _share) = opened::<C, A, K>(alloc, two_agents(alloc)?, commits, added, taken)?;
     done(shared.send(rt, alloc, 0, action(alloc, PLUS, "1")?))?;
     let (next, first) = hand_on(rt, alloc, &shared);
     Ok(HandedOn {
@@ -274,8 +299,12 @@ fn try_handing_on<
 #[test]
 fn an_action_that_is_put_back_wakes_who_waits(rt: HostRuntime) -> Result<(), Fail> {
     let alloc = rt.alloc();
-    let (commits, added) = (Blank::new(ALL_PARTS), Blank::new(ALL_PARTS));
-    let handed_on = try_handing_on::<Brand, Brand, _>(&rt, alloc, commits, added)?;
+    let (commits, added, taken) = (
+        Blank::new(ALL_PARTS),
+        Blank::new(ALL_PARTS),
+        Blank::new(ALL_PARTS),
+    );
+    let handed_on = try_handing_on::<Brand, Brand, Brand, _>(&rt, alloc, commits, added, taken)?;
     let wanted = HandedOn {
         first: (Err(WorkFault::NoSuchFun(PLUS)), true),
         next: (Ok(Worked::Did(0)), true),
@@ -288,10 +317,10 @@ fn an_action_that_is_put_back_wakes_who_waits(rt: HostRuntime) -> Result<(), Fai
 // ---- All who wait
 
 // Closes while two wait, and answers whether both ended then.
-fn close_on_two<R: Wait + Clock, C: Ledger, A: Ledger>(
+fn close_on_two<R: Wait + Clock, C: Ledger, A: Ledger, K: Ledger>(
     rt: &R,
     alloc: Global,
-    shared: &Shared<Core, C, A>,
+    shared: &Shared<Core, C, A, K>,
     flags: &Flags,
 ) -> bool {
     let (was_one, was_other) = (wait_past(rt, &flags.first), wait_past(rt, &flags.second));
@@ -304,12 +333,12 @@ fn close_on_two<R: Wait + Clock, C: Ledger, A: Ledger>(
     was_one && was_other && one && other
 }
 
-fn two_work<C: Ledger + Send + Sync, A: Ledger + Send + Sync, R: Threads + Wait + Sync>(
-    rt: &R,
-    alloc: Global,
-    shared: &Shared<Core, C, A>,
-    flags: &Flags,
-) -> (Work, Work) {
+fn two_work<
+    C: Ledger + Send + Sync,
+    A: Ledger + Send + Sync,
+    K: Ledger + Send + Sync,
+    R: Threads + Wait + Sync,
+>(rt: &R, alloc: Global, shared: &Shared<Core, C, A, K>, flags: &Flags) -> (Work, Work) {
     let (one, two) = thread::join(
         rt,
         move || work_between(rt, alloc, shared, &flags.first, &flags.third),
@@ -321,8 +350,9 @@ fn two_work<C: Ledger + Send + Sync, A: Ledger + Send + Sync, R: Threads + Wait 
 fn two_work_and_close<
     C: Ledger + Send + Sync,
     A: Ledger + Send + Sync,
+    K: Ledger + Send + Sync,
     R: Threads + Wait + Clock + Sync,
->(rt: &R, alloc: Global, shared: &Shared<Core, C, A>) -> ((Work, Work), bool) {
+>(rt: &R, alloc: Global, shared: &Shared<Core, C, A, K>) -> ((Work, Work), bool) {
     let flags = Flags::new();
     let lent = &flags;
     let (works, woke) = thread::join(
@@ -333,32 +363,43 @@ fn two_work_and_close<
     (works, woke)
 }
 
-fn try_end<C: Ledger + Send + Sync, A: Ledger + Send + Sync, R: Threads + Wait + Clock + Sync>(
+fn try_end<
+    C: Ledger + Send + Sync,
+    A: Ledger + Send + Sync,
+    K: Ledger + Send + Sync,
+    R: Threads + Wait + Clock + Sync,
+>(
     rt: &R,
     alloc: Global,
     commits: Blank,
     added: Blank,
+    taken: Blank,
 ) -> Result<((Work, Work), bool), Stop>
     requires commits { IsBlank commits C.name C.parts }
     requires added { IsBlank added A.name A.parts }
+    requires taken { IsBlank taken K.name K.parts }
 {
-    let (shared, _share) = opened::<C, A>(alloc, two_agents(alloc)?, commits, added)?;
+    let (shared, _share) = opened::<C, A, K>(alloc, two_agents(alloc)?, commits, added, taken)?;
     Ok(two_work_and_close(rt, alloc, &shared))
 }
 
 #[test]
 fn closing_wakes_all_who_wait(rt: HostRuntime) -> Result<(), Fail> {
     let alloc = rt.alloc();
-    let (commits, added) = (Blank::new(ALL_PARTS), Blank::new(ALL_PARTS));
-    let ended = try_end::<Brand, Brand, _>(&rt, alloc, commits, added)?;
+    let (commits, added, taken) = (
+        Blank::new(ALL_PARTS),
+        Blank::new(ALL_PARTS),
+        Blank::new(ALL_PARTS),
+    );
+    let ended = try_end::<Brand, Brand, Brand, _>(&rt, alloc, commits, added, taken)?;
     assert_eq!(rt; ended, ((CLOSED, CLOSED), true));
     Ok(())
 }
 
 // Runs one action, which is held until the other's has begun, and says before that it comes.
-fn come_and_meet<R: AllocGlobal + Wait + Clock, C: Ledger, A: Ledger>(
+fn come_and_meet<R: AllocGlobal + Wait + Clock, C: Ledger, A: Ledger, K: Ledger>(
     rt: &R,
-    shared: &Shared<Core, C, A>,
+    shared: &Shared<Core, C, A, K>,
     comes: &AtomicBool,
     here: &AtomicBool,
     there: &AtomicBool,
@@ -370,8 +411,9 @@ fn come_and_meet<R: AllocGlobal + Wait + Clock, C: Ledger, A: Ledger>(
 fn two_meet<
     C: Ledger + Send + Sync,
     A: Ledger + Send + Sync,
+    K: Ledger + Send + Sync,
     R: AllocGlobal + Threads + Wait + Clock + Sync,
->(rt: &R, shared: &Shared<Core, C, A>, flags: &Flags) -> ((bool, bool), (bool, bool)) {
+>(rt: &R, shared: &Shared<Core, C, A, K>, flags: &Flags) -> ((bool, bool), (bool, bool)) {
     let (one, two) = thread::join(
         rt,
         move || come_and_meet(rt, shared, &flags.first, &flags.third, &flags.fourth),
@@ -381,9 +423,9 @@ fn two_meet<
 }
 
 // Lets out what a commit sent to g and to h while two wait, and answers whether both were woken.
-fn release_to_two<R: AllocGlobal + Wait + Clock, C: Ledger, A: Ledger>(
+fn release_to_two<R: AllocGlobal + Wait + Clock, C: Ledger, A: Ledger, K: Ledger>(
     rt: &R,
-    shared: &Shared<Core, C, A>,
+    shared: &Shared<Core, C, A, K>,
     point: u64,
     flags: &Flags,
 ) -> bool {
@@ -408,8 +450,9 @@ struct LetOut {
 fn two_meet_and_release<
     C: Ledger + Send + Sync,
     A: Ledger + Send + Sync,
+    K: Ledger + Send + Sync,
     R: AllocGlobal + Threads + Wait + Clock + Sync,
->(rt: &R, shared: &Shared<Core, C, A>, point: u64) -> (((bool, bool), (bool, bool)), bool) {
+>(rt: &R, shared: &Shared<Core, C, A, K>, point: u64) -> (((bool, bool), (bool, bool)), bool) {
     let flags = Flags::new();
     let lent = &flags;
     let (works, woke) = thread::join(
@@ -429,12 +472,14 @@ fn send_both(alloc: Global, tx: &mut Tx<Core>) -> Result<(), Stop> {
 fn try_release<
     C: Ledger + Send + Sync,
     A: Ledger + Send + Sync,
+    K: Ledger + Send + Sync,
     R: AllocGlobal + Threads + Wait + Clock + Sync,
->(rt: &R, alloc: Global, commits: Blank, added: Blank) -> Result<LetOut, Stop>
+>(rt: &R, alloc: Global, commits: Blank, added: Blank, taken: Blank) -> Result<LetOut, Stop>
     requires commits { IsBlank commits C.name C.parts }
     requires added { IsBlank added A.name A.parts }
+    requires taken { IsBlank taken K.name K.parts }
 {
-    let (shared, mut share) = opened::<C, A>(alloc, two_agents(alloc)?, commits, added)?;
+    let (shared, mut share) = opened::<C, A, K>(alloc, two_agents(alloc)?, commits, added, taken)?;
     let mut tx = shared.begin(rt, alloc)?;
     send_both(alloc, &mut tx)?;
     let receipt = done(shared.commit(rt, alloc, &CoreFunctions, &mut share, STAMP, tx))?;
@@ -453,8 +498,12 @@ fn try_release<
 #[test]
 fn a_release_wakes_all_who_wait(rt: HostRuntime) -> Result<(), Fail> {
     let alloc = rt.alloc();
-    let (commits, added) = (Blank::new(ALL_PARTS), Blank::new(ALL_PARTS));
-    let let_out = try_release::<Brand, Brand, _>(&rt, alloc, commits, added)?;
+    let (commits, added, taken) = (
+        Blank::new(ALL_PARTS),
+        Blank::new(ALL_PARTS),
+        Blank::new(ALL_PARTS),
+    );
+    let let_out = try_release::<Brand, Brand, Brand, _>(&rt, alloc, commits, added, taken)?;
     let wanted = LetOut {
         works: ((true, true), (true, true)),
         woke: true,

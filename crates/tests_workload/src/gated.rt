@@ -40,6 +40,7 @@ fn who_is_overtaken_begins_anew(rt: HostRuntime) -> Result<(), Fail> {
         log: vec![in alloc; (first, 0), (second, 1)]?,
         commits: 2,
         added: 0,
+        taken: 0,
     };
     assert_eq!(rt; seen, Ok(wanted));
     Ok(())

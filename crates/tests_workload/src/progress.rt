@@ -56,11 +56,15 @@ fn fault_without<R: Threads + Wait + Sync>(
     progress: &Progress,
 ) -> Result<Option<RunFault>, Fail> {
     let plan = plan(alloc, &read_one(alloc, text.as_bytes())?)?;
-    let (commits, added) = (Blank::new(ALL_PARTS), Blank::new(ALL_PARTS));
-    run_in::<Brand, Brand, R>(rt, alloc, code, &plan, progress, commits, added)
+    let (commits, added, taken) = (
+        Blank::new(ALL_PARTS),
+        Blank::new(ALL_PARTS),
+        Blank::new(ALL_PARTS),
+    );
+    run_in::<Brand, Brand, Brand, R>(rt, alloc, code, &plan, progress, commits, added, taken)
 }
 
-fn run_in<C, A, R>(
+fn run_in<C, A, K, R>(
     rt: &R,
     alloc: Global,
     code: u32,
@@ -68,21 +72,24 @@ fn run_in<C, A, R>(
     progress: &Progress,
     commits: Blank,
     added: Blank,
+    taken: Blank,
 ) -> Result<Option<RunFault>, Fail>
 where
     C: Ledger + Send + Sync,
     A: Ledger + Send + Sync,
+    K: Ledger + Send + Sync,
     R: Threads + Wait + Sync,
     requires commits { IsBlank commits C.name C.parts }
     requires added { IsBlank added A.name A.parts }
+    requires taken { IsBlank taken K.name K.parts }
 {
     let Some(count) = plan.workers().len().checked_add(plan.pool() as usize) else {
         return Err(Fail::new("too many threads"));
     };
     let gates = vec![in alloc; Open; count]?;
     let funs = CoreWithout { code };
-    let ran = run_plan_with::<CoreWithout, C, A, R, Open>(
-        rt, alloc, &funs, plan, 1, gates, progress, commits, added,
+    let ran = run_plan_with::<CoreWithout, C, A, K, R, Open>(
+        rt, alloc, &funs, plan, 1, gates, progress, commits, added, taken,
     );
     Ok(ran.err())
 }

@@ -37,6 +37,7 @@ pub(crate) struct Seen {
     pub(crate) log: Vec<(Stamp, u64)>,
     pub(crate) commits: u64,
     pub(crate) added: u64,
+    pub(crate) taken: u64,
 }
 
 /// Runs the workload that a text says, and answers what is seen of it.
@@ -48,15 +49,21 @@ pub(crate) fn run<R: Threads + Wait + Clock + Sync>(
 ) -> Result<Result<Seen, RunFault>, Fail> {
     let plan = plan(alloc, &read_one(alloc, text.as_bytes())?)?;
     let board = Board::new();
-    let (commits, added) = (Blank::new(ALL_PARTS), Blank::new(ALL_PARTS));
-    let seen = run_in::<Brand, Brand, R>(rt, alloc, &plan, how, &board, commits, added)?;
+    let (commits, added, taken) = (
+        Blank::new(ALL_PARTS),
+        Blank::new(ALL_PARTS),
+        Blank::new(ALL_PARTS),
+    );
+    let seen = run_in::<Brand, Brand, Brand, R>(
+        rt, alloc, &plan, how, &board, commits, added, taken,
+    )?;
     if board.late.load(Ordering::SeqCst) {
         return Err(Fail::new("a thread waited in vain"));
     }
     Ok(seen)
 }
 
-fn run_in<C, A, R>(
+fn run_in<C, A, K, R>(
     rt: &R,
     alloc: Global,
     plan: &Plan,
@@ -64,13 +71,16 @@ fn run_in<C, A, R>(
     board: &Board,
     commits: Blank,
     added: Blank,
+    taken: Blank,
 ) -> Result<Result<Seen, RunFault>, Fail>
 where
     C: Ledger + Send + Sync,
     A: Ledger + Send + Sync,
+    K: Ledger + Send + Sync,
     R: Threads + Wait + Clock + Sync,
     requires commits { IsBlank commits C.name C.parts }
     requires added { IsBlank added A.name A.parts }
+    requires taken { IsBlank taken K.name K.parts }
 {
     let Some(count) = plan.workers().len().checked_add(plan.pool() as usize) else {
         return Err(Fail::new("too many threads"));
@@ -79,8 +89,8 @@ where
     if gates.len() != count {
         return Err(Fail::new("each thread has a gate"));
     }
-    let ran = run_plan::<CoreWithout, C, A, R, Turn<'_, '_, R>>(
-        rt, alloc, &how.funs, plan, how.tries, gates, commits, added,
+    let ran = run_plan::<CoreWithout, C, A, K, R, Turn<'_, '_, R>>(
+        rt, alloc, &how.funs, plan, how.tries, gates, commits, added, taken,
     );
     match ran {
         Ok(out) => Ok(Ok(look_at(alloc, &how.funs, plan, &out)?)),
@@ -113,11 +123,11 @@ fn make_gates<'a, 'b, R: Clock>(
 }
 
 // What is seen of the world that a run ended with.
-fn look_at<C: Ledger, A: Ledger>(
+fn look_at<C: Ledger, A: Ledger, K: Ledger>(
     alloc: Global,
     funs: &CoreWithout,
     plan: &Plan,
-    out: &RunOut<C, A>,
+    out: &RunOut<C, A, K>,
 ) -> Result<Seen, Fail> {
     let verdict = verdict_of(alloc, funs, out)?;
     let refused = out.refused.as_slice();
@@ -135,13 +145,14 @@ fn look_at<C: Ledger, A: Ledger>(
         log: all_commits(alloc, out.world.log())?,
         commits: out.totals.commits,
         added: out.totals.added,
+        taken: out.totals.taken,
     })
 }
 
-fn verdict_of<C: Ledger, A: Ledger>(
+fn verdict_of<C: Ledger, A: Ledger, K: Ledger>(
     alloc: Global,
     funs: &CoreWithout,
-    out: &RunOut<C, A>,
+    out: &RunOut<C, A, K>,
 ) -> Result<Verdict, Fail> {
     if !has_core(funs) {
         return Err(Fail::new("the table has all of Core"));

@@ -14,7 +14,7 @@ const ROUNDS: usize = 25;
 
 // What each worker does again and again: a transaction, a change of the atom, an action, and what is always refused.
 const ROUND: &str =
-    "[:tx [:alter a + 1] [:alter b - 1] [:commute t + 2] [:send g + 3]] [:swap x + 4] [:send h + 5] [:tx [:commute t - 1]] ";
+    "[:tx [:alter a + 1] [:alter b - 1] [:commute t + 7] [:commute t - 5] [:send g + 3]] [:swap x + 4] [:send h + 5] [:tx [:commute t - -1]] ";
 
 fn workload(alloc: Global, declared: &str, steps: &str) -> Result<String, AllocError> {
     let worker = format!(in alloc; "[{steps}] ")?;
@@ -59,7 +59,7 @@ fn the_sums_of_four_workers_are_right(rt: HostRuntime) -> Result<(), Fail> {
         "ref a 100\nref t 205\nref b -100\natom x 400\nagent h 500 ready\nagent g 300 ready\n{refused}commits 100\naudit ok\n"
     )?;
     assert_eq!(rt; seen.report.as_slice(), report.as_bytes());
-    assert_eq!(rt; (seen.commits, seen.added), (100, 200));
+    assert_eq!(rt; (seen.commits, seen.added, seen.taken), (100, 700, 500));
     assert_eq!(rt; seen.log.len(), 100);
     Ok(())
 }

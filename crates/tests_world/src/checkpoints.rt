@@ -31,10 +31,10 @@ fn start(alloc: Global, tally: bool) -> Result<Start, AllocError> {
 }
 
 // Commits `commute r + n`, `alter r + n` or `ref-set r n`, by worker 0 in this step.
-fn commit<C: Ledger, A: Ledger>(
+fn commit<C: Ledger, A: Ledger, K: Ledger>(
     alloc: Global,
-    world: &mut World<Core, C, A>,
-    share: &mut Share<C, A>,
+    world: &mut World<Core, C, A, K>,
+    share: &mut Share<C, A, K>,
     step: u32,
     change: &str,
 ) -> Result<bool, AllocError> {
@@ -43,10 +43,10 @@ fn commit<C: Ledger, A: Ledger>(
 }
 
 // Commits the same so often, by worker 0 in the steps from 0 on.
-fn commit_often<C: Ledger, A: Ledger>(
+fn commit_often<C: Ledger, A: Ledger, K: Ledger>(
     alloc: Global,
-    world: &mut World<Core, C, A>,
-    share: &mut Share<C, A>,
+    world: &mut World<Core, C, A, K>,
+    share: &mut Share<C, A, K>,
     count: u32,
     change: &str,
 ) -> Result<bool, AllocError> {
@@ -57,10 +57,10 @@ fn commit_often<C: Ledger, A: Ledger>(
     Ok(done)
 }
 
-fn commit_tx<C: Ledger, A: Ledger>(
+fn commit_tx<C: Ledger, A: Ledger, K: Ledger>(
     alloc: Global,
-    world: &mut World<Core, C, A>,
-    share: &mut Share<C, A>,
+    world: &mut World<Core, C, A, K>,
+    share: &mut Share<C, A, K>,
     step: u32,
     tx: Tx<Core>,
 ) -> Option<CommitFault> {
@@ -98,6 +98,7 @@ struct Told {
     last: Option<u64>,
     commits: u64,
     added: u64,
+    taken: u64,
     entries: usize,
 }
 
@@ -108,6 +109,7 @@ fn tell(base: &Base, entries: usize) -> Told {
         last: base.last.get(0).copied(),
         commits: base.commits,
         added: base.added,
+        taken: base.taken,
         entries,
     }
 }
@@ -115,30 +117,45 @@ fn tell(base: &Base, entries: usize) -> Told {
 // ---- A world of one ref, and what is seen of it once it was used
 
 trait Play: Drop + Sized {
-    fn play<C: Ledger, A: Ledger>(
+    fn play<C: Ledger, A: Ledger, K: Ledger>(
         alloc: Global,
-        world: &mut World<Core, C, A>,
-        share: &mut Share<C, A>,
+        world: &mut World<Core, C, A, K>,
+        share: &mut Share<C, A, K>,
     ) -> Result<Self, AllocError>;
 }
 
-fn opened<P: Play, C: Ledger, A: Ledger>(
+fn opened<P: Play, C: Ledger, A: Ledger, K: Ledger>(
     alloc: Global,
     tally: bool,
     commits: Blank,
     added: Blank,
+    taken: Blank,
 ) -> Result<Option<P>, AllocError>
     requires commits { IsBlank commits C.name C.parts }
     requires added { IsBlank added A.name A.parts }
+    requires taken { IsBlank taken K.name K.parts }
 {
-    match World::<Core, C, A>::new(alloc, &CoreFunctions, start(alloc, tally)?, commits, added) {
+    match World::<Core, C, A, K>::new(
+        alloc,
+        &CoreFunctions,
+        start(alloc, tally)?,
+        commits,
+        added,
+        taken,
+    ) {
         Ok((mut world, mut share)) => Ok(Some(P::play(alloc, &mut world, &mut share)?)),
         Err(_) => Ok(None),
     }
 }
 
 fn played<P: Play>(alloc: Global, tally: bool) -> Result<Option<P>, AllocError> {
-    opened::<P, Brand, Brand>(alloc, tally, Blank::new(ALL_PARTS), Blank::new(ALL_PARTS))
+    opened::<P, Brand, Brand, Brand>(
+        alloc,
+        tally,
+        Blank::new(ALL_PARTS),
+        Blank::new(ALL_PARTS),
+        Blank::new(ALL_PARTS),
+    )
 }
 
 // ---- The row of a view and four checkpoints
@@ -163,9 +180,9 @@ fn is_replayed(alloc: Global, view: &View<Core>, text: &str) -> Result<bool, All
 }
 
 // What checkpoints at some points answer.
-fn answers<C: Ledger, A: Ledger>(
+fn answers<C: Ledger, A: Ledger, K: Ledger>(
     alloc: Global,
-    world: &mut World<Core, C, A>,
+    world: &mut World<Core, C, A, K>,
 ) -> Result<Vec<Answer>, AllocError> {
     let mut answers = Vec::new(alloc);
     for point in [2, 2, 1, 4] {
@@ -175,10 +192,10 @@ fn answers<C: Ledger, A: Ledger>(
 }
 
 impl Play for Seen {
-    fn play<C: Ledger, A: Ledger>(
+    fn play<C: Ledger, A: Ledger, K: Ledger>(
         alloc: Global,
-        world: &mut World<Core, C, A>,
-        share: &mut Share<C, A>,
+        world: &mut World<Core, C, A, K>,
+        share: &mut Share<C, A, K>,
     ) -> Result<Seen, AllocError> {
         let done = commit_often(alloc, world, share, 3, "alter 1")?;
         let view = world.view()?;
@@ -208,10 +225,10 @@ struct Clash {
 }
 
 impl Play for Clash {
-    fn play<C: Ledger, A: Ledger>(
+    fn play<C: Ledger, A: Ledger, K: Ledger>(
         alloc: Global,
-        world: &mut World<Core, C, A>,
-        share: &mut Share<C, A>,
+        world: &mut World<Core, C, A, K>,
+        share: &mut Share<C, A, K>,
     ) -> Result<Clash, AllocError> {
         let first = world.begin(alloc)?;
         let done = commit(alloc, world, share, 0, "ref-set 5")?;
@@ -241,10 +258,10 @@ struct Booked {
 }
 
 impl Play for Booked {
-    fn play<C: Ledger, A: Ledger>(
+    fn play<C: Ledger, A: Ledger, K: Ledger>(
         alloc: Global,
-        world: &mut World<Core, C, A>,
-        share: &mut Share<C, A>,
+        world: &mut World<Core, C, A, K>,
+        share: &mut Share<C, A, K>,
     ) -> Result<Booked, AllocError> {
         let done = commit_often(alloc, world, share, 40, "commute 7")?;
         let lacking = world.checkpoint(alloc, &FunTable::empty(alloc), 33);
@@ -274,6 +291,7 @@ fn a_view_stays_as_it_was(rt: HostRuntime) -> Result<(), Fail> {
             last: Some(0),
             commits: 0,
             added: 0,
+            taken: 0,
             entries: 3,
         },
         replayed: true,
@@ -283,6 +301,7 @@ fn a_view_stays_as_it_was(rt: HostRuntime) -> Result<(), Fail> {
             last: Some(2),
             commits: 2,
             added: 0,
+            taken: 0,
             entries: 1,
         },
         commits: 3,
@@ -308,6 +327,7 @@ fn a_conflict_with_what_was_folded(rt: HostRuntime) -> Result<(), Fail> {
             last: Some(1),
             commits: 1,
             added: 0,
+            taken: 0,
             entries: 0,
         },
         commits: 1,
@@ -327,6 +347,7 @@ fn books_are_kept(rt: HostRuntime) -> Result<(), Fail> {
             last: Some(0),
             commits: 0,
             added: 0,
+            taken: 0,
             entries: 40,
         },
         answer: Ok(33),
@@ -336,11 +357,13 @@ fn books_are_kept(rt: HostRuntime) -> Result<(), Fail> {
             last: Some(33),
             commits: 33,
             added: 231,
+            taken: 0,
             entries: 7,
         },
         totals: Totals {
             commits: 40,
             added: 280,
+            taken: 0,
         },
     };
     assert_eq!(rt; played::<Booked>(rt.alloc(), true)?, Some(wanted));

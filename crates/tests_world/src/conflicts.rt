@@ -29,8 +29,8 @@ fn commits_by_hand(rt: HostRuntime) -> Result<(), Fail> {
             // A function that refuses the latest value.
             [9223372036854775806 0] [] [] [begin 1 0] [1 commute a + 1 9223372036854775807] [1 set b 1 1] [begin 2 0] [2 commute a + 1 9223372036854775807] [commit 2 1] [commit 1 [:refused 0 :overflow]] [now a 9223372036854775807] [now b 0] [changed b 0] [entries 1] [begin 3 1] [3 set b 1 1] [commit 3 2] [now b 1]
             [0 0] [] [] [begin 1 0] [1 set a 1 1] [1 commute b + 1 1] [begin 2 0] [2 set b :k :k] [commit 2 1] [commit 1 [:refused 1 :wrong-kind]] [now a 0] [now b :k]
-            // The tally only counts up.
-            [[tally 0]] [] [] [begin 1 0] [1 alter t + 1 :tally-only] [1 commute t + -1 :tally-only] [1 commute t + 1 1 :tally-only] [1 set t 1 :tally-only] [1 ensure t 0] [commit 1 1] [now t 0] [changed t 0]
+            // The tally moves by counts alone.
+            [[tally 0]] [] [] [begin 1 0] [1 alter t + 1 :tally-only] [1 commute t + -1 :tally-only] [1 commute t + 1 1 :tally-only] [1 commute t - -1 :tally-only] [1 commute t - :tally-only] [1 set t 1 :tally-only] [1 ensure t 0] [commit 1 1] [now t 0] [changed t 0]
             // Of several conflicts that of the smallest ref is returned.
             [0 0 0] [] [] [begin 1 0] [1 set c 1 1] [1 set b 1 1] [begin 2 0] [2 set b 2 2] [2 set c 2 2] [commit 2 1] [commit 1 [:conflict 1 0 1]] [now b 2] [now c 2]
             [0 0 0] [] [] [begin 1 0] [1 set c 1 1] [1 set b 1 1] [begin 2 0] [2 set c 2 2] [commit 2 1] [begin 3 1] [3 set b 3 3] [commit 3 2] [commit 1 [:conflict 1 0 2]]

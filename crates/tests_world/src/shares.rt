@@ -33,10 +33,10 @@ fn start(alloc: Global) -> Result<Start, AllocError> {
 }
 
 // Commits a transaction that adds 7 to the tally.
-fn add_seven<C: Ledger, A: Ledger>(
+fn add_seven<C: Ledger, A: Ledger, K: Ledger>(
     alloc: Global,
-    world: &mut World<Core, C, A>,
-    share: &mut Share<C, A>,
+    world: &mut World<Core, C, A, K>,
+    share: &mut Share<C, A, K>,
 ) -> Result<bool, AllocError> {
     let tx = adding_seven(alloc, world.begin(alloc)?)?;
     Ok(
@@ -55,20 +55,20 @@ fn adding_seven(alloc: Global, mut tx: Tx<Core>) -> Result<Tx<Core>, AllocError>
 }
 
 // Whether `swap x + 1` is taken.
-fn swaps<C: Ledger, A: Ledger>(
+fn swaps<C: Ledger, A: Ledger, K: Ledger>(
     alloc: Global,
-    world: &mut World<Core, C, A>,
-    share: &mut Share<C, A>,
+    world: &mut World<Core, C, A, K>,
+    share: &mut Share<C, A, K>,
 ) -> Result<bool, AllocError> {
     let one = args_from(alloc, &read(alloc, "1")?, 0)?;
     Ok(world.swap(alloc, &CoreFunctions, share, 0, 1, one).is_ok())
 }
 
 // Whether x, which isn't 1 any more, stays.
-fn stays<C: Ledger, A: Ledger>(
+fn stays<C: Ledger, A: Ledger, K: Ledger>(
     alloc: Global,
-    world: &mut World<Core, C, A>,
-    share: &mut Share<C, A>,
+    world: &mut World<Core, C, A, K>,
+    share: &mut Share<C, A, K>,
 ) -> Result<bool, AllocError> {
     let values = read(alloc, "1 9")?;
     let (old, new) = (value_at(&values, 0)?, value_at(&values, 1)?);
@@ -104,31 +104,31 @@ struct Ended {
     whole: bool,
     points: Vec<(u64, bool)>,
     totals: Totals,
-    books: (u64, u64),
+    books: (u64, u64, u64),
     tally: bool,
 }
 
-fn end_of<C: Ledger, A: Ledger>(
+fn end_of<C: Ledger, A: Ledger, K: Ledger>(
     alloc: Global,
-    world: &mut World<Core, C, A>,
-    share: &mut Share<C, A>,
+    world: &mut World<Core, C, A, K>,
+    share: &mut Share<C, A, K>,
 ) -> Result<Ended, AllocError> {
     let nineteen = read(alloc, "19")?;
     Ok(Ended {
         whole: share.is_whole(),
         points: points(alloc, share.receipts())?,
         totals: world.totals(share),
-        books: (world.commits(), world.added()),
+        books: (world.commits(), world.added(), world.taken()),
         tally: world.value_of(Who::Ref(0)) == nineteen.first(),
     })
 }
 
 // An atom is changed by the second share, and the tally by each.
-fn change<C: Ledger, A: Ledger>(
+fn change<C: Ledger, A: Ledger, K: Ledger>(
     alloc: Global,
-    world: &mut World<Core, C, A>,
-    first: &mut Share<C, A>,
-    second: &mut Share<C, A>,
+    world: &mut World<Core, C, A, K>,
+    first: &mut Share<C, A, K>,
+    second: &mut Share<C, A, K>,
 ) -> Result<bool, AllocError> {
     Ok(
         swaps(alloc, world, second)?
@@ -139,14 +139,14 @@ fn change<C: Ledger, A: Ledger>(
 }
 
 // Whether none is split off, of no part and of all.
-fn splits_none<C: Ledger, A: Ledger>(share: &mut Share<C, A>) -> (bool, bool) {
+fn splits_none<C: Ledger, A: Ledger, K: Ledger>(share: &mut Share<C, A, K>) -> (bool, bool) {
     (share.split(0).is_none(), share.split(ALL_PARTS).is_none())
 }
 
-fn used<C: Ledger, A: Ledger>(
+fn used<C: Ledger, A: Ledger, K: Ledger>(
     alloc: Global,
-    world: &mut World<Core, C, A>,
-    first: &mut Share<C, A>,
+    world: &mut World<Core, C, A, K>,
+    first: &mut Share<C, A, K>,
 ) -> Result<Option<Seen>, AllocError> {
     let split = splits_none(first);
     let Some(mut second) = first.split(ALL_PARTS / 2) else {
@@ -165,22 +165,29 @@ fn used<C: Ledger, A: Ledger>(
     }))
 }
 
-fn tried<C: Ledger, A: Ledger>(
+fn tried<C: Ledger, A: Ledger, K: Ledger>(
     alloc: Global,
     commits: Blank,
     added: Blank,
+    taken: Blank,
 ) -> Result<Option<Seen>, AllocError>
     requires commits { IsBlank commits C.name C.parts }
     requires added { IsBlank added A.name A.parts }
+    requires taken { IsBlank taken K.name K.parts }
 {
-    match World::<Core, C, A>::new(alloc, &CoreFunctions, start(alloc)?, commits, added) {
+    match World::<Core, C, A, K>::new(alloc, &CoreFunctions, start(alloc)?, commits, added, taken) {
         Ok((mut world, mut share)) => used(alloc, &mut world, &mut share),
         Err(_) => Ok(None),
     }
 }
 
 fn try_shares(alloc: Global) -> Result<Option<Seen>, AllocError> {
-    tried::<Brand, Brand>(alloc, Blank::new(ALL_PARTS), Blank::new(ALL_PARTS))
+    tried::<Brand, Brand, Brand>(
+        alloc,
+        Blank::new(ALL_PARTS),
+        Blank::new(ALL_PARTS),
+        Blank::new(ALL_PARTS),
+    )
 }
 
 #[test]
@@ -197,8 +204,9 @@ fn shares_are_split_and_joined(rt: HostRuntime) -> Result<(), Fail> {
             totals: Totals {
                 commits: 2,
                 added: 14,
+                taken: 0,
             },
-            books: (2, 14),
+            books: (2, 14, 0),
             tally: true,
         },
     };

@@ -74,9 +74,9 @@ fn start(alloc: Global) -> Result<Start, AllocError> {
 }
 
 // As many transactions as there are cases.
-fn begin_all<C: Ledger, A: Ledger>(
+fn begin_all<C: Ledger, A: Ledger, K: Ledger>(
     alloc: Global,
-    world: &World<Core, C, A>,
+    world: &World<Core, C, A, K>,
 ) -> Result<Vec<Tx<Core>>, AllocError> {
     let mut open = Vec::new(alloc);
     for _ in CASES {
@@ -94,10 +94,10 @@ fn adding(alloc: Global, mut tx: Tx<Core>, r: u32) -> Result<Tx<Core>, AllocErro
     }
 }
 
-fn change<C: Ledger, A: Ledger>(
+fn change<C: Ledger, A: Ledger, K: Ledger>(
     alloc: Global,
-    world: &mut World<Core, C, A>,
-    share: &mut Share<C, A>,
+    world: &mut World<Core, C, A, K>,
+    share: &mut Share<C, A, K>,
     r: u32,
 ) -> Result<bool, AllocError> {
     let tx = adding(alloc, world.begin(alloc)?, r)?;
@@ -108,10 +108,10 @@ fn change<C: Ledger, A: Ledger>(
     )
 }
 
-fn change_all<C: Ledger, A: Ledger>(
+fn change_all<C: Ledger, A: Ledger, K: Ledger>(
     alloc: Global,
-    world: &mut World<Core, C, A>,
-    share: &mut Share<C, A>,
+    world: &mut World<Core, C, A, K>,
+    share: &mut Share<C, A, K>,
 ) -> Result<bool, AllocError> {
     for r in 0..CHANGED {
         if !change(alloc, world, share, r)? {
@@ -173,10 +173,10 @@ struct End {
     committed: Option<Result<(), CommitFault>>,
 }
 
-fn end_one<C: Ledger, A: Ledger>(
+fn end_one<C: Ledger, A: Ledger, K: Ledger>(
     alloc: Global,
-    world: &mut World<Core, C, A>,
-    share: &mut Share<C, A>,
+    world: &mut World<Core, C, A, K>,
+    share: &mut Share<C, A, K>,
     mut tx: Tx<Core>,
     what: Act,
     r: u32,
@@ -198,10 +198,10 @@ fn end_one<C: Ledger, A: Ledger>(
     })
 }
 
-fn end_all<C: Ledger, A: Ledger>(
+fn end_all<C: Ledger, A: Ledger, K: Ledger>(
     alloc: Global,
-    world: &mut World<Core, C, A>,
-    share: &mut Share<C, A>,
+    world: &mut World<Core, C, A, K>,
+    share: &mut Share<C, A, K>,
     mut open: Vec<Tx<Core>>,
 ) -> Result<Vec<End>, AllocError> {
     let mut ends = Vec::new(alloc);
@@ -224,10 +224,10 @@ struct Kept {
     point: u64,
 }
 
-fn keep_all<C: Ledger, A: Ledger>(
+fn keep_all<C: Ledger, A: Ledger, K: Ledger>(
     alloc: Global,
-    world: &mut World<Core, C, A>,
-    share: &mut Share<C, A>,
+    world: &mut World<Core, C, A, K>,
+    share: &mut Share<C, A, K>,
 ) -> Result<Kept, AllocError> {
     let open = begin_all(alloc, world)?;
     let changed = change_all(alloc, world, share)?;
@@ -240,22 +240,29 @@ fn keep_all<C: Ledger, A: Ledger>(
     })
 }
 
-fn tried<C: Ledger, A: Ledger>(
+fn tried<C: Ledger, A: Ledger, K: Ledger>(
     alloc: Global,
     commits: Blank,
     added: Blank,
+    taken: Blank,
 ) -> Result<Option<Kept>, AllocError>
     requires commits { IsBlank commits C.name C.parts }
     requires added { IsBlank added A.name A.parts }
+    requires taken { IsBlank taken K.name K.parts }
 {
-    match World::<Core, C, A>::new(alloc, &CoreFunctions, start(alloc)?, commits, added) {
+    match World::<Core, C, A, K>::new(alloc, &CoreFunctions, start(alloc)?, commits, added, taken) {
         Ok((mut world, mut share)) => Ok(Some(keep_all(alloc, &mut world, &mut share)?)),
         Err(_) => Ok(None),
     }
 }
 
 fn try_versions(alloc: Global) -> Result<Option<Kept>, AllocError> {
-    tried::<Brand, Brand>(alloc, Blank::new(ALL_PARTS), Blank::new(ALL_PARTS))
+    tried::<Brand, Brand, Brand>(
+        alloc,
+        Blank::new(ALL_PARTS),
+        Blank::new(ALL_PARTS),
+        Blank::new(ALL_PARTS),
+    )
 }
 
 fn wanted(r: u32, changed_at: Option<u64>) -> End {

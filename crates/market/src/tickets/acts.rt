@@ -1,6 +1,6 @@
 //! Functions of this program's own: what they mean, and the table that runs them.
 ghost use Rattle.std.specs.Prelude.{◌≡◌, ◌≤◌, length, pos};
-ghost use Rattle.market.specs.Acts.{act_accepts, act_adds, act_means, act_of, all_acts, closed, done, is_group, is_left};
+ghost use Rattle.market.specs.Acts.{act_accepts, act_adds, act_means, act_of, act_takes, all_acts, closed, done, is_group, is_left};
 ghost use Rattle.ref_edn.specs.Edn.{int};
 ghost use Rattle.ref_fun.specs.Meaning.{Answers};
 
@@ -10,9 +10,11 @@ use std::alloc::Global;
 
 pub(crate) const ADD: u32 = 1;
 
-pub(crate) const SELL: u32 = 2;
+pub(crate) const TAKE: u32 = 2;
 
-pub(crate) const CLOSE: u32 = 3;
+pub(crate) const SELL: u32 = 3;
+
+pub(crate) const CLOSE: u32 = 4;
 
 pub(crate) const IS_LEFT: u32 = 1;
 
@@ -20,6 +22,7 @@ pub(crate) const IS_LEFT: u32 = 1;
 #[derive(Clone, Copy, Debug, Drop, PartialEq, Eq)]
 pub(crate) enum Act {
     Add,
+    Take,
     Sell,
     Close,
 }
@@ -33,6 +36,8 @@ impl Meaning for BoxOffice {
     ghost accepts = { act_accepts };
 
     ghost adds = { act_adds };
+
+    ghost takes = { act_takes };
 }
 
 impl Act {
@@ -42,6 +47,7 @@ impl Act {
     {
         match code {
             ADD => Some(Act::Add),
+            TAKE => Some(Act::Take),
             SELL => Some(Act::Sell),
             CLOSE => Some(Act::Close),
             _ => None,
@@ -54,6 +60,7 @@ impl Act {
     {
         match self {
             Act::Add => core_fun(alloc, 1, state, args),
+            Act::Take => core_fun(alloc, 2, state, args),
             Act::Sell => {
                 if !is_group(args) {
                     return Err(FunFault::Refused(Cause::WrongKind));

@@ -32,9 +32,9 @@ pub(crate) enum Sale {
 
 /// What all clerks share. Its functions are those of [`Acts`].
 #[derive(Drop)]
-pub(crate) struct Office<C: Ledger, A: Ledger> {
+pub(crate) struct Office<C: Ledger, A: Ledger, K: Ledger> {
     pub(crate) alloc: Global,
-    pub(crate) shared: Shared<BoxOffice, C, A>,
+    pub(crate) shared: Shared<BoxOffice, C, A, K>,
 }
 
 fn evening(alloc: Global, tickets: &str) -> Result<RefStart, AllocError> {
@@ -74,8 +74,8 @@ fn sold(alloc: Global) -> Result<RefStart, AllocError> {
     })
 }
 
-impl<C: Ledger, A: Ledger> Office<C, A> {
-    pub(crate) fn open(alloc: Global, world: World<BoxOffice, C, A>) -> Office<C, A> {
+impl<C: Ledger, A: Ledger, K: Ledger> Office<C, A, K> {
+    pub(crate) fn open(alloc: Global, world: World<BoxOffice, C, A, K>) -> Office<C, A, K> {
         Office {
             alloc,
             shared: Shared::new(world),
@@ -86,7 +86,7 @@ impl<C: Ledger, A: Ledger> Office<C, A> {
     pub(crate) fn sell<R: Wait>(
         &self,
         rt: &R,
-        share: &mut Share<C, A>,
+        share: &mut Share<C, A, K>,
         stamp: Stamp,
         evening: u32,
         group: &str,
@@ -115,7 +115,7 @@ impl<C: Ledger, A: Ledger> Office<C, A> {
     fn commit<R: Wait>(
         &self,
         rt: &R,
-        share: &mut Share<C, A>,
+        share: &mut Share<C, A, K>,
         stamp: Stamp,
         tx: Tx<BoxOffice>,
     ) -> Result<Option<Sale>, Trouble> {
@@ -147,7 +147,7 @@ impl<C: Ledger, A: Ledger> Office<C, A> {
     pub(crate) fn close<R: Wait>(
         &self,
         rt: &R,
-        share: &mut Share<C, A>,
+        share: &mut Share<C, A, K>,
         stamp: Stamp,
         evening: u32,
     ) -> Result<(), Trouble> {

@@ -6,7 +6,7 @@ use ref_world::World;
 use std::sync::ledger::Ledger;
 
 // A world has at most 2^20 references of each kind. It changes nothing, and costs three looks.
-pub(crate) fn tell_few<C: Ledger, A: Ledger>(world: &World<Core, C, A>)
+pub(crate) fn tell_few<C: Ledger, A: Ledger, K: Ledger>(world: &World<Core, C, A, K>)
     ensures { AreFew world.now }
 {
     let _refs = world.ref_count();

@@ -32,9 +32,9 @@ pub(crate) struct Parts {
 }
 
 #[tactic(auto, using(crate::proofs::Depths::make_faults))]
-pub(crate) fn parts_of<C: Ledger, A: Ledger>(
+pub(crate) fn parts_of<C: Ledger, A: Ledger, K: Ledger>(
     alloc: Global,
-    world: &World<Core, C, A>,
+    world: &World<Core, C, A, K>,
 ) -> Result<Parts, DumpMakeFault>
     requires { AreFew world.now }
     ensures made { IfOk result (AreParts world.now) }
@@ -59,9 +59,9 @@ fn pair(alloc: Global, key: Word, value: Value) -> Result<(Value, Value), AllocE
 }
 
 // The entries of the map, from the first key on.
-pub(crate) fn entries_of<C: Ledger, A: Ledger>(
+pub(crate) fn entries_of<C: Ledger, A: Ledger, K: Ledger>(
     alloc: Global,
-    world: &World<Core, C, A>,
+    world: &World<Core, C, A, K>,
     parts: Parts,
 ) -> Result<Vec<(Value, Value)>, AllocError>
     requires { AreParts world.now parts }
@@ -77,18 +77,19 @@ pub(crate) fn entries_of<C: Ledger, A: Ledger>(
         refs,
     } = parts;
     let base = world.base();
-    let mut all = Vec::with_capacity(alloc, 12)?;
+    let mut all = Vec::with_capacity(alloc, 13)?;
     all.push(pair(alloc, Word::Added, number(world.added())?)?)?;
     all.push(pair(alloc, Word::Agents, agents)?)?;
     all.push(pair(alloc, Word::Atoms, atoms)?)?;
     all.push(pair(alloc, Word::BaseAtoms, base_atoms)?)?;
     all.push(pair(alloc, Word::BaseRefs, base_refs)?)?;
     all.push(pair(alloc, Word::Commits, number(world.commits())?)?)?;
-    all.push(pair(alloc, Word::Dump, number(1)?)?)?;
+    all.push(pair(alloc, Word::Dump, number(2)?)?)?;
     all.push(pair(alloc, Word::Entries, entries)?)?;
     all.push(pair(alloc, Word::Folded, folded)?)?;
     all.push(pair(alloc, Word::Point, number(base.point)?)?)?;
     all.push(pair(alloc, Word::Refs, refs)?)?;
+    all.push(pair(alloc, Word::Taken, number(world.taken())?)?)?;
     all.push(pair(alloc, Word::Tally, tally(base)?)?)?;
     Ok(all)
 }

@@ -46,7 +46,8 @@ pub(crate) fn folded(alloc: Global, base: &Base) -> Result<Value, DumpMakeFault>
 {
     let commits = number(base.commits)?;
     let added = number(base.added)?;
-    vector_of(alloc, vec![in alloc; commits, added]?)
+    let taken = number(base.taken)?;
+    vector_of(alloc, vec![in alloc; commits, added, taken]?)
 }
 
 pub(crate) fn tally(base: &Base) -> Result<Value, AllocError>

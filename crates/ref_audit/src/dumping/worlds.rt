@@ -20,9 +20,9 @@ use std::sync::ledger::Ledger;
 
 // The refs or the atoms now, with their rules.
 #[tactic(auto, using(crate::proofs::Depths::make_faults))]
-pub(crate) fn values_now<C: Ledger, A: Ledger>(
+pub(crate) fn values_now<C: Ledger, A: Ledger, K: Ledger>(
     alloc: Global,
-    world: &World<Core, C, A>,
+    world: &World<Core, C, A, K>,
     kind: Kind,
 ) -> Result<Value, DumpMakeFault>
     requires { length (values_of world.now (who_of kind 0)) ≤ 1048576 }
@@ -44,9 +44,9 @@ pub(crate) fn values_now<C: Ledger, A: Ledger>(
 
 // The agents now, with their accounts.
 #[tactic(auto, using(crate::proofs::Depths::make_faults))]
-pub(crate) fn agents_now<C: Ledger, A: Ledger>(
+pub(crate) fn agents_now<C: Ledger, A: Ledger, K: Ledger>(
     alloc: Global,
-    world: &World<Core, C, A>,
+    world: &World<Core, C, A, K>,
 ) -> Result<Value, DumpMakeFault>
     requires { AreFew world.now }
     ensures made { IfOk result (λ v. v ≡ agents_form world.now.agents.guards world.now.agents.agents) }
@@ -68,7 +68,9 @@ pub(crate) fn agents_now<C: Ledger, A: Ledger>(
 }
 
 // The least code of the log's sends and the agents' accounts that no function of Core has.
-pub(crate) fn unnamed_in<C: Ledger, A: Ledger>(world: &World<Core, C, A>) -> Option<u32>
+pub(crate) fn unnamed_in<C: Ledger, A: Ledger, K: Ledger>(
+    world: &World<Core, C, A, K>,
+) -> Option<u32>
     requires { AreFew world.now }
     ensures { result ≡ unnamed world.now }
 {

@@ -22,7 +22,7 @@ fn tell_rule(rule: Option<&Rule>)
 
 // Whether a reference is here. Its rule accepts its value.
 #[tactic(auto, using(crate::proofs::OwnFacts::fact_of))]
-fn tell_reference<C: Ledger, A: Ledger>(world: &World<Core, C, A>, who: Who) -> bool
+fn tell_reference<C: Ledger, A: Ledger, K: Ledger>(world: &World<Core, C, A, K>, who: Who) -> bool
     ensures here { result ≡ is_some (value_at world.now who) }
     ensures fact { rule_fact (value_at world.now who) (rule_at world.now who) ≡ true }
 {
@@ -30,7 +30,7 @@ fn tell_reference<C: Ledger, A: Ledger>(world: &World<Core, C, A>, who: Who) -> 
     world.value_of(who).is_some()
 }
 
-pub(crate) fn tell_refs<C: Ledger, A: Ledger>(world: &World<Core, C, A>)
+pub(crate) fn tell_refs<C: Ledger, A: Ledger, K: Ledger>(world: &World<Core, C, A, K>)
     requires { length world.now.refs.values ≤ 1048576 }
     ensures { (n : ℕ) → rule_fact (slice_get world.now.refs.values n) (guards.rule_at world.now.refs.guards n) ≡ true }
 {
@@ -41,7 +41,7 @@ pub(crate) fn tell_refs<C: Ledger, A: Ledger>(world: &World<Core, C, A>)
     }
 }
 
-pub(crate) fn tell_atoms<C: Ledger, A: Ledger>(world: &World<Core, C, A>)
+pub(crate) fn tell_atoms<C: Ledger, A: Ledger, K: Ledger>(world: &World<Core, C, A, K>)
     requires { length world.now.atoms.values ≤ 1048576 }
     ensures { (n : ℕ) → rule_fact (slice_get world.now.atoms.values n) (guards.rule_at world.now.atoms.guards n) ≡ true }
 {
@@ -52,7 +52,7 @@ pub(crate) fn tell_atoms<C: Ledger, A: Ledger>(world: &World<Core, C, A>)
     }
 }
 
-pub(crate) fn tell_agents<C: Ledger, A: Ledger>(world: &World<Core, C, A>)
+pub(crate) fn tell_agents<C: Ledger, A: Ledger, K: Ledger>(world: &World<Core, C, A, K>)
     requires { length world.now.agents.agents ≤ 1048576 }
     ensures { (n : ℕ) → rule_fact (slice_get (values_of world.now.agents.agents) n)
         (guards.rule_at world.now.agents.guards n) ≡ true }
@@ -65,7 +65,7 @@ pub(crate) fn tell_agents<C: Ledger, A: Ledger>(world: &World<Core, C, A>)
 }
 
 // Whether an agent is here.
-fn tell_account_of<C: Ledger, A: Ledger>(world: &World<Core, C, A>, g: u32) -> bool
+fn tell_account_of<C: Ledger, A: Ledger, K: Ledger>(world: &World<Core, C, A, K>, g: u32) -> bool
     ensures here { result ≡ is_some (account_at world.now.agents.agents g) }
     ensures fact { account_fact (account_at world.now.agents.agents g) ≡ true }
 {
@@ -78,7 +78,7 @@ fn tell_account_of<C: Ledger, A: Ledger>(world: &World<Core, C, A>, g: u32) -> b
     }
 }
 
-pub(crate) fn tell_accounts<C: Ledger, A: Ledger>(world: &World<Core, C, A>)
+pub(crate) fn tell_accounts<C: Ledger, A: Ledger, K: Ledger>(world: &World<Core, C, A, K>)
     requires { length world.now.agents.agents ≤ 1048576 }
     ensures { (g : ℕ) → account_fact (account_at world.now.agents.agents g) ≡ true }
 {

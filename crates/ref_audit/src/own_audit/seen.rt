@@ -8,21 +8,22 @@ use crate::kinds::Kind;
 use ref_agents::{Account, Handled};
 use ref_fun::{Action, Core, Rule};
 use ref_log::{Base, MOST_REFERENCES, SharedVec, Who};
-use ref_verdict::reading::dumps::{Dump, Kept, KeptAgent};
+use ref_verdict::reading::dumps::{Dump, Kept, KeptAgent, Version};
 use ref_world::World;
 use std::alloc::{AllocError, Global};
 use std::sync::ledger::Ledger;
 
 /// What the dump of a world says. Values, entries and actions are shared: it is linear in the numbers of references and of actions,
 /// whatever the length of the log.
-pub(crate) fn dump_seen<C: Ledger, A: Ledger>(
+pub(crate) fn dump_seen<C: Ledger, A: Ledger, K: Ledger>(
     alloc: Global,
-    world: &World<Core, C, A>,
+    world: &World<Core, C, A, K>,
 ) -> Result<Dump, AllocError>
     requires { AreFew world.now }
     ensures { IfOk result (λ dump. dump ≡ dump_seen world.now) }
 {
     Ok(Dump {
+        version: Version::Two,
         base: share_base(world.base())?,
         entries: world.log().share()?,
         refs: kepts_seen(alloc, world, Kind::Ref)?,
@@ -30,6 +31,7 @@ pub(crate) fn dump_seen<C: Ledger, A: Ledger>(
         agents: agents_seen(alloc, world)?,
         commits: world.commits(),
         added: world.added(),
+        taken: world.taken(),
     })
 }
 
@@ -44,6 +46,7 @@ fn share_base(base: &Base) -> Result<Base, AllocError>
         tally: base.tally,
         commits: base.commits,
         added: base.added,
+        taken: base.taken,
     })
 }
 
@@ -57,9 +60,9 @@ fn share_rule(rule: Option<&Rule>) -> Result<Option<Rule>, AllocError>
 }
 
 // The refs or the atoms now, with their rules.
-fn kepts_seen<C: Ledger, A: Ledger>(
+fn kepts_seen<C: Ledger, A: Ledger, K: Ledger>(
     alloc: Global,
-    world: &World<Core, C, A>,
+    world: &World<Core, C, A, K>,
     kind: Kind,
 ) -> Result<SharedVec<Kept>, AllocError>
     requires { length (values_of world.now (who_of kind 0)) ≤ 1048576 }
@@ -81,9 +84,9 @@ fn kepts_seen<C: Ledger, A: Ledger>(
 }
 
 // The agents now, with what they did and what waits.
-fn agents_seen<C: Ledger, A: Ledger>(
+fn agents_seen<C: Ledger, A: Ledger, K: Ledger>(
     alloc: Global,
-    world: &World<Core, C, A>,
+    world: &World<Core, C, A, K>,
 ) -> Result<SharedVec<KeptAgent>, AllocError>
     requires { AreFew world.now }
     ensures { IfOk result (λ all. all ≡ agents_seen world.now.agents.guards world.now.agents.agents) }

@@ -5,9 +5,19 @@ use ref_log::{Base, Entry, SharedVec};
 use ref_pvec::PVec;
 use ref_value::Value;
 
+/// The version of a dump.
+#[derive(Clone, Copy, Debug, Drop, PartialEq, Eq)]
+pub enum Version {
+    /// Of a world whose tally is only added to.
+    One,
+    /// With a book of what was taken from the tally.
+    Two,
+}
+
 /// A dump of a world.
 #[derive(Drop)]
 pub struct Dump {
+    pub version: Version,
     pub base: Base,
     /// The entries after the base, the first of them at the point after its.
     pub entries: PVec<Entry>,
@@ -21,6 +31,8 @@ pub struct Dump {
     pub commits: u64,
     /// How much was added to the tally.
     pub added: u64,
+    /// How much was taken from it; 0 in version 1.
+    pub taken: u64,
 }
 
 /// A ref of the base: its value, and the point of its last change up to there.

@@ -22,6 +22,7 @@ pub enum Key {
     Folded,
     Point,
     Refs,
+    Taken,
     Tally,
 }
 
@@ -42,6 +43,7 @@ impl Key {
             Key::Folded => "folded",
             Key::Point => "point",
             Key::Refs => "refs",
+            Key::Taken => "taken",
             Key::Tally => "tally",
         }
     }
@@ -57,11 +59,11 @@ impl fmt::Display for Key {
 /// names, and of wrong entries the first.
 #[derive(Clone, Copy, Debug, Drop, PartialEq, Eq, Error)]
 pub enum DumpFault {
-    /// It is no map, or its keys aren't those of a dump.
+    /// It is no map, or its keys are those of neither version.
     #[error("not a dump")]
     NotDump,
-    /// The version isn't 1.
-    #[error("a version other than 1")]
+    /// `:dump` isn't the version of its keys: 2 where there is `:taken`, and else 1.
+    #[error("a version that isn't that of the keys")]
     BadVersion,
     /// The part under this key has a wrong form. Of the entries this says only that they are no vector.
     #[error("the part :{0} has a wrong form")]

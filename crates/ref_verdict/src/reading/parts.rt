@@ -3,13 +3,13 @@ ghost use Rattle.std.specs.Prelude.{◌≡◌, ◌<◌, ◌≤◌, ◌^◌, leng
 ghost use Rattle.std.specs.List.{list_all};
 ghost use Rattle.ref_value.specs.Edn.{Edn};
 ghost use Rattle.ref_forms.specs.Plain.{elements_of, elements_within, list_said, number_of, under};
-ghost use Rattle.ref_verdict.specs.DumpForm.{entries_from, folded_of, folded_said, has_keys, is_version, key_word, misfit, part_said, reference_of, tally_of, values_said};
+ghost use Rattle.ref_verdict.specs.DumpForm.{are_keys, entries_from, folded_of, folded_said, has_keys, is_version, key_word, misfit, part_said, reference_of, taken_said, tally_of, values_said, version_number, version_of};
 ghost use Rattle.ref_verdict.specs.Early.{is_said, parts_fault};
 ghost use Rattle.ref_verdict.specs.Reading.{Told, fault_at};
-ghost use Rattle.ref_verdict.specs.Words.{all_keys};
 ghost use Rattle.ref_verdict.specs.declared.reading.faults.DumpFault.TheVariants.{BadPart};
 ghost use Rattle.ref_verdict.specs.declared.reading.faults.Key.TheVariants as keys;
 
+use crate::reading::dumps::Version;
 use crate::reading::entries::{entry_in, reference_in};
 use crate::reading::faults::{DumpFault, Key};
 use crate::reading::lists::{FromForm, list_in, values_in};
@@ -24,7 +24,7 @@ use std::alloc::Global;
 /// How many entries a dump may have: points end at 2^62.
 pub const MOST_ENTRIES: usize = 4_611_686_018_427_387_904;
 
-const KEYS: [&str; 12] = [
+const KEYS_OF_1: [&str; 12] = [
     "added",
     "agents",
     "atoms",
@@ -39,6 +39,44 @@ const KEYS: [&str; 12] = [
     "tally",
 ];
 
+const KEYS_OF_2: [&str; 13] = [
+    "added",
+    "agents",
+    "atoms",
+    "base-atoms",
+    "base-refs",
+    "commits",
+    "dump",
+    "entries",
+    "folded",
+    "point",
+    "refs",
+    "taken",
+    "tally",
+];
+
+impl Version {
+    fn number(self) -> u64
+        ensures { result ≡ version_number self }
+    {
+        match self {
+            Version::One => 1,
+            Version::Two => 2,
+        }
+    }
+}
+
+/// The version whose keys a map can have.
+pub(crate) fn version_of(entries: &Entries) -> Version
+    ensures { result ≡ version_of entries.now }
+{
+    if under(entries, b"taken").is_some() {
+        Version::Two
+    } else {
+        Version::One
+    }
+}
+
 fn are_there(entries: &Entries, words: &[&str]) -> bool
     ensures { result ≡ list_all (λ word. is_some (under entries.now word)) (map (λ w. w.now) words.now) }
 {
@@ -50,19 +88,29 @@ fn are_there(entries: &Entries, words: &[&str]) -> bool
     true
 }
 
-#[tactic(auto, unfolding(crate::specs::DumpForm::has_keys))]
-fn has_keys(entries: &Entries) -> bool
-    ensures { result ≡ has_keys entries.now }
+// Whether the keys are these words.
+fn are_keys(entries: &Entries, words: &[&str]) -> bool
+    ensures { result ≡ are_keys (map (λ w. w.now) words.now) entries.now }
 {
-    are_known(entries, &KEYS) && are_there(entries, &KEYS)
+    are_known(entries, words) && are_there(entries, words)
 }
 
-fn is_version(version: Option<&Value>) -> bool
-    ensures { result ≡ is_version (option_copied version.entry) }
+#[tactic(auto, unfolding(crate::specs::DumpForm::has_keys))]
+fn has_keys(version: Version, entries: &Entries) -> bool
+    ensures { result ≡ has_keys version entries.now }
 {
     match version {
-        Some(version) => match number_in(version) {
-            Some(n) => n == 1,
+        Version::One => are_keys(entries, &KEYS_OF_1),
+        Version::Two => are_keys(entries, &KEYS_OF_2),
+    }
+}
+
+fn is_version(version: Version, form: Option<&Value>) -> bool
+    ensures { result ≡ is_version version (option_copied form.entry) }
+{
+    match form {
+        Some(form) => match number_in(form) {
+            Some(n) => n == version.number(),
             None => false,
         },
         None => false,
@@ -73,10 +121,11 @@ fn is_version(version: Option<&Value>) -> bool
 pub(crate) fn misfit(entries: &Entries) -> Option<DumpFault>
     ensures { result ≡ misfit entries.now }
 {
-    if !has_keys(entries) {
+    let version = version_of(entries);
+    if !has_keys(version, entries) {
         return Some(DumpFault::NotDump);
     }
-    if !is_version(under(entries, b"dump")) {
+    if !is_version(version, under(entries, b"dump")) {
         return Some(DumpFault::BadVersion);
     }
     None
@@ -175,24 +224,41 @@ pub(crate) fn values_part<T: FromForm>(
     }
 }
 
-fn folded_in(form: &Value) -> Option<(u64, u64)>
-    ensures { result ≡ folded_of form.now }
+fn folded_in(version: Version, form: &Value) -> Option<(u64, u64, u64)>
+    ensures { result ≡ folded_of version form.now }
 {
     let mut parts = elements_in(form)?.iter();
-    let (Some(commits), Some(added), None) = (parts.next(), parts.next(), parts.next()) else {
+    let (Some(commits), Some(added)) = (parts.next(), parts.next()) else {
         return None;
     };
-    Some((number_in(commits)?, number_in(added)?))
+    match (version, parts.next(), parts.next()) {
+        (Version::One, None, None) => Some((number_in(commits)?, number_in(added)?, 0)),
+        (Version::Two, Some(taken), None) => {
+            Some((number_in(commits)?, number_in(added)?, number_in(taken)?))
+        }
+        _ => None,
+    }
 }
 
-/// The books up to the base: commits, and what was added to the tally.
-pub(crate) fn folded_part(entries: &Entries) -> Result<(u64, u64), DumpFault>
-    ensures reads { Told (part_said entries.now keys.Folded folded_of) result }
+/// The books up to the base: commits, what was added to the tally, and what was taken from it.
+pub(crate) fn folded_part(version: Version, entries: &Entries) -> Result<(u64, u64, u64), DumpFault>
+    ensures reads { Told (part_said entries.now keys.Folded (folded_of version)) result }
     ensures err { IfErr result (λ fault. fault ≡ BadPart keys.Folded) }
 {
     match form_of(entries, Key::Folded) {
-        Some(form) => folded_in(form).ok_or(DumpFault::BadPart(Key::Folded)),
+        Some(form) => folded_in(version, form).ok_or(DumpFault::BadPart(Key::Folded)),
         None => Err(DumpFault::BadPart(Key::Folded)),
+    }
+}
+
+/// What was taken from the tally: nothing in version 1.
+pub(crate) fn taken_part(version: Version, entries: &Entries) -> Result<u64, DumpFault>
+    ensures reads { Told (taken_said version entries.now) result }
+    ensures err { IfErr result (λ fault. fault ≡ BadPart keys.Taken) }
+{
+    match version {
+        Version::One => Ok(0),
+        Version::Two => number_part(entries, Key::Taken),
     }
 }
 

@@ -25,10 +25,12 @@ pub(crate) fn is_base(start: &Start, base: &Base) -> bool
 
 // Whether nothing was done before a base.
 fn is_new(base: &Base) -> bool
-    ensures yes { result ≡ true → (base.now.point ≡ 0) × (base.now.commits ≡ 0) × (base.now.added ≡ 0) }
-    ensures no { result ≡ false → (base.now.point ≡ 0) × (base.now.commits ≡ 0) × (base.now.added ≡ 0) → ⊥ }
+    ensures yes { result ≡ true → (base.now.point ≡ 0) × (base.now.commits ≡ 0) × (base.now.added ≡ 0)
+        × (base.now.taken ≡ 0) }
+    ensures no { result ≡ false → (base.now.point ≡ 0) × (base.now.commits ≡ 0) × (base.now.added ≡ 0)
+        × (base.now.taken ≡ 0) → ⊥ }
 {
-    base.point == 0 && base.commits == 0 && base.added == 0
+    base.point == 0 && base.commits == 0 && base.added == 0 && base.taken == 0
 }
 
 // Whether the tally is the ref that is declared so, or none.

@@ -47,6 +47,7 @@ fn of_commit(fault: CommitFault) -> Outcome
         CommitFault::Refused(_, cause) => Ok(Some(Reason::Refused(cause))),
         CommitFault::Invalid(_) => Ok(Some(Reason::Invalid)),
         CommitFault::PointLimit => Ok(Some(Reason::PointLimit)),
+        CommitFault::BookFull => Ok(Some(Reason::BookFull)),
         CommitFault::Foreign(_) | CommitFault::Conflict(_) | CommitFault::NoSuchFun(_) => {
             Err(Stop::Internal)
         }

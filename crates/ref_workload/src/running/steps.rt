@@ -16,10 +16,10 @@ use std::sync::ledger::Ledger;
 
 /// Runs a step, and returns why it was refused, if it was. The notices of atoms are dropped: a workload
 /// has none. A compare that finds another value isn't refused.
-pub(crate) fn run_step<F: Functions<Core>, C: Ledger, A: Ledger, R: Wait, G: Gate>(
+pub(crate) fn run_step<F: Functions<Core>, C: Ledger, A: Ledger, K: Ledger, R: Wait, G: Gate>(
     rt: &R,
-    run: &Run<'_, F, C, A>,
-    share: &mut Share<C, A>,
+    run: &Run<'_, F, C, A, K>,
+    share: &mut Share<C, A, K>,
     gate: &mut G,
     stamp: Stamp,
     step: &Step,
@@ -48,10 +48,10 @@ pub(crate) fn run_step<F: Functions<Core>, C: Ledger, A: Ledger, R: Wait, G: Gat
     }
 }
 
-fn run_transaction<F: Functions<Core>, C: Ledger, A: Ledger, R: Wait, G: Gate>(
+fn run_transaction<F: Functions<Core>, C: Ledger, A: Ledger, K: Ledger, R: Wait, G: Gate>(
     rt: &R,
-    run: &Run<'_, F, C, A>,
-    share: &mut Share<C, A>,
+    run: &Run<'_, F, C, A, K>,
+    share: &mut Share<C, A, K>,
     gate: &mut G,
     stamp: Stamp,
     ops: &[PlannedOp],

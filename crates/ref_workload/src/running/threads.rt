@@ -19,16 +19,17 @@ const WORKER_PARTS: u64 = 16_777_216;
 /// Starts a thread for each worker and the pool, joins the workers, closes the shared world, and joins the pool. It answers the
 /// refused steps, by worker, then step. Where a thread can't be made, those that were started run to their end. What the
 /// workers had of the share comes back.
-pub(crate) fn run_threads<F, C, A, R, G>(
+pub(crate) fn run_threads<F, C, A, K, R, G>(
     rt: &R,
-    run: &Run<'_, F, C, A>,
-    share: &mut Share<C, A>,
+    run: &Run<'_, F, C, A, K>,
+    share: &mut Share<C, A, K>,
     gates: Vec<G>,
 ) -> Result<Vec<Refusal>, Stop>
 where
     F: Functions<Core> + Sync,
     C: Ledger + Send + Sync,
     A: Ledger + Send + Sync,
+    K: Ledger + Send + Sync,
     R: Threads + Wait + Sync,
     G: Gate + Send + Drop,
 {
@@ -42,7 +43,7 @@ where
         thread::scope_env(),
         rt,
         |scope| -> Result<(), Stop>
-            requires { IsSync F.row × IsSend C.row × IsSend A.row × IsSend G.row }
+            requires { IsSync F.row × IsSend C.row × IsSend A.row × IsSend K.row × IsSend G.row }
         {
             let mut started = start_pool(scope, rt, run, rest, &mut pool);
             if started.is_ok() {
@@ -59,12 +60,12 @@ where
 }
 
 // What the workers are started with, a gate each, and the gates that are left, which are the pool's.
-fn make_jobs<C: Ledger, A: Ledger, G: Drop>(
+fn make_jobs<C: Ledger, A: Ledger, K: Ledger, G: Drop>(
     alloc: Global,
     workers: usize,
-    share: &mut Share<C, A>,
+    share: &mut Share<C, A, K>,
     gates: Vec<G>,
-) -> Result<(Vec<Job<C, A, G>>, Vec<G>), Stop> {
+) -> Result<(Vec<Job<C, A, K, G>>, Vec<G>), Stop> {
     let mut jobs = Vec::with_capacity(alloc, workers)?;
     let mut rest = Vec::with_capacity(alloc, gates.len())?;
     let mut worker = 0u32;
@@ -79,9 +80,9 @@ fn make_jobs<C: Ledger, A: Ledger, G: Drop>(
     Ok((jobs, rest))
 }
 
-fn add_job<C: Ledger, A: Ledger, G: Drop>(
-    jobs: &mut Vec<Job<C, A, G>>,
-    share: &mut Share<C, A>,
+fn add_job<C: Ledger, A: Ledger, K: Ledger, G: Drop>(
+    jobs: &mut Vec<Job<C, A, K, G>>,
+    share: &mut Share<C, A, K>,
     worker: u32,
     gate: G,
 ) -> Result<(), Stop> {
@@ -100,17 +101,18 @@ fn add_job<C: Ledger, A: Ledger, G: Drop>(
 }
 
 // Starts the pool's threads. One that can't be made ends it, and leaves those that were started.
-fn start_pool<'s, E, F, C, A, R, G>(
+fn start_pool<'s, E, F, C, A, K, R, G>(
     scope: &Scope<'s, E>,
     rt: &'s R,
-    run: &'s Run<'s, F, C, A>,
+    run: &'s Run<'s, F, C, A, K>,
     gates: Vec<G>,
     pool: &mut Vec<JoinHandle<Result<(), Stop>>>,
 ) -> Result<(), Stop>
 where
     F: Functions<Core> + Sync + 's,
     C: Ledger + Send + Sync + 's,
-    A: Ledger + Send + Sync + 's,
+    A: Ledger + Send + Sync,
+    K: Ledger + Send + Sync + 's,
     R: Wait + Sync + 's,
     G: Gate + Send + Drop + 's,
 {
@@ -126,17 +128,18 @@ where
 }
 
 // Starts a thread for each job. One that can't be made ends it, and leaves those that were started.
-fn start_workers<'s, E, F, C, A, R, G>(
+fn start_workers<'s, E, F, C, A, K, R, G>(
     scope: &Scope<'s, E>,
     rt: &'s R,
-    run: &'s Run<'s, F, C, A>,
-    jobs: Vec<Job<C, A, G>>,
-    workers: &mut Vec<JoinHandle<Ended<C, A>>>,
+    run: &'s Run<'s, F, C, A, K>,
+    jobs: Vec<Job<C, A, K, G>>,
+    workers: &mut Vec<JoinHandle<Ended<C, A, K>>>,
 ) -> Result<(), Stop>
 where
     F: Functions<Core> + Sync + 's,
     C: Ledger + Send + Sync + 's,
-    A: Ledger + Send + Sync + 's,
+    A: Ledger + Send + Sync,
+    K: Ledger + Send + Sync + 's,
     R: Wait + Sync + 's,
     G: Gate + Send + Drop + 's,
 {
@@ -152,11 +155,11 @@ where
 }
 
 // Waits for each worker, by number, and returns the first that ended early.
-fn join_workers<C: Ledger, A: Ledger, R: Threads>(
+fn join_workers<C: Ledger, A: Ledger, K: Ledger, R: Threads>(
     rt: &R,
-    share: &mut Share<C, A>,
+    share: &mut Share<C, A, K>,
     refused: &mut Vec<Refusal>,
-    workers: Vec<JoinHandle<Ended<C, A>>>,
+    workers: Vec<JoinHandle<Ended<C, A, K>>>,
 ) -> Result<(), Stop> {
     let mut ended = Ok(());
     for handle in workers {
@@ -166,10 +169,10 @@ fn join_workers<C: Ledger, A: Ledger, R: Threads>(
 }
 
 // Takes in what a worker returns.
-fn gather<C: Ledger, A: Ledger>(
-    share: &mut Share<C, A>,
+fn gather<C: Ledger, A: Ledger, K: Ledger>(
+    share: &mut Share<C, A, K>,
     refused: &mut Vec<Refusal>,
-    worker: Ended<C, A>,
+    worker: Ended<C, A, K>,
 ) -> Result<(), Stop> {
     let Ended {
         share: part,

@@ -15,10 +15,10 @@ use std::sync::ledger::Ledger;
 /// What all threads of a run are lent: the shared world, a table, the steps of each worker, how often a transaction is tried, and
 /// where they count how far they are.
 #[derive(Drop)]
-pub(crate) struct Run<'a, F: Functions<Core>, C: Ledger, A: Ledger> {
+pub(crate) struct Run<'a, F: Functions<Core>, C: Ledger, A: Ledger, K: Ledger> {
     pub(crate) alloc: Global,
     pub(crate) funs: &'a F,
-    pub(crate) shared: Shared<Core, C, A>,
+    pub(crate) shared: Shared<Core, C, A, K>,
     pub(crate) workers: &'a [SharedVec<Step>],
     pub(crate) tries: u32,
     pub(crate) progress: &'a Progress,
@@ -26,26 +26,26 @@ pub(crate) struct Run<'a, F: Functions<Core>, C: Ledger, A: Ledger> {
 
 /// What a worker is started with.
 #[derive(Drop)]
-pub(crate) struct Job<C: Ledger, A: Ledger, G> {
+pub(crate) struct Job<C: Ledger, A: Ledger, K: Ledger, G> {
     pub(crate) worker: u32,
-    pub(crate) share: Share<C, A>,
+    pub(crate) share: Share<C, A, K>,
     pub(crate) gate: G,
 }
 
 /// What a worker returns: its share, its refused steps in order, and what ended it early.
 #[derive(Drop)]
-pub(crate) struct Ended<C: Ledger, A: Ledger> {
-    pub(crate) share: Share<C, A>,
+pub(crate) struct Ended<C: Ledger, A: Ledger, K: Ledger> {
+    pub(crate) share: Share<C, A, K>,
     pub(crate) refused: Vec<Refusal>,
     pub(crate) stop: Option<Stop>,
 }
 
 /// Runs a worker's steps in order, up to the first that ends the run.
-pub(crate) fn work<F: Functions<Core>, C: Ledger, A: Ledger, R: Wait, G: Gate + Drop>(
+pub(crate) fn work<F: Functions<Core>, C: Ledger, A: Ledger, K: Ledger, R: Wait, G: Gate + Drop>(
     rt: &R,
-    run: &Run<'_, F, C, A>,
-    job: Job<C, A, G>,
-) -> Ended<C, A> {
+    run: &Run<'_, F, C, A, K>,
+    job: Job<C, A, K, G>,
+) -> Ended<C, A, K> {
     let Job {
         worker,
         mut share,
@@ -60,11 +60,11 @@ pub(crate) fn work<F: Functions<Core>, C: Ledger, A: Ledger, R: Wait, G: Gate + 
     }
 }
 
-fn run_steps<F: Functions<Core>, C: Ledger, A: Ledger, R: Wait, G: Gate>(
+fn run_steps<F: Functions<Core>, C: Ledger, A: Ledger, K: Ledger, R: Wait, G: Gate>(
     rt: &R,
-    run: &Run<'_, F, C, A>,
+    run: &Run<'_, F, C, A, K>,
     worker: u32,
-    share: &mut Share<C, A>,
+    share: &mut Share<C, A, K>,
     gate: &mut G,
     refused: &mut Vec<Refusal>,
 ) -> Result<(), Stop> {
@@ -89,9 +89,9 @@ fn run_steps<F: Functions<Core>, C: Ledger, A: Ledger, R: Wait, G: Gate>(
 }
 
 /// Runs the actions of agents until the shared world is closed and none is ready.
-pub(crate) fn serve<F: Functions<Core>, C: Ledger, A: Ledger, R: Wait, G: Gate + Drop>(
+pub(crate) fn serve<F: Functions<Core>, C: Ledger, A: Ledger, K: Ledger, R: Wait, G: Gate + Drop>(
     rt: &R,
-    run: &Run<'_, F, C, A>,
+    run: &Run<'_, F, C, A, K>,
     mut gate: G,
 ) -> Result<(), Stop> {
     for _ in rt.forever() {

@@ -11,9 +11,9 @@ use std::sync::ledger::Ledger;
 use tests_rows::tables::Tables;
 
 // Puts a job back.
-fn put_back<R: Input + Print, C: Ledger, A: Ledger>(
+fn put_back<R: Input + Print, C: Ledger, A: Ledger, K: Ledger>(
     free: &mut Free<'_, R>,
-    world: &mut World<Core, C, A>,
+    world: &mut World<Core, C, A, K>,
     job: Job,
 ) {
     free.begin();
@@ -43,9 +43,9 @@ fn spend<R: Input + Print>(free: &mut Free<'_, R>, tables: &Tables, job: Job) {
     }
 }
 
-fn take<R: Input + Print, C: Ledger, A: Ledger>(
+fn take<R: Input + Print, C: Ledger, A: Ledger, K: Ledger>(
     free: &mut Free<'_, R>,
-    world: &mut World<Core, C, A>,
+    world: &mut World<Core, C, A, K>,
 ) -> Result<Job, AllocError> {
     free.begin();
     let taken = world.take();
@@ -57,9 +57,9 @@ fn take<R: Input + Print, C: Ledger, A: Ledger>(
 }
 
 // Point 2 has the commit whose sends are held.
-fn settle<R: Input + Print, C: Ledger, A: Ledger>(
+fn settle<R: Input + Print, C: Ledger, A: Ledger, K: Ledger>(
     free: &mut Free<'_, R>,
-    world: &mut World<Core, C, A>,
+    world: &mut World<Core, C, A, K>,
 ) {
     free.begin();
     let had_sends = world.release(2);
@@ -69,10 +69,10 @@ fn settle<R: Input + Print, C: Ledger, A: Ledger>(
     free.end("set_error_mode", set.is_ok());
 }
 
-pub(crate) fn call_all<R: Input + Print, C: Ledger, A: Ledger>(
+pub(crate) fn call_all<R: Input + Print, C: Ledger, A: Ledger, K: Ledger>(
     free: &mut Free<'_, R>,
     tables: &Tables,
-    stage: &mut Stage<'_, R, C, A>,
+    stage: &mut Stage<'_, R, C, A, K>,
 ) -> Result<(), Trouble> {
     let _ = make(tables, stage, "[send i conj 1]", 0)?;
     let world = &mut stage.rows.subject.whole.world;

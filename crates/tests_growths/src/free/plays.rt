@@ -39,9 +39,9 @@ fn is_done(reply: &Reply) -> bool {
 }
 
 // Opens a transaction, and takes and runs a job. Answers whether that was done.
-fn play<C: Ledger, A: Ledger>(
+fn play<C: Ledger, A: Ledger, K: Ledger>(
     tables: &Tables,
-    sim: &mut Sim<Core, C, A>,
+    sim: &mut Sim<Core, C, A, K>,
 ) -> Result<bool, AllocError> {
     let (alloc, funs) = (tables.all.alloc, tables.all.funs);
     let events = events(alloc)?;
@@ -57,10 +57,10 @@ fn play<C: Ledger, A: Ledger>(
 }
 
 // The job that has run is put back, and can be taken again.
-fn end<R: Input + Print, C: Ledger, A: Ledger>(
+fn end<R: Input + Print, C: Ledger, A: Ledger, K: Ledger>(
     free: &mut Free<'_, R>,
     tables: &Tables,
-    mut sim: Sim<Core, C, A>,
+    mut sim: Sim<Core, C, A, K>,
 ) {
     let was_played = matches!(play(tables, &mut sim), Ok(true));
     free.begin();
@@ -72,18 +72,20 @@ fn end<R: Input + Print, C: Ledger, A: Ledger>(
     }
 }
 
-fn play_in<R: Input + Print, C: Ledger, A: Ledger>(
+fn play_in<R: Input + Print, C: Ledger, A: Ledger, K: Ledger>(
     free: &mut Free<'_, R>,
     tables: &Tables,
     commits: Blank,
     added: Blank,
+    taken: Blank,
 ) -> Result<(), Trouble>
     requires commits { IsBlank commits C.name C.parts }
     requires added { IsBlank added A.name A.parts }
+    requires taken { IsBlank taken K.name K.parts }
 {
     let alloc = tables.all.alloc;
     let start = declared(alloc, starts_of(alloc, &read(alloc, STARTS)?)?)?;
-    match Sim::<Core, C, A>::new(alloc, tables.all.funs, start, commits, added) {
+    match Sim::<Core, C, A, K>::new(alloc, tables.all.funs, start, commits, added, taken) {
         Ok(sim) => {
             end(free, tables, sim);
             Ok(())
@@ -96,6 +98,10 @@ pub(crate) fn call_all<R: Input + Print>(
     free: &mut Free<'_, R>,
     tables: &Tables,
 ) -> Result<(), Trouble> {
-    let (commits, added) = (Blank::new(ALL_PARTS), Blank::new(ALL_PARTS));
-    play_in::<R, Brand, Brand>(free, tables, commits, added)
+    let (commits, added, taken) = (
+        Blank::new(ALL_PARTS),
+        Blank::new(ALL_PARTS),
+        Blank::new(ALL_PARTS),
+    );
+    play_in::<R, Brand, Brand, Brand>(free, tables, commits, added, taken)
 }

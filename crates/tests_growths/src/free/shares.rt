@@ -11,9 +11,9 @@ use std::sync::Wait;
 use std::sync::ledger::Ledger;
 
 /// Splits a share and joins it again.
-pub(crate) fn call_all<R: Input + Print, C: Ledger, A: Ledger>(
+pub(crate) fn call_all<R: Input + Print, C: Ledger, A: Ledger, K: Ledger>(
     free: &mut Free<'_, R>,
-    share: &mut Share<C, A>,
+    share: &mut Share<C, A, K>,
 ) {
     free.begin();
     let (is_whole, part) = (share.is_whole(), share.split(5));
@@ -25,11 +25,11 @@ pub(crate) fn call_all<R: Input + Print, C: Ledger, A: Ledger>(
     }
 }
 
-fn read_shared<R: Input + Print + Wait, C: Ledger, A: Ledger>(
+fn read_shared<R: Input + Print + Wait, C: Ledger, A: Ledger, K: Ledger>(
     free: &mut Free<'_, R>,
     rt: &R,
     alloc: Global,
-    shared: &Shared<Core, C, A>,
+    shared: &Shared<Core, C, A, K>,
 ) {
     free.begin();
     let (begun, value) = (shared.begin(rt, alloc), shared.value_of(rt, Who::Ref(0)));
@@ -43,11 +43,11 @@ fn read_shared<R: Input + Print + Wait, C: Ledger, A: Ledger>(
 }
 
 /// Shares a world.
-pub(crate) fn share_world<R: Input + Print + Wait, C: Ledger, A: Ledger>(
+pub(crate) fn share_world<R: Input + Print + Wait, C: Ledger, A: Ledger, K: Ledger>(
     free: &mut Free<'_, R>,
     rt: &R,
     alloc: Global,
-    stage: Stage<'_, R, C, A>,
+    stage: Stage<'_, R, C, A, K>,
 ) {
     let (_refuser, whole, _opens) = stage.parted();
     let (world, _share) = whole.parted();

@@ -39,10 +39,10 @@ fn call_on_open<R: Input + Print>(
     Ok(())
 }
 
-pub(crate) fn call_all<R: Input + Print, C: Ledger, A: Ledger>(
+pub(crate) fn call_all<R: Input + Print, C: Ledger, A: Ledger, K: Ledger>(
     free: &mut Free<'_, R>,
     tables: &Tables,
-    stage: &mut Stage<'_, R, C, A>,
+    stage: &mut Stage<'_, R, C, A, K>,
 ) -> Result<(), Trouble> {
     let alloc = tables.all.alloc;
     free.begin();

@@ -10,9 +10,9 @@ use std::sync::ledger::Ledger;
 use tests_rows::tables::Tables;
 use tests_rows::words::form;
 
-fn read_references<R: Input + Print, C: Ledger, A: Ledger>(
+fn read_references<R: Input + Print, C: Ledger, A: Ledger, K: Ledger>(
     free: &mut Free<'_, R>,
-    world: &World<Core, C, A>,
+    world: &World<Core, C, A, K>,
 ) {
     for who in [Who::Ref(0), Who::Atom(0), Who::Agent(0)] {
         free.begin();
@@ -24,9 +24,9 @@ fn read_references<R: Input + Print, C: Ledger, A: Ledger>(
     free.end("account and error_of", account.is_some() && error.is_some());
 }
 
-fn read_log<R: Input + Print, C: Ledger, A: Ledger>(
+fn read_log<R: Input + Print, C: Ledger, A: Ledger, K: Ledger>(
     free: &mut Free<'_, R>,
-    world: &World<Core, C, A>,
+    world: &World<Core, C, A, K>,
 ) {
     free.begin();
     let (point, base, log) = (world.point(), world.base(), world.log());
@@ -35,8 +35,11 @@ fn read_log<R: Input + Print, C: Ledger, A: Ledger>(
         point == base.point.saturating_add(log.len() as u64),
     );
     free.begin();
-    let (commits, added) = (world.commits(), world.added());
-    free.end("commits and added", commits == 2 && added == 1);
+    let (commits, added, taken) = (world.commits(), world.added(), world.taken());
+    free.end(
+        "commits, added and taken",
+        commits == 2 && added == 1 && taken == 0,
+    );
     free.begin();
     let view = world.view();
     let shared = match &view {
@@ -46,11 +49,11 @@ fn read_log<R: Input + Print, C: Ledger, A: Ledger>(
     free.end("view, and share of a View", shared);
 }
 
-fn change<R: Input + Print, C: Ledger, A: Ledger>(
+fn change<R: Input + Print, C: Ledger, A: Ledger, K: Ledger>(
     free: &mut Free<'_, R>,
     alloc: Global,
     tables: &Tables,
-    world: &mut World<Core, C, A>,
+    world: &mut World<Core, C, A, K>,
 ) -> Result<(), Trouble> {
     let key = form(alloc, ":k")?;
     free.begin();
@@ -67,10 +70,10 @@ fn change<R: Input + Print, C: Ledger, A: Ledger>(
     Ok(())
 }
 
-pub(crate) fn call_all<R: Input + Print, C: Ledger, A: Ledger>(
+pub(crate) fn call_all<R: Input + Print, C: Ledger, A: Ledger, K: Ledger>(
     free: &mut Free<'_, R>,
     tables: &Tables,
-    stage: &mut Stage<'_, R, C, A>,
+    stage: &mut Stage<'_, R, C, A, K>,
 ) -> Result<(), Trouble> {
     let world = &mut stage.rows.subject.whole.world;
     read_references(free, world);

@@ -5,3 +5,6 @@ ghosts-open_office-C-Ledger g a = record { name = a.commits.name; parts = a.comm
 
 abbrev pub ghosts-open_office-A-Ledger : goal.ghosts-open_office-A-Ledger
 ghosts-open_office-A-Ledger g a = record { name = a.added.name; parts = a.added.parts }
+
+abbrev pub ghosts-open_office-K-Ledger : goal.ghosts-open_office-K-Ledger
+ghosts-open_office-K-Ledger g a = record { name = a.taken.name; parts = a.taken.parts }

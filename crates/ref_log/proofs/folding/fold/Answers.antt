@@ -20,5 +20,6 @@ returns-clause-ok g c =
       lasts = ap length last ∙ (all.count ∙ sym (replay-refs means base es state replayed));
       tally = refl;
       commits = ap (λ n. base.commits + n) c.commits_of.ensures;
-      added = ap (λ n. base.added + n) c.added_of.ensures;
+      added = ap (λ n. base.added + n) c.in-Some.ensures.some;
+      taken = ap (λ n. base.taken + n) c.in-Some-moved_of.ensures.some;
     }

@@ -5,3 +5,6 @@ ghosts-output_of-C-Ledger g a = record { name = a.commits.name; parts = a.commit
 
 abbrev pub ghosts-output_of-A-Ledger : goal.ghosts-output_of-A-Ledger
 ghosts-output_of-A-Ledger g a = record { name = a.added.name; parts = a.added.parts }
+
+abbrev pub ghosts-output_of-K-Ledger : goal.ghosts-output_of-K-Ledger
+ghosts-output_of-K-Ledger g a = record { name = a.taken.name; parts = a.taken.parts }

@@ -1,6 +1,7 @@
 use Rattle.std.proofs.Common.{◌≡◌, None, Some, ap, sym, ◌∙◌, take, arith}
 use Rattle.ref_log.specs.Replay.{missing}
-use Rattle.ref_world.proofs.Folded.{first_added, first_called, first_commits, first_replays}
+use Rattle.ref_log.specs.declared.counting.Side.TheVariants.{Added, Taken}
+use Rattle.ref_world.proofs.Folded.{first_called, first_commits, first_moved, first_replays}
 use Rattle.ref_world.proofs.checkpoints.parted.Goals as goal
 
 pub fold-requires-clause-commits : goal.fold-requires-clause-commits
@@ -13,8 +14,15 @@ fold-requires-clause-commits g c =
 pub fold-requires-clause-added : goal.fold-requires-clause-added
 fold-requires-clause-added g c =
     let is : c.in_ok-first.first ≡ take c.args.count c.args.log.now = c.in_ok-first.ensures in
-    let part = first_added c.args.base.now.tally c.args.log.now c.args.count in
+    let part = first_moved Added c.args.base.now.tally c.args.log.now c.args.count in
     let all = c.requires.added in
+    rw is (omega (arith, part, all))
+
+pub fold-requires-clause-taken : goal.fold-requires-clause-taken
+fold-requires-clause-taken g c =
+    let is : c.in_ok-first.first ≡ take c.args.count c.args.log.now = c.in_ok-first.ensures in
+    let part = first_moved Taken c.args.base.now.tally c.args.log.now c.args.count in
+    let all = c.requires.taken in
     rw is (omega (arith, part, all))
 
 pub unreachable-requires : goal.unreachable-requires

@@ -5,3 +5,6 @@ ghosts-run_in-C-Ledger a = record { name = a.commits.name; parts = a.commits.par
 
 abbrev pub ghosts-run_in-A-Ledger : goal.ghosts-run_in-A-Ledger
 ghosts-run_in-A-Ledger a = record { name = a.added.name; parts = a.added.parts }
+
+abbrev pub ghosts-run_in-K-Ledger : goal.ghosts-run_in-K-Ledger
+ghosts-run_in-K-Ledger a = record { name = a.taken.name; parts = a.taken.parts }

@@ -5,3 +5,6 @@ ghosts-refusal-C-Ledger g a = record { name = a.commits.name; parts = a.commits.
 
 abbrev pub ghosts-refusal-A-Ledger : goal.ghosts-refusal-A-Ledger
 ghosts-refusal-A-Ledger g a = record { name = a.added.name; parts = a.added.parts }
+
+abbrev pub ghosts-refusal-K-Ledger : goal.ghosts-refusal-K-Ledger
+ghosts-refusal-K-Ledger g a = record { name = a.taken.name; parts = a.taken.parts }

@@ -5,3 +5,6 @@ ghosts-tried_in-C-Ledger g a = record { name = a.commits.name; parts = a.commits
 
 abbrev pub ghosts-tried_in-A-Ledger : goal.ghosts-tried_in-A-Ledger
 ghosts-tried_in-A-Ledger g a = record { name = a.added.name; parts = a.added.parts }
+
+abbrev pub ghosts-tried_in-K-Ledger : goal.ghosts-tried_in-K-Ledger
+ghosts-tried_in-K-Ledger g a = record { name = a.taken.name; parts = a.taken.parts }

@@ -5,3 +5,6 @@ ghosts-try_kept-C-Ledger g a = record { name = a.commits.name; parts = a.commits
 
 abbrev pub ghosts-try_kept-A-Ledger : goal.ghosts-try_kept-A-Ledger
 ghosts-try_kept-A-Ledger g a = record { name = a.added.name; parts = a.added.parts }
+
+abbrev pub ghosts-try_kept-K-Ledger : goal.ghosts-try_kept-K-Ledger
+ghosts-try_kept-K-Ledger g a = record { name = a.taken.name; parts = a.taken.parts }

@@ -5,3 +5,6 @@ ghosts-run_to_end_in-C-Ledger g a = record { name = a.commits.name; parts = a.co
 
 abbrev pub ghosts-run_to_end_in-A-Ledger : goal.ghosts-run_to_end_in-A-Ledger
 ghosts-run_to_end_in-A-Ledger g a = record { name = a.added.name; parts = a.added.parts }
+
+abbrev pub ghosts-run_to_end_in-K-Ledger : goal.ghosts-run_to_end_in-K-Ledger
+ghosts-run_to_end_in-K-Ledger g a = record { name = a.taken.name; parts = a.taken.parts }

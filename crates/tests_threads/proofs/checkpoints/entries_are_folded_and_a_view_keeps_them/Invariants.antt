@@ -5,3 +5,6 @@ ghosts-try_checkpoints-C-Ledger g a = record { name = a.commits.name; parts = a.
 
 abbrev pub ghosts-try_checkpoints-A-Ledger : goal.ghosts-try_checkpoints-A-Ledger
 ghosts-try_checkpoints-A-Ledger g a = record { name = a.added.name; parts = a.added.parts }
+
+abbrev pub ghosts-try_checkpoints-K-Ledger : goal.ghosts-try_checkpoints-K-Ledger
+ghosts-try_checkpoints-K-Ledger g a = record { name = a.taken.name; parts = a.taken.parts }

@@ -5,3 +5,6 @@ ghosts-try_action-C-Ledger g a = record { name = a.commits.name; parts = a.commi
 
 abbrev pub ghosts-try_action-A-Ledger : goal.ghosts-try_action-A-Ledger
 ghosts-try_action-A-Ledger g a = record { name = a.added.name; parts = a.added.parts }
+
+abbrev pub ghosts-try_action-K-Ledger : goal.ghosts-try_action-K-Ledger
+ghosts-try_action-K-Ledger g a = record { name = a.taken.name; parts = a.taken.parts }

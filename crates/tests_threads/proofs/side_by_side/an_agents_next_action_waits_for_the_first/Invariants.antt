@@ -5,3 +5,6 @@ ghosts-try_turns-C-Ledger g a = record { name = a.commits.name; parts = a.commit
 
 abbrev pub ghosts-try_turns-A-Ledger : goal.ghosts-try_turns-A-Ledger
 ghosts-try_turns-A-Ledger g a = record { name = a.added.name; parts = a.added.parts }
+
+abbrev pub ghosts-try_turns-K-Ledger : goal.ghosts-try_turns-K-Ledger
+ghosts-try_turns-K-Ledger g a = record { name = a.taken.name; parts = a.taken.parts }

@@ -5,3 +5,6 @@ ghosts-try_all-C-Ledger g a = record { name = a.commits.name; parts = a.commits.
 
 abbrev pub ghosts-try_all-A-Ledger : goal.ghosts-try_all-A-Ledger
 ghosts-try_all-A-Ledger g a = record { name = a.added.name; parts = a.added.parts }
+
+abbrev pub ghosts-try_all-K-Ledger : goal.ghosts-try_all-K-Ledger
+ghosts-try_all-K-Ledger g a = record { name = a.taken.name; parts = a.taken.parts }

@@ -5,3 +5,6 @@ ghosts-try_telling-C-Ledger g a = record { name = a.commits.name; parts = a.comm
 
 abbrev pub ghosts-try_telling-A-Ledger : goal.ghosts-try_telling-A-Ledger
 ghosts-try_telling-A-Ledger g a = record { name = a.added.name; parts = a.added.parts }
+
+abbrev pub ghosts-try_telling-K-Ledger : goal.ghosts-try_telling-K-Ledger
+ghosts-try_telling-K-Ledger g a = record { name = a.taken.name; parts = a.taken.parts }

@@ -5,3 +5,6 @@ ghosts-try_overtaking-C-Ledger g a = record { name = a.commits.name; parts = a.c
 
 abbrev pub ghosts-try_overtaking-A-Ledger : goal.ghosts-try_overtaking-A-Ledger
 ghosts-try_overtaking-A-Ledger g a = record { name = a.added.name; parts = a.added.parts }
+
+abbrev pub ghosts-try_overtaking-K-Ledger : goal.ghosts-try_overtaking-K-Ledger
+ghosts-try_overtaking-K-Ledger g a = record { name = a.taken.name; parts = a.taken.parts }

@@ -5,3 +5,6 @@ ghosts-try_handing_on-C-Ledger g a = record { name = a.commits.name; parts = a.c
 
 abbrev pub ghosts-try_handing_on-A-Ledger : goal.ghosts-try_handing_on-A-Ledger
 ghosts-try_handing_on-A-Ledger g a = record { name = a.added.name; parts = a.added.parts }
+
+abbrev pub ghosts-try_handing_on-K-Ledger : goal.ghosts-try_handing_on-K-Ledger
+ghosts-try_handing_on-K-Ledger g a = record { name = a.taken.name; parts = a.taken.parts }

@@ -5,3 +5,6 @@ ghosts-try_waking-C-Ledger g a = record { name = a.commits.name; parts = a.commi
 
 abbrev pub ghosts-try_waking-A-Ledger : goal.ghosts-try_waking-A-Ledger
 ghosts-try_waking-A-Ledger g a = record { name = a.added.name; parts = a.added.parts }
+
+abbrev pub ghosts-try_waking-K-Ledger : goal.ghosts-try_waking-K-Ledger
+ghosts-try_waking-K-Ledger g a = record { name = a.taken.name; parts = a.taken.parts }

@@ -5,3 +5,6 @@ ghosts-opened-C-Ledger g a = record { name = a.commits.name; parts = a.commits.p
 
 abbrev pub ghosts-opened-A-Ledger : goal.ghosts-opened-A-Ledger
 ghosts-opened-A-Ledger g a = record { name = a.added.name; parts = a.added.parts }
+
+abbrev pub ghosts-opened-K-Ledger : goal.ghosts-opened-K-Ledger
+ghosts-opened-K-Ledger g a = record { name = a.taken.name; parts = a.taken.parts }

@@ -1,5 +1,8 @@
-use Rattle.std.proofs.Common.{◌≡◌, arith, length}
+use Rattle.std.proofs.Common.{◌≡◌, arith, length, subst}
 use Rattle.ref_log.specs.Laws.{after_dones-length}
+use Rattle.ref_log.specs.Tally.{moved, moved_by_dones, tally_value}
+use Rattle.ref_log.specs.declared.counting.Side.TheVariants.{Added, Taken}
+use Rattle.ref_refs.specs.Seen.{RefsSeen}
 use Rattle.ref_refs.proofs.Since.{since_commit}
 use Rattle.ref_refs.proofs.Tallies.{counts_then}
 use Rattle.ref_refs.proofs.store.RefStore.install.Goals as goal
@@ -14,7 +17,7 @@ invariant_of-self g c =
     let fits = rw (← c.self.view_is) at c.requires.fits in
     let same : length c.args.refs.values ≡ length w.refs.values = after_dones-length means dones c.args.at dones w.refs.values c.args.refs.values made in
     let was = c.self.invariant in
-    let counts = counts_then means g.met.M.Meaning.adds dones c.args.at dones w.tally w.refs.values c.args.refs.values made fits was.4 in
+    let counts = counts_then means g.met.M.Meaning.adds g.met.M.Meaning.takes dones c.args.at dones w.tally w.refs.values c.args.refs.values made fits was.4 in
     let all = rw (← c.self.view_is) at c.requires.all in
     (omega (arith, same, was.0, all), omega (arith, same, was.1), omega (arith, same, was.2), accepted, counts.0)
 
@@ -31,5 +34,5 @@ returns-clause-tally g c =
     let dones = c.args.dones.now in
     let made = rw (← c.self.view_is) at c.requires.made in
     let fits = rw (← c.self.view_is) at c.requires.fits in
-    let counts = counts_then means g.met.M.Meaning.adds dones c.args.at dones w.tally w.refs.values c.args.refs.values made fits c.self.invariant.4 in
-    rw (← c.self.view_is) counts.1
+    let counts = counts_then means g.met.M.Meaning.adds g.met.M.Meaning.takes dones c.args.at dones w.tally w.refs.values c.args.refs.values made fits c.self.invariant.4 in
+    subst (λ (s : RefsSeen). tally_value w.tally c.args.refs.values ≡ moved (tally_value s.tally s.values) (moved_by_dones Added s.tally dones) (moved_by_dones Taken s.tally dones)) c.self.view_is counts.1

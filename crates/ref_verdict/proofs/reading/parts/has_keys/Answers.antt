@@ -1,18 +1,11 @@
-use Rattle.std.proofs.Common.{◌≡◌, ◌&&◌, Bool, is_some, true, false, sym, ap, ◌∙◌}
-use Rattle.std.specs.List.{list_all}
-use Rattle.ref_forms.specs.Plain.{are_known, under}
+use Rattle.std.proofs.Common.{sym, ap, ◌∙◌}
 use Rattle.ref_verdict.specs.DumpForm.{has_keys}
-use Rattle.ref_verdict.specs.Words.{all_keys}
 use Rattle.ref_verdict.proofs.reading.parts.has_keys.Goals as goal
 
-pub returns-then-are_known : goal.returns-then-are_known
+pub returns-in-One : goal.returns-in-One
 unfolding has_keys
-returns-then-are_known c =
-    let es = c.args.entries.now in
-    c.are_there.ensures ∙ sym (ap (λ b. b && list_all (λ word. is_some (under es word)) all_keys) (sym c.are_known.ensures ∙ c.if-are_known.true))
+returns-in-One c = c.are_keys.ensures ∙ ap (λ v. has_keys v c.args.entries.now) (sym c.in-One.is)
 
-pub returns-else-are_known : goal.returns-else-are_known
+pub returns-in-Two : goal.returns-in-Two
 unfolding has_keys
-returns-else-are_known c =
-    let es = c.args.entries.now in
-    c.if-are_known.false ∙ sym (ap (λ b. b && list_all (λ word. is_some (under es word)) all_keys) (sym c.are_known.ensures ∙ c.if-are_known.false))
+returns-in-Two c = c.are_keys-in-Two.ensures ∙ ap (λ v. has_keys v c.args.entries.now) (sym c.in-Two.is)

@@ -17,5 +17,5 @@ invariant_of-self-2 g c =
     let limit = subst (λ p. p + 1 ≤ 2 ^ 62) point c.in_ok-check_make.ensures.limit in
     subst (λ l. IsWorld g.M.Meaning.means w.base.value l w.refs c.add.new.self w.agents.unreleased × AreBooks w.base.value l w.refs.tally w.refs.values w.books) (sym items) (
       entered_same g.M.Meaning.means w.base.value log w.refs w.atoms w.agents.unreleased is (MadeAtom v) w.refs c.add.new.self w.agents.unreleased (ap (λ vs. Ok (record { refs = w.refs.values; atoms = vs })) (sym (ap (λ s. s.values) c.in_ok-a.ensures.adds))) (λ r. refl) (since_later w.refs.lasts (point_after w.base.value log) is.since) (held_still g.M.Meaning.means w.base.value log w.refs w.atoms w.agents.unreleased is) limit refl refl,
-      books_same w.base.value log w.refs.tally w.refs.values w.books c.self.invariant.1 (MadeAtom v) w.refs.values (refl, refl, refl) c.self.invariant.1.holds,
+      books_same w.base.value log w.refs.tally w.refs.values w.books c.self.invariant.1 (MadeAtom v) w.refs.values (refl, refl, refl, refl) c.self.invariant.1.holds,
     )

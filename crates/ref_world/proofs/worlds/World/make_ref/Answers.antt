@@ -1,5 +1,6 @@
-use Rattle.std.proofs.Common.{rules, ◌≡◌, ◌∙◌, ℕ, true, ◌≤◌, ◌^◌, ◌+◌, ◌++◌, ◌∷◌, [], Ok, ap, refl, subst, sym}
+use Rattle.std.proofs.Common.{rules, ◌≡◌, ◌∙◌, ℕ, cond, true, ◌≤◌, ◌^◌, ◌+◌, ◌++◌, ◌∷◌, [], Ok, ap, refl, subst, sym}
 use Rattle.ref_log.specs.Replay.{point_after}
+use Rattle.ref_log.specs.Tally.{counted}
 use Rattle.ref_log.specs.declared.entries.Entry.TheVariants.{MadeRef}
 use Rattle.ref_log.specs.declared.states.Base.{Base}
 use Rattle.ref_refs.specs.Make.{made_at}
@@ -29,7 +30,9 @@ invariant_of-self-2 g c =
     let since = subst (λ p. are_unchanged_since after.lasts (p + 1) ≡ true) point c.add.ensures.since in
     let is = c.self.invariant in
     let entered = entered g.M.Meaning.means w.base.value log w.refs w.atoms w.agents.unreleased is.0 (MadeRef v) after w.atoms w.agents.unreleased (ap (λ (s : RefsSeen). Ok (record { refs = s.values; atoms = w.atoms.values })) (sym adds)) moved since (held_still g.M.Meaning.means w.base.value log w.refs w.atoms w.agents.unreleased is.0) limit refl in
-    let books = books_made g.M.Meaning.means w.base.value log w.refs.tally w.refs.values w.atoms.values w.books v c.args.tally c.tally_value.result after.tally after.values c.start.new.self is.1 is.0.replayed c.in_ok-check_make.ensures.tally (ap (λ (s : RefsSeen). s.tally) adds) (ap (λ (s : RefsSeen). s.values) adds) c.tally_value.ensures.tally c.start.ensures in
+    let began : c.start.new.self ≡ record w.books { start = cond c.args.tally (counted (v ∷ [])) w.books.start } =
+    c.start.ensures ∙ ap (λ (n : ℕ). record w.books { start = cond c.args.tally n w.books.start }) c.count-start.ensures in
+    let books = books_made g.M.Meaning.means w.base.value log w.refs.tally w.refs.values w.atoms.values w.books v c.args.tally after.tally after.values c.start.new.self is.1 is.0.replayed c.in_ok-check_make.ensures.tally (ap (λ (s : RefsSeen). s.tally) adds) (ap (λ (s : RefsSeen). s.values) adds) began in
     let tally : c.next_tally-next.result ≡ after.tally = c.next_tally-next.ensures ∙ sym (ap (λ (s : RefsSeen). s.tally) adds) in
     let named : c.in_ok-base.base.value ≡ with_tally after.tally w.base.value = c.in_ok-base.ensures ∙ ap (λ t. with_tally t w.base.value) tally in
     subst (λ (b : Base). IsWorld g.M.Meaning.means b c.in_ok-log.log after w.atoms w.agents.unreleased × AreBooks b c.in_ok-log.log after.tally after.values c.start.new.self) (sym named)

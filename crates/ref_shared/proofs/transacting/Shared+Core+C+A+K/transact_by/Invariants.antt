@@ -2,7 +2,7 @@ use Rattle.std.proofs.Common.{◌≡◌, ◌<◌, length, List}
 use denote.Param.Always.{always_mut}
 use Rattle.std.specs.List.{All}
 use Rattle.ref_shared.specs.Bodies.{Call, Called, IsRetried}
-use Rattle.ref_shared.proofs.transacting.Shared+Core+C+A.transact_by.Given as goal
+use Rattle.ref_shared.proofs.transacting.Shared+Core+C+A+K.transact_by.Given as goal
 
 abbrev pub invariant-loop-attempt : goal.invariant-loop-attempt
 invariant-loop-attempt g l = record {

@@ -1,9 +1,0 @@
-use Rattle.std.proofs.Common.{◌≡◌, ◌<◌, ◌^◌, ◌+◌, length}
-use Rattle.ref_log.specs.Tally.{commits_of}
-use Rattle.ref_verdict.proofs.verdicts.counts.commits_of.Given as goal
-
-abbrev pub invariant-loop-entry : goal.invariant-loop-entry
-invariant-loop-entry l = record {
-  sum : l.count + commits_of l.entry-iterator ≡ commits_of l.entries;
-  bound : l.count + length l.entry-iterator < 2 ^ 64;
-}
