@@ -152,7 +152,7 @@ step_sync = variants_sync Step.enum (
 -- ---- what threads are lent, started with, and hand back
 
 reason_send : IsSend Reason.the_row
-reason_send = variants_send Reason.enum (tt, (tt, ((search plain depth 60, tt), (tt, (tt, (tt, (tt, (tt, (tt, tt)))))))))
+reason_send = variants_send Reason.enum (tt, (tt, ((search plain depth 60, tt), (tt, (tt, (tt, (tt, (tt, (tt, (tt, tt))))))))))
 
 refusal_send : IsSend Refusal.the_row
 refusal_send = declared_send Refusal.the_type (search plain depth 60, (reason_send, tt))

@@ -133,6 +133,10 @@ impl<'a, R: Input, C: Ledger, A: Ledger, K: Ledger> Subject for Refusing<'a, R, 
         self.whole.set_point(point)
     }
 
+    fn set_room(&mut self, added: u64, taken: u64) -> bool {
+        self.whole.set_room(added, taken)
+    }
+
     fn send(&mut self, alloc: Global, g: u32, action: Action) -> Result<(), SendFault> {
         self.refuser.begin();
         let answer = self.whole.send(alloc, g, action);

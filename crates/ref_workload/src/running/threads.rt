@@ -111,7 +111,7 @@ fn start_pool<'s, E, F, C, A, K, R, G>(
 where
     F: Functions<Core> + Sync + 's,
     C: Ledger + Send + Sync + 's,
-    A: Ledger + Send + Sync,
+    A: Ledger + Send + Sync + 's,
     K: Ledger + Send + Sync + 's,
     R: Wait + Sync + 's,
     G: Gate + Send + Drop + 's,
@@ -138,7 +138,7 @@ fn start_workers<'s, E, F, C, A, K, R, G>(
 where
     F: Functions<Core> + Sync + 's,
     C: Ledger + Send + Sync + 's,
-    A: Ledger + Send + Sync,
+    A: Ledger + Send + Sync + 's,
     K: Ledger + Send + Sync + 's,
     R: Wait + Sync + 's,
     G: Gate + Send + Drop + 's,
