@@ -30,7 +30,11 @@ fn keys_say_their_names(rt: HostRuntime) -> Result<(), Fail> {
 
 const DUMP_FAULTS: &[(DumpFault, u8, &str)] = &[
     (DumpFault::NotDump, 1, "not a dump"),
-    (DumpFault::BadVersion, 2, "a version that isn't that of the keys"),
+    (
+        DumpFault::BadVersion,
+        2,
+        "a version that isn't that of the keys",
+    ),
     (
         DumpFault::BadPart(Key::BaseRefs),
         3,
