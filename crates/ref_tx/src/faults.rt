@@ -16,7 +16,7 @@ pub enum TxFault {
     /// The ref was commuted in this transaction, and can't be set in it any more.
     #[error("set after commute")]
     SetAfterCommute,
-    /// The ref is the tally, which only `commute` of `+` with one integer of 0 or more may change.
+    /// The ref is the tally, which only `commute` of `+` or `-` with one integer of 0 or more may change.
     #[error("the tally can only be added to and taken from")]
     TallyOnly,
     /// The function refused.
