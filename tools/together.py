@@ -41,11 +41,14 @@ def without_arguments(line):
 
 def end_of(lines, first, indent):
     """The line behind a function's last, in a file that `rt fmt` has laid out."""
-    has_body = "{" in lines[first]
+    has_body, depth = "{" in lines[first], 0
     for at in range(first, len(lines)):
         line = lines[at]
-        has_body = has_body or line == f"{indent}{{" or line.startswith(f"{indent})") and line.endswith("{")
-        if line in (f"{indent}}}", f"{indent}{{}}") or at == first and line.endswith("{}") or not has_body and line.endswith(";"):
+        has_body = has_body or line == f"{indent}{{" or line.startswith((f"{indent})", f"{indent}>(")) and line.endswith("{")
+        # a record in a clause has lines that end so, too
+        depth += line.count("{") - line.count("}")
+        is_declared = not has_body and depth == 0 and line.endswith(";")
+        if line in (f"{indent}}}", f"{indent}{{}}") or at == first and line.endswith("{}") or is_declared:
             return at + 1
     return len(lines)
 

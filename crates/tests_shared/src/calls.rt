@@ -109,12 +109,11 @@ fn first_answers(
     Ok(all)
 }
 
-// What is stored of two transactions that commute the tally, of which the one that was begun first is committed last.
+// What is stored of two transactions that commute the tally, the first begun committed last. Books: commits, added, taken.
 #[derive(Debug, Drop, PartialEq)]
 struct Counted {
     kept: Vec<(Stamp, Option<i64>)>,
     totals: Totals,
-    // Commits, additions and takings by the world's books.
     books: (u64, u64, u64),
 }
 

@@ -60,6 +60,8 @@ fn foreign_transactions_by_hand(rt: HostRuntime) -> Result<(), Fail> {
             [0] [] [] [begin 1 0] [1 set a 7 7] [other [5] :ok] [commit 1 [:foreign :value 0]] [now a 5] [begin 2 0] [2 set a 7 7] [commit 2 1] [now a 7]
             [0] [] [] [begin 2 0] [commit 2 1] [begin 1 1] [1 set a 5 5] [other [0] :ok] [commit 1 [:foreign :point 1]] [now a 0] [begin 2 0] [commit 2 1] [commit 1 2] [now a 5]
             [0] [] [] [begin 1 0] [1 set a 5 5] [other [[tally 0]] :ok] [commit 1 [:foreign :tally]] [begin 2 0] [2 commute t + 5 5] [commit 2 1] [now t 5]
+            [0] [] [] [begin 1 0] [1 commute a - -1 1] [other [[tally 5]] :ok] [commit 1 [:foreign :tally]] [now t 5]
+            [0] [] [] [begin 1 0] [1 commute a - 1 -1] [other [[tally 5]] :ok] [commit 1 1] [now t 4]
             [0] [] [] [begin 1 0] [1 commute a + 1 1] [other [5] :ok] [commit 1 1] [now a 6]
             [0] [] [0 0] [begin 1 0] [1 send h + 1 :ok] [other [0] [] [0] :ok] [commit 1 [:foreign :agent 1]] [account g [0 0]] [entries 0] [make-agent 0 h] [commit 1 1] [account h [0 1]]
             // Of two faults the first in order is returned: foreign refs, agents, tally and point, functions, conflicts, foreign

@@ -38,7 +38,7 @@ fn base_ref(alloc: Global, value: &Value, last: u64) -> Result<Value, DumpMakeFa
     vector_of(alloc, vec![in alloc; value, last]?)
 }
 
-// What was committed and added up to the base.
+// What was committed, added and taken up to the base.
 #[tactic(auto, using(crate::proofs::Depths::make_faults))]
 pub(crate) fn folded(alloc: Global, base: &Base) -> Result<Value, DumpMakeFault>
     ensures made { IfOk result (λ v. v ≡ folded_form base.now) }
