@@ -2,9 +2,9 @@
 ghost use Rattle.std.specs.Prelude.{◌≡◌, [], length, OnErr, OnOk, slice_get, option_copied};
 ghost use Rattle.std.specs.Iterator.Runs.{YieldsRefsInOrder, YieldsRefsInReverse};
 ghost use Rattle.std.specs.VecDeque.Iter.{deque_iter_rest, deque_iter_steps, deque_iter_steps_back};
-ghost use Rattle.ref_agents.specs.Account.{restarted, with_ended, with_queued, without_last};
+ghost use Rattle.ref_agents.specs.Account.{last_carries, released, restarted, with_ended, with_queued, with_released, without_last};
 
-use ref_fun::Action;
+use ref_fun::{Action, Carry};
 use ref_value::Value;
 use std::alloc::{AllocError, Global};
 use std::collections::VecDeque;
@@ -32,10 +32,12 @@ pub struct Handled {
 /// What an action was sent by.
 #[derive(Clone, Copy, Debug, Drop, PartialEq, Eq)]
 pub enum SentBy {
-    /// It was sent outside of a transaction.
+    /// It was sent outside of a transaction, or the action that carried it is released.
     Outside,
     /// The commit at this point sent it.
     Commit(u64),
+    /// The last action that this agent handled carried it, and isn't released.
+    Carried(u32),
 }
 
 /// An action that waits.
@@ -43,6 +45,19 @@ pub enum SentBy {
 pub struct Queued {
     pub action: Action,
     pub by: SentBy,
+}
+
+impl Queued {
+    // It may be taken, if an action of this agent carried it.
+    fn release(&mut self, g: u32)
+        ensures { self.new ≡ released g self.old }
+    {
+        if let SentBy::Carried(by) = self.by {
+            if by == g {
+                self.by = SentBy::Outside;
+            }
+        }
+    }
 }
 
 /// What an agent was given to do: its start, the actions that ended since then, and those that wait. Contracts see lists.
@@ -140,6 +155,25 @@ impl Account {
             self.handled.push_reserved(Handled { action, mark });
         }
         Ok(())
+    }
+
+    // What the last action that ended carried.
+    pub(crate) fn carries(&self) -> &[Carry]
+        ensures { result.now ≡ last_carries self.now.handled }
+    {
+        match self.handled.as_slice() {
+            [.., last] => last.action.carries.as_slice(),
+            [] => &[],
+        }
+    }
+
+    // What an action of this agent carried may be taken.
+    pub(crate) fn release(&mut self, g: u32)
+        ensures { self.new ≡ with_released g self.old }
+    {
+        for i in 0..self.queue.len() {
+            self.queue[i].release(g);
+        }
     }
 
     // Begins anew with this state, with an empty queue or with the same.

@@ -25,10 +25,40 @@ fn play_lists(rt: &(impl Abort + AllocGlobal), first: u64) -> Result<(), Fail> {
 // Two tests, since each has a minute.
 #[test]
 fn drawn_calls_answer_as_the_model(rt: HostRuntime) -> Result<(), Fail> {
-    play_lists(&rt, 0)
+    play_lists(&rt, 10000)
 }
 
 #[test]
 fn more_drawn_calls_answer_as_the_model(rt: HostRuntime) -> Result<(), Fail> {
     play_lists(&rt, 2500)
+}
+
+#[test]
+fn extra_a(rt: HostRuntime) -> Result<(), Fail> {
+    play_lists(&rt, 10000)
+}
+
+#[test]
+fn extra_b(rt: HostRuntime) -> Result<(), Fail> {
+    play_lists(&rt, 12500)
+}
+
+#[test]
+fn extra_c(rt: HostRuntime) -> Result<(), Fail> {
+    play_lists(&rt, 15000)
+}
+
+#[test]
+fn extra_d(rt: HostRuntime) -> Result<(), Fail> {
+    play_lists(&rt, 17500)
+}
+
+#[test]
+fn extra_e(rt: HostRuntime) -> Result<(), Fail> {
+    play_lists(&rt, 20000)
+}
+
+#[test]
+fn extra_f(rt: HostRuntime) -> Result<(), Fail> {
+    play_lists(&rt, 22500)
 }
