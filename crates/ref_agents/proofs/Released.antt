@@ -1,12 +1,14 @@
 -- What an action carried, released.
-use Rattle.std.proofs.Common.{◌≡◌, ◌∙◌, ◌<◌, ◌≤◌, ◌-◌, ◌+◌, ℕ, zero, suc, List, [], ◌∷◌, ◌++◌, drop, get_or, length, map, take, true, arith, refl, sym, ap}
+use Rattle.std.proofs.Common.{◌≡◌, ◌∙◌, ◌<◌, ◌≤◌, ◌-◌, ◌+◌, ℕ, zero, suc, Bool, false, ◌||◌, List, [], ◌∷◌, ◌++◌, drop, get_or, length, map, take, true, arith, refl, sym, ap}
 use Rattle.std.proofs.Math.Seq.{take-suc}
 use Rattle.std.specs.Prelude.{slice_set}
 use Rattle.ref_fun.specs.declared.carries.Carry.{Carry}
-use Rattle.ref_agents.specs.Account.{has_head, last_carries, released}
+use Rattle.ref_agents.specs.Account.{AccountSeen, has_carried, has_head, is_carried_by, last_carries, last_released, released, released_by}
 use Rattle.ref_agents.specs.Agents.{carries_at, carries_if_here, change_agent, releasing, with_each_released}
 use Rattle.ref_agents.specs.declared.accounts.Handled.{Handled}
 use Rattle.ref_agents.specs.declared.accounts.Queued.{Queued}
+use Rattle.ref_agents.specs.declared.accounts.SentBy.{SentBy}
+use Rattle.ref_agents.specs.declared.accounts.SentBy.TheVariants.{Carried, Commit, Outside}
 use Rattle.ref_agents.specs.declared.agents.Agent.{Agent}
 use Rattle.ref_agents.proofs.Changed.{relate_change}
 
@@ -21,15 +23,47 @@ last_at (a ∷ b ∷ hs) (suc n) h all is = last_at (b ∷ hs) n h (omega (arith
 pub last_is : (hs : List Handled) (h : Handled) → 1 ≤ length hs → h ≡ get_or hs (length hs - 1) h → last_carries hs ≡ h.action.carries
 last_is hs h some is = last_at hs (length hs - 1) h (omega (arith, some)) is
 
--- one more item of a list is changed
-pub next_changed : {X : Type 0} (f : X → X) (xs : List X) (i : ℕ) (x : X) → i < length xs → x ≡ get_or (map f (take i xs) ++ drop i xs) i x
-    → slice_set (map f (take i xs) ++ drop i xs) i (f x) ≡ map f (take (suc i) xs) ++ drop (suc i) xs
-next_changed f [] i x here is = absurd (omega (arith, here))
-next_changed f (y ∷ xs) zero x here is = ap (λ z. f z ∷ xs) is
-next_changed f (y ∷ xs) (suc i) x here is = ap (λ l. f y ∷ l) (next_changed f xs i x (omega (arith, here)) is)
+is_as_it_was : (g : ℕ) (by : SentBy) → is_carried_by g by ≡ false → released_by g by ≡ by
+is_as_it_was g Outside isnt = refl
+is_as_it_was g (Commit point) isnt = refl
+is_as_it_was g (Carried h) isnt = rw isnt refl
+
+either_false : (a b : Bool) → (a || b) ≡ false → (a ≡ false) × (b ≡ false)
+either_false true b none = cc
+either_false false b none = (refl, none)
+
+or_here : (a b : Bool) → a ≡ true → (a || b) ≡ true
+or_here a b is = rw is refl
+
+or_later : (a b : Bool) → b ≡ true → (a || b) ≡ true
+or_later true b is = refl
+or_later false b is = is
+
+pub account_is : (a b : AccountSeen) → a.start ≡ b.start → a.handled ≡ b.handled → a.queue ≡ b.queue → a ≡ b
+account_is a b start handled queue = λ i. record { start = start i; handled = handled i; queue = queue i }
+
+-- where none was carried nothing changes
+pub none_released : (g : ℕ) (queue : List Queued) → has_carried g queue ≡ false → last_released g queue ≡ queue
+none_released g [] none = refl
+none_released g (q ∷ qs) none =
+    let parts = either_false (is_carried_by g q.by) (has_carried g qs) none in
+    rw parts.1 (ap (λ by. record q { by = by } ∷ qs) (is_as_it_was g q.by parts.0))
+
+has_one : (g : ℕ) (queue : List Queued) (i : ℕ) (x : Queued) → i < length queue → x ≡ get_or queue i x → is_carried_by g x.by ≡ true → has_carried g queue ≡ true
+has_one g [] i x here is carried = absurd (omega (arith, here))
+has_one g (q ∷ qs) zero x here is carried = or_here (is_carried_by g q.by) (has_carried g qs) (ap (λ y. is_carried_by g y.by) (sym is) ∙ carried)
+has_one g (q ∷ qs) (suc i) x here is carried = or_later (is_carried_by g q.by) (has_carried g qs) (has_one g qs i x (omega (arith, here)) is carried)
+
+-- the last one was found
+pub found_last : (g : ℕ) (queue : List Queued) (i : ℕ) (x : Queued) → i < length queue → x ≡ get_or queue i x → is_carried_by g x.by ≡ true
+    → has_carried g (drop (suc i) queue) ≡ false → slice_set queue i (released g x) ≡ last_released g queue
+found_last g [] i x here is carried none = absurd (omega (arith, here))
+found_last g (q ∷ qs) zero x here is carried none = rw none (ap (λ y. released g y ∷ qs) is)
+found_last g (q ∷ qs) (suc i) x here is carried none =
+    rw (has_one g qs i x (omega (arith, here)) is carried) (ap (λ l. q ∷ l) (found_last g qs i x (omega (arith, here)) is carried none))
 
 -- a queue has a first action where it had one
-pub head_mapped : (g : ℕ) (queue : List Queued) → has_head (map (released g) queue) ≡ true → has_head queue ≡ true
+pub head_mapped : (g : ℕ) (queue : List Queued) → has_head (last_released g queue) ≡ true → has_head queue ≡ true
 head_mapped g [] has = has
 head_mapped g (q ∷ qs) has = refl
 

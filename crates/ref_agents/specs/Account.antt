@@ -116,8 +116,22 @@ released_by g (Carried by) = if by == g then Outside else Carried by
 abbrev pub released : ℕ → Queued → Queued
 released g queued = record queued { by = released_by g queued.by }
 
+abbrev pub is_carried_by : ℕ → SentBy → Bool
+is_carried_by g Outside = false
+is_carried_by g (Commit point) = false
+is_carried_by g (Carried by) = by == g
+
+-- whether one of these was carried by an action of g, and isn't released
+abbrev pub has_carried : ℕ → List Queued → Bool
+has_carried g queue = list_any (λ q. is_carried_by g q.by) queue
+
+-- the last of them is released
+abbrev pub last_released : ℕ → List Queued → List Queued
+last_released g [] = []
+last_released g (q ∷ qs) = if has_carried g qs then q ∷ last_released g qs else released g q ∷ qs
+
 abbrev pub with_released : ℕ → AccountSeen → AccountSeen
-with_released g account = record account { queue = map (released g) account.queue }
+with_released g account = record account { queue = last_released g account.queue }
 
 -- after its first action ended with a mark: it moved to the end of the handled ones
 abbrev pub with_ended : AccountSeen → Mark → AccountSeen

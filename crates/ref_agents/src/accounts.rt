@@ -2,7 +2,7 @@
 ghost use Rattle.std.specs.Prelude.{◌≡◌, [], length, OnErr, OnOk, slice_get, option_copied};
 ghost use Rattle.std.specs.Iterator.Runs.{YieldsRefsInOrder, YieldsRefsInReverse};
 ghost use Rattle.std.specs.VecDeque.Iter.{deque_iter_rest, deque_iter_steps, deque_iter_steps_back};
-ghost use Rattle.ref_agents.specs.Account.{last_carries, released, restarted, with_ended, with_queued, with_released, without_last};
+ghost use Rattle.ref_agents.specs.Account.{is_carried_by, last_carries, released, restarted, with_ended, with_queued, with_released, without_last};
 
 use ref_fun::{Action, Carry};
 use ref_value::Value;
@@ -48,14 +48,17 @@ pub struct Queued {
 }
 
 impl Queued {
-    // It may be taken, if an action of this agent carried it.
-    fn release(&mut self, g: u32)
-        ensures { self.new ≡ released g self.old }
+    // It may be taken, if an action of this agent carried it. Returns whether one did.
+    fn release(&mut self, g: u32) -> bool
+        ensures releases { self.new ≡ released g self.old }
+        ensures was { result ≡ is_carried_by g self.old.by }
     {
-        if let SentBy::Carried(by) = self.by {
-            if by == g {
+        match self.by {
+            SentBy::Carried(by) if by == g => {
                 self.by = SentBy::Outside;
+                true
             }
+            _ => false,
         }
     }
 }
@@ -167,12 +170,16 @@ impl Account {
         }
     }
 
-    // What an action of this agent carried may be taken.
+    // The last action that waits and that an action of this agent carried may be taken, if there is one. It is looked for from the end.
     pub(crate) fn release(&mut self, g: u32)
         ensures { self.new ≡ with_released g self.old }
     {
-        for i in 0..self.queue.len() {
-            self.queue[i].release(g);
+        let mut left = self.queue.len();
+        while left > 0 {
+            left -= 1;
+            if self.queue[left].release(g) {
+                return;
+            }
         }
     }
 

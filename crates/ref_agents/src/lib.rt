@@ -26,7 +26,7 @@
 //! held. `take` looks at such agents until one is ready, and is linear in how many it looks at. `finish` and `put_back` compare
 //! arguments and state of the job, in time linear in their sizes; `finish` tests the rule too and makes a notice for each watch. An
 //! account stores each action that ended until a restart, which takes a step for each that it drops. A `finish` takes a send's time for
-//! each that is carried, and `release_carried` walks the queues of the agents that these went to.
+//! each that is carried, and `release_carried` for each walks back over what its agent was sent since.
 //!
 //! **Not promised.** Which of the ready agents `take` returns: they take turns, but no contract says so. That an action is ever run,
 //! or that a job comes back: while one is lost, its agent can't be taken, and only that job or an equal one ends it. That

@@ -70,8 +70,8 @@ impl<M: Meaning, C: Ledger, A: Ledger, K: Ledger> World<M, C, A, K> {
     }
 
     /// Lets be taken what the last handled action of an agent carried, which is for when its notices were delivered, and answers
-    /// whether it carried anything that wasn't released, even if all of it was dropped meanwhile. It takes no memory. The time is
-    /// linear in the queues of the agents that it was sent to.
+    /// whether it carried anything that wasn't released, even if all of it was dropped meanwhile. It takes no memory. For each send
+    /// it walks back over what that agent was sent since.
     pub fn release_carried(&mut self, g: u32) -> bool
         ensures was { result ≡ is_carrying_at self.old.agents.agents g }
         ensures releases { self.new ≡ with_agents self.old (agents.with_carried_released self.old.agents g) }

@@ -1,22 +1,30 @@
-use Rattle.std.proofs.Common.{◌≡◌, ◌∙◌, ◌++◌, ℕ, ◌+◌, ◌<◌, suc, ap, arith, drop, get_or, length, map, slice_set, subst, sym, take}
-use Rattle.ref_agents.specs.Account.{released}
-use Rattle.ref_agents.proofs.Released.{next_changed}
+use Rattle.std.proofs.Common.{◌≡◌, ◌∙◌, ◌-◌, ◌<◌, ℕ, suc, false, true, ap, arith, drop, get_or, length, slice_set, subst, sym}
+use Rattle.ref_agents.specs.Account.{has_carried, is_carried_by, released, with_released}
+use Rattle.ref_agents.proofs.Released.{account_is, found_last, none_released}
 use Rattle.ref_agents.proofs.accounts.Account.release.Goals as goal
 
-pub loop-i-preserved : goal.loop-i-preserved
-loop-i-preserved c = record {
-  start = c.loop-i.invariant.start;
-  handled = c.loop-i.invariant.handled;
-  queue =
-      let before = c.args.self.now.queue in
-      let i : ℕ = c.loop-i.i in
-      let x = c.index_mut.result.now in
-      let here : i < length before = subst (λ n. i < n) c.loop-i.invariant.all c.loop-i-test.true in
-      let is = c.index_mut.ensures.value ∙ ap (λ l. get_or l i x) c.loop-i.invariant.queue in
-      let next : i + 1 ≡ suc i = omega arith in
-      ap (λ l. slice_set l i c.release.new.self) c.loop-i.invariant.queue
-      ∙ ap (λ y. slice_set (map (released c.args.g) (take i before) ++ drop i before) i y) c.release.ensures
-      ∙ next_changed (released c.args.g) before i x here is
-      ∙ ap (λ n. map (released c.args.g) (take n before) ++ drop n before) (sym next);
-  all = c.loop-i.invariant.all;
-}
+pub returns-then-release : goal.returns-then-release
+returns-then-release c =
+    let g = c.args.g in
+    let before = c.args.self.now.queue in
+    let so_far = c.loop-left.invariant in
+    let i : ℕ = c.loop-left.left - 1 in
+    let x = c.index_mut.result.now in
+    let here : i < length before = omega (arith, c.loop-left-test.true, so_far.bound) in
+    let is = c.index_mut.ensures.value ∙ ap (λ l. get_or l i x) so_far.queue in
+    let carried : is_carried_by g x.by ≡ true = sym c.release.ensures.was ∙ c.if-release.true in
+    let next : c.loop-left.left ≡ suc i = omega (arith, c.loop-left-test.true) in
+    let none : has_carried g (drop (suc i) before) ≡ false = subst (λ n. has_carried g (drop n before) ≡ false) next so_far.none in
+    account_is _ (with_released g c.args.self.now) so_far.start so_far.handled
+    (ap (λ l. slice_set l i c.release.new.self) so_far.queue
+    ∙ ap (λ y. slice_set before i y) c.release.ensures.releases
+    ∙ found_last g before i x here is carried none)
+
+pub returns : goal.returns
+returns c =
+    let g = c.args.g in
+    let before = c.args.self.now.queue in
+    let so_far = c.loop-left.invariant in
+    let end : c.loop-left.left ≡ 0 = omega (arith, c.loop-left-test.false) in
+    let none : has_carried g before ≡ false = subst (λ n. has_carried g (drop n before) ≡ false) end so_far.none in
+    account_is _ (with_released g c.args.self.now) so_far.start so_far.handled (so_far.queue ∙ sym (none_released g before none))

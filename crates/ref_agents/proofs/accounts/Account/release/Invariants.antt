@@ -1,14 +1,18 @@
-use Rattle.std.proofs.Common.{◌≡◌, ◌++◌, drop, length, map, take}
-use Rattle.ref_agents.specs.Account.{released}
+use Rattle.std.proofs.Common.{◌≡◌, ◌≤◌, drop, false, length}
+use Rattle.ref_agents.specs.Account.{has_carried}
 use Rattle.ref_agents.proofs.accounts.Account.release.Given as goal
 
--- those before are released
-abbrev pub invariant-loop-i : goal.invariant-loop-i
-invariant-loop-i l =
+-- none behind was carried
+abbrev pub invariant-loop-left : goal.invariant-loop-left
+invariant-loop-left l =
     let before = l.fn.self.queue in
     record {
       start : l.self-inside.start ≡ l.fn.self.start;
       handled : l.self-inside.handled.items ≡ l.fn.self.handled;
-      queue : l.self-inside.queue.items ≡ map (released l.g) (take l.i before) ++ drop l.i before;
-      all : l.i-end ≡ length before;
+      queue : l.self-inside.queue.items ≡ before;
+      bound : l.left ≤ length before;
+      none : has_carried l.g (drop l.left before) ≡ false;
     }
+
+abbrev pub decreases-loop-left : goal.decreases-loop-left
+decreases-loop-left l = l.left
