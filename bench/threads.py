@@ -14,6 +14,7 @@ reads           transactions that read 100 refs and add 1 to one of them by alte
 one-atom        swaps of one atom
 own-atoms       swaps of one of 64 atoms, where no two threads take the same
 agents          sends to 64 agents, whose actions a pool of two threads runs
+chains          the same, where each action sends on to the next agent: two actions for each send
 """
 import argparse
 import os
@@ -25,14 +26,14 @@ from compare import KEEPS, Refused, output_of
 
 HERE = os.path.dirname(os.path.abspath(__file__))
 SHAPES = ["one-ref", "tally", "own-refs", "own-4096", "transfers-64", "transfers-1000", "transfers-4096", "reads", "one-atom",
-          "own-atoms", "agents"]
+          "own-atoms", "agents", "chains"]
 # How many times as slow as the plain program a shape may be: one of up to 64 refs, and one of 4,096. For the others there is no target.
 MOST_OVER_PLAIN = {
-    **dict.fromkeys(["one-ref", "tally", "own-refs", "transfers-64", "one-atom", "own-atoms", "agents"], 4),
+    **dict.fromkeys(["one-ref", "tally", "own-refs", "transfers-64", "one-atom", "own-atoms", "agents", "chains"], 4),
     **dict.fromkeys(["own-4096", "transfers-4096"], 3),
 }
 # The plain program has none.
-NOT_PLAIN = ["agents"]
+NOT_PLAIN = ["agents", "chains"]
 
 
 class Measured:
@@ -50,7 +51,7 @@ class Measured:
         self.a_second = 1e9 / wall
         self.nanos = threads * wall
         self.tries = sum(tries for _, _, tries in rounds) / sum(acts for _, acts, _ in rounds)
-        self.has_tries = shape not in ("one-atom", "own-atoms", "agents")
+        self.has_tries = shape not in ("one-atom", "own-atoms", "agents", "chains")
 
     def tried(self):
         return f"{self.tries:.2f}" if self.has_tries else ""

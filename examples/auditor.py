@@ -230,7 +230,8 @@ def folds(agent):
     """Whether an agent's state is its start folded over its done actions."""
     value, handled, _, now, *_ = agent
     try:
-        for function, args, mark in (it[1] for it in handled[1]):
+        # From version 3 on the sends that the action carried stand in front of its mark.
+        for function, args, *_, mark in (it[1] for it in handled[1]):
             value = call(function, args, value) if mark == word(":done") else value
     except Refuses:
         return False
@@ -269,10 +270,10 @@ def audit(dump):
     transactions = [it[1] for it in parts["entries"] if it[1][0] == word(":tx")]
     commits, *folded = (it[1] for it in parts["folded"])
     # A dump of version 1 has no book of what was taken.
-    functions = ("+", "-") if parts["dump"] == 2 else ("+",)
+    functions = ("+", "-") if parts["dump"] > 1 else ("+",)
     moved = [moves(done[1], tally, functions) for it in transactions for done in it[4][1]]
     books = [before + sum(it[side] for it in moved) for side, before in enumerate(folded)]
-    now = [parts["added"], parts["taken"]] if parts["dump"] == 2 else [parts["added"]]
+    now = [parts["added"], parts["taken"]] if parts["dump"] > 1 else [parts["added"]]
     if (parts["commits"], now) != (commits + len(transactions), books):
         raise No("count")
 

@@ -273,8 +273,8 @@ def brackets():
 # ---- workloads
 
 
-def workload(*pieces):
-    return ["{:version 1 ", *pieces, "}"]
+def workload(*pieces, version=1):
+    return [f"{{:version {version} ", *pieces, "}"]
 
 
 KINDS = (("ref", "r", ""), ("atom", "x", ""), ("agent", "g", " ready"))
@@ -301,7 +301,7 @@ def values():
             ("vector of small ones", listed("[]", n), ["[", joined("[]", n), "]"], 64))
     for name, text, shown, times in rows:
         begin = "{:added 0, :agents [], :atoms [], :base-atoms [], :base-refs [["
-        end = " 0]], :commits 0, :dump 2, :entries [], :folded [0 0 0], :point 0, :refs [["
+        end = " 0]], :commits 0, :dump 3, :entries [], :folded [0 0 0], :point 0, :refs [["
         yield Case(f"a ref with a long {name}", workload(":refs [[a ", text, "]]"), {
             "run": printed("ref a ", shown, "\ncommits 0\naudit ok\n"),
             "run --dump": printed(begin, shown, end, shown, " nil]], :taken 0, :tally nil}\n"),
@@ -370,6 +370,9 @@ def too_many():
     for step in forms:
         end = "]" * (3 + step.count("["))
         yield Case(f"a long step {step}", workload(begin, step, " ", zeros, end), no_workload("BadStep 0 0"))
+    for step in (":send-carry g [inc]", ":send-carry g [inc", ":send-carry g [inc] [g inc", ":tx [:send-carry g [inc]"):
+        end = "]" * (3 + step.count("[") - step.count("]"))
+        yield Case(f"a long step {step}", workload(begin, step, " ", zeros, end, version=2), no_workload("BadStep 0 0"))
     yield Case("millions of other keys", workload(entries(number, fitting("1000000 0 ", 100))), no_workload("NotWorkload"))
     yield Case("the greatest pool", workload(":pool 9223372036854775807"), no_workload("TooMany"))
     sends = repeat("[:send g inc]", 257)
@@ -416,6 +419,13 @@ def steps():
     )
     for declared, step, line in others:
         yield Case(f"steps {step} of {declared}", workload(declared, in_all(step, count)), {
+            RUN: printed(line, "commits 0\naudit ok\n")}, 64)
+    carried = (
+        (":agents [[g 0][h 0]]", "[:send-carry g[inc][h inc]]", f"agent g {n} ready\nagent h {n} ready\n"),
+        (":agents [[g :k :continue][h 0]]", "[:send-carry g[inc][h inc]]", "agent g :k ready\nagent h 0 ready\n"),
+    )
+    for declared, step, line in carried:
+        yield Case(f"steps {step} of {declared}", workload(declared, in_all(step, count), version=2), {
             RUN: printed(line, "commits 0\naudit ok\n")}, 64)
     none = (
         (":refs [[a 0]]", "[:tx[:require a = 1]]", "ref a 0\n", "not-met"),
@@ -502,6 +512,8 @@ EMPTY = {
     "added": "0", "agents": "[]", "atoms": "[]", "base_atoms": "[]", "base_refs": "[]", "commits": "0", "dump": "1",
     "entries": "[]", "folded": "[0 0]", "point": "0", "refs": "[]", "tally": "nil",
 }  # fmt: skip
+# What version 3 has instead.
+VERSION_3 = {"dump": "3", "folded": "[0 0 0]", "taken": "0"}
 ONE_REF = {"base_refs": "[[0 0]]", "refs": "[[0 nil]]"}
 ONE_ATOM = {"base_atoms": "[0]", "atoms": "[[0 nil]]"}
 # What stands around the parts of a dump, at most.
@@ -584,6 +596,13 @@ def agents_of_dumps():
     count = fitting("[inc[]:done]", AROUND)
     agent = ["[[0", listed("[inc[]:done]", count), f"[]{count - 1} :ready nil]]"]
     yield Case("an action too many", dump(agents=agent), verdict("no agent 0 fold"), 64)
+    for action, by in (("[inc[][]:done]", 1), ("[inc[][[0 inc[]]]:done]", 1), ("[inc[][" + "[9 inc[]]" * 8 + "]:passed]", 0)):
+        count = fitting(action, AROUND)
+        agent = ["[[0", listed(action, count), f"[]{by * count} :ready nil]]"]
+        yield Case(f"{count:,} actions {action}", dump(agents=agent, **VERSION_3), verdict("ok"), 64)
+    nine = "[inc[][" + "[9 inc[]]" * 9 + "]]"
+    queue = ["[[0[][", repeat("[inc[][]]", fitting("[inc[][]]", AROUND)), nine, "]0 :ready nil]]"]
+    yield Case("nine carried sends at the end", dump(agents=queue, **VERSION_3), {"audit": refused("BadPart :agents")}, 64)
     count = fitting("[0[][]0 :ready nil]", AROUND)
     yield Case(f"{count:,} agents", dump(agents=listed("[0[][]0 :ready nil]", count)), verdict("ok"), 64)
 

@@ -44,12 +44,13 @@ def refused(status, words):
 # ---- texts and tables in files
 
 
-# The dump of a world without references and entries, key by key, in version 1, and what version 2 has instead.
+# The dump of a world without references and entries, key by key, in version 1, and what versions 2 and 3 have instead.
 EMPTY_DUMP = {
     ":added": "0", ":agents": "[]", ":atoms": "[]", ":base-atoms": "[]", ":base-refs": "[]", ":commits": "0", ":dump": "1",
     ":entries": "[]", ":folded": "[0 0]", ":point": "0", ":refs": "[]", ":tally": "nil",
 }  # fmt: skip
 VERSION_2 = {":dump": "2", ":folded": "[0 0 0]", ":taken": "0"}
+VERSION_3 = {**VERSION_2, ":dump": "3"}
 
 
 def dump_of(keys, version={}):
@@ -59,11 +60,13 @@ def dump_of(keys, version={}):
 
 
 def text_of(head):
-    """The text of a row: behind `<<`, with escapes behind `<<\\`, or as the keys of a dump behind `<<+`, or `<<2` in version 2."""
+    """The text of a row: behind `<<`, with escapes behind `<<\\`, or as the keys of a dump behind `<<+`, or `<<2` and `<<3` in versions 2 and 3."""
     if head.startswith("<<+"):
         return dump_of(head[4:])
     if head.startswith("<<2"):
         return dump_of(head[4:], VERSION_2)
+    if head.startswith("<<3"):
+        return dump_of(head[4:], VERSION_3)
     if not head.startswith("<<\\"):
         return head[3:].encode()
     escapes = {"n": b"\n", "\\": b"\\"}

@@ -28,7 +28,9 @@
               #(transaction tries (run! deref refs) (alter r + 1)))
     "one-atom" (let [a (atoms 0)] #(swap! a + 1))
     "own-atoms" (let [a (atoms (own dice threads worker (count atoms)))] #(swap! a + 1))
-    "agents" (let [g (agents (any dice (count agents)))] #(send g + 1))))
+    "agents" (let [g (agents (any dice (count agents)))] #(send g + 1))
+    "chains" (let [i (any dice (count agents)), g (agents i), next (agents (mod (inc i) (count agents)))]
+               #(send g (fn [v] (send next + 1) (+ v 1))))))
 
 (def sizes {"own-refs" 64, "own-4096" 4096, "transfers-64" 64, "transfers-1000" 1000, "transfers-4096" 4096, "reads" 100})
 
@@ -45,7 +47,8 @@
   (doseq [^longs t tries] (aset t 0 0))
   (let [start (System/nanoTime)]
     (.invokeAll pool ^java.util.Collection workers)
-    (when agents (apply await agents))
+    ;; an action may have sent on to an agent that was awaited before
+    (when agents (apply await agents) (apply await agents))
     [(- (System/nanoTime) start) (reduce + (map #(aget ^longs % 0) tries))]))
 
 ;; The warm-up is at least of so many rounds: where others keep the processors busy, its seconds alone may be too few.
@@ -56,7 +59,7 @@
 (let [[shape & numbers] *command-line-args*
       [threads each millis warm-up] (map #(Long/parseLong %) numbers)
       world (world shape)
-      agents (when (= shape "agents") (:agents world))
+      agents (when (#{"agents" "chains"} shape) (:agents world))
       tries (vec (repeatedly threads #(long-array 32)))
       workers (vec (for [worker (range threads)]
                      (let [dice (SplittableRandom. worker)

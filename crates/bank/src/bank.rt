@@ -5,7 +5,7 @@ ghost use Rattle.ref_world.specs.Shares.{IsBlank};
 use ref_agents::{ErrorMode, FinishFault, Job};
 use ref_edn::{Value, read_one};
 use ref_fun::codes::{AT_LEAST, CONJ, INC, MINUS, PLUS};
-use ref_fun::{Args, Core, FunTable, Rule};
+use ref_fun::{Action, Args, Core, FunTable, Rule};
 use ref_log::{Stamp, Who};
 use ref_refs::CommitFault;
 use ref_tx::{Tx, TxFault};
@@ -150,7 +150,7 @@ impl<'a, C: Ledger, A: Ledger, K: Ledger> Bank<'a, C, A, K> {
         let mut tx = self.world.begin(alloc)?;
         tx.alter(alloc, funs, from, MINUS, args(alloc, &sum)?)?;
         tx.alter(alloc, funs, to, PLUS, args(alloc, &sum)?)?;
-        tx.send(alloc, funs, JOURNAL, CONJ, args(alloc, &sum)?)?;
+        tx.send(alloc, funs, JOURNAL, Action::new(CONJ, args(alloc, &sum)?))?;
         Ok(tx)
     }
 

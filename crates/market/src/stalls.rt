@@ -4,7 +4,7 @@ use crate::board::Board;
 use crate::values::{args, no_args, value};
 use ref_agents::ErrorMode;
 use ref_fun::codes::{AT_LEAST, CONJ, INC, MINUS, PLUS};
-use ref_fun::{Core, Functions, Rule};
+use ref_fun::{Action, Core, Functions, Rule};
 use ref_log::{Stamp, Who};
 use ref_refs::CommitFault;
 use ref_shared::{Open, Shared, TransactFault, WatchSink};
@@ -226,8 +226,18 @@ impl<'a, F: Functions<Core>, C: Ledger, A: Ledger, K: Ledger> Market<'a, F, C, A
         }
         tx.alter(alloc, funs, good.stock(), MINUS, args(alloc, "1")?)?;
         tx.commute(alloc, funs, TAKINGS, PLUS, args(alloc, good.price())?)?;
-        tx.send(alloc, funs, JOURNAL, CONJ, args(alloc, good.name())?)?;
-        tx.send(alloc, funs, TILL, PLUS, args(alloc, good.price())?)?;
+        tx.send(
+            alloc,
+            funs,
+            JOURNAL,
+            Action::new(CONJ, args(alloc, good.name())?),
+        )?;
+        tx.send(
+            alloc,
+            funs,
+            TILL,
+            Action::new(PLUS, args(alloc, good.price())?),
+        )?;
         Ok(())
     }
 

@@ -10,7 +10,7 @@ use Rattle.ref_fun.specs.declared.rules.Rule.{Rule}
 use Rattle.ref_log.specs.Guards.{AreAccepted, with_guard}
 use Rattle.ref_log.specs.declared.guards.Guard.{Guard}
 use Rattle.ref_agents.specs.Account.{AccountSeen, after_handled, and_handled, fit_marks, has_head, has_point, is_failed_mark, kept_queue, restarted}
-use Rattle.ref_agents.specs.Agents.{AgentsSeen, AreAgents, AreWaiting, IsAgent, IsAgentIfHere, IsStore, has_queue_if_here, values_of}
+use Rattle.ref_agents.specs.Agents.{AgentsSeen, AreAgents, AreWaiting, IsAgent, IsAgentIfHere, IsStore, change_agent, has_queue_if_here, put_agent, values_of}
 use Rattle.ref_agents.specs.declared.accounts.Handled.{Handled}
 use Rattle.ref_agents.specs.declared.accounts.Queued.{Queued}
 use Rattle.ref_agents.specs.declared.agents.Agent.{Agent}
@@ -113,6 +113,24 @@ pub kept : (means : Means) (accepts : Accepts) (agents : List Agent) (guards : L
 kept means accepts agents guards waiting g x y is ok same waits store =
     set_agent means accepts agents guards waiting g y ok (subst (AreAccepted accepts guards) (sym (values_same agents g x y is same)) store.2) waits store
 
+-- What an agent that is changed has in common with the one from before: each other agent is as it was.
+pub relate_set : (R : Option Agent → Option Agent → Type 0) (x y : Agent) → ((o : Option Agent) → R o o) → R (Some x) (Some y)
+    → (agents : List Agent) (h g : ℕ) → slice_get agents h ≡ Some x → R (slice_get agents g) (slice_get (slice_set agents h y) g)
+relate_set R x y same here [] h g is = cc
+relate_set R x y same here (a ∷ agents) zero zero is = subst (λ o. R o (Some y)) (sym is) here
+relate_set R x y same here (a ∷ agents) zero (suc g) is = same (slice_get agents g)
+relate_set R x y same here (a ∷ agents) (suc h) zero is = same (Some a)
+relate_set R x y same here (a ∷ agents) (suc h) (suc g) is = relate_set R x y same here agents h g is
+
+relate_put : (R : Option Agent → Option Agent → Type 0) (f : Agent → Agent) → ((o : Option Agent) → R o o) → ((x : Agent) → R (Some x) (Some (f x)))
+    → (agents : List Agent) (h g : ℕ) (o : Option Agent) → slice_get agents h ≡ o → R (slice_get agents g) (slice_get (put_agent agents h f o) g)
+relate_put R f same here agents h g None is = same (slice_get agents g)
+relate_put R f same here agents h g (Some x) is = relate_set R x (f x) same (here x) agents h g is
+
+pub relate_change : (R : Option Agent → Option Agent → Type 0) (f : Agent → Agent) → ((o : Option Agent) → R o o) → ((x : Agent) → R (Some x) (Some (f x)))
+    → (agents : List Agent) (h g : ℕ) → R (slice_get agents g) (slice_get (change_agent agents h f) g)
+relate_change R f same here agents h g = relate_put R f same here agents h g (slice_get agents h) refl
+
 -- one more agent, which no action waits for
 values_more : (agents : List Agent) (y : Agent) → values_of (agents ++ y ∷ []) ≡ values_of agents ++ y.value ∷ []
 values_more [] y = refl
@@ -139,11 +157,12 @@ and_false true b is = is
 and_false false b is = refl
 
 -- one that was restarted
-pub restarted_agent : (means : Means) (account : AccountSeen) (y : Agent) (state : Edn) (clear : Bool) → y.account ≡ restarted account state clear → y.value ≡ state → y.error ≡ None → IsAgent means y
-restarted_agent means account y state clear is value error = record {
+pub restarted_agent : (means : Means) (account : AccountSeen) (y : Agent) (state : Edn) (clear : Bool) → y.account ≡ restarted account state clear → y.value ≡ state → y.error ≡ None → (y.is_out && y.is_carrying) ≡ false → IsAgent means y
+restarted_agent means account y state clear is value error idle = record {
   folded = rw (is, value) refl;
   marked = rw (is, error) refl;
   single = and_false y.is_out (is_some y.error) (ap is_some error);
+  idle = idle;
 }
 
 pub head_kept : (clear : Bool) (queue : List Queued) → has_head (kept_queue clear queue) ≡ true → has_head queue ≡ true

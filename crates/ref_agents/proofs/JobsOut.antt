@@ -67,6 +67,11 @@ then_is false o job is = cc
 pub head_out : (agents : List Agent) (g : ℕ) (job : JobSeen) (x : Agent) → slice_get agents g ≡ Some x → job_out agents g ≡ Some job → head_job g x x.account.queue ≡ Some job
 head_out agents g job x is out = then_is x.is_out (head_job g x x.account.queue) job (sym (ap (λ o. out_if_here g o) is) ∙ out)
 
+-- and what its last action carried is released
+pub out_idle : (means : Means) (agents : List Agent) (g : ℕ) (job : JobSeen) (x : Agent) → AreAgents means agents → job_out agents g ≡ Some job → slice_get agents g ≡ Some x → x.is_carrying ≡ false
+out_idle means agents g job x are out is =
+    no_error x.is_out x.is_carrying ((agent_at means agents g x are is).idle) (flag_out agents g job x is out)
+
 -- an agent of which a job is on its way isn't failed
 pub out_fine : (means : Means) (agents : List Agent) (g : ℕ) (job : JobSeen) (x : Agent) → AreAgents means agents → job_out agents g ≡ Some job → slice_get agents g ≡ Some x → is_some x.error ≡ false
 out_fine means agents g job x are out is =
@@ -80,7 +85,7 @@ released_head unreleased (q ∷ qs) has = refl
 
 ready_queue : (unreleased : List ℕ) (o : Option Agent) → is_ready_if_here unreleased o ≡ true → has_queue_if_here o ≡ true
 ready_queue unreleased None ready = ready
-ready_queue unreleased (Some x) ready = released_head unreleased x.account.queue (second (not (is_some x.error) && not x.is_out) (has_released unreleased x.account.queue) ready)
+ready_queue unreleased (Some x) ready = released_head unreleased x.account.queue (second (not (is_some x.error) && not x.is_out && not x.is_carrying) (has_released unreleased x.account.queue) ready)
 
 -- each agent that is ready is among those that are looked at
 pub ready_waits : (store : AgentsSeen) (waiting : List ℕ) → AreWaiting store.agents waiting → (g : ℕ) → is_ready_at store g ≡ true → has_point waiting g ≡ true

@@ -2,3 +2,4 @@ pub mod Changed
 pub mod JobsOut
 pub mod Ended
 pub mod SentBack
+pub mod Released

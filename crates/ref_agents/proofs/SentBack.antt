@@ -3,9 +3,10 @@ use Rattle.std.proofs.Common.{◌≡◌, ◌∙◌, ℕ, ◌<◌, ◌-◌, ◌+�
 use Rattle.std.specs.Result.{is_err}
 use Rattle.std.proofs.Math.Seq.{drop-cons, take-append_seam, take-suc}
 use Rattle.std.proofs.lemmas.List.{length-append}
-use Rattle.ref_log.specs.declared.sends.Sent.{Sent}
+use Rattle.ref_fun.specs.declared.actions.Action.{Action}
+use Rattle.ref_agents.specs.declared.accounts.SentBy.{SentBy}
 use Rattle.ref_agents.specs.Account.{AccountSeen, with_queued, without_last}
-use Rattle.ref_agents.specs.Agents.{put_agent, queued_of, queuing, unqueuing, with_send, with_sends, without_send, without_sends}
+use Rattle.ref_agents.specs.Agents.{put_agent, queuing, unqueuing, with_each, with_send, without_each, without_send}
 use Rattle.ref_agents.specs.declared.accounts.Queued.{Queued}
 use Rattle.ref_agents.specs.declared.agents.Agent.{Agent}
 use Rattle.ref_agents.proofs.Changed.{same_set}
@@ -44,36 +45,39 @@ send_undone agents g q (Some x) is =
     ∙ ap (λ z. slice_set agents g z) (un-queuing x q)
     ∙ same_set agents g x is
 
--- ---- the sends of a commit
+-- ---- one more action for each of a list
 
-pub sends_undone : (point : ℕ) (ss : List Sent) (agents : List Agent) → without_sends ss (with_sends point ss agents) ≡ agents
-sends_undone point [] agents = refl
-sends_undone point (s ∷ ss) agents =
-    let q : Queued = queued_of point s in
-    ap (λ l. without_send l s.agent) (sends_undone point ss (with_send agents s.agent q)) ∙ send_undone agents s.agent q (slice_get agents s.agent) refl
+module _ {X : Type 0} (to : X → ℕ) (of : X → Action) (by : SentBy) where
+  abbrev pub one : X → Queued
+  one x = record { action = of x; by = by }
 
-sends_more : (point : ℕ) (ss : List Sent) (s : Sent) (agents : List Agent) → with_sends point (ss ++ s ∷ []) agents ≡ with_send (with_sends point ss agents) s.agent (queued_of point s)
-sends_more point [] s agents = refl
-sends_more point (x ∷ ss) s agents = sends_more point ss s (with_send agents x.agent (queued_of point x))
+  pub each_undone : (xs : List X) (agents : List Agent) → without_each to xs (with_each to of by xs agents) ≡ agents
+  each_undone [] agents = refl
+  each_undone (x ∷ xs) agents =
+      ap (λ l. without_send l (to x)) (each_undone xs (with_send agents (to x) (one x))) ∙ send_undone agents (to x) (one x) (slice_get agents (to x)) refl
 
--- with one more of a list
-pub sends_next : (point : ℕ) (ss : List Sent) (i : ℕ) (s : Sent) (agents : List Agent) → i < length ss → s ≡ get_or ss i s
-    → with_sends point (take (i + 1) ss) agents ≡ with_send (with_sends point (take i ss) agents) s.agent (queued_of point s)
-sends_next point ss i s agents here is =
-    let n : i + 1 ≡ suc i = omega arith in
-    ap (λ k. with_sends point (take k ss) agents) n
-    ∙ ap (λ l. with_sends point l agents) (take-suc ss i s here)
-    ∙ ap (λ x. with_sends point (take i ss ++ x ∷ []) agents) (sym is)
-    ∙ sends_more point (take i ss) s agents
+  each_more : (xs : List X) (x : X) (agents : List Agent) → with_each to of by (xs ++ x ∷ []) agents ≡ with_send (with_each to of by xs agents) (to x) (one x)
+  each_more [] x agents = refl
+  each_more (y ∷ xs) x agents = each_more xs x (with_send agents (to y) (one y))
+
+  -- with one more of a list
+  pub each_next : (xs : List X) (i : ℕ) (x : X) (agents : List Agent) → i < length xs → x ≡ get_or xs i x
+      → with_each to of by (take (i + 1) xs) agents ≡ with_send (with_each to of by (take i xs) agents) (to x) (one x)
+  each_next xs i x agents here is =
+      let n : i + 1 ≡ suc i = omega arith in
+      ap (λ k. with_each to of by (take k xs) agents) n
+      ∙ ap (λ l. with_each to of by l agents) (take-suc xs i x here)
+      ∙ ap (λ y. with_each to of by (take i xs ++ y ∷ []) agents) (sym is)
+      ∙ each_more (take i xs) x agents
 
 -- without one more of a list, the last first
-pub without_next : (ss : List Sent) (left : ℕ) (s : Sent) (agents : List Agent) → 0 < left → left - 1 < length ss → s ≡ get_or ss (left - 1) s
-    → without_sends (drop (left - 1) ss) agents ≡ without_send (without_sends (drop left ss) agents) s.agent
-without_next ss left s agents some here is =
+pub without_next : {X : Type 0} (to : X → ℕ) (xs : List X) (left : ℕ) (x : X) (agents : List Agent) → 0 < left → left - 1 < length xs → x ≡ get_or xs (left - 1) x
+    → without_each to (drop (left - 1) xs) agents ≡ without_send (without_each to (drop left xs) agents) (to x)
+without_next to xs left x agents some here is =
     let n : suc (left - 1) ≡ left = omega (arith, some) in
-    ap (λ l. without_sends l agents) (drop-cons ss (left - 1) s here)
-    ∙ ap (λ x. without_sends (x ∷ drop (suc (left - 1)) ss) agents) (sym is)
-    ∙ ap (λ k. without_sends (s ∷ drop k ss) agents) n
+    ap (λ l. without_each to l agents) (drop-cons xs (left - 1) x here)
+    ∙ ap (λ y. without_each to (y ∷ drop (suc (left - 1)) xs) agents) (sym is)
+    ∙ ap (λ k. without_each to (x ∷ drop k xs) agents) n
 
 pub on_ok : {T E : Type 0} (r : Result T E) (P : Type 0) → OnOk r P → is_err r ≡ false → P
 on_ok (Ok x) P holds is = holds

@@ -2,12 +2,13 @@
 --
 -- Clojure's page on agents: actions are queued, and at most one of an agent runs at a time; where one fails the agent holds
 -- its state, and takes no more or goes on, by its error mode.
-use Rattle.std.specs.Prelude.{ℕ, ◌-◌, length, take, Bool, true, false, not, ◌&&◌, List, [], ◌∷◌, ◌++◌, Result, Ok, Err}
+use Rattle.std.specs.Prelude.{ℕ, ◌==◌, ◌-◌, length, map, take, Bool, true, false, not, ◌&&◌, if◌then◌else◌, List, [], ◌∷◌, ◌++◌, Result, Ok, Err}
 use Rattle.std.specs.BTreeMap.{is_at}
 use Rattle.std.specs.List.{list_any}
 use Rattle.std.specs.Ordering.{nat_cmp}
 use Rattle.ref_value.specs.Edn.{Edn}
 use Rattle.ref_fun.specs.declared.actions.Action.{Action}
+use Rattle.ref_fun.specs.declared.carries.Carry.{Carry}
 use Rattle.ref_fun.specs.declared.faults.Cause.{Cause}
 use Rattle.ref_fun.specs.Meaning.{Means}
 use Rattle.ref_agents.specs.declared.accounts.Handled.{Handled}
@@ -15,7 +16,7 @@ use Rattle.ref_agents.specs.declared.accounts.Mark.{Mark}
 use Rattle.ref_agents.specs.declared.accounts.Mark.TheVariants.{Done, Failed, Passed}
 use Rattle.ref_agents.specs.declared.accounts.Queued.{Queued}
 use Rattle.ref_agents.specs.declared.accounts.SentBy.{SentBy}
-use Rattle.ref_agents.specs.declared.accounts.SentBy.TheVariants.{Outside, Commit}
+use Rattle.ref_agents.specs.declared.accounts.SentBy.TheVariants.{Outside, Commit, Carried}
 
 pub record AccountSeen : Type 0 where
   -- the state at the last restart, or at the making
@@ -66,9 +67,11 @@ abbrev pub has_point : List ℕ → ℕ → Bool
 has_point points point = list_any (is_at (nat_cmp point)) points
 
 -- Whether an action may be taken: it was sent outside of a transaction, or the commit that sent it is released.
+-- What an action carried isn't released as long as it says so.
 abbrev pub is_released_by : List ℕ → SentBy → Bool
 is_released_by unreleased Outside = true
 is_released_by unreleased (Commit point) = not (has_point unreleased point)
+is_released_by unreleased (Carried g) = false
 
 abbrev pub is_released : List ℕ → Queued → Bool
 is_released unreleased queued = is_released_by unreleased queued.by
@@ -97,6 +100,38 @@ abbrev pub with_head_ended : AccountSeen → Mark → List Queued → AccountSee
 with_head_ended account mark [] = account
 with_head_ended account mark (q ∷ qs) =
     record account { handled = account.handled ++ record { action = q.action; mark = mark } ∷ []; queue = qs }
+
+-- what the last of these actions carried
+abbrev pub last_carries : List Handled → List Carry
+last_carries [] = []
+last_carries (h ∷ []) = h.action.carries
+last_carries (h ∷ next ∷ hs) = last_carries (next ∷ hs)
+
+-- what an action of g carried, once it is released, is as if it was sent from outside
+abbrev pub released_by : ℕ → SentBy → SentBy
+released_by g Outside = Outside
+released_by g (Commit point) = Commit point
+released_by g (Carried by) = if by == g then Outside else Carried by
+
+abbrev pub released : ℕ → Queued → Queued
+released g queued = record queued { by = released_by g queued.by }
+
+abbrev pub is_carried_by : ℕ → SentBy → Bool
+is_carried_by g Outside = false
+is_carried_by g (Commit point) = false
+is_carried_by g (Carried by) = by == g
+
+-- whether one of these was carried by an action of g, and isn't released
+abbrev pub has_carried : ℕ → List Queued → Bool
+has_carried g queue = list_any (λ q. is_carried_by g q.by) queue
+
+-- the last of them is released
+abbrev pub last_released : ℕ → List Queued → List Queued
+last_released g [] = []
+last_released g (q ∷ qs) = if has_carried g qs then q ∷ last_released g qs else released g q ∷ qs
+
+abbrev pub with_released : ℕ → AccountSeen → AccountSeen
+with_released g account = record account { queue = last_released g account.queue }
 
 -- after its first action ended with a mark: it moved to the end of the handled ones
 abbrev pub with_ended : AccountSeen → Mark → AccountSeen

@@ -1,21 +1,25 @@
 -- What a store of agents shows, and what is always so in it.
 use Rattle.std.specs.Prelude.{◌≡◌, ◌≤◌, ◌^◌, ◌&&◌, ◌∷◌, ℕ, [], Bool, true, false, not, if◌then◌else◌, List, length, map, Option, None, Some, Ok, is_some, slice_get, slice_set}
 use Rattle.std.specs.BTreeMap.{is_at}
+use Rattle.std.specs.Option.{option_map, option_or}
 use Rattle.std.specs.BTreeSet.{insert_key}
 use Rattle.std.specs.Set.{remove_key}
 use Rattle.std.specs.Ordering.{nat_cmp}
 use Rattle.ref_value.specs.Edn.{Edn}
+use Rattle.ref_fun.specs.Actions.{absent_agent}
 use Rattle.ref_fun.specs.Meaning.{Means}
 use Rattle.ref_fun.specs.Rule.{Accepts}
 use Rattle.ref_fun.specs.declared.actions.Action.{Action}
+use Rattle.ref_fun.specs.declared.carries.Carry.{Carry}
 use Rattle.ref_log.specs.Guards.{AreAccepted}
 use Rattle.ref_log.specs.declared.guards.Guard.{Guard}
 use Rattle.ref_log.specs.declared.sends.Sent.{Sent}
-use Rattle.ref_agents.specs.Account.{AccountSeen, fit_marks, fold_of, has_head, has_point, has_released, restarted, with_ended, with_queued, without_last}
+use Rattle.ref_agents.specs.Account.{AccountSeen, fit_marks, fold_of, has_head, has_point, has_released, last_carries, restarted, with_ended, with_queued, with_released, without_last}
 use Rattle.ref_agents.specs.Jobs.{JobSeen}
 use Rattle.ref_agents.specs.declared.accounts.Mark.{Mark}
 use Rattle.ref_agents.specs.declared.accounts.Queued.{Queued}
-use Rattle.ref_agents.specs.declared.accounts.SentBy.TheVariants.{Commit, Outside}
+use Rattle.ref_agents.specs.declared.accounts.SentBy.{SentBy}
+use Rattle.ref_agents.specs.declared.accounts.SentBy.TheVariants.{Carried, Commit, Outside}
 use Rattle.ref_agents.specs.declared.agents.Agent.{Agent}
 use Rattle.ref_agents.specs.declared.agents.ErrorMode.{ErrorMode}
 use Rattle.ref_agents.specs.declared.faults.AgentError.{AgentError}
@@ -31,11 +35,13 @@ pub record AgentsSeen : Type 0 where
 -- ---- what is always so
 
 -- Of an agent: its state is its start folded over its done actions; it is failed exactly where a handled action is marked
--- failed, and that one is the last; and while it is failed no action of it is on its way.
+-- failed, and that one is the last; and while it is failed, or what its last action carried isn't released, no action of it is on
+-- its way.
 pub record IsAgent (means : Means) (agent : Agent) : Type 0 where
   pub folded : fold_of means agent.account ≡ Ok agent.value
   pub marked : fit_marks (is_some agent.error) agent.account.handled ≡ true
   pub single : (agent.is_out && is_some agent.error) ≡ false
+  pub idle : (agent.is_out && agent.is_carrying) ≡ false
 
 abbrev pub IsAgentIfHere : Means → Option Agent → Type 0
 IsAgentIfHere means None = Unit {0}
@@ -86,10 +92,10 @@ account_at agents g = account_if_here (slice_get agents g)
 
 -- ---- jobs
 
--- Whether an action of an agent may be taken: it isn't failed, none of its actions is on its way, and its first action that
--- waits is released.
+-- Whether an action of an agent may be taken: it isn't failed, none of its actions is on its way, what its last action carried is
+-- released, and so is its first action that waits.
 abbrev pub is_ready : List ℕ → Agent → Bool
-is_ready unreleased agent = not (is_some agent.error) && not agent.is_out && has_released unreleased agent.account.queue
+is_ready unreleased agent = not (is_some agent.error) && not agent.is_out && not agent.is_carrying && has_released unreleased agent.account.queue
 
 abbrev pub is_ready_if_here : List ℕ → Option Agent → Bool
 is_ready_if_here unreleased None = false
@@ -149,14 +155,22 @@ with_send agents g queued = change_agent agents g (queuing queued)
 abbrev pub outside : Action → Queued
 outside action = record { action = action; by = Outside }
 
--- what a send of the commit at a point adds
-abbrev pub queued_of : ℕ → Sent → Queued
-queued_of point s = record { action = s.action; by = Commit point }
+-- With one more action for each of these, in order: `to` says for which agent, and `of` which action.
+abbrev pub with_each : {X : Type 0} → (X → ℕ) → (X → Action) → SentBy → List X → List Agent → List Agent
+with_each to of by [] agents = agents
+with_each to of by (x ∷ xs) agents = with_each to of by xs (with_send agents (to x) (record { action = of x; by = by }))
 
 -- with the sends of the commit at a point, in order
 abbrev pub with_sends : ℕ → List Sent → List Agent → List Agent
-with_sends point [] agents = agents
-with_sends point (s ∷ ss) agents = with_sends point ss (with_send agents s.agent (queued_of point s))
+with_sends point ss agents = with_each (λ s. s.agent) (λ s. s.action) (Commit point) ss agents
+
+-- what a send that is carried adds: it carries nothing
+abbrev pub carried : Carry → Action
+carried c = record { code = c.code; args = c.args; carries = [] }
+
+-- with what an action of g carries, in order
+abbrev pub with_carries : ℕ → List Carry → List Agent → List Agent
+with_carries g cs agents = with_each (λ c. c.g) carried (Carried g) cs agents
 
 -- without the last action that waits for an agent
 abbrev pub unqueuing : Agent → Agent
@@ -165,10 +179,10 @@ unqueuing agent = record agent { account = without_last agent.account }
 abbrev pub without_send : List Agent → ℕ → List Agent
 without_send agents g = change_agent agents g unqueuing
 
--- without what these sends added, the last first
-abbrev pub without_sends : List Sent → List Agent → List Agent
-without_sends [] agents = agents
-without_sends (s ∷ ss) agents = without_send (without_sends ss agents) s.agent
+-- without what these added, the last first
+abbrev pub without_each : {X : Type 0} → (X → ℕ) → List X → List Agent → List Agent
+without_each to [] agents = agents
+without_each to (x ∷ xs) agents = without_send (without_each to xs agents) (to x)
 
 -- The points of the commits whose sends may not be taken yet, with one more where it has sends.
 abbrev pub with_unreleased : ℕ → List Sent → List ℕ → List ℕ
@@ -183,6 +197,41 @@ with_commit store point sends =
 -- after the release of a commit
 abbrev pub with_release : AgentsSeen → ℕ → AgentsSeen
 with_release store point = record store { unreleased = remove_key (is_at (nat_cmp point)) store.unreleased }
+
+-- Where what an agent's last action carried isn't released.
+abbrev pub is_carrying_if_here : Option Agent → Bool
+is_carrying_if_here None = false
+is_carrying_if_here (Some agent) = agent.is_carrying
+
+abbrev pub is_carrying_at : List Agent → ℕ → Bool
+is_carrying_at agents g = is_carrying_if_here (slice_get agents g)
+
+-- what an action of g carried to an agent is released
+abbrev pub releasing : ℕ → Agent → Agent
+releasing g agent = record agent { account = with_released g agent.account }
+
+-- and to these agents
+abbrev pub with_each_released : ℕ → List Carry → List Agent → List Agent
+with_each_released g [] agents = agents
+with_each_released g (c ∷ cs) agents = with_each_released g cs (change_agent agents c.g (releasing g))
+
+abbrev pub carrying : Bool → Agent → Agent
+carrying is_carrying agent = record agent { is_carrying = is_carrying }
+
+-- what the last handled action of an agent carried
+abbrev pub carries_if_here : Option Agent → List Carry
+carries_if_here None = []
+carries_if_here (Some agent) = last_carries agent.account.handled
+
+abbrev pub carries_at : List Agent → ℕ → List Carry
+carries_at agents g = carries_if_here (slice_get agents g)
+
+-- after the release of what the last action of an agent carried, which may be taken then as if it was sent from outside
+abbrev pub with_carried_released : AgentsSeen → ℕ → AgentsSeen
+with_carried_released store g =
+    if is_carrying_at store.agents g
+    then with_agents store (change_agent (with_each_released g (carries_at store.agents g) store.agents) g (carrying false))
+    else store
 
 -- with its first action on its way, or not any more
 abbrev pub outed : Bool → Agent → Agent
@@ -208,5 +257,7 @@ abbrev pub send_refusal_if_here : Option Agent → Option SendFault
 send_refusal_if_here None = Some sends.NoSuchAgent
 send_refusal_if_here (Some agent) = if is_some agent.error then Some sends.Failed else None
 
-abbrev pub send_refusal : List Agent → ℕ → Option SendFault
-send_refusal agents g = send_refusal_if_here (slice_get agents g)
+-- The first fault of sending an action to an agent: all agents that get something are here, and that one isn't failed.
+abbrev pub send_refusal : List Agent → ℕ → Action → Option SendFault
+send_refusal agents g action =
+    option_or (option_map (λ h. sends.NoSuchAgent) (absent_agent (length agents) g action)) (send_refusal_if_here (slice_get agents g))

@@ -3,17 +3,18 @@
 -- Clojure's page on agents: the value of the action becomes the agent's state, where the validator accepts it. Else, in the
 -- mode `:fail`, the agent is failed and its state stays until `restart-agent`; in the mode `:continue` it is as if neither
 -- action nor error had been.
-use Rattle.std.specs.Prelude.{◌≡◌, ℕ, Bool, not, if◌then◌else◌, is_some, List, Option, None, Some, Result, Ok, Err, slice_get, slice_set}
+use Rattle.std.specs.Prelude.{◌≡◌, ℕ, Bool, true, false, not, if◌then◌else◌, is_some, List, [], ◌∷◌, Option, None, Some, Result, Ok, Err, slice_get, slice_set}
 use Rattle.std.specs.Option.{option_map, option_or}
 use Rattle.ref_value.specs.Edn.{Edn}
 use Rattle.ref_fun.specs.Rule.{Accepts, passes, unknown}
+use Rattle.ref_fun.specs.declared.carries.Carry.{Carry}
 use Rattle.ref_fun.specs.declared.faults.Cause.{Cause}
 use Rattle.ref_fun.specs.declared.rules.Rule.{Rule}
 use Rattle.ref_log.specs.Guards.{AreAccepted, keys_at, rule_at}
 use Rattle.ref_log.specs.Watches.{notices_of}
 use Rattle.ref_log.specs.declared.guards.Guard.{Guard}
 use Rattle.ref_log.specs.declared.notices.Who.TheVariants as who
-use Rattle.ref_agents.specs.Agents.{AgentsSeen, change_agent, ended, with_agents}
+use Rattle.ref_agents.specs.Agents.{AgentsSeen, carrying, change_agent, ended, with_agents, with_carries}
 use Rattle.ref_agents.specs.Jobs.{JobSeen, RanSeen}
 use Rattle.ref_agents.specs.declared.accounts.Mark.TheVariants as marks
 use Rattle.ref_agents.specs.declared.agents.Agent.{Agent}
@@ -39,19 +40,34 @@ CanHave accepts guards g (Ok v) =
     (values : List Edn) → AreAccepted accepts guards values → AreAccepted accepts guards (slice_set values g v)
 CanHave accepts guards g (Err error) = Unit {0}
 
--- the agent after that, by its mode
-abbrev pub after_end : ErrorMode → Result Edn AgentError → Agent → Agent
-after_end mode (Ok v) agent = ended marks.Done v None agent
-after_end Fail (Err error) agent = ended marks.Failed agent.value (Some error) agent
-after_end Continue (Err error) agent = ended marks.Passed agent.value None agent
+-- what goes out with it: all that the action carries where the state is a new one, and nothing else
+abbrev pub goes_out : Result Edn AgentError → List Carry → List Carry
+goes_out (Ok v) cs = cs
+goes_out (Err error) cs = []
 
-abbrev pub after_run : Accepts → Option Rule → Result Edn Cause → Agent → Agent
-after_run accepts rule outcome agent = after_end agent.mode (judged accepts rule outcome) agent
+abbrev pub has_carry : List Carry → Bool
+has_carry [] = false
+has_carry (c ∷ cs) = true
+
+-- The agent after that, by its mode, where its action carries these. They are held until they are released, and so long none of
+-- its actions is taken.
+abbrev pub after_end : ErrorMode → Result Edn AgentError → List Carry → Agent → Agent
+after_end mode (Ok v) cs agent = carrying (has_carry cs) (ended marks.Done v None agent)
+after_end Fail (Err error) cs agent = ended marks.Failed agent.value (Some error) agent
+after_end Continue (Err error) cs agent = ended marks.Passed agent.value None agent
+
+abbrev pub ending : Result Edn AgentError → List Carry → Agent → Agent
+ending judgement cs agent = after_end agent.mode judgement cs agent
+
+-- What the action carries stands at the ends of its queues, in order, if the state is a new one; and the action ended.
+abbrev pub with_end : AgentsSeen → ℕ → Result Edn AgentError → List Carry → AgentsSeen
+with_end store g judgement cs =
+    with_agents store (change_agent (with_carries g (goes_out judgement cs) store.agents) g (ending judgement cs))
 
 abbrev pub with_finish : Accepts → AgentsSeen → RanSeen → AgentsSeen
 with_finish accepts store ran =
     let g = ran.job.agent in
-    with_agents store (change_agent store.agents g (after_run accepts (rule_at store.guards g) ran.outcome))
+    with_end store g (judged accepts (rule_at store.guards g) ran.outcome) ran.job.action.carries
 
 -- What is answered: the notices of the agent's watches, whose keys these are, or the error. The agent had the mode, and the
 -- state before.

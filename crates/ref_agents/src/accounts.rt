@@ -2,9 +2,9 @@
 ghost use Rattle.std.specs.Prelude.{◌≡◌, [], length, OnErr, OnOk, slice_get, option_copied};
 ghost use Rattle.std.specs.Iterator.Runs.{YieldsRefsInOrder, YieldsRefsInReverse};
 ghost use Rattle.std.specs.VecDeque.Iter.{deque_iter_rest, deque_iter_steps, deque_iter_steps_back};
-ghost use Rattle.ref_agents.specs.Account.{restarted, with_ended, with_queued, without_last};
+ghost use Rattle.ref_agents.specs.Account.{is_carried_by, last_carries, released, restarted, with_ended, with_queued, with_released, without_last};
 
-use ref_fun::Action;
+use ref_fun::{Action, Carry};
 use ref_value::Value;
 use std::alloc::{AllocError, Global};
 use std::collections::VecDeque;
@@ -32,10 +32,12 @@ pub struct Handled {
 /// What an action was sent by.
 #[derive(Clone, Copy, Debug, Drop, PartialEq, Eq)]
 pub enum SentBy {
-    /// It was sent outside of a transaction.
+    /// It was sent outside of a transaction, or the action that carried it is released.
     Outside,
     /// The commit at this point sent it.
     Commit(u64),
+    /// The last action that this agent handled carried it, and isn't released.
+    Carried(u32),
 }
 
 /// An action that waits.
@@ -43,6 +45,22 @@ pub enum SentBy {
 pub struct Queued {
     pub action: Action,
     pub by: SentBy,
+}
+
+impl Queued {
+    // It may be taken, if an action of this agent carried it. Returns whether one did.
+    fn release(&mut self, g: u32) -> bool
+        ensures releases { self.new ≡ released g self.old }
+        ensures was { result ≡ is_carried_by g self.old.by }
+    {
+        match self.by {
+            SentBy::Carried(by) if by == g => {
+                self.by = SentBy::Outside;
+                true
+            }
+            _ => false,
+        }
+    }
 }
 
 /// What an agent was given to do: its start, the actions that ended since then, and those that wait. Contracts see lists.
@@ -140,6 +158,29 @@ impl Account {
             self.handled.push_reserved(Handled { action, mark });
         }
         Ok(())
+    }
+
+    // What the last action that ended carried.
+    pub(crate) fn carries(&self) -> &[Carry]
+        ensures { result.now ≡ last_carries self.now.handled }
+    {
+        match self.handled.as_slice() {
+            [.., last] => last.action.carries.as_slice(),
+            [] => &[],
+        }
+    }
+
+    // The last action that waits and that an action of this agent carried may be taken, if there is one. It is looked for from the end.
+    pub(crate) fn release(&mut self, g: u32)
+        ensures { self.new ≡ with_released g self.old }
+    {
+        let mut left = self.queue.len();
+        while left > 0 {
+            left -= 1;
+            if self.queue[left].release(g) {
+                return;
+            }
+        }
     }
 
     // Begins anew with this state, with an empty queue or with the same.

@@ -20,8 +20,8 @@ pub enum ErrorMode {
     Continue,
 }
 
-/// An agent: its state, its error mode, its error while it is failed, its account, and whether its first action that waits is
-/// on its way.
+/// An agent: its state, its error mode, its error while it is failed, its account, whether its first action that waits is on its
+/// way, and whether what its last handled action carried isn't released yet.
 #[derive(Drop)]
 pub struct Agent {
     pub value: Value,
@@ -29,6 +29,7 @@ pub struct Agent {
     pub error: Option<AgentError>,
     pub account: Account,
     pub is_out: bool,
+    pub is_carrying: bool,
 }
 
 /// Agents, numbered from 0, the rule and the watches of each, and the points of the commits whose sends may not be taken yet.
@@ -36,7 +37,7 @@ pub struct Agent {
 ///
 /// It is always so that each rule accepts the state of its agent; that the state is the start of the agent's account folded
 /// over its done actions; that an agent is failed exactly where its last handled action is marked failed; and that no action of
-/// a failed agent is on its way.
+/// a failed agent is on its way, nor of one whose last action carried sends that aren't released.
 #[derive(Drop)]
 pub struct AgentStore<M: Meaning> {
     pub(crate) agents: Vec<Agent>,

@@ -3,15 +3,15 @@ ghost use Rattle.ref_log.specs.Told.{TellsThenMemory};
 ghost use Rattle.std.specs.Prelude.{◌≡◌, ◌≢◌, None, Some, IfOk, IfErr, OnOk, OnErr};
 ghost use Rattle.ref_fun.specs.Rule.{unknown};
 ghost use Rattle.ref_log.specs.Guards.{keys_at, rule_at};
-ghost use Rattle.ref_agents.specs.Agents.{ended, job_out};
-ghost use Rattle.ref_agents.specs.Ends.{CanHave, IsAnswer, IsAnswerOf, after_end, judged, lacking, with_finish};
+ghost use Rattle.ref_agents.specs.Agents.{change_agent, ended, job_out, with_agents};
+ghost use Rattle.ref_agents.specs.Ends.{CanHave, IsAnswer, IsAnswerOf, after_end, ending, goes_out, judged, lacking, with_finish};
 ghost use Rattle.ref_agents.specs.declared.faults.FinishFault.TheVariants.{Foreign, Memory};
 
-use crate::accounts::Mark;
+use crate::accounts::{Mark, SentBy};
 use crate::agents::{Agent, AgentStore, ErrorMode};
 use crate::faults::{AgentError, FinishFault};
 use crate::jobs::Ran;
-use ref_fun::{Cause, Functions, Meaning};
+use ref_fun::{Action, Carry, Cause, Functions, Meaning};
 use ref_log::{Guards, Notice, Who};
 use ref_value::Value;
 use std::alloc::{AllocError, Global};
@@ -29,8 +29,9 @@ pub enum Finished {
 
 impl<M: Meaning> AgentStore<M> {
     /// Ends a job that has run, exactly where it is on its way here. Where the function gave a value that the agent's rule
-    /// accepts, that is the state from now on. Else the state stays, and the agent is failed or goes on, by its error mode.
-    /// The action leaves the queue. The time is linear in the sizes of its arguments and its state, which are compared, and
+    /// accepts, that is the state from now on, and what the action carries is added to its queues, in order: it is held until
+    /// `release_carried`, and so long the agent isn't ready. Else the state stays, the agent is failed or goes on, by its error
+    /// mode, and nothing goes out. A failed agent is sent what is carried, too. The action leaves the queue. The time is linear in the sizes of its arguments and its state, which are compared, and
     /// in the number of watches. A refused call changes nothing, and returns the job.
     pub fn finish<F: Functions<M>>(
         &mut self,
@@ -82,8 +83,38 @@ impl<M: Meaning> AgentStore<M> {
             return Err(FinishFault::NoSuchFun(code));
         }
         let judgement = judge(funs, &self.guards, g, ran.outcome())?;
+        let carries = goes_out(&judgement, ran.job().action());
+        self.queue_all(SentBy::Carried(g), carries)?;
+        match self.close(alloc, ran, judgement) {
+            Ok(finished) => Ok(finished),
+            Err(e) => {
+                self.take_back(carries);
+                Err(e.into())
+            }
+        }
+    }
+
+    // Ends the job of an agent that is on its way, where what goes out with it is in its queues.
+    fn close(
+        &mut self,
+        alloc: Global,
+        ran: &Ran<M>,
+        judgement: Result<Value, AgentError>,
+    ) -> Result<Finished, AllocError>
+        requires out { job_out self.old.agents ran.now.job.agent ≡ Some ran.now.job }
+        requires judged { judgement ≡ judged M.accepts (rule_at self.old.guards ran.now.job.agent) ran.now.outcome }
+        requires can { CanHave M.accepts self.old.guards ran.now.job.agent judgement }
+        requires meant { M.means ran.now.job.action.code ran.now.job.action.args ran.now.job.state ≡ ran.now.outcome }
+        ensures ends { OnOk result (self.new ≡ with_agents self.old
+            (change_agent self.old.agents ran.now.job.agent (ending judgement ran.now.job.action.carries))) }
+        ensures answer { IfOk result (IsAnswerOf M.accepts self.old ran.now) }
+        ensures err { OnErr result (self.new ≡ self.old) }
+    {
+        let g = ran.job().agent();
+        let carries = ran.job().action().carries.as_slice();
         let agent = &mut self.agents[g as usize];
-        Ok(agent.end(alloc, &self.guards, g, judgement)?)
+        let finished = agent.end(alloc, &self.guards, g, judgement, carries)?;
+        Ok(finished)
     }
 
     // An agent without an action that waits is looked at no more when a job is taken.
@@ -101,15 +132,16 @@ impl<M: Meaning> AgentStore<M> {
 }
 
 impl Agent {
-    // Ends its first action with the state or the error that came of it. A refused call changes nothing.
+    // Ends its first action, which carries these, with the state or the error that came of it. A refused call changes nothing.
     fn end(
         &mut self,
         alloc: Global,
         guards: &Guards,
         g: u32,
         judgement: Result<Value, AgentError>,
+        carries: &[Carry],
     ) -> Result<Finished, AllocError>
-        ensures ends { OnOk result (self.new ≡ after_end self.old.mode judgement self.old) }
+        ensures ends { OnOk result (self.new ≡ after_end self.old.mode judgement carries.now self.old) }
         ensures answer { IfOk result (IsAnswer self.old.mode g (keys_at guards.now g) self.old.value judgement) }
         ensures err { OnErr result (self.new ≡ self.old) }
     {
@@ -119,6 +151,7 @@ impl Agent {
                 guards.tell(g, Who::Agent(g), &self.value, &value, &mut notices)?;
                 self.close(Mark::Done, None)?;
                 self.value = value;
+                self.is_carrying = !carries.is_empty();
                 Ok(Finished::Changed(notices))
             }
             Err(error) => match self.mode {
@@ -143,6 +176,16 @@ impl Agent {
         self.error = error;
         self.is_out = false;
         Ok(())
+    }
+}
+
+// What goes out with an action: all that it carries, if the state is a new one.
+fn goes_out<'a>(judgement: &Result<Value, AgentError>, action: &'a Action) -> &'a [Carry]
+    ensures { result.now ≡ goes_out judgement.now action.now.carries }
+{
+    match judgement {
+        Ok(_) => action.carries.as_slice(),
+        Err(_) => &[],
     }
 }
 

@@ -7,7 +7,8 @@
 //! [`AgentStore::restart`], or goes on as if there had been no such action.
 //!
 //! At most one job of an agent is on its way; one that isn't finished goes back by [`AgentStore::put_back`]. What a transaction sent is
-//! held until its commit is released ([`AgentStore::send_held`], [`AgentStore::release`]).
+//! held until its commit is released ([`AgentStore::send_held`], [`AgentStore::release`]). What an action carries goes out where its
+//! value became the state: it is held until [`AgentStore::release_carried`], and so long its agent takes no other action.
 //!
 //! | Type | Is |
 //! |---|---|
@@ -24,7 +25,8 @@
 //! **Costs.** A send is logarithmic in the number of agents with an action that waits, and `release` in that of the commits that are
 //! held. `take` looks at such agents until one is ready, and is linear in how many it looks at. `finish` and `put_back` compare
 //! arguments and state of the job, in time linear in their sizes; `finish` tests the rule too and makes a notice for each watch. An
-//! account stores each action that ended until a restart, which takes a step for each that it drops.
+//! account stores each action that ended until a restart, which takes a step for each that it drops. A `finish` takes a send's time for
+//! each that is carried, and `release_carried` for each walks back over what its agent was sent since.
 //!
 //! **Not promised.** Which of the ready agents `take` returns: they take turns, but no contract says so. That an action is ever run,
 //! or that a job comes back: while one is lost, its agent can't be taken, and only that job or an equal one ends it. That
@@ -38,6 +40,7 @@ mod ends;
 pub mod faults;
 pub mod jobs;
 mod making;
+mod releasing;
 mod restarting;
 mod rules;
 mod sends;

@@ -75,6 +75,7 @@ impl<M: Meaning> AgentStore<M> {
             error: None,
             account: Account::new(alloc, start),
             is_out: false,
+            is_carrying: false,
         });
         Ok(g)
     }

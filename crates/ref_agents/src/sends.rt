@@ -1,25 +1,29 @@
 //! Sending actions to agents.
 ghost use Rattle.ref_log.specs.Told.{TellsThenMemory};
-ghost use Rattle.std.specs.Prelude.{◌≡◌, ◌≢◌, [], OnOk, OnErr};
+ghost use Rattle.std.specs.Prelude.{◌≡◌, ◌≢◌, ℕ, [], IfOk, OnOk, OnErr};
+ghost use Rattle.ref_fun.specs.declared.actions.Action.{Action};
 ghost use Rattle.ref_agents.specs.Account.{has_point};
-ghost use Rattle.ref_agents.specs.Agents.{outside, queued_of, send_refusal, with_agents, with_commit, with_release, with_send, with_sends, without_send, without_sends};
+ghost use Rattle.ref_agents.specs.Agents.{outside, send_refusal, with_agents, with_commit, with_each, with_release, with_send, without_each, without_send};
 ghost use Rattle.ref_agents.specs.declared.faults.SendFault.TheVariants as faults;
 
 use crate::accounts::{Queued, SentBy};
 use crate::agents::AgentStore;
 use crate::faults::SendFault;
-use ref_fun::{Action, Meaning};
+use ref_fun::{Action, Carry, Meaning, absent_agent};
 use ref_log::Sent;
 use std::alloc::{AllocError, Global};
 
 impl<M: Meaning> AgentStore<M> {
     /// Sends an action to an agent, outside of a transaction: it waits behind the others, and may be taken at once. A failed
-    /// agent takes none. A refused call changes nothing.
+    /// agent takes none. The agents that it carries sends to have to be here. A refused call changes nothing.
     pub fn send(&mut self, _alloc: Global, g: u32, action: Action) -> Result<(), SendFault>
-        ensures refused { TellsThenMemory faults.Memory (send_refusal self.old.agents g) result }
+        ensures refused { TellsThenMemory faults.Memory (send_refusal self.old.agents g action) result }
         ensures sends { OnOk result (self.new ≡ with_agents self.old (with_send self.old.agents g (outside action))) }
         ensures err { OnErr result (self.new ≡ self.old) }
     {
+        if absent_agent(self.agents.len(), g, &action).is_some() {
+            return Err(SendFault::NoSuchAgent);
+        }
         let Some(agent) = self.agents.get(g as usize) else {
             return Err(SendFault::NoSuchAgent);
         };
@@ -40,7 +44,7 @@ impl<M: Meaning> AgentStore<M> {
         if sends.is_empty() {
             return Ok(());
         }
-        self.queue_all(at, sends)?;
+        self.queue_all(SentBy::Commit(at), sends)?;
         if self.unreleased.insert(at).is_err() {
             self.take_back(sends);
             return Err(AllocError);
@@ -82,13 +86,18 @@ impl<M: Meaning> AgentStore<M> {
         agent.account.pop();
     }
 
-    // Adds sends to the queues, or none of them.
-    fn queue_all(&mut self, at: u64, sends: &[Sent]) -> Result<(), AllocError>
-        ensures ok { OnOk result (self.new ≡ with_agents self.old (with_sends at sends.now self.old.agents)) }
+    // Adds one action for each of these to the queues, in order, or none of them.
+    pub(crate) fn queue_all<T: ToAgent>(
+        &mut self,
+        by: SentBy,
+        sends: &[T],
+    ) -> Result<(), AllocError>
+        ensures ok { OnOk result (self.new
+            ≡ with_agents self.old (with_each T.to T.of by sends.now self.old.agents)) }
         ensures err { OnErr result (self.new ≡ self.old) }
     {
         for (i, sent) in sends.iter().enumerate() {
-            if self.queue_one(at, sent).is_err() {
+            if self.queue_one(by, sent).is_err() {
                 self.take_back(&sends[..i]);
                 return Err(AllocError);
             }
@@ -96,24 +105,68 @@ impl<M: Meaning> AgentStore<M> {
         Ok(())
     }
 
-    fn queue_one(&mut self, at: u64, sent: &Sent) -> Result<(), AllocError>
-        ensures ok { OnOk result (self.new
-            ≡ with_agents self.old (with_send self.old.agents sent.now.agent (queued_of at sent.now))) }
+    fn queue_one<T: ToAgent>(&mut self, by: SentBy, sent: &T) -> Result<(), AllocError>
+        ensures ok { OnOk result (self.new ≡ with_agents self.old
+            (with_send self.old.agents (T.to sent.now) (record { action = T.of sent.now; by = by }))) }
         ensures err { OnErr result (self.new ≡ self.old) }
     {
-        let action = sent.action.share()?;
-        let by = SentBy::Commit(at);
-        self.queue(sent.agent, Queued { action, by })
+        let action = sent.action()?;
+        self.queue(sent.agent(), Queued { action, by })
     }
 
-    // Takes away what these sends added to the queues, the last first.
-    fn take_back(&mut self, sends: &[Sent])
-        ensures { self.new ≡ with_agents self.old (without_sends sends.now self.old.agents) }
+    // Takes away what these added to the queues, the last first.
+    pub(crate) fn take_back<T: ToAgent>(&mut self, sends: &[T])
+        ensures { self.new ≡ with_agents self.old (without_each T.to sends.now self.old.agents) }
     {
         let mut left = sends.len();
         while left > 0 {
             left -= 1;
-            self.take_last(sends[left].agent);
+            self.take_last(sends[left].agent());
         }
+    }
+}
+
+// What sends an action to an agent.
+pub(crate) trait ToAgent {
+    // the number of the agent, and the action
+    ghost to: { Self → ℕ };
+
+    ghost of: { Self → Action };
+
+    fn agent(&self) -> u32
+        ensures { result ≡ to self.now };
+
+    // The action, which has one more owner.
+    fn action(&self) -> Result<Action, AllocError>
+        ensures { IfOk result (λ a. a ≡ of self.now) };
+}
+
+impl ToAgent for Sent {
+    ghost to = { λ s. s.agent };
+
+    ghost of = { λ s. s.action };
+
+    fn agent(&self) -> u32 {
+        self.agent
+    }
+
+    fn action(&self) -> Result<Action, AllocError> {
+        self.action.share()
+    }
+}
+
+impl ToAgent for Carry {
+    ghost use Rattle.ref_agents.specs.Agents.{carried};
+
+    ghost to = { λ c. c.g };
+
+    ghost of = { carried };
+
+    fn agent(&self) -> u32 {
+        self.g
+    }
+
+    fn action(&self) -> Result<Action, AllocError> {
+        Ok(Action::new(self.code, self.args.share()?))
     }
 }

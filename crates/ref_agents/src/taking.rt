@@ -9,8 +9,8 @@ use ref_fun::Meaning;
 use std::alloc::AllocError;
 
 impl<M: Meaning> AgentStore<M> {
-    /// Returns the first action of some agent that is ready: one that isn't failed, of which no job is on its way, and whose
-    /// first action may be taken. None only where no agent is ready. The action stays in the queue. Agents take turns: those
+    /// Returns the first action of some agent that is ready: one that isn't failed, of which no job is on its way, whose last action
+    /// carried nothing that isn't released, and whose first action may be taken. None only where no agent is ready. The action stays in the queue. Agents take turns: those
     /// with actions that wait are looked at from the next one on, and where none of these is ready from the first on, until
     /// one is ready. The time is linear in the number of agents that are looked at, and logarithmic in that of all with actions
     /// that wait and of the commits that are held. A refused call changes nothing.
@@ -116,7 +116,7 @@ impl<M: Meaning> AgentStore<M> {
         let Some(agent) = self.agents.get(g as usize) else {
             return false;
         };
-        if agent.error.is_some() || agent.is_out {
+        if agent.error.is_some() || agent.is_out || agent.is_carrying {
             return false;
         }
         match agent.account.waiting_at(0) {
@@ -124,6 +124,7 @@ impl<M: Meaning> AgentStore<M> {
             Some(queued) => match queued.by {
                 SentBy::Outside => true,
                 SentBy::Commit(point) => !self.unreleased.contains(&point),
+                SentBy::Carried(_) => false,
             },
         }
     }
@@ -147,7 +148,8 @@ impl<M: Meaning> AgentStore<M> {
 
     // An agent's first action is on its way now, or isn't any more.
     fn set_out(&mut self, g: u32, is_out: bool)
-        requires { (agent : _) → slice_get self.old.agents g ≡ Some agent → is_some agent.error ≡ false }
+        requires fine { (agent : _) → slice_get self.old.agents g ≡ Some agent → is_some agent.error ≡ false }
+        requires idle { (agent : _) → slice_get self.old.agents g ≡ Some agent → agent.is_carrying ≡ false }
         ensures { self.new ≡ with_out self.old g is_out }
     {
         let Some(agent) = self.agents.get_mut(g as usize) else {

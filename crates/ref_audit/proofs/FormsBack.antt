@@ -6,6 +6,7 @@ use Rattle.std.specs.List.{list_all}
 use Rattle.ref_value.specs.Edn.{Edn}
 use Rattle.ref_fun.specs.Names.{core_names, is_function, is_predicate}
 use Rattle.ref_fun.specs.declared.actions.Action.{Action}
+use Rattle.ref_fun.specs.declared.carries.Carry.{Carry}
 use Rattle.ref_fun.specs.declared.rules.Rule.{Rule}
 use Rattle.ref_log.specs.declared.entries.Entry.{Entry}
 use Rattle.ref_log.specs.declared.entries.Entry.TheVariants.{Trans, Atom, MadeRef, MadeAtom}
@@ -20,11 +21,12 @@ use Rattle.ref_agents.specs.declared.accounts.Queued.{Queued}
 use Rattle.ref_value.specs.OrderLaws.{edn_eq}
 use Rattle.ref_log.specs.Replay.{is_set}
 use Rattle.ref_audit.specs.Dumped.{atom_form, done_form, entry_form, handled_form, op_form, queued_form, sent_form}
-use Rattle.ref_forms.specs.Calls.{action_of, any, args_said, code_of, rule_of}
-use Rattle.ref_forms.specs.Plain.{all_said, elements_of, list_said, only_if, stamp_number}
-use Rattle.ref_verdict.specs.DumpForm.{done_of, entries_from, entry_of, handled_of, queued_of, reference_of, sent_of}
-use Rattle.ref_audit.specs.OwnDump.{is_typed_action, is_typed_args, is_typed_entry, is_typed_handled, is_typed_number, is_typed_op, is_typed_queued, is_typed_sent, is_typed_done, is_typed_rule, is_typed_stamp, is_reset}
-use Rattle.ref_verdict.specs.Words.{name_form, number_form, rule_form, vector_form}
+use Rattle.ref_forms.specs.Calls.{action_of, any, args_said, carrying, code_of, rule_of}
+use Rattle.ref_forms.specs.Plain.{all_said, both, elements_of, elements_within, list_said, only_if, stamp_number}
+use Rattle.ref_verdict.specs.DumpForm.{action_said, carries_of, carry_of, done_of, entries_from, entry_of, handled_of, queued_of, reference_of, sent_of}
+use Rattle.ref_audit.specs.OwnDump.{is_typed_action, is_typed_args, is_typed_carries, is_typed_carry, is_typed_entry, is_typed_handled, is_typed_number, is_typed_op, is_typed_queued, is_typed_sent, is_typed_done, is_typed_rule, is_typed_stamp, is_reset}
+use Rattle.ref_verdict.specs.Words.{action_forms, carries_form, carry_form, name_form, number_form, rule_form, vector_form}
+use Rattle.ref_verdict.specs.declared.reading.dumps.Version.TheVariants.{Three}
 use Rattle.ref_forms.specs.Laws.{args_said_few, elements_of_vector, rule_of_vector}
 
 split : (a b : Bool) → (a && b) ≡ true → (a ≡ true) × (b ≡ true)
@@ -107,10 +109,10 @@ args_back args typed =
     let few : length args ≤ 8 = grind (arith, nat_tests) in
     ap (option_and_then (args_said any)) (elements_of_vector args) ∙ args_said_few args few
 
-pub action_back : (action : Action) → is_typed_action action ≡ true → action_of (name_form action.code) (vector_form action.args) ≡ Some action
-action_back action typed =
-    let p = split (is_function action.code) (is_typed_args action.args) typed in
-    rw (function_back action.code p.0, args_back action.args p.1) refl
+call_back : (code : ℕ) (args : List Edn) → (is_function code && is_typed_args args) ≡ true → action_of (name_form code) (vector_form args) ≡ Some (record { code = code; args = args; carries = [] })
+call_back code args typed =
+    let p = split (is_function code) (is_typed_args args) typed in
+    rw (function_back code p.0, args_back args p.1) refl
 
 pub rule_back : (rule : Option Rule) → is_typed_rule rule ≡ true → rule_of any (rule_form rule) ≡ Some rule
 rule_back None typed = refl
@@ -136,49 +138,84 @@ pub same_list : {A : Type 0} (xs : List A) → map (λ x. x) xs ≡ xs
 same_list [] = refl
 same_list (x ∷ xs) = ap (λ ys. x ∷ ys) (same_list xs)
 
+pub length_map : {X Y : Type 0} (f : X → Y) (xs : List X) → length (map f xs) ≡ length xs
+length_map f [] = refl
+length_map f (x ∷ xs) = ap (λ n. suc n) (length_map f xs)
+
+-- a vector of few elements
+pub within_back : (most : ℕ) (xs : List Edn) → length xs ≤ most → elements_within most (vector_form xs) ≡ Some xs
+within_back most xs few =
+    let test : nat_le (length xs) most ≡ true = grind (arith, nat_tests) in
+    ap (option_and_then (λ ys. only_if (nat_le (length ys) most) ys)) (elements_of_vector xs) ∙ ap (λ b. only_if b xs) test
+
+-- ---- what an action carries
+
+carry_back : (c : Carry) → is_typed_carry c ≡ true → carry_of (carry_form c) ≡ Some c
+carry_back c typed =
+    let p = split (is_typed_number c.g) (is_function c.code && is_typed_args c.args) typed in
+    rw (reference_back c.g p.0, call_back c.code c.args p.1) refl
+
+carries_back : (carries : List Carry) → is_typed_carries carries ≡ true → carries_of (carries_form carries) ≡ Some carries
+carries_back carries typed =
+    let p = split (nat_le (length carries) 8) (list_all is_typed_carry carries) typed in
+    let forms = map carry_form carries in
+    let few : length carries ≤ 8 = grind (arith, nat_tests, p.0) in
+    let fits : length forms ≤ 8 = omega (arith, length_map carry_form carries) in
+    ap (option_and_then (all_said carry_of)) (within_back 8 forms fits)
+    ∙ (all_back carry_of carry_form (λ c. c) is_typed_carry carry_back carries p.1 ∙ ap Some (same_list carries))
+
+-- an action with what it carries
+parts_back : (action : Action) → is_typed_action action ≡ true → both carrying (action_of (name_form action.code) (vector_form action.args)) (carries_of (carries_form action.carries)) ≡ Some action
+parts_back action typed =
+    let p = split (is_function action.code && is_typed_args action.args) (is_typed_carries action.carries) typed in
+    rw (call_back action.code action.args p.0, carries_back action.carries p.1) refl
+
+pub action_back : (action : Action) → is_typed_action action ≡ true → action_said Three (action_forms action) ≡ Some action
+action_back action typed = parts_back action typed
+
 -- ---- entries
 
 op_back : (r : ℕ) (answer : Edn) (op : Op) → is_typed_number r ≡ true → is_typed_op op ≡ true → done_of (op_form r answer op) ≡ Some (record { r = r; op = op; answer = answer })
 op_back r answer (ops.Set v) number typed = rw (clamp_back r number) refl
-op_back r answer (ops.Alter code args) number typed = let action : Action = record { code = code; args = args } in rw (reference_back r number, action_back action typed) refl
-op_back r answer (ops.Commute code args) number typed = let action : Action = record { code = code; args = args } in rw (reference_back r number, action_back action typed) refl
+op_back r answer (ops.Alter code args) number typed = rw (reference_back r number, call_back code args typed) refl
+op_back r answer (ops.Commute code args) number typed = rw (reference_back r number, call_back code args typed) refl
 op_back r answer ops.Ensure number typed = rw (clamp_back r number) refl
 
 pub done_back : (d : Done) → is_typed_done d ≡ true → done_of (done_form d) ≡ Some d
 done_back d typed = let p = split (is_typed_number d.r) (is_typed_op d.op) typed in op_back d.r d.answer d.op p.0 p.1
 
-pub sent_back : (s : Sent) → is_typed_sent s ≡ true → sent_of (sent_form s) ≡ Some s
+pub sent_back : (s : Sent) → is_typed_sent s ≡ true → sent_of Three (sent_form s) ≡ Some s
 sent_back s typed =
     let p = split (is_typed_number s.agent) (is_typed_action s.action) typed in
     rw (reference_back s.agent p.0, action_back s.action p.1) refl
 
-marked : (action : Action) (mark : Mark) → is_typed_action action ≡ true → handled_of (handled_form (record { action = action; mark = mark })) ≡ Some (record { action = action; mark = mark })
-marked action marks.Done typed = rw (action_back action typed) refl
-marked action marks.Failed typed = rw (action_back action typed) refl
-marked action marks.Passed typed = rw (action_back action typed) refl
+marked : (action : Action) (mark : Mark) → is_typed_action action ≡ true → handled_of Three (handled_form (record { action = action; mark = mark })) ≡ Some (record { action = action; mark = mark })
+marked action marks.Done typed = rw (parts_back action typed) refl
+marked action marks.Failed typed = rw (parts_back action typed) refl
+marked action marks.Passed typed = rw (parts_back action typed) refl
 
-pub handled_back : (h : Handled) → is_typed_handled h ≡ true → handled_of (handled_form h) ≡ Some h
+pub handled_back : (h : Handled) → is_typed_handled h ≡ true → handled_of Three (handled_form h) ≡ Some h
 handled_back h typed = marked h.action h.mark typed
 
-pub queued_back : (q : Queued) → is_typed_queued q ≡ true → queued_of (queued_form q) ≡ Some q.action
+pub queued_back : (q : Queued) → is_typed_queued q ≡ true → queued_of Three (queued_form q) ≡ Some q.action
 queued_back q typed = action_back q.action typed
 
 dones_back : (ds : List Done) → list_all is_typed_done ds ≡ true → list_said done_of (vector_form (map done_form ds)) ≡ Some ds
 dones_back ds typed = list_back done_of done_form (λ d. d) is_typed_done done_back ds typed ∙ ap Some (same_list ds)
 
-sends_back : (ss : List Sent) → list_all is_typed_sent ss ≡ true → list_said sent_of (vector_form (map sent_form ss)) ≡ Some ss
-sends_back ss typed = list_back sent_of sent_form (λ s. s) is_typed_sent sent_back ss typed ∙ ap Some (same_list ss)
+sends_back : (ss : List Sent) → list_all is_typed_sent ss ≡ true → list_said (sent_of Three) (vector_form (map sent_form ss)) ≡ Some ss
+sends_back ss typed = list_back (sent_of Three) sent_form (λ s. s) is_typed_sent sent_back ss typed ∙ ap Some (same_list ss)
 
 -- an atom was set to what was answered
-atom_back : (a : ℕ) (op : Op) (answer : Edn) → is_typed_number a ≡ true → is_typed_op op ≡ true → is_set op ≡ true → (is_reset op answer ≡ true) → entry_of (atom_form a answer op) ≡ Some (Atom a op answer)
+atom_back : (a : ℕ) (op : Op) (answer : Edn) → is_typed_number a ≡ true → is_typed_op op ≡ true → is_set op ≡ true → (is_reset op answer ≡ true) → entry_of Three (atom_form a answer op) ≡ Some (Atom a op answer)
 atom_back a (ops.Set v) answer number typed sets kept =
     let same : v ≡ answer = (edn_eq v answer true (sym kept)).0 refl in
     rw (clamp_back a number) (ap (λ w. Some (Atom a (ops.Set v) w)) same)
-atom_back a (ops.Alter code args) answer number typed sets kept = let action : Action = record { code = code; args = args } in rw (reference_back a number, action_back action typed) refl
+atom_back a (ops.Alter code args) answer number typed sets kept = rw (reference_back a number, call_back code args typed) refl
 atom_back a (ops.Commute code args) answer number typed sets kept = absurd cc
 atom_back a ops.Ensure answer number typed sets kept = absurd cc
 
-pub entry_back : (e : Entry) → is_typed_entry e ≡ true → entry_of (entry_form e) ≡ Some e
+pub entry_back : (e : Entry) → is_typed_entry e ≡ true → entry_of Three (entry_form e) ≡ Some e
 entry_back (Trans t) typed =
     let p = split (is_typed_stamp t.stamp) (list_all is_typed_done t.dones && list_all is_typed_sent t.sends) typed in
     let q = split (list_all is_typed_done t.dones) (list_all is_typed_sent t.sends) p.1 in
@@ -192,7 +229,7 @@ entry_back (Atom a op answer) typed =
 entry_back (MadeRef v) typed = refl
 entry_back (MadeAtom v) typed = refl
 
-pub entries_back : (n : ℕ) (es : List Entry) → list_all is_typed_entry es ≡ true → entries_from n (map entry_form es) ≡ Ok es
+pub entries_back : (n : ℕ) (es : List Entry) → list_all is_typed_entry es ≡ true → entries_from Three n (map entry_form es) ≡ Ok es
 entries_back n [] typed = refl
 entries_back n (e ∷ es) typed =
     let p = split (is_typed_entry e) (list_all is_typed_entry es) typed in

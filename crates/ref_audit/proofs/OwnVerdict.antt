@@ -18,7 +18,7 @@ use Rattle.ref_world.specs.Seen.{WorldSeen}
 use Rattle.ref_audit.specs.Dumped.{depth_refusal, dump_refusal, dumped, unnamed, unnamed_refusal}
 use Rattle.ref_verdict.specs.DumpForm.{dump_of}
 use Rattle.ref_verdict.specs.OfCore.{IsOfCore, is_account_of_core, is_agent_rule_of_core, is_entry_of_core, is_handled_of_core, is_kept_of_core, is_op_of_core, is_rule_of_core}
-use Rattle.ref_audit.specs.OwnDump.{IsTold, IsTyped, agent_seen, dump_seen, is_typed_agent, is_typed_args, is_typed_done, is_typed_entry, is_typed_handled, is_typed_number, is_typed_op, is_typed_queued, is_typed_rule, is_typed_sent, is_typed_stamp, kept_seen}
+use Rattle.ref_audit.specs.OwnDump.{IsTold, IsTyped, agent_seen, dump_seen, is_typed_agent, is_typed_args, is_typed_carries, is_typed_done, is_typed_entry, is_typed_handled, is_typed_number, is_typed_op, is_typed_queued, is_typed_rule, is_typed_sent, is_typed_stamp, kept_seen}
 use Rattle.ref_verdict.specs.Verdict.{verdict, verdict_on}
 use Rattle.ref_audit.specs.declared.faults.DumpMakeFault.{DumpMakeFault}
 use Rattle.ref_audit.specs.declared.faults.DumpMakeFault.TheVariants as makes
@@ -94,7 +94,9 @@ agent_rules_core guards n (agent ∷ agents) typed =
     (agent_rules_core guards (n + 1) agents (λ m low high. typed m (omega arith) (omega arith)))
 
 handled_core : (h : Handled) → is_typed_handled h ≡ true → is_handled_of_core h ≡ true
-handled_core h typed = (split (is_function h.action.code) (is_typed_args h.action.args) typed).0
+handled_core h typed =
+    let p = split (is_function h.action.code && is_typed_args h.action.args) (is_typed_carries h.action.carries) typed in
+    (split (is_function h.action.code) (is_typed_args h.action.args) p.0).0
 
 accounts_core : (guards : List Guard) (n : ℕ) (agents : List Agent) → list_all is_typed_agent agents ≡ true → list_all is_account_of_core (map (agent_seen guards) (enumerate_from n agents)) ≡ true
 accounts_core guards n [] typed = refl

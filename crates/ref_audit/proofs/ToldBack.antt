@@ -1,5 +1,5 @@
 -- What the calls of a world tell of it is enough for its dump to be read back and to be right.
-use Rattle.std.proofs.Common.{◌≡◌, ℕ, suc, ◌+◌, ◌^◌, ◌<◌, ◌≤◌, ◌==◌, ◌&&◌, Bool, true, false, cond, List, [], ◌∷◌, length, length-append, get_or, map, Option, None, Some, Result, Ok, Err, refl, sym, ap, ◌∙◌, arith}
+use Rattle.std.proofs.Common.{◌≡◌, ℕ, suc, ◌+◌, ◌^◌, ◌<◌, ◌≤◌, ◌==◌, ◌&&◌, Bool, true, false, cond, nat_le, List, [], ◌∷◌, length, length-append, get_or, map, Option, None, Some, Result, Ok, Err, refl, sym, ap, ◌∙◌, arith}
 use Rattle.std.proofs.lemmas.Bool.Decides.{nat_tests}
 use Rattle.std.proofs.lemmas.Option.{slice_get-get_or, slice_get_within}
 use Rattle.std.specs.Prelude.{slice_get}
@@ -7,6 +7,8 @@ use Rattle.std.specs.List.{list_all}
 use Rattle.ref_value.specs.Edn.{Edn, nil}
 use Rattle.ref_fun.specs.Core.{core_accepts, core_means}
 use Rattle.ref_fun.specs.Rule.{passes}
+use Rattle.ref_fun.specs.declared.actions.Action.{Action}
+use Rattle.ref_fun.specs.declared.carries.Carry.{Carry}
 use Rattle.ref_fun.specs.declared.rules.Rule.{Rule}
 use Rattle.ref_fun.specs.Names.{is_function, is_predicate}
 use Rattle.ref_log.specs.Guards.{AreAccepted, passes_if_here, rule_at}
@@ -30,10 +32,10 @@ use Rattle.ref_agents.specs.declared.accounts.Queued.{Queued}
 use Rattle.ref_agents.specs.declared.agents.Agent.{Agent}
 use Rattle.ref_world.specs.Seen.{WorldSeen}
 use Rattle.ref_world.specs.World.{values_now}
-use Rattle.ref_audit.specs.Dumped.{dumped, least, lesser, unnamed, unnamed_code, unnamed_in_agent, unnamed_in_entry, unnamed_in_handled, unnamed_in_queued, unnamed_in_sent}
+use Rattle.ref_audit.specs.Dumped.{dumped, least, lesser, unnamed, unnamed_code, unnamed_in_action, unnamed_in_agent, unnamed_in_carry, unnamed_in_entry, unnamed_in_handled, unnamed_in_queued, unnamed_in_sent}
 use Rattle.ref_verdict.specs.DumpForm.{dump_of}
 use Rattle.ref_verdict.specs.OfCore.{is_entry_of_core, is_op_of_core}
-use Rattle.ref_audit.specs.OwnDump.{IsSound, IsTold, IsTyped, account_fact, is_reset, is_reset_entry, is_small_account, is_small_args, is_small_done, is_small_entry, is_small_handled, is_small_op, is_small_queued, is_small_rule, is_small_sent, is_typed_action, is_typed_agent, is_typed_done, is_typed_entry, is_typed_handled, is_typed_number, is_typed_op, is_typed_queued, is_typed_rule, is_typed_sent, is_typed_stamp, is_typed_tally, rule_fact}
+use Rattle.ref_audit.specs.OwnDump.{IsSound, IsTold, IsTyped, account_fact, is_reset, is_reset_entry, is_small_account, is_small_action, is_small_args, is_small_carries, is_small_carry, is_small_done, is_small_entry, is_small_handled, is_small_op, is_small_queued, is_small_rule, is_small_sent, is_typed_action, is_typed_agent, is_typed_carries, is_typed_carry, is_typed_done, is_typed_entry, is_typed_handled, is_typed_number, is_typed_op, is_typed_queued, is_typed_rule, is_typed_sent, is_typed_stamp, is_typed_tally, rule_fact}
 use Rattle.ref_verdict.specs.Verdict.{verdict_on}
 use Rattle.ref_verdict.specs.declared.reports.Verdict.TheVariants as verdicts
 use Rattle.ref_audit.proofs.LegalBack.{log_called}
@@ -75,10 +77,38 @@ named_by false code e = absurd cc
 named : (code : ℕ) → unnamed_code code ≡ None → is_function code ≡ true
 named code e = named_by (is_function code) code e
 
+-- ---- actions
+
+is_named_action : Action → Bool
+is_named_action action = is_function action.code && list_all (λ c. is_function c.code) action.carries
+
+action_named : (action : Action) → unnamed_in_action action ≡ None → is_named_action action ≡ true
+unfolding is_named_action
+action_named action e =
+    let p = none_lesser (unnamed_code action.code) (least unnamed_in_carry action.carries) e in
+    join (is_function action.code) (list_all (λ c. is_function c.code) action.carries) (named action.code p.0)
+    (all_named unnamed_in_carry (λ c. is_function c.code) (λ c n. named c.code n) action.carries p.1)
+
+carry_typed : (c : Carry) → is_small_carry c ≡ true → is_function c.code ≡ true → is_typed_carry c ≡ true
+carry_typed c small of =
+    let p = split (is_typed_number c.g) (is_small_args c.args) small in
+    join (is_typed_number c.g) (is_function c.code && is_small_args c.args) p.0 (join (is_function c.code) (is_small_args c.args) of p.1)
+
+action_typed : (action : Action) → is_small_action action ≡ true → is_named_action action ≡ true → is_typed_action action ≡ true
+unfolding is_named_action
+action_typed action small of =
+    let p = split (is_small_args action.args) (is_small_carries action.carries) small in
+    let q = split (nat_le (length action.carries) 8) (list_all is_small_carry action.carries) p.1 in
+    let n = split (is_function action.code) (list_all (λ c. is_function c.code) action.carries) of in
+    let carries = all_join is_small_carry (λ c. is_function c.code) is_typed_carry carry_typed action.carries q.1 n.1 in
+    join (is_function action.code && is_small_args action.args) (is_typed_carries action.carries)
+    (join (is_function action.code) (is_small_args action.args) n.0 p.0)
+    (join (nat_le (length action.carries) 8) (list_all is_typed_carry action.carries) q.0 carries)
+
 -- ---- entries
 
 is_named_sent : Sent → Bool
-is_named_sent s = is_function s.action.code
+is_named_sent s = is_named_action s.action
 
 is_named_entry : Entry → Bool
 is_named_entry (Trans t) = list_all is_named_sent t.sends
@@ -88,7 +118,7 @@ is_named_entry (MadeAtom v) = true
 
 entry_named : (e : Entry) → unnamed_in_entry e ≡ None → is_named_entry e ≡ true
 unfolding is_named_entry is_named_sent
-entry_named (Trans t) e = all_named unnamed_in_sent is_named_sent (λ s n. named s.action.code n) t.sends e
+entry_named (Trans t) e = all_named unnamed_in_sent is_named_sent (λ s n. action_named s.action n) t.sends e
 entry_named (Atom a op answer) e = refl
 entry_named (MadeRef v) e = refl
 entry_named (MadeAtom v) e = refl
@@ -107,8 +137,8 @@ done_typed d small of =
 sent_typed : (s : Sent) → is_small_sent s ≡ true → is_named_sent s ≡ true → is_typed_sent s ≡ true
 unfolding is_named_sent
 sent_typed s small of =
-    let p = split (is_typed_number s.agent) (is_small_args s.action.args) small in
-    join (is_typed_number s.agent) (is_typed_action s.action) p.0 (join (is_function s.action.code) (is_small_args s.action.args) of p.1)
+    let p = split (is_typed_number s.agent) (is_small_action s.action) small in
+    join (is_typed_number s.agent) (is_typed_action s.action) p.0 (action_typed s.action p.1 of)
 
 entry_typed : (e : Entry) → is_small_entry e ≡ true → is_named_entry e ≡ true → is_entry_of_core e ≡ true → is_reset_entry e ≡ true → sets_atom e ≡ true → is_typed_entry e ≡ true
 unfolding is_named_entry
@@ -136,11 +166,11 @@ log_typed (e ∷ es) a b c d f =
 
 -- ---- agents
 
-handled_typed : (h : Handled) → is_small_handled h ≡ true → is_function h.action.code ≡ true → is_typed_handled h ≡ true
-handled_typed h small of = join (is_function h.action.code) (is_small_args h.action.args) of small
+handled_typed : (h : Handled) → is_small_handled h ≡ true → is_named_action h.action ≡ true → is_typed_handled h ≡ true
+handled_typed h small of = action_typed h.action small of
 
-queued_typed : (q : Queued) → is_small_queued q ≡ true → is_function q.action.code ≡ true → is_typed_queued q ≡ true
-queued_typed q small of = join (is_function q.action.code) (is_small_args q.action.args) of small
+queued_typed : (q : Queued) → is_small_queued q ≡ true → is_named_action q.action ≡ true → is_typed_queued q ≡ true
+queued_typed q small of = action_typed q.action small of
 
 agent_typed : (agent : Agent) → is_small_account agent.account ≡ true → unnamed_in_agent agent ≡ None → is_typed_agent agent ≡ true
 agent_typed agent small none =
@@ -148,11 +178,11 @@ agent_typed agent small none =
     let qs = agent.account.queue in
     let p = split (list_all is_small_handled hs) (list_all is_small_queued qs) small in
     let n = none_lesser (least unnamed_in_handled hs) (least unnamed_in_queued qs) none in
-    let names = all_named unnamed_in_handled (λ (h : Handled). is_function h.action.code) (λ h e. named h.action.code e) hs n.0 in
-    let waits = all_named unnamed_in_queued (λ (q : Queued). is_function q.action.code) (λ q e. named q.action.code e) qs n.1 in
+    let names = all_named unnamed_in_handled (λ (h : Handled). is_named_action h.action) (λ h e. action_named h.action e) hs n.0 in
+    let waits = all_named unnamed_in_queued (λ (q : Queued). is_named_action q.action) (λ q e. action_named q.action e) qs n.1 in
     join (list_all is_typed_handled hs) (list_all is_typed_queued qs)
-    (all_join is_small_handled (λ (h : Handled). is_function h.action.code) is_typed_handled handled_typed hs p.0 names)
-    (all_join is_small_queued (λ (q : Queued). is_function q.action.code) is_typed_queued queued_typed qs p.1 waits)
+    (all_join is_small_handled (λ (h : Handled). is_named_action h.action) is_typed_handled handled_typed hs p.0 names)
+    (all_join is_small_queued (λ (q : Queued). is_named_action q.action) is_typed_queued queued_typed qs p.1 waits)
 
 agents_typed : (agents : List Agent) → ((g : ℕ) → account_fact (account_at agents g) ≡ true) → least unnamed_in_agent agents ≡ None → list_all is_typed_agent agents ≡ true
 agents_typed [] facts none = refl

@@ -1,6 +1,5 @@
 -- What a world's dump says is what was dumped.
-use Rattle.std.proofs.Common.{◌≡◌, ℕ, suc, ◌+◌, ◌-◌, ◌^◌, ◌<◌, ◌≤◌, ◌&&◌, Bool, true, false, nat_le, List, [], ◌∷◌, length, map, Option, None, Some, Ok, refl, ap, ◌∙◌, arith, is_some}
-use Rattle.std.proofs.lemmas.Bool.Decides.{nat_tests}
+use Rattle.std.proofs.Common.{◌≡◌, ℕ, suc, ◌+◌, ◌-◌, ◌^◌, ◌<◌, ◌≤◌, ◌&&◌, Bool, true, false, List, [], ◌∷◌, length, map, Option, None, Some, Ok, refl, ap, ◌∙◌, arith, is_some}
 use Rattle.std.specs.Prelude.{option_and_then}
 use Rattle.std.specs.List.{enumerate_from, list_all, zip}
 use Rattle.ref_value.specs.Edn.{Edn, keyword}
@@ -13,13 +12,13 @@ use Rattle.ref_agents.specs.declared.accounts.Queued.{Queued}
 use Rattle.ref_agents.specs.declared.agents.Agent.{Agent}
 use Rattle.ref_world.specs.Seen.{WorldSeen}
 use Rattle.ref_audit.specs.Dumped.{agent_form, agents_form, base_ref_form, base_refs_form, dumped, entry_form, handled_form, queued_form, status_word, tally_form, value_form, values_form}
-use Rattle.ref_forms.specs.Plain.{all_said, are_known, elements_within, list_said, only_if}
+use Rattle.ref_forms.specs.Plain.{all_said, are_known, elements_within, list_said}
 use Rattle.ref_verdict.specs.DumpForm.{agent_of, changed_of, dump_of, handled_of, has_keys, kept_of, queued_of, status_of, tally_of, values_said}
 use Rattle.ref_audit.specs.OwnDump.{IsTyped, agent_seen, agents_seen, dump_seen, is_typed_agent, is_typed_handled, is_typed_queued, is_typed_rule, is_typed_tally, kept_seen, kepts_seen}
 use Rattle.ref_verdict.specs.Words.{vector_form}
 use Rattle.ref_verdict.specs.declared.reading.dumps.Changed.{Changed}
-use Rattle.ref_audit.proofs.FormsBack.{all_back, entries_back, handled_back, list_back, queued_back, clamp_back, rule_back, same_list}
-use Rattle.ref_forms.specs.Laws.{elements_of_vector}
+use Rattle.ref_verdict.specs.declared.reading.dumps.Version.TheVariants.{Three}
+use Rattle.ref_audit.proofs.FormsBack.{all_back, clamp_back, entries_back, handled_back, length_map, list_back, queued_back, rule_back, same_list, within_back}
 
 split : (a b : Bool) → (a && b) ≡ true → (a ≡ true) × (b ≡ true)
 split true b e = (refl, e)
@@ -35,16 +34,6 @@ every_below test m [] each = refl
 every_below test m (x ∷ xs) each =
     let here : test m ≡ true = each m (omega arith) (omega arith) in
     ap (λ b. b && list_all (λ e. test e.0) (enumerate_from (m + 1) xs)) here ∙ every_below test (m + 1) xs (λ k low high. each k (omega arith) (omega arith))
-
--- a vector of few elements
-within_back : (most : ℕ) (xs : List Edn) → length xs ≤ most → elements_within most (vector_form xs) ≡ Some xs
-within_back most xs few =
-    let test : nat_le (length xs) most ≡ true = grind (arith, nat_tests) in
-    ap (option_and_then (λ ys. only_if (nat_le (length ys) most) ys)) (elements_of_vector xs) ∙ ap (λ b. only_if b xs) test
-
-length_map : {X Y : Type 0} (f : X → Y) (xs : List X) → length (map f xs) ≡ length xs
-length_map f [] = refl
-length_map f (x ∷ xs) = ap (λ n. suc n) (length_map f xs)
 
 length_enumerated : {X : Type 0} (n : ℕ) (xs : List X) → length (enumerate_from n xs) ≡ length xs
 length_enumerated n [] = refl
@@ -69,13 +58,13 @@ status_back : (failed : Bool) → status_of (keyword (status_word failed)) ≡ S
 status_back true = refl
 status_back false = refl
 
-handleds_back : (hs : List Handled) → list_all is_typed_handled hs ≡ true → list_said handled_of (vector_form (map handled_form hs)) ≡ Some hs
-handleds_back hs typed = list_back handled_of handled_form (λ h. h) is_typed_handled handled_back hs typed ∙ ap Some (same_list hs)
+handleds_back : (hs : List Handled) → list_all is_typed_handled hs ≡ true → list_said (handled_of Three) (vector_form (map handled_form hs)) ≡ Some hs
+handleds_back hs typed = list_back (handled_of Three) handled_form (λ h. h) is_typed_handled handled_back hs typed ∙ ap Some (same_list hs)
 
-queue_back : (qs : List Queued) → list_all is_typed_queued qs ≡ true → list_said queued_of (vector_form (map queued_form qs)) ≡ Some (map (λ q. q.action) qs)
-queue_back qs typed = list_back queued_of queued_form (λ q. q.action) is_typed_queued queued_back qs typed
+queue_back : (qs : List Queued) → list_all is_typed_queued qs ≡ true → list_said (queued_of Three) (vector_form (map queued_form qs)) ≡ Some (map (λ q. q.action) qs)
+queue_back qs typed = list_back (queued_of Three) queued_form (λ q. q.action) is_typed_queued queued_back qs typed
 
-agent_back : (guards : List Guard) (e : ℕ × Agent) → (is_typed_agent e.1 && is_typed_rule (rule_at guards e.0)) ≡ true → agent_of (agent_form guards e) ≡ Some (agent_seen guards e)
+agent_back : (guards : List Guard) (e : ℕ × Agent) → (is_typed_agent e.1 && is_typed_rule (rule_at guards e.0)) ≡ true → agent_of Three (agent_form guards e) ≡ Some (agent_seen guards e)
 agent_back guards e typed =
     let p = split (is_typed_agent e.1) (is_typed_rule (rule_at guards e.0)) typed in
     let q = split (list_all is_typed_handled e.1.account.handled) (list_all is_typed_queued e.1.account.queue) p.0 in
@@ -88,8 +77,8 @@ typed_agents guards n (agent ∷ agents) rules typed =
     let here : is_typed_rule (rule_at guards n) ≡ true = rules n (omega arith) (omega arith) in
     rw (p.0, here, typed_agents guards (n + 1) agents (λ m low high. rules m (omega arith) (omega arith)) p.1) refl
 
-pub agents_back : (guards : List Guard) (agents : List Agent) → ((m : ℕ) → m < length agents → is_typed_rule (rule_at guards m) ≡ true) → list_all is_typed_agent agents ≡ true → list_said agent_of (agents_form guards agents) ≡ Some (agents_seen guards agents)
-agents_back guards agents rules typed = list_back agent_of (agent_form guards) (agent_seen guards) (λ e. is_typed_agent e.1 && is_typed_rule (rule_at guards e.0)) (agent_back guards) (enumerate_from 0 agents) (typed_agents guards 0 agents (λ m low high. rules m (omega arith)) typed)
+pub agents_back : (guards : List Guard) (agents : List Agent) → ((m : ℕ) → m < length agents → is_typed_rule (rule_at guards m) ≡ true) → list_all is_typed_agent agents ≡ true → list_said (agent_of Three) (agents_form guards agents) ≡ Some (agents_seen guards agents)
+agents_back guards agents rules typed = list_back (agent_of Three) (agent_form guards) (agent_seen guards) (λ e. is_typed_agent e.1 && is_typed_rule (rule_at guards e.0)) (agent_back guards) (enumerate_from 0 agents) (typed_agents guards 0 agents (λ m low high. rules m (omega arith)) typed)
 
 -- ---- the base
 

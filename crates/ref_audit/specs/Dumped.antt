@@ -5,6 +5,8 @@ use Rattle.std.specs.List.{enumerate_from, zip}
 use Rattle.std.specs.Option.{option_map, option_or}
 use Rattle.ref_value.specs.Edn as edn
 use Rattle.ref_value.specs.Edn.{Edn, nil, keyword, entries_of, nesting}
+use Rattle.ref_fun.specs.declared.actions.Action.{Action}
+use Rattle.ref_fun.specs.declared.carries.Carry.{Carry}
 use Rattle.ref_fun.specs.declared.rules.Rule.{Rule}
 use Rattle.ref_fun.specs.Names.{is_function}
 use Rattle.ref_agents.specs.Account.{AccountSeen}
@@ -23,7 +25,7 @@ use Rattle.ref_log.specs.declared.operations.Op.TheVariants.{Set, Alter, Commute
 use Rattle.ref_log.specs.declared.sends.Sent.{Sent}
 use Rattle.ref_log.specs.declared.states.Base.{Base}
 use Rattle.ref_world.specs.Seen.{WorldSeen}
-use Rattle.ref_verdict.specs.Words.{added_key, agents_key, atoms_key, base_atoms_key, base_refs_key, commits_key, dump_key, entries_key, folded_key, point_key, refs_key, taken_key, tally_key, tx_tag, reset_tag, swap_tag, made_ref_tag, made_atom_tag, set_tag, alter_tag, commute_tag, ensure_tag, done_mark, failed_mark, passed_mark, ready_status, failed_status, number_form, vector_form, name_form, action_forms, rule_form}
+use Rattle.ref_verdict.specs.Words.{added_key, agents_key, atoms_key, base_atoms_key, base_refs_key, commits_key, dump_key, entries_key, folded_key, point_key, refs_key, taken_key, tally_key, tx_tag, reset_tag, swap_tag, made_ref_tag, made_atom_tag, set_tag, alter_tag, commute_tag, ensure_tag, done_mark, failed_mark, passed_mark, ready_status, failed_status, number_form, vector_form, name_form, action_forms, carries_form, rule_form}
 use Rattle.ref_audit.specs.declared.faults.DumpMakeFault.{DumpMakeFault}
 use Rattle.ref_audit.specs.declared.faults.DumpMakeFault.TheVariants as faults
 
@@ -43,7 +45,7 @@ op_form r answer Ensure = vector_form (keyword ensure_tag ∷ number_form r ∷ 
 abbrev pub done_form : Done → Edn
 done_form d = op_form d.r d.answer d.op
 
--- [G F [ARG ..]]
+-- [G F [ARG ..] [CARRY ..]]
 abbrev pub sent_form : Sent → Edn
 sent_form s = vector_form (number_form s.agent ∷ action_forms s.action)
 
@@ -100,11 +102,12 @@ mark_word marks.Done = done_mark
 mark_word marks.Failed = failed_mark
 mark_word marks.Passed = passed_mark
 
--- [F [ARG ..] MARK]
+-- [F [ARG ..] [CARRY ..] MARK]
 abbrev pub handled_form : Handled → Edn
-handled_form h = vector_form (name_form h.action.code ∷ vector_form h.action.args ∷ keyword (mark_word h.mark) ∷ [])
+handled_form h =
+    vector_form (name_form h.action.code ∷ vector_form h.action.args ∷ carries_form h.action.carries ∷ keyword (mark_word h.mark) ∷ [])
 
--- [F [ARG ..]]
+-- [F [ARG ..] [CARRY ..]]
 abbrev pub queued_form : Queued → Edn
 queued_form q = vector_form (action_forms q.action)
 
@@ -139,7 +142,7 @@ dump_entries world =
     ∷ (keyword base_atoms_key, vector_form world.base.atoms)
     ∷ (keyword base_refs_key, base_refs_form world.base)
     ∷ (keyword commits_key, number_form world.books.commits)
-    ∷ (keyword dump_key, number_form 2)
+    ∷ (keyword dump_key, number_form 3)
     ∷ (keyword entries_key, vector_form (map entry_form world.log))
     ∷ (keyword folded_key, folded_form world.base)
     ∷ (keyword point_key, number_form world.base.point)
@@ -164,18 +167,25 @@ abbrev pub least : {X : Type 0} → (X → Option ℕ) → List X → Option ℕ
 least number [] = None
 least number (x ∷ xs) = lesser (number x) (least number xs)
 
--- the code of an action, where it isn't that of a function of Core
+-- a code, where it isn't that of a function of Core
 abbrev pub unnamed_code : ℕ → Option ℕ
 unnamed_code code = if is_function code then None else Some code
 
+abbrev pub unnamed_in_carry : Carry → Option ℕ
+unnamed_in_carry c = unnamed_code c.code
+
+-- of an action's own code and those of what it carries
+abbrev pub unnamed_in_action : Action → Option ℕ
+unnamed_in_action action = lesser (unnamed_code action.code) (least unnamed_in_carry action.carries)
+
 abbrev pub unnamed_in_sent : Sent → Option ℕ
-unnamed_in_sent s = unnamed_code s.action.code
+unnamed_in_sent s = unnamed_in_action s.action
 
 abbrev pub unnamed_in_handled : Handled → Option ℕ
-unnamed_in_handled h = unnamed_code h.action.code
+unnamed_in_handled h = unnamed_in_action h.action
 
 abbrev pub unnamed_in_queued : Queued → Option ℕ
-unnamed_in_queued q = unnamed_code q.action.code
+unnamed_in_queued q = unnamed_in_action q.action
 
 abbrev pub unnamed_in_entry : Entry → Option ℕ
 unnamed_in_entry (Trans t) = least unnamed_in_sent t.sends
@@ -189,7 +199,7 @@ unnamed_in_account account = lesser (least unnamed_in_handled account.handled) (
 abbrev pub unnamed_in_agent : Agent → Option ℕ
 unnamed_in_agent agent = unnamed_in_account agent.account
 
--- the least code in the log's sends and in the agents' accounts that no function of Core has
+-- the least code in the log's sends and in the agents' accounts, with what they carry, that no function of Core has
 abbrev pub unnamed : WorldSeen → Option ℕ
 unnamed world = lesser (least unnamed_in_entry world.log) (least unnamed_in_agent world.agents.agents)
 

@@ -11,6 +11,7 @@ use Rattle.ref_log.specs.declared.entries.Transaction.{Transaction}
 use Rattle.ref_agents.specs.Account.{AccountSeen}
 use Rattle.ref_fun.specs.Rule.{passes}
 use Rattle.ref_fun.specs.declared.actions.Action.{Action}
+use Rattle.ref_fun.specs.declared.carries.Carry.{Carry}
 use Rattle.ref_fun.specs.declared.rules.Rule.{Rule}
 use Rattle.ref_log.specs.declared.entries.Entry.{Entry}
 use Rattle.ref_log.specs.declared.entries.Entry.TheVariants.{Trans, Atom, MadeRef, MadeAtom}
@@ -34,7 +35,7 @@ use Rattle.ref_world.specs.Seen.{WorldSeen}
 use Rattle.ref_world.specs.World.{IsReplayed, point_of}
 use Rattle.ref_audit.specs.Made.{AreFew}
 use Rattle.ref_verdict.specs.declared.reading.dumps.Dump.{Dump}
-use Rattle.ref_verdict.specs.declared.reading.dumps.Version.TheVariants.{Two}
+use Rattle.ref_verdict.specs.declared.reading.dumps.Version.TheVariants.{Three}
 use Rattle.ref_verdict.specs.declared.reading.dumps.Kept.{Kept}
 use Rattle.ref_verdict.specs.declared.reading.dumps.KeptAgent.{KeptAgent}
 
@@ -45,8 +46,14 @@ is_typed_number n = nat_lt n (2 ^ 32)
 abbrev pub is_typed_args : List Edn → Bool
 is_typed_args args = nat_le (length args) 8
 
+abbrev pub is_typed_carry : Carry → Bool
+is_typed_carry c = is_typed_number c.g && (is_function c.code && is_typed_args c.args)
+
+abbrev pub is_typed_carries : List Carry → Bool
+is_typed_carries carries = nat_le (length carries) 8 && list_all is_typed_carry carries
+
 abbrev pub is_typed_action : Action → Bool
-is_typed_action action = is_function action.code && is_typed_args action.args
+is_typed_action action = (is_function action.code && is_typed_args action.args) && is_typed_carries action.carries
 
 abbrev pub is_typed_rule : Option Rule → Bool
 is_typed_rule None = true
@@ -113,8 +120,17 @@ is_small_op Ensure = true
 abbrev pub is_small_done : Done → Bool
 is_small_done d = is_typed_number d.r && is_small_op d.op
 
+abbrev pub is_small_carry : Carry → Bool
+is_small_carry c = is_typed_number c.g && is_small_args c.args
+
+abbrev pub is_small_carries : List Carry → Bool
+is_small_carries carries = nat_le (length carries) 8 && list_all is_small_carry carries
+
+abbrev pub is_small_action : Action → Bool
+is_small_action action = is_small_args action.args && is_small_carries action.carries
+
 abbrev pub is_small_sent : Sent → Bool
-is_small_sent s = is_typed_number s.agent && is_small_args s.action.args
+is_small_sent s = is_typed_number s.agent && is_small_action s.action
 
 abbrev pub is_small_transaction : Transaction → Bool
 is_small_transaction t = is_typed_stamp t.stamp && (list_all is_small_done t.dones && list_all is_small_sent t.sends)
@@ -129,10 +145,10 @@ is_small_entry (MadeRef v) = true
 is_small_entry (MadeAtom v) = true
 
 abbrev pub is_small_handled : Handled → Bool
-is_small_handled h = is_small_args h.action.args
+is_small_handled h = is_small_action h.action
 
 abbrev pub is_small_queued : Queued → Bool
-is_small_queued q = is_small_args q.action.args
+is_small_queued q = is_small_action q.action
 
 abbrev pub is_small_account : AccountSeen → Bool
 is_small_account account = list_all is_small_handled account.handled && list_all is_small_queued account.queue
@@ -190,7 +206,7 @@ agents_seen guards agents = map (agent_seen guards) (enumerate_from 0 agents)
 -- what a world's dump says
 abbrev pub dump_seen : WorldSeen → Dump
 dump_seen w = record {
-  version = Two;
+  version = Three;
   base = w.base;
   entries = w.log;
   refs = kepts_seen w.refs.guards w.refs.values;

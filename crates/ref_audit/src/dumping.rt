@@ -26,8 +26,8 @@ pub(crate) use worlds::unnamed_in;
 /// The dump of a world: one value that says all that a stranger needs to replay the log and to compare. docs/DUMPS.md shows
 /// its form.
 ///
-/// Where an action in the log's sends or in an agent's account names a function that Core doesn't have, the least such code is
-/// reported, and else that the dump would nest deeper than 64. The time is linear in what is dumped; values are shared, not copied.
+/// Where an action in the log's sends or in an agent's account, or what it carries, names a function that Core doesn't have, the
+/// least such code is reported, and else that the dump would nest deeper than 64. The time is linear in what is dumped; values are shared, not copied.
 #[tactic(auto, using(crate::proofs::Dumps::dump_told))]
 pub fn dump<C: Ledger, A: Ledger, K: Ledger>(
     alloc: Global,

@@ -56,8 +56,8 @@ pub fn audit_own_dump<F: Functions<Core>, C: Ledger, A: Ledger, K: Ledger>(
 }
 
 /// The verdict on a world's dump, without the dump: what the dump says is taken from the world, and judged as what a dump says is. So it
-/// costs the replay and no forms. It is ok by the same law. It is refused where an action in the log's sends or in an agent's account
-/// names a function that Core doesn't have, with the least such code.
+/// costs the replay and no forms. It is ok by the same law. It is refused where an action in the log's sends or in an agent's account,
+/// or what it carries, names a function that Core doesn't have, with the least such code.
 pub fn audit_world<F: Functions<Core>, C: Ledger, A: Ledger, K: Ledger>(
     alloc: Global,
     funs: &F,

@@ -4,9 +4,12 @@
 --   :begin, :read-point, :commit, :abort      the actor's transaction
 --   :deref R, :ref-set R V, :alter R F ARG .., :commute R F ARG .., :ensure R, :require R P ARG .., :send-in-tx G F ARG ..
 --                                             in it
+--   :send-carry-in-tx G [F ARG ..] [H F ARG ..] ..
+--                                             in it, an action that carries 1 to 8 sends
 --   :take, :run, :put-back, :finish           the actor's job
 --   :swap X F ARG .., :reset X V, :cas X OLD NEW
---   :send G F ARG .., :restart G V, :restart G V :clear, :set-error-mode G :fail or :continue, :error-of G
+--   :send G F ARG .., :send-carry G [F ARG ..] [H F ARG ..] .., :release-carried G
+--   :restart G V, :restart G V :clear, :set-error-mode G :fail or :continue, :error-of G
 --   :set-validator NAME RULE or nil, :add-watch NAME KEY, :remove-watch NAME KEY, :value-of NAME
 --   :release P, :checkpoint P                 at the point P
 --   :make-ref V, :make-atom V, :make-agent V  then RULE or nil, then, for a ref, :tally, or, for an agent, :fail or :continue
@@ -25,7 +28,7 @@ use Rattle.ref_agents.specs.declared.agents.ErrorMode.TheVariants as modes
 use Rattle.ref_start.specs.Names.{NamesSeen}
 use Rattle.ref_forms.specs.Calls.{action_said, any, mode_said, rule_of, rule_said, value_said}
 use Rattle.ref_forms.specs.Plain.{alone_said, and_said, elements_of, keyword_of, mark_said, number_of, one_said, only_if, stamp_number, then_said, two_said}
-use Rattle.ref_forms.specs.References.{number_said, state_said}
+use Rattle.ref_forms.specs.References.{carrying_said, number_said, state_said}
 use Rattle.ref_forms.specs.declared.kinds.Kind.{Kind}
 use Rattle.ref_forms.specs.declared.kinds.Kind.TheVariants as kinds
 use Rattle.ref_plan.specs.Named.{who_named}
@@ -86,6 +89,10 @@ point_said xs = one_said number_of xs
 abbrev pub call_said : NamesSeen → Kind → List Edn → Option (ℕ × Action)
 call_said names kind xs = then_said (place_said names kind) (action_said any) xs
 
+-- an agent, an action in a vector, and what it carries, each in one
+abbrev pub carried_said : NamesSeen → List Edn → Option (ℕ × Action)
+carried_said names xs = carrying_said (who_said names) any xs
+
 -- a ref, a predicate and its arguments
 abbrev pub required_said : NamesSeen → List Edn → Option (ℕ × Rule)
 required_said names xs = then_said (place_said names kinds.Ref) (rule_said any) xs
@@ -128,7 +135,8 @@ tx_said names stamp txs.RefSet parts = option_map (λ p. acts.RefSet p.0 p.1) (s
 tx_said names stamp txs.Alter parts = option_map (λ c. acts.Alter c.0 c.1.code c.1.args) (call_said names kinds.Ref parts)
 tx_said names stamp txs.Commute parts = option_map (λ c. acts.Commute c.0 c.1.code c.1.args) (call_said names kinds.Ref parts)
 tx_said names stamp txs.Ensure parts = option_map acts.Ensure (one_said (place_said names kinds.Ref) parts)
-tx_said names stamp txs.SendInTx parts = option_map (λ c. acts.SendInTx c.0 c.1.code c.1.args) (call_said names kinds.Agent parts)
+tx_said names stamp txs.SendInTx parts = option_map (λ c. acts.SendInTx c.0 c.1) (call_said names kinds.Agent parts)
+tx_said names stamp txs.SendCarryInTx parts = option_map (λ c. acts.SendInTx c.0 c.1) (carried_said names parts)
 tx_said names stamp txs.Require parts = option_map (λ p. acts.Require p.0 p.1) (required_said names parts)
 tx_said names stamp txs.ReadPoint parts = alone_said acts.ReadPoint parts
 tx_said names stamp txs.Commit parts = alone_said (acts.Commit stamp) parts
@@ -147,6 +155,8 @@ atom_said names atoms.CompareAndSet parts = option_map (λ p. acts.CompareAndSet
 
 abbrev pub agent_said : NamesSeen → AgentWord → List Edn → Option Act
 agent_said names agents.Send parts = option_map (λ c. acts.Send c.0 c.1) (call_said names kinds.Agent parts)
+agent_said names agents.SendCarry parts = option_map (λ c. acts.Send c.0 c.1) (carried_said names parts)
+agent_said names agents.ReleaseCarried parts = option_map acts.ReleaseCarried (one_said (place_said names kinds.Agent) parts)
 agent_said names agents.Restart parts = option_map (λ p. acts.Restart p.0 p.1.0 p.1.1) (restart_said names parts)
 agent_said names agents.SetErrorMode parts = option_map (λ p. acts.SetErrorMode p.0 p.1) (two_said (place_said names kinds.Agent) mode_said parts)
 agent_said names agents.ErrorOf parts = option_map acts.ErrorOf (one_said (place_said names kinds.Agent) parts)

@@ -9,6 +9,7 @@ use crate::references::Numbered;
 use crate::words::{
     ActWord, AgentWord, AtomWord, JobWord, MakingWord, ReferenceWord, TxWord, WorldWord,
 };
+use ref_forms::carrying::carrying_on;
 use ref_forms::plain::number_in;
 use ref_forms::references::{
     call_on, mode_on, number_alone, requirement_on, setting_on, state_on, two_values_on, value_on,
@@ -70,7 +71,11 @@ fn tx_act_in(
         TxWord::Ensure => Ok(Act::Ensure(number_alone(names, Kind::Ref, parts)?)),
         TxWord::SendInTx => {
             let (g, action) = call_on(alloc, names, Kind::Agent, parts)?;
-            Ok(Act::SendInTx(g, action.code, action.args))
+            Ok(Act::SendInTx(g, action))
+        }
+        TxWord::SendCarryInTx => {
+            let (g, action) = carrying_on(alloc, names, parts)?;
+            Ok(Act::SendInTx(g, action))
         }
         TxWord::Require => {
             let (r, rule) = requirement_on(alloc, names, parts)?;
@@ -130,6 +135,15 @@ fn agent_act_in(
             let (g, action) = call_on(alloc, names, Kind::Agent, parts)?;
             Ok(Act::Send(g, action))
         }
+        AgentWord::SendCarry => {
+            let (g, action) = carrying_on(alloc, names, parts)?;
+            Ok(Act::Send(g, action))
+        }
+        AgentWord::ReleaseCarried => Ok(Act::ReleaseCarried(number_alone(
+            names,
+            Kind::Agent,
+            parts,
+        )?)),
         AgentWord::Restart => {
             let (g, (state, clear)) = state_on(names, parts)?;
             Ok(Act::Restart(g, state, clear))

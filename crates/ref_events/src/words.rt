@@ -28,6 +28,7 @@ pub enum TxWord {
     Commute,
     Ensure,
     SendInTx,
+    SendCarryInTx,
     Require,
     ReadPoint,
     Commit,
@@ -55,6 +56,8 @@ pub enum AtomWord {
 #[derive(Clone, Copy, Debug, Drop, PartialEq, Eq)]
 pub enum AgentWord {
     Send,
+    SendCarry,
+    ReleaseCarried,
     Restart,
     SetErrorMode,
     ErrorOf,
@@ -84,7 +87,7 @@ pub enum MakingWord {
     MakeAgent,
 }
 
-const WORDS: [(&str, ActWord); 31] = [
+const WORDS: [(&str, ActWord); 34] = [
     ("begin", ActWord::Tx(TxWord::Begin)),
     ("deref", ActWord::Tx(TxWord::Deref)),
     ("ref-set", ActWord::Tx(TxWord::RefSet)),
@@ -92,6 +95,7 @@ const WORDS: [(&str, ActWord); 31] = [
     ("commute", ActWord::Tx(TxWord::Commute)),
     ("ensure", ActWord::Tx(TxWord::Ensure)),
     ("send-in-tx", ActWord::Tx(TxWord::SendInTx)),
+    ("send-carry-in-tx", ActWord::Tx(TxWord::SendCarryInTx)),
     ("require", ActWord::Tx(TxWord::Require)),
     ("read-point", ActWord::Tx(TxWord::ReadPoint)),
     ("commit", ActWord::Tx(TxWord::Commit)),
@@ -104,6 +108,8 @@ const WORDS: [(&str, ActWord); 31] = [
     ("reset", ActWord::Atom(AtomWord::Reset)),
     ("cas", ActWord::Atom(AtomWord::CompareAndSet)),
     ("send", ActWord::Agent(AgentWord::Send)),
+    ("send-carry", ActWord::Agent(AgentWord::SendCarry)),
+    ("release-carried", ActWord::Agent(AgentWord::ReleaseCarried)),
     ("restart", ActWord::Agent(AgentWord::Restart)),
     ("set-error-mode", ActWord::Agent(AgentWord::SetErrorMode)),
     ("error-of", ActWord::Agent(AgentWord::ErrorOf)),

@@ -1,8 +1,6 @@
 //! The explanation of each fault.
 use crate::dumps::{write_bad_entry, write_bad_part};
-use crate::keys::{
-    Document, write_dump_version, write_keys, write_too_many, write_too_many_events, write_version,
-};
+use crate::keys::{Document, write_keys, write_too_many, write_too_many_events, write_version};
 use crate::read_faults::write_read_fault;
 use crate::references::{
     write_bad_tally, write_name_twice, write_reference_fault, write_start_invalid,
@@ -31,6 +29,7 @@ pub enum Mistake {
 fn write_workload(writing: &mut Writing<'_>, fault: PlanFault) -> Result<(), AllocError> {
     match fault {
         PlanFault::NotWorkload => write_keys(writing, Document::Workload),
+        PlanFault::BadVersion => write_version(writing, Document::Workload),
         PlanFault::TooMany => write_too_many(writing),
         PlanFault::BadStep { worker, step } => write_step_fault(writing, worker, step, Part::Form),
         PlanFault::UnknownName { worker, step } => {
@@ -43,10 +42,9 @@ fn write_workload(writing: &mut Writing<'_>, fault: PlanFault) -> Result<(), All
     }
 }
 
-// What is wrong with the version or a reference, as workloads and lists of events have them.
+// What is wrong with a reference, as workloads and lists of events have them.
 fn write_declaration(writing: &mut Writing<'_>, fault: PlanFault) -> Result<(), AllocError> {
     match fault {
-        PlanFault::BadVersion => write_version(writing, "version"),
         PlanFault::BadReference(who) => write_reference_fault(writing, who),
         PlanFault::NameTwice(who) => write_name_twice(writing, who),
         PlanFault::BadTally(who) => write_bad_tally(writing, who),
@@ -58,7 +56,7 @@ fn write_declaration(writing: &mut Writing<'_>, fault: PlanFault) -> Result<(), 
 fn write_events(writing: &mut Writing<'_>, fault: ScriptFault) -> Result<(), AllocError> {
     match fault {
         ScriptFault::NotEvents => write_keys(writing, Document::Events),
-        ScriptFault::BadVersion => write_version(writing, "version"),
+        ScriptFault::BadVersion => write_version(writing, Document::Events),
         ScriptFault::TooMany => write_too_many_events(writing),
         ScriptFault::Reference(fault) => write_declaration(writing, fault),
         ScriptFault::BadEvent(n) => write_event_fault(writing, n, Part::Form),
@@ -71,7 +69,7 @@ fn write_events(writing: &mut Writing<'_>, fault: ScriptFault) -> Result<(), All
 fn write_dump(writing: &mut Writing<'_>, fault: DumpFault) -> Result<(), AllocError> {
     match fault {
         DumpFault::NotDump => write_keys(writing, Document::Dump),
-        DumpFault::BadVersion => write_dump_version(writing),
+        DumpFault::BadVersion => write_version(writing, Document::Dump),
         DumpFault::BadPart(key) => write_bad_part(writing, key),
         DumpFault::BadEntry(number) => write_bad_entry(writing, number),
         DumpFault::Memory => Ok(()),

@@ -9,8 +9,8 @@ use ref_plan::planning::parts::{MOST_POOL, MOST_WORKERS};
 use ref_plan::planning::steps::MOST_STEPS;
 use std::alloc::AllocError;
 
-/// The version of workloads and lists of events.
-pub const FORMAT_VERSION: u32 = 1;
+/// The newest version of workloads.
+pub const FORMAT_VERSION: u32 = 2;
 
 // So many keys are shown at most.
 const MOST_MARKS: usize = 5;
@@ -287,25 +287,28 @@ pub(crate) fn write_keys(writing: &mut Writing<'_>, document: Document) -> Resul
 }
 
 /// Says that the version is another one.
-pub(crate) fn write_version(writing: &mut Writing<'_>, word: &str) -> Result<(), AllocError> {
-    match part_of(writing.text, word) {
-        Some(version) => {
-            let message = format!(in writing.alloc;
-                "the version of this form is {FORMAT_VERSION}"
-            )?;
-            writing.mark(&version, message.as_str())
-        }
+pub(crate) fn write_version(
+    writing: &mut Writing<'_>,
+    document: Document,
+) -> Result<(), AllocError> {
+    let message = match document {
+        Document::Workload => "the version of a workload is 1 or 2",
+        Document::Events => "the version of a list of events is 1",
+        Document::Dump => return write_dump_version(writing),
+    };
+    match part_of(writing.text, "version") {
+        Some(version) => writing.mark(&version, message),
         None => Ok(()),
     }
 }
 
-/// Says that the version of a dump isn't that of its keys.
-pub(crate) fn write_dump_version(writing: &mut Writing<'_>) -> Result<(), AllocError> {
+// Says that the version of a dump isn't that of its keys.
+fn write_dump_version(writing: &mut Writing<'_>) -> Result<(), AllocError> {
     let Some(version) = part_of(writing.text, "dump") else {
         return Ok(());
     };
     let message = match part_of(writing.text, "taken") {
-        Some(_) => "a dump with :taken is of version 2",
+        Some(_) => "a dump with :taken is of version 2 or 3",
         None => "a dump without :taken is of version 1",
     };
     writing.mark(&version, message)

@@ -15,6 +15,7 @@
 //! to an end. Not guaranteed: what is said, which only tests see.
 #![tactic(auto)]
 
+mod calls;
 mod documents;
 mod dumps;
 mod excerpts;

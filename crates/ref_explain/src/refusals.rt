@@ -1,9 +1,10 @@
 //! The steps that a run refused, by the lines of its report.
+use crate::calls::{Call, own_call};
 use crate::documents::step_of;
 use crate::forms::{Form, Members};
 use crate::functions::{function_of, wrong_count};
 use crate::sentences::{Said, said_in};
-use crate::words::{Sentence, Slot};
+use crate::words::Sentence;
 use crate::writing::Writing;
 use std::alloc::{AllocError, Global};
 
@@ -34,27 +35,24 @@ fn count_of(parts: Members<'_>) -> usize {
 }
 
 /// The name of a function that never takes as many arguments as it has here, and what it takes.
-pub(crate) fn bad_count<'a>(said: &Said<'a>) -> Option<(Form<'a>, &'static str)> {
-    let mut parts = said.rest;
-    for slot in said.word.slots {
-        let part = parts.next()?;
-        if *slot == Slot::Function {
-            let code = function_of(part.bytes())?;
-            let message = wrong_count(code, count_of(parts))?;
-            return Some((part, message));
-        }
-    }
-    None
+pub(crate) fn bad_count<'a>(call: Call<'a>) -> Option<(Form<'a>, &'static str)> {
+    let code = function_of(call.head.bytes())?;
+    let message = wrong_count(code, count_of(call.args))?;
+    Some((call.head, message))
+}
+
+fn bad_count_of<'a>(said: &Said<'a>) -> Option<(Form<'a>, &'static str)> {
+    bad_count(own_call(said)?)
 }
 
 // The same for the first such call of a step.
 fn bad_count_in<'a>(step: &Said<'a>) -> Option<(Form<'a>, &'static str)> {
     if !step.is_transaction() {
-        return bad_count(step);
+        return bad_count_of(step);
     }
     for form in step.rest {
         let bad = match said_in(Sentence::Operation, &form) {
-            Some(said) => bad_count(&said),
+            Some(said) => bad_count_of(&said),
             None => None,
         };
         if bad.is_some() {

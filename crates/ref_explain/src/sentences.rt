@@ -1,8 +1,10 @@
 //! What is wrong with the form of a step, an operation or an act.
+use crate::calls::{write_bad_call, write_bad_carries};
+use crate::documents::part_of;
 use crate::forms::{Form, Members, Sort};
 use crate::functions::{predicate_of, write_no_predicate};
 use crate::nearest::{Nearest, with_hint};
-use crate::words::{MOST_WORDS, Sentence, Slot, TRANSACTION, Word};
+use crate::words::{CARRYING, MOST_WORDS, Sentence, Slot, TRANSACTION, Word};
 use crate::writing::Writing;
 use ref_fun::MOST_ARGUMENTS;
 use ref_plan::planning::names::MOST_NESTED;
@@ -159,6 +161,11 @@ fn is_numbered(form: &Form<'_>) -> bool {
     }
 }
 
+/// Whether a form can name a reference: in an event its kind and its number can too.
+pub(crate) fn is_name(sentence: Sentence, form: &Form<'_>) -> bool {
+    form.symbol().is_some() || (sentence == Sentence::Act && is_numbered(form))
+}
+
 fn is_mode(form: &Form<'_>) -> bool {
     form.is_word("fail") || form.is_word("continue")
 }
@@ -204,6 +211,7 @@ fn missing(slot: Slot) -> Option<&'static str> {
         Slot::Function => Some("the name of a function is missing here"),
         Slot::Predicate => Some("the name of a predicate is missing here"),
         Slot::Rule => Some("a rule or nil is missing here"),
+        Slot::Call => Some("a function with its arguments is missing here"),
         Slot::Mode => Some(":fail or :continue is missing here"),
         Slot::Point => Some("a point is missing here"),
         _ => None,
@@ -218,6 +226,7 @@ fn write_bad_part(
 ) -> Result<bool, AllocError> {
     match slot {
         Slot::Rule | Slot::MaybeRule if !part.is_nil() => write_bad_rule(writing, part, false),
+        Slot::Call => write_bad_call(writing, part),
         _ => match problem_of(sentence, slot, part) {
             Some(message) => {
                 writing.mark(part, message)?;
@@ -256,6 +265,9 @@ fn write_bad_slots(
     for slot in said.word.slots {
         if matches!(slot, Slot::Arguments) {
             return write_bad_arguments(writing, parts);
+        }
+        if matches!(slot, Slot::Carries) {
+            return write_bad_carries(writing, sentence, &form, parts);
         }
         let part = parts.next();
         let is_bad = write_bad_slot(writing, sentence, &form, *slot, part)?;
@@ -325,6 +337,13 @@ fn write_no_word(
     }
 }
 
+fn is_of_version_2(writing: &Writing<'_>) -> bool {
+    match part_of(writing.text, "version") {
+        Some(version) => version.integer() == Some(2),
+        None => false,
+    }
+}
+
 /// Says what is wrong with the form of a sentence, and whether something is. The operations of a transaction aren't looked at.
 pub(crate) fn write_bad_form(
     writing: &mut Writing<'_>,
@@ -344,6 +363,10 @@ pub(crate) fn write_bad_form(
         write_no_word(writing, sentence, form)?;
         return Ok(true);
     };
+    if sentence != Sentence::Act && said.word.word == CARRYING && !is_of_version_2(writing) {
+        writing.mark_start(form, "only a workload of version 2 has this word")?;
+        return Ok(true);
+    }
     let is_bad = !said.is_transaction() && write_bad_slots(writing, sentence, &said)?;
     if is_bad {
         let message = format!(in writing.alloc; "it is written {}", said.word.form)?;

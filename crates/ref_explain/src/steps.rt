@@ -1,4 +1,5 @@
 //! What is wrong with a step of a workload, or with an event.
+use crate::calls::{carried_call, carries_of};
 use crate::documents::{Named, find_name, member_at, name_of, names_of, part_of, step_of};
 use crate::forms::Form;
 use crate::functions::{function_of, predicate_of, write_no_function, write_no_predicate};
@@ -99,12 +100,32 @@ fn write_bad_name(
 ) -> Result<bool, AllocError> {
     let mut parts = said.rest;
     match (said.word.slots.first(), parts.next()) {
-        (Some(Slot::Name(kind)), Some(form)) => {
-            write_bad_reference(writing, names, &form, Some(*kind))
-        }
+        (Some(Slot::Name(kind)), Some(form)) => Ok(
+            write_bad_reference(writing, names, &form, Some(*kind))?
+                || write_bad_agent(writing, names, said)?,
+        ),
         (Some(Slot::AnyName), Some(form)) => write_bad_reference(writing, names, &form, None),
         _ => Ok(false),
     }
+}
+
+// Says that a send that is carried names no agent, and whether one does so.
+fn write_bad_agent(
+    writing: &mut Writing<'_>,
+    names: &[Named<'_>],
+    said: &Said<'_>,
+) -> Result<bool, AllocError> {
+    let Some(carries) = carries_of(said) else {
+        return Ok(false);
+    };
+    for carry in carries {
+        if let Some(agent) = member_at(&carry, 0) {
+            if write_bad_reference(writing, names, &agent, Some(Kind::Agent))? {
+                return Ok(true);
+            }
+        }
+    }
+    Ok(false)
 }
 
 // ---- functions
@@ -124,6 +145,13 @@ fn write_bad_call(
             write_no_predicate(writing, part)?;
             Ok(true)
         }
+        Slot::Call => match member_at(part, 0) {
+            Some(head) if function_of(head.bytes()).is_none() => {
+                write_no_function(writing, &head)?;
+                Ok(true)
+            }
+            _ => Ok(false),
+        },
         Slot::Rule | Slot::MaybeRule => match member_at(part, 0) {
             Some(head) if predicate_of(head.bytes()).is_none() => {
                 write_no_predicate(writing, &head)?;
@@ -139,10 +167,27 @@ fn write_bad_function(writing: &mut Writing<'_>, said: &Said<'_>) -> Result<bool
     let mut parts = said.rest;
     for slot in said.word.slots {
         let Some(part) = parts.next() else {
-            return Ok(false);
+            break;
         };
         if write_bad_call(writing, *slot, &part)? {
             return Ok(true);
+        }
+    }
+    write_bad_carried(writing, said)
+}
+
+// Says that a send that is carried names no function, and whether one does so.
+fn write_bad_carried(writing: &mut Writing<'_>, said: &Said<'_>) -> Result<bool, AllocError> {
+    let Some(carries) = carries_of(said) else {
+        return Ok(false);
+    };
+    for carry in carries {
+        match carried_call(&carry) {
+            Some(call) if function_of(call.head.bytes()).is_none() => {
+                write_no_function(writing, &call.head)?;
+                return Ok(true);
+            }
+            _ => {}
         }
     }
     Ok(false)

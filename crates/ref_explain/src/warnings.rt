@@ -1,4 +1,5 @@
 //! What of a workload can never work.
+use crate::calls::{Call, carried_call, carries_of, own_call};
 use crate::documents::{Named, names_of, part_of};
 use crate::forms::{Form, Members};
 use crate::refusals::{MOST_SHOWN, bad_count};
@@ -53,6 +54,7 @@ impl<'a> Warnings<'a> {
         for slot in said.word.slots {
             match slot {
                 Slot::Arguments => return self.all_arguments(parts),
+                Slot::Call => return self.carried_arguments(said),
                 Slot::Value => {
                     if let Some(part) = parts.next() {
                         self.argument(&part)?;
@@ -66,6 +68,21 @@ impl<'a> Warnings<'a> {
         Ok(())
     }
 
+    // Those of a call in a vector, and of the sends that it carries.
+    fn carried_arguments(&mut self, said: &Said<'_>) -> Result<(), AllocError> {
+        if let Some(call) = own_call(said) {
+            self.all_arguments(call.args)?;
+        }
+        if let Some(carries) = carries_of(said) {
+            for carry in carries {
+                if let Some(call) = carried_call(&carry) {
+                    self.all_arguments(call.args)?;
+                }
+            }
+        }
+        Ok(())
+    }
+
     fn all_arguments(&mut self, parts: Members<'_>) -> Result<(), AllocError> {
         for part in parts {
             self.argument(&part)?;
@@ -73,8 +90,8 @@ impl<'a> Warnings<'a> {
         Ok(())
     }
 
-    fn count(&mut self, said: &Said<'_>) -> Result<(), AllocError> {
-        let Some((function, message)) = bad_count(said) else {
+    fn count(&mut self, call: Call<'_>) -> Result<(), AllocError> {
+        let Some((function, message)) = bad_count(call) else {
             return Ok(());
         };
         if !self.is_next_shown() {
@@ -85,10 +102,24 @@ impl<'a> Warnings<'a> {
         self.writing.mark(&function, message)
     }
 
+    fn counts(&mut self, said: &Said<'_>) -> Result<(), AllocError> {
+        if let Some(call) = own_call(said) {
+            self.count(call)?;
+        }
+        if let Some(carries) = carries_of(said) {
+            for carry in carries {
+                if let Some(call) = carried_call(&carry) {
+                    self.count(call)?;
+                }
+            }
+        }
+        Ok(())
+    }
+
     fn sentence(&mut self, sentence: Sentence, form: &Form<'_>) -> Result<(), AllocError> {
         match said_in(sentence, form) {
             Some(said) => {
-                self.count(&said)?;
+                self.counts(&said)?;
                 self.arguments(&said)
             }
             None => Ok(()),

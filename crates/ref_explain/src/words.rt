@@ -12,6 +12,10 @@ pub(crate) enum Slot {
     Predicate,
     /// All that is left: at most 8 arguments.
     Arguments,
+    /// `[F ARG ..]`.
+    Call,
+    /// All that is left: 1 to 8 sends that are carried, each `[G F ARG ..]`.
+    Carries,
     /// `[P ARG ..]` or nil.
     Rule,
     /// `:fail` or `:continue`.
@@ -56,6 +60,8 @@ const ATOM_CALL: &[Slot] = &[Slot::Name(Kind::Atom), Slot::Function, Slot::Argum
 
 const AGENT_CALL: &[Slot] = &[Slot::Name(Kind::Agent), Slot::Function, Slot::Arguments];
 
+const AGENT_CARRY: &[Slot] = &[Slot::Name(Kind::Agent), Slot::Call, Slot::Carries];
+
 const REF_TEST: &[Slot] = &[Slot::Name(Kind::Ref), Slot::Predicate, Slot::Arguments];
 
 const STATE: &[Slot] = &[Slot::Name(Kind::Agent), Slot::Value, Slot::MaybeClear];
@@ -76,6 +82,17 @@ const fn written(word: &'static str, slots: &'static [Slot], form: &'static str)
     Word { word, slots, form }
 }
 
+/// The word of a send that carries sends. Workloads of version 1 don't have it.
+pub(crate) const CARRYING: &str = "send-carry";
+
+fn carrying() -> Word {
+    written(
+        CARRYING,
+        AGENT_CARRY,
+        "[:send-carry G [F ARG ..] [H F ARG ..] ..]",
+    )
+}
+
 /// The word of a transaction. Its operations are sentences of their own.
 pub(crate) const TRANSACTION: &str = "tx";
 
@@ -88,7 +105,7 @@ pub(crate) enum Sentence {
 }
 
 // No kind of sentence has more words.
-pub(crate) const MOST_WORDS: usize = 31;
+pub(crate) const MOST_WORDS: usize = 34;
 
 fn step(place: usize) -> Option<Word> {
     match place {
@@ -104,6 +121,7 @@ fn step(place: usize) -> Option<Word> {
             RULE,
             "[:validator NAME [P ARG ..]] or [:validator NAME nil]",
         )),
+        8 => Some(carrying()),
         _ => None,
     }
 }
@@ -116,6 +134,7 @@ fn operation(place: usize) -> Option<Word> {
         3 => Some(written("ensure", A_REF, "[:ensure R]")),
         4 => Some(written("require", REF_TEST, "[:require R P ARG ..]")),
         5 => Some(written("send", AGENT_CALL, "[:send G F ARG ..]")),
+        6 => Some(carrying()),
         _ => None,
     }
 }
@@ -129,30 +148,41 @@ fn act_of_transaction(place: usize) -> Option<Word> {
         4 => Some(written("commute", REF_CALL, "[ACTOR :commute R F ARG ..]")),
         5 => Some(written("ensure", A_REF, "[ACTOR :ensure R]")),
         6 => Some(written("send-in-tx", AGENT_CALL, "[ACTOR :send-in-tx G F ARG ..]")),
-        7 => Some(written("require", REF_TEST, "[ACTOR :require R P ARG ..]")),
-        8 => Some(written("read-point", NOTHING, "[ACTOR :read-point]")),
-        9 => Some(written("commit", NOTHING, "[ACTOR :commit]")),
-        10 => Some(written("abort", NOTHING, "[ACTOR :abort]")),
+        7 => Some(written(
+            "send-carry-in-tx",
+            AGENT_CARRY,
+            "[ACTOR :send-carry-in-tx G [F ARG ..] [H F ARG ..] ..]",
+        )),
+        8 => Some(written("require", REF_TEST, "[ACTOR :require R P ARG ..]")),
+        9 => Some(written("read-point", NOTHING, "[ACTOR :read-point]")),
+        10 => Some(written("commit", NOTHING, "[ACTOR :commit]")),
+        11 => Some(written("abort", NOTHING, "[ACTOR :abort]")),
         _ => None,
     }
 }
 
 fn act_of_reference(place: usize) -> Option<Word> {
     match place {
-        11 => Some(written("take", NOTHING, "[ACTOR :take]")),
-        12 => Some(written("run", NOTHING, "[ACTOR :run]")),
-        13 => Some(written("put-back", NOTHING, "[ACTOR :put-back]")),
-        14 => Some(written("finish", NOTHING, "[ACTOR :finish]")),
-        15 => Some(written("swap", ATOM_CALL, "[ACTOR :swap X F ARG ..]")),
-        16 => Some(written("reset", ATOM_VALUE, "[ACTOR :reset X V]")),
-        17 => Some(written("cas", ATOM_VALUES, "[ACTOR :cas X OLD NEW]")),
-        18 => Some(written("send", AGENT_CALL, "[ACTOR :send G F ARG ..]")),
-        19 => Some(written(
+        12 => Some(written("take", NOTHING, "[ACTOR :take]")),
+        13 => Some(written("run", NOTHING, "[ACTOR :run]")),
+        14 => Some(written("put-back", NOTHING, "[ACTOR :put-back]")),
+        15 => Some(written("finish", NOTHING, "[ACTOR :finish]")),
+        16 => Some(written("swap", ATOM_CALL, "[ACTOR :swap X F ARG ..]")),
+        17 => Some(written("reset", ATOM_VALUE, "[ACTOR :reset X V]")),
+        18 => Some(written("cas", ATOM_VALUES, "[ACTOR :cas X OLD NEW]")),
+        19 => Some(written("send", AGENT_CALL, "[ACTOR :send G F ARG ..]")),
+        20 => Some(written(
+            CARRYING,
+            AGENT_CARRY,
+            "[ACTOR :send-carry G [F ARG ..] [H F ARG ..] ..]",
+        )),
+        21 => Some(written("release-carried", AN_AGENT, "[ACTOR :release-carried G]")),
+        22 => Some(written(
             "restart",
             STATE,
             "[ACTOR :restart G V] or [ACTOR :restart G V :clear]",
         )),
-        20 => Some(written(
+        23 => Some(written(
             "set-error-mode",
             MODE,
             "[ACTOR :set-error-mode G :fail] or [ACTOR :set-error-mode G :continue]",
@@ -163,28 +193,28 @@ fn act_of_reference(place: usize) -> Option<Word> {
 
 fn act_of_world(place: usize) -> Option<Word> {
     match place {
-        21 => Some(written("error-of", AN_AGENT, "[ACTOR :error-of G]")),
-        22 => Some(written(
+        24 => Some(written("error-of", AN_AGENT, "[ACTOR :error-of G]")),
+        25 => Some(written(
             "set-validator",
             RULE,
             "[ACTOR :set-validator NAME [P ARG ..]] or [ACTOR :set-validator NAME nil]",
         )),
-        23 => Some(written("add-watch", ANY_VALUE, "[ACTOR :add-watch NAME KEY]")),
-        24 => Some(written("remove-watch", ANY_VALUE, "[ACTOR :remove-watch NAME KEY]")),
-        25 => Some(written("value-of", ANY, "[ACTOR :value-of NAME]")),
-        26 => Some(written("release", POINT, "[ACTOR :release P]")),
-        27 => Some(written("checkpoint", POINT, "[ACTOR :checkpoint P]")),
-        28 => Some(written(
+        26 => Some(written("add-watch", ANY_VALUE, "[ACTOR :add-watch NAME KEY]")),
+        27 => Some(written("remove-watch", ANY_VALUE, "[ACTOR :remove-watch NAME KEY]")),
+        28 => Some(written("value-of", ANY, "[ACTOR :value-of NAME]")),
+        29 => Some(written("release", POINT, "[ACTOR :release P]")),
+        30 => Some(written("checkpoint", POINT, "[ACTOR :checkpoint P]")),
+        31 => Some(written(
             "make-ref",
             NEW_REF,
             "[ACTOR :make-ref V], then a rule or nil, then :tally",
         )),
-        29 => Some(written(
+        32 => Some(written(
             "make-atom",
             NEW_ATOM,
             "[ACTOR :make-atom V], then a rule or nil",
         )),
-        30 => Some(written(
+        33 => Some(written(
             "make-agent",
             NEW_AGENT,
             "[ACTOR :make-agent V], then a rule or nil, then :fail or :continue",
@@ -220,10 +250,10 @@ impl Sentence {
     pub fn words(self) -> &'static str {
         match self {
             Sentence::Step => {
-                "the steps are :tx :swap :reset :cas :send :restart :mode :validator"
+                "the steps are :tx :swap :reset :cas :send :restart :mode :validator, and in version 2 :send-carry"
             }
             Sentence::Operation => {
-                "the operations are :set :alter :commute :ensure :require :send"
+                "the operations are :set :alter :commute :ensure :require :send, and in version 2 :send-carry"
             }
             Sentence::Act => "docs/EVENTS.md lists the acts",
         }

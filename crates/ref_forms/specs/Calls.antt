@@ -6,6 +6,7 @@ use Rattle.ref_value.specs.Edn.{Edn, nil, vector, list_of}
 use Rattle.ref_value.specs.Names.{bytes_eq}
 use Rattle.ref_fun.specs.Names.{code_in, core_names, is_function, is_predicate}
 use Rattle.ref_fun.specs.declared.actions.Action.{Action}
+use Rattle.ref_fun.specs.declared.carries.Carry.{Carry}
 use Rattle.ref_fun.specs.declared.rules.Rule.{Rule}
 use Rattle.ref_agents.specs.declared.agents.ErrorMode.{ErrorMode}
 use Rattle.ref_agents.specs.declared.agents.ErrorMode.TheVariants as modes
@@ -30,14 +31,18 @@ value_said is_value x = only_if (is_value x) x
 abbrev pub args_said : (Edn → Bool) → List Edn → Option (List Edn)
 args_said is_value xs = only_if (nat_le (length xs) 8 && list_all is_value xs) xs
 
--- F [ARG ..]
+-- F [ARG ..]: an action that carries nothing
 abbrev pub action_of : Edn → Edn → Option Action
-action_of f args = both (λ code xs. record { code = code; args = xs }) (code_of is_function f) (option_and_then (args_said any) (elements_of args))
+action_of f args = both (λ code xs. record { code = code; args = xs; carries = [] }) (code_of is_function f) (option_and_then (args_said any) (elements_of args))
 
 -- F ARG ..
 abbrev pub action_said : (Edn → Bool) → List Edn → Option Action
 action_said is_value [] = None
-action_said is_value (f ∷ args) = both (λ code xs. record { code = code; args = xs }) (code_of is_function f) (args_said is_value args)
+action_said is_value (f ∷ args) = both (λ code xs. record { code = code; args = xs; carries = [] }) (code_of is_function f) (args_said is_value args)
+
+-- an action that carries these
+abbrev pub carrying : Action → List Carry → Action
+carrying action carries = record { code = action.code; args = action.args; carries = carries }
 
 -- P ARG ..
 abbrev pub rule_said : (Edn → Bool) → List Edn → Option Rule

@@ -1,11 +1,13 @@
 -- Laws of what forms say, for a proof: of a vector, of a map, of a rule in a vector, and of arguments by how many they are.
-use Rattle.std.specs.Prelude.{◌≡◌, ◌<◌, ◌≤◌, ◌&&◌, Bool, true, false, nat_le, List, [], ◌∷◌, ◌++◌, length, Option, None, Some, option_map, refl}
+use Rattle.std.specs.Prelude.{◌≡◌, ◌≢◌, ◌<◌, ◌≤◌, ◌&&◌, Bool, true, false, nat_le, List, [], ◌∷◌, ◌++◌, length, Option, None, Some, option_map, refl}
 use Rattle.std.specs.List.{list_all}
 use Rattle.std.proofs.Common.{ap, arith, ◌∙◌, sym, append_assoc}
 use Rattle.std.proofs.lemmas.Bool.Decides.{nat_tests}
 use Rattle.ref_value.specs.Edn.{Edn, vector, map, items_of, entries_of, list_of-items_of, pairs_of-entries_of}
 use Rattle.ref_forms.specs.Calls.{any, args_said, rule_of, rule_said}
-use Rattle.ref_forms.specs.Plain.{and_said, elements_of, map_said, only_if}
+use Rattle.ref_forms.specs.Plain.{all_said, and_said, elements_of, map_said, only_if}
+use Rattle.ref_forms.specs.declared.wrong.Wrong.{Wrong}
+use Rattle.ref_forms.specs.declared.wrong.Wrong.TheVariants.{Memory}
 
 pub elements_of_vector : (xs : List Edn) → elements_of (vector (items_of xs)) ≡ Some xs
 elements_of_vector xs = ap Some (list_of-items_of xs)
@@ -64,3 +66,21 @@ in_front ys rest = option_map (λ zs. ys ++ zs) rest
 pub in_front_and_said : {A : Type 0} (ys : List A) (y : A) (rest : Option (List A)) → in_front ys (and_said (Some y) rest) ≡ in_front (ys ++ y ∷ []) rest
 in_front_and_said ys y None = refl
 in_front_and_said ys y (Some zs) = ap Some (sym (append_assoc ys (y ∷ []) zs))
+
+-- ---- forms of which all are read, also behind one that is wrong
+
+module _ {A : Type 0} (said : Edn → Option A) (all : List Edn) where
+  -- What was read, with what is left, is what all forms say; or one of them was wrong, and they say nothing.
+  abbrev pub Known : List Edn → List A → Option Wrong → Type 0
+  Known rest ys None = in_front ys (all_said said rest) ≡ all_said said all
+  Known rest ys (Some wrong) = wrong ≢ Memory → all_said said all ≡ None
+
+  module _ (x : Edn) (rest : List Edn) (ys : List A) where
+    pub known_more : (y : A) (worst : Option Wrong) → Known (x ∷ rest) ys worst → said x ≡ Some y → Known rest (ys ++ y ∷ []) worst
+    known_more y None k says = sym (ap (λ o. in_front ys (and_said o (all_said said rest))) says ∙ in_front_and_said ys y (all_said said rest)) ∙ k
+    known_more y (Some wrong) k says = k
+
+    pub known_wrong : (wrong worse : Wrong) (worst : Option Wrong) → Known (x ∷ rest) ys worst → (wrong ≢ Memory → said x ≡ None)
+        → (worse ≢ Memory → wrong ≢ Memory) → (worse ≢ Memory → worst ≢ Some Memory) → Known rest ys (Some worse)
+    known_wrong wrong worse None k says one other no_memory = sym k ∙ ap (λ o. in_front ys (and_said o (all_said said rest))) (says (one no_memory))
+    known_wrong wrong worse (Some before) k says one other no_memory = k (λ is. other no_memory (ap Some is))

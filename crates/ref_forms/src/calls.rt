@@ -77,7 +77,7 @@ pub fn action_in(alloc: Global, function: &Value, args: &Value) -> Result<Action
         return Err(Wrong::Form);
     };
     match args_in::<AnyValue>(alloc, forms.iter()) {
-        Ok(args) => Ok(Action { code, args }),
+        Ok(args) => Ok(Action::new(code, args)),
         Err(wrong) => Err(wrong),
     }
 }

@@ -9,6 +9,7 @@
 //! | [`plain`] | numbers, keywords, symbols, vectors |
 //! | [`calls`] | functions and predicates with their arguments, rules; [`Values`]: which values a document takes |
 //! | [`kinds`], [`references`] | what is done to a reference; [`Naming`]: how a document names references |
+//! | [`carrying`] | sends that carry sends |
 //! | [`maps`] | maps with keywords as keys |
 //! | [`marks`] | error modes, and marks that may be left out |
 //! | [`wrong`] | why a form isn't read |
@@ -18,6 +19,7 @@
 #![tactic(auto)]
 
 pub mod calls;
+pub mod carrying;
 pub mod kinds;
 pub mod maps;
 pub mod marks;

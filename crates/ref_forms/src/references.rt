@@ -1,5 +1,5 @@
 //! What is done to a reference: forms that begin with one.
-ghost use Rattle.std.specs.Prelude.{◌≡◌, List, Option, None, Some};
+ghost use Rattle.std.specs.Prelude.{◌≡◌, ◌∷◌, List, Option, None, Some};
 ghost use Rattle.ref_value.specs.Edn.{Edn};
 ghost use Rattle.ref_log.specs.declared.notices.Who.{Who as Reference};
 ghost use Rattle.ref_forms.specs.Calls.{action_said, mode_said, rule_of, rule_said, value_said};
@@ -130,6 +130,31 @@ pub fn two_values_on<D: Naming + Values>(
     Ok((number, values))
 }
 
+/// `F ARG ..`, for the reference of this kind that a form names.
+pub fn call_for<D: Naming + Values>(
+    alloc: Global,
+    document: &D,
+    kind: Kind,
+    subject: &Value,
+    mut parts: Iter<'_>,
+) -> Result<(u32, Action), Wrong>
+    ensures { Reads (then_said (number_said (D.named document.now) kind) (action_said D.is_value)
+        (subject.now ∷ parts.entry)) result }
+{
+    let Some(function) = parts.next() else {
+        return Err(Wrong::Form);
+    };
+    let Some(name) = symbol_in(function) else {
+        return Err(Wrong::Form);
+    };
+    let args = args_in::<D>(alloc, parts)?;
+    let number = number_in(document, kind, subject)?;
+    match function_named(name) {
+        Some(code) => Ok((number, Action::new(code, args))),
+        None => Err(Wrong::Function),
+    }
+}
+
 /// `NAME F ARG ..`, for a reference of this kind.
 pub fn call_on<D: Naming + Values>(
     alloc: Global,
@@ -139,17 +164,9 @@ pub fn call_on<D: Naming + Values>(
 ) -> Result<(u32, Action), Wrong>
     ensures { Reads (then_said (number_said (D.named document.now) kind) (action_said D.is_value) parts.entry) result }
 {
-    let (Some(subject), Some(function)) = (parts.next(), parts.next()) else {
-        return Err(Wrong::Form);
-    };
-    let Some(name) = symbol_in(function) else {
-        return Err(Wrong::Form);
-    };
-    let args = args_in::<D>(alloc, parts)?;
-    let number = number_in(document, kind, subject)?;
-    match function_named(name) {
-        Some(code) => Ok((number, Action { code, args })),
-        None => Err(Wrong::Function),
+    match parts.next() {
+        Some(subject) => call_for(alloc, document, kind, subject, parts),
+        None => Err(Wrong::Form),
     }
 }
 

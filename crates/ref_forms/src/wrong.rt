@@ -1,5 +1,5 @@
 //! Why a form isn't read.
-ghost use Rattle.std.specs.Prelude.{◌≡◌};
+ghost use Rattle.std.specs.Prelude.{◌≡◌, ◌≢◌, Some};
 ghost use Rattle.ref_forms.specs.declared.wrong.Wrong.TheVariants.{Memory};
 
 use std::alloc::{AllocError, AllocFailed};
@@ -11,6 +11,21 @@ pub enum Wrong {
     Name,
     Function,
     Memory,
+}
+
+impl Wrong {
+    /// The worse of two, where there is another one: that memory was refused comes first, then a wrong form, then a wrong name.
+    pub fn worse(self, other: Option<Wrong>) -> Wrong
+        ensures one { result ≢ Memory → self ≢ Memory }
+        ensures other { result ≢ Memory → other ≢ Some Memory }
+    {
+        match (self, other) {
+            (Wrong::Memory, _) | (_, Some(Wrong::Memory)) => Wrong::Memory,
+            (Wrong::Form, _) | (_, Some(Wrong::Form)) => Wrong::Form,
+            (Wrong::Name, _) | (_, Some(Wrong::Name)) => Wrong::Name,
+            _ => Wrong::Function,
+        }
+    }
 }
 
 impl From<AllocError> for Wrong {

@@ -2,4 +2,3 @@ pub mod Kept
 pub mod CoreCodes
 pub mod Shallower
 pub mod OwnCodes
-pub mod Sameness

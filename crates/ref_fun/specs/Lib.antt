@@ -1,5 +1,5 @@
 -- To be read and believed: all. Core is the table of functions and predicates, over Kinds, Integers, Collections and Predicates;
--- Meaning, Rule, Calls and Table say what a call, a rule and a table are; Cause and Names are numbers and names.
+-- Meaning, Rule, Calls, Table and Actions say what a call, a rule, a table and an action are; Cause and Names are numbers and names.
 pub mod Cause
 pub mod Meaning
 pub mod Kinds
@@ -11,3 +11,4 @@ pub mod Names
 pub mod Rule
 pub mod Calls
 pub mod Table
+pub mod Actions

@@ -1,10 +1,10 @@
 //! The arguments of a function.
 ghost use Rattle.std.specs.Prelude.{◌≡◌, ◌≢◌, ◌≤◌, [], length, vec_len, IfOk, OnErr};
 
+use crate::lists::SharedVec;
 use ref_value::Value;
 use std::alloc::{AllocError, Global};
 use std::marker::Model;
-use std::sync::Arc;
 
 /// How many arguments a function may have.
 pub const MOST_ARGUMENTS: usize = 8;
@@ -12,14 +12,12 @@ pub const MOST_ARGUMENTS: usize = 8;
 /// At most 8 arguments; they may have several owners. Contracts see a list.
 #[derive(Drop)]
 pub struct Args {
-    // No block is taken for no arguments.
-    values: Option<Arc<Vec<Value>>>,
+    values: SharedVec<Value>,
 }
 
 impl Model for Args {
-    ghost use Rattle.std.specs.Prelude.{List, [], length, ◌≤◌};
+    ghost use Rattle.std.specs.Prelude.{List, length, ◌≤◌};
     ghost use Rattle.std.specs.Coded.{coded_list};
-    ghost use Rattle.std.specs.Option.{option_map_or};
     ghost use Rattle.ref_value.specs.Edn.{Edn};
     ghost use Rattle.ref_value.specs.Code.{edn_code};
 
@@ -27,9 +25,9 @@ impl Model for Args {
 
     ghost coded = { coded_list edn_code };
 
-    ghost view = { λ a. option_map_or (λ values. values.value.items) a.values [] };
+    ghost view = { λ a. a.values };
 
-    ghost invariant = { λ a. length (option_map_or (λ values. values.value.items) a.values []) ≤ 8 };
+    ghost invariant = { λ a. length a.values ≤ 8 };
 }
 
 impl Args {
@@ -39,12 +37,8 @@ impl Args {
         ensures value { IfOk result (λ a. a ≡ values.items) }
         ensures memory { OnErr result (values.items ≢ []) }
     {
-        if values.is_empty() {
-            return Ok(Args { values: None });
-        }
-        Ok(Args {
-            values: Some(Arc::new(alloc, values)?),
-        })
+        let values = SharedVec::of(alloc, values)?;
+        Ok(Args { values })
     }
 
     /// The arguments in order, as a function takes them.
@@ -52,21 +46,14 @@ impl Args {
         ensures value { result.now ≡ self.now }
         ensures few { length result.now ≤ 8 }
     {
-        match &self.values {
-            Some(values) => values.as_slice(),
-            None => &[],
-        }
+        self.values.as_slice()
     }
 
     /// One more owner. It takes no memory; only the count of owners can refuse.
     pub fn share(&self) -> Result<Args, AllocError>
         ensures { IfOk result (λ a. a ≡ self.now) }
     {
-        match &self.values {
-            Some(values) => Ok(Args {
-                values: Some(Arc::try_clone(values)?),
-            }),
-            None => Ok(Args { values: None }),
-        }
+        let values = self.values.share()?;
+        Ok(Args { values })
     }
 }

@@ -1,7 +1,7 @@
 //! What a log is made of.
-use crate::lists::{Share, SharedVec};
 use crate::operations::{Done, Op};
 use crate::sends::Sent;
+use ref_fun::{Share, SharedVec};
 use ref_value::Value;
 use std::alloc::AllocError;
 

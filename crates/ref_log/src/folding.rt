@@ -9,10 +9,9 @@ use crate::counting::{Side, commits_of, moved_of};
 use crate::entries::Entry;
 use crate::faults::AuditFault;
 use crate::lasts::lasts_after;
-use crate::lists::SharedVec;
 use crate::replay::replay_plain;
 use crate::states::{Base, PlainState};
-use ref_fun::{Functions, Meaning};
+use ref_fun::{Functions, Meaning, SharedVec};
 use ref_pvec::PVec;
 use std::alloc::Global;
 

@@ -3,9 +3,9 @@ ghost use Rattle.std.specs.Prelude.{◌≡◌, ◌<◌, ◌^◌, ◌&&◌, ◌==
 ghost use Rattle.ref_log.specs.Replay.{is_changed_by, is_ensure, is_touched, last_change, point_after, refs_after, refs_after_one};
 
 use crate::entries::Entry;
-use crate::lists::SharedVec;
 use crate::operations::Done;
 use crate::states::Base;
+use ref_fun::SharedVec;
 use ref_pvec::PVec;
 use std::alloc::{AllocError, Global};
 

@@ -7,8 +7,7 @@ ghost use Rattle.ref_log.specs.Replay.{PlaceAnswers, codes_of, is_commute, is_en
 ghost use Rattle.ref_log.specs.Tally.{fits_side, fits_tally, is_count};
 
 use crate::counting::Side;
-use crate::lists::Share;
-use ref_fun::{Args, CallFault, Functions, Meaning};
+use ref_fun::{Args, CallFault, Functions, Meaning, Share};
 use ref_value::{Node, Value};
 use std::alloc::{AllocError, Global};
 use std::collections::BTreeSet;

@@ -4,10 +4,9 @@ ghost use Rattle.ref_log.specs.Replay.{FaultComes, after_dones, after_one, done_
 
 use crate::entries::Entry;
 use crate::faults::AuditFault;
-use crate::lists::{SharedVec, share_all};
 use crate::operations::{Done, Op, protected_refs};
 use crate::states::{Base, PlainState};
-use ref_fun::{CallFault, Functions, Meaning};
+use ref_fun::{CallFault, Functions, Meaning, SharedVec, share_all};
 use ref_pvec::PVec;
 use ref_value::Value;
 use std::alloc::{AllocError, Global};

@@ -1,6 +1,5 @@
 //! What a transaction sends.
-use crate::lists::Share;
-use ref_fun::Action;
+use ref_fun::{Action, Share};
 use std::alloc::AllocError;
 
 /// An action that is sent to the agent of this number.

@@ -1,5 +1,5 @@
 //! The values of all references at one point.
-use crate::lists::SharedVec;
+use ref_fun::SharedVec;
 use ref_value::Value;
 
 /// What a log begins with.

@@ -1,5 +1,5 @@
 -- A loop over forms that declare: what they declare, as far as it has come.
-use Rattle.std.proofs.Common.{◌≡◌, ℕ, ◌+◌, ◌<◌, ◌≤◌, List, [], ◌∷◌, ◌++◌, drop, length, get_or, refl, sym, subst, ◌∙◌, ap, suc, add-one, append_assoc, append-nil, drop-cons, Option, None, Some}
+use Rattle.std.proofs.Common.{◌≡◌, ℕ, ◌+◌, ◌<◌, ◌≤◌, List, [], ◌∷◌, ◌++◌, drop, length, get_or, refl, sym, subst, ◌∙◌, ap, suc, add-one, append_assoc, append-nil, drop-cons, Option, Some}
 use Rattle.std.proofs.lemmas.List.{drop_all}
 use Rattle.ref_value.specs.Edn.{Edn}
 use Rattle.ref_plan.specs.Declarations.{AreDeclared}

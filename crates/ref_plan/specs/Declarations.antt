@@ -1,6 +1,6 @@
 -- How references are declared: `[NAME VALUE]`, then RULE where there is one, and then, for a ref, `:tally` where it is the tally, or,
 -- for an agent, `:fail` or `:continue`, its error mode. A rule accepts the value.
-use Rattle.std.specs.Prelude.{◌≡◌, ◌≤◌, ◌&&◌, ℕ, Bool, true, false, not, ◌||◌, if◌then◌else◌, List, [], ◌∷◌, Option, None, Some, count_by, option_and_then, option_map}
+use Rattle.std.specs.Prelude.{◌≡◌, ◌≤◌, ◌&&◌, ℕ, Bool, true, false, not, ◌||◌, List, [], ◌∷◌, Option, None, Some, count_by, option_and_then, option_map}
 use Rattle.ref_value.specs.Edn.{Edn, keyword}
 use Rattle.ref_value.specs.Names.{bytes_eq}
 use Rattle.ref_agents.specs.declared.agents.ErrorMode.{ErrorMode}

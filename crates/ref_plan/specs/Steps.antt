@@ -5,6 +5,7 @@
 --   [:reset X V]              `reset!` of X to the value V
 --   [:cas X OLD NEW]          `compare-and-set!` of X
 --   [:send G F ARG ..]        `send` to the agent G
+--   [:send-carry G [F ARG ..] [H F ARG ..] ..]   in version 2: likewise, and it carries sends, 1 to 8
 --   [:restart G V]            `restart-agent` of G with the state V, where what waits stays
 --   [:restart G V :clear]     the same, which drops what waits
 --   [:mode G :fail]           `set-error-mode!` of G, or :continue
@@ -19,10 +20,11 @@ use Rattle.ref_forms.specs.References.{number_said, state_said}
 use Rattle.ref_forms.specs.declared.kinds.Kind.TheVariants as kinds
 use Rattle.ref_plan.specs.Limits.{is_shallow, most_steps}
 use Rattle.ref_plan.specs.Named.{who_of}
-use Rattle.ref_plan.specs.Operations.{call_said, ops_said, setting_said}
-use Rattle.ref_plan.specs.Words.{cas_word, mode_word, reset_word, restart_word, send_word, swap_word, tx_word, validator_word}
+use Rattle.ref_plan.specs.Operations.{call_said, ops_said, send_carry_said, setting_said}
+use Rattle.ref_plan.specs.Words.{cas_word, mode_word, reset_word, restart_word, send_carry_word, send_word, swap_word, tx_word, validator_word}
 use Rattle.ref_plan.specs.declared.plans.Step.{Step}
 use Rattle.ref_plan.specs.declared.plans.Step.TheVariants.{Tx, Swap, Reset, CompareAndSet, Send, Restart, Mode, Validator}
+use Rattle.ref_plan.specs.declared.versions.Version.{Version}
 
 -- X OLD NEW
 abbrev pub comparison_said : NamesSeen → List Edn → Option (ℕ × (Edn × Edn))
@@ -30,14 +32,16 @@ comparison_said names xs =
     then_said (number_said (who_of names) kinds.Atom) (two_said (value_said is_shallow) (value_said is_shallow)) xs
 
 -- what stands behind the word
-abbrev pub step_said : NamesSeen → List ℕ → List Edn → Option Step
-step_said names word xs =
-    if bytes_eq word tx_word then option_map Tx (ops_said names xs) else
+abbrev pub step_said : Version → NamesSeen → List ℕ → List Edn → Option Step
+step_said version names word xs =
+    if bytes_eq word tx_word then option_map Tx (ops_said version names xs) else
     if bytes_eq word swap_word then option_map (λ c. Swap c.0 c.1) (call_said names kinds.Atom xs) else
     if bytes_eq word reset_word then option_map (λ s. Reset s.0 s.1) (setting_said names kinds.Atom xs) else
     if bytes_eq word cas_word then option_map (λ c. CompareAndSet c.0 c.1.0 c.1.1) (comparison_said names xs) else
     if bytes_eq word send_word then
     option_map (λ c. Send (record { agent = c.0; action = c.1 })) (call_said names kinds.Agent xs) else
+    if bytes_eq word send_carry_word then
+    option_map (λ c. Send (record { agent = c.0; action = c.1 })) (send_carry_said version names xs) else
     if bytes_eq word restart_word then
     option_map (λ s. Restart s.0 s.1.0 s.1.1) (then_said (number_said (who_of names) kinds.Agent) (state_said is_shallow) xs) else
     if bytes_eq word mode_word then
@@ -46,9 +50,9 @@ step_said names word xs =
     option_map (λ s. Validator s.0 s.1) (two_said (who_of names) (rule_of is_shallow) xs) else
     None
 
-abbrev pub step_of : NamesSeen → Edn → Option Step
-step_of names x = option_and_then (λ t. step_said names t.0 t.1) (tagged_of x)
+abbrev pub step_of : Version → NamesSeen → Edn → Option Step
+step_of version names x = option_and_then (λ t. step_said version names t.0 t.1) (tagged_of x)
 
 -- `[STEP ..]`, at most 10,000
-abbrev pub worker_of : NamesSeen → Edn → Option (List Step)
-worker_of names x = option_and_then (all_said (step_of names)) (elements_within most_steps x)
+abbrev pub worker_of : Version → NamesSeen → Edn → Option (List Step)
+worker_of version names x = option_and_then (all_said (step_of version names)) (elements_within most_steps x)

@@ -17,9 +17,12 @@ ensure_word = codes "ensure"
 abbrev pub require_word : List ℕ
 require_word = codes "require"
 
--- an operation and a step
+-- operations and steps
 abbrev pub send_word : List ℕ
 send_word = codes "send"
+
+abbrev pub send_carry_word : List ℕ
+send_carry_word = codes "send-carry"
 
 -- what a step begins with
 abbrev pub tx_word : List ℕ

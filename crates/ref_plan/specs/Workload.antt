@@ -1,10 +1,11 @@
 -- Which EDN data is a workload, and what it says must be run. A workload is a map:
 --
---   {:version 1
+--   {:version V
 --    :refs [REF ..] :atoms [ATOM ..] :agents [AGENT ..]
 --    :workers [[STEP ..] ..]
 --    :pool N}
 --
+-- The version is 1 or 2: in version 2 an action may carry sends.
 -- All keys but the first may be left out: what is a vector is empty then, and the pool is 2. There are at most 4,096 references of a
 -- kind, and at most 64 workers. References are written as specs/Declarations.antt says, steps as specs/Steps.antt and
 -- specs/Operations.antt do.
@@ -16,6 +17,8 @@ use Rattle.ref_plan.specs.Declarations.{AreReferences}
 use Rattle.ref_plan.specs.Limits.{most_pool, most_references, most_steps, most_workers}
 use Rattle.ref_plan.specs.Plan.{PlanSeen}
 use Rattle.ref_plan.specs.Steps.{worker_of}
+use Rattle.ref_plan.specs.declared.versions.Version.{Version}
+use Rattle.ref_plan.specs.declared.versions.Version.TheVariants.{One, Two}
 use Rattle.ref_plan.specs.Words.{agents_word, atoms_word, known_words, pool_word, refs_word, version_word, workers_word}
 
 -- the number of threads for actions, 2 where it is left out
@@ -52,10 +55,14 @@ pub record HasFew (entries : List (Edn × Edn)) : Type 0 where
   pub agents : length (forms_under entries agents_word) ≤ most_references
   pub workers : length (forms_under entries workers_word) ≤ most_workers
 
--- The entries have the keys of a workload, the version, this pool, and no more of anything than may be.
-pub record HasParts (entries : List (Edn × Edn)) (pool : ℕ) : Type 0 where
+abbrev pub version_form : Version → Edn
+version_form One = int (pos 1)
+version_form Two = int (pos 2)
+
+-- The entries have the keys of a workload, this version, this pool, and no more of anything than may be.
+pub record HasParts (entries : List (Edn × Edn)) (version : Version) (pool : ℕ) : Type 0 where
   pub known : are_known known_words entries ≡ true
-  pub version : under entries version_word ≡ Some (int (pos 1))
+  pub version_is : under entries version_word ≡ Some (version_form version)
   pub vectors : HasVectors entries
   pub few : HasFew entries
   pub short : list_all is_short_vector (forms_under entries workers_word) ≡ true
@@ -64,9 +71,10 @@ pub record HasParts (entries : List (Edn × Edn)) (pool : ℕ) : Type 0 where
 -- The value is a map with the parts of a workload, whatever they say.
 pub record HasForm (x : Edn) : Type 0 where
   pub entries : List (Edn × Edn)
+  pub version : Version
   pub pool : ℕ
   pub is_map : map_said x ≡ Some entries
-  pub parts : HasParts entries pool
+  pub parts : HasParts entries version pool
 
 -- the references that the entries declare
 abbrev pub HasReferences : List (Edn × Edn) → PlanSeen → Type 0
@@ -76,7 +84,8 @@ HasReferences entries plan =
 
 pub record IsWorkload (x : Edn) (plan : PlanSeen) : Type 0 where
   pub entries : List (Edn × Edn)
+  pub version : Version
   pub is_map : map_said x ≡ Some entries
-  pub parts : HasParts entries plan.pool
+  pub parts : HasParts entries version plan.pool
   pub references : HasReferences entries plan
-  pub workers : all_said (worker_of plan.names) (forms_under entries workers_word) ≡ Some plan.workers
+  pub workers : all_said (worker_of version plan.names) (forms_under entries workers_word) ≡ Some plan.workers

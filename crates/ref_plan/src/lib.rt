@@ -8,6 +8,7 @@
 //! | [`Plan`] | the references that are declared, with their names, the steps of each worker, and the size of the pool |
 //! | [`Step`] | what a worker does next |
 //! | [`PlannedOp`] | one operation of a transaction |
+//! | [`Version`] | which version of the form it has |
 //! | [`PlanFault`] | why a value is no workload |
 //!
 //! Planning is linear in the text, but for the look-ups of names. Guaranteed: a plan that is returned is what the workload says, and a
@@ -18,6 +19,8 @@ pub mod plan;
 pub mod plan_faults;
 pub mod planning;
 pub mod plans;
+pub mod versions;
 
 pub use plan_faults::PlanFault;
 pub use plans::{Plan, PlannedOp, Step};
+pub use versions::Version;

@@ -34,7 +34,7 @@ pub fn plan(alloc: Global, value: &Value) -> Result<Plan, PlanFault>
     let agents = forms_of(parts.agents, &empty);
     let forms = forms_of(parts.workers, &empty);
     let (declared, start) = declarations(alloc, refs, atoms, agents)?;
-    match workers(alloc, &declared, forms) {
+    match workers(alloc, parts.version, &declared, forms) {
         Ok(workers) => Ok(Plan::of(declared.into_names(), start, workers, parts.pool)),
         Err(fault) => Err(fault),
     }

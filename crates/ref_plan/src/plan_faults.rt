@@ -14,8 +14,8 @@ pub enum PlanFault {
     /// It is no map, a key is missing or unknown, or a part is of the wrong kind.
     #[error("not a workload")]
     NotWorkload,
-    /// The version is an integer other than 1.
-    #[error("a version other than 1")]
+    /// The version is an integer other than 1 and 2.
+    #[error("a version other than 1 and 2")]
     BadVersion,
     /// There are too many references of a kind, workers, or steps of a worker, or the pool is too small or too large.
     #[error("too many references, workers or steps, or a pool out of range")]

@@ -14,7 +14,7 @@ pub enum PlannedOp {
     On(u32, Op),
     /// The transaction is refused where the rule doesn't accept what it sees of the ref of this number.
     Require(u32, Rule),
-    /// An action is sent to an agent.
+    /// An action is sent to an agent; it may carry sends.
     Send(Sent),
 }
 
@@ -39,7 +39,7 @@ pub enum Step {
     Reset(u32, Value),
     /// `compare-and-set!` of the atom of this number, from the old value to the new one.
     CompareAndSet(u32, Value, Value),
-    /// `send`, outside of a transaction.
+    /// `send`, outside of a transaction; the action may carry sends.
     Send(Sent),
     /// `restart-agent` of the agent of this number with this state, where the flag says whether what waits is dropped.
     Restart(u32, Value, bool),

@@ -5,11 +5,14 @@ use Rattle.std.proofs.lemmas.Option.{slice_get_within}
 use Rattle.ref_value.specs.Edn.{Edn}
 use Rattle.ref_fun.specs.Meaning.{Means}
 use Rattle.ref_log.specs.declared.entries.Entry.{Entry}
-use Rattle.ref_log.specs.declared.sends.Sent.{Sent}
-use Rattle.ref_agents.specs.Account.{has_released}
-use Rattle.ref_agents.specs.Agents.{AgentsSeen, change_agent, error_if_here, head_job, is_ready_if_here, job_out, moded, next_job, out_if_here, outed, put_agent, queued_of, queuing, revived, with_agents, with_out, with_send, with_sends}
+use Rattle.ref_fun.specs.declared.actions.Action.{Action}
+use Rattle.ref_fun.specs.declared.carries.Carry.{Carry}
+use Rattle.ref_agents.specs.Account.{has_carried, has_released, last_released, released}
+use Rattle.ref_agents.specs.Agents.{AgentsSeen, change_agent, error_if_here, head_job, is_carrying_at, is_carrying_if_here, is_ready_if_here, job_out, moded, next_job, out_if_here, outed, put_agent, queuing, releasing, revived, with_agents, with_carried_released, with_each, with_each_released, with_out, with_send}
+use Rattle.ref_agents.specs.Agents as agents_in
 use Rattle.ref_agents.specs.Jobs.{JobSeen}
 use Rattle.ref_agents.specs.declared.accounts.Queued.{Queued}
+use Rattle.ref_agents.specs.declared.accounts.SentBy.{SentBy}
 use Rattle.ref_agents.specs.declared.agents.Agent.{Agent}
 use Rattle.ref_agents.specs.Ends.{after_end}
 use Rattle.ref_agents.specs.declared.agents.ErrorMode.{ErrorMode}
@@ -17,7 +20,7 @@ use Rattle.ref_agents.specs.declared.agents.ErrorMode.TheVariants.{Fail, Continu
 use Rattle.ref_agents.specs.declared.faults.AgentError.{AgentError}
 use Rattle.ref_play.specs.Present.{HeldSeen, IsTaken, Present, WithJob, put, run, with_job}
 use Rattle.ref_play.specs.Runs.{Apart, AreJobs, IsHeld, IsOwned, is_out_at, out_of}
-use Rattle.ref_play.proofs.Given.{put_elsewhere, see_more, seen_same, set-here}
+use Rattle.ref_play.proofs.Given.{put_elsewhere, see_more, seen_each, seen_freed, seen_same, set-here}
 use Rattle.ref_play.proofs.Puts.{put_here, put_other}
 
 -- what is so of an agent stays so where it does in the one that is changed
@@ -32,9 +35,9 @@ module _ (P : ℕ → Option Agent → Type 0) (agents : List Agent) (g : ℕ) (
     by (inl same) = subst (λ n. P n (slice_get (change_agent agents g f) n)) same (here (slice_get agents g) refl each (subst (λ n. P n (slice_get agents n)) (sym same) p))
     by (inr other) = subst (P h) (sym (put_elsewhere agents g h f (slice_get agents g) other)) p
 
--- a job is on its way, and its agent isn't failed
+-- a job is on its way, its agent isn't failed, and nothing that it carried is held
 abbrev pub IsOut : JobSeen → ℕ → Option Agent → Type 0
-IsOut job h there = (out_if_here h there ≡ Some job) × (error_if_here there ≡ None)
+IsOut job h there = (out_if_here h there ≡ Some job) × (error_if_here there ≡ None) × (is_carrying_if_here there ≡ false)
 
 head_more : (g : ℕ) (agent then : Agent) (queue : List Queued) (q : Queued) (job : JobSeen) → length then.account.handled ≡ length agent.account.handled → then.value ≡ agent.value → head_job g agent queue ≡ Some job → head_job g then (queue ++ q ∷ []) ≡ Some job
 head_more g agent then [] q job count value is = absurd cc
@@ -49,18 +52,44 @@ cond_some true x job is = is
 cond_some false x job is = absurd cc
 
 pub out_send : (agents : List Agent) (g : ℕ) (queued : Queued) (h : ℕ) (job : JobSeen) → IsOut job h (slice_get agents h) → IsOut job h (slice_get (with_send agents g queued) h)
-out_send agents g queued h job is = stays (IsOut job) agents g (queuing queued) h (λ agent here out. (cond_more agent.is_out (head_job g agent agent.account.queue) _ job (head_more g agent (queuing queued agent) agent.account.queue queued job refl refl) out.0, out.1)) is
+out_send agents g queued h job is = stays (IsOut job) agents g (queuing queued) h (λ agent here out. (cond_more agent.is_out (head_job g agent agent.account.queue) _ job (head_more g agent (queuing queued agent) agent.account.queue queued job refl refl) out.0, out.1, out.2)) is
 
-pub out_sends : (point : ℕ) (ss : List Sent) (agents : List Agent) (h : ℕ) (job : JobSeen) → IsOut job h (slice_get agents h) → IsOut job h (slice_get (with_sends point ss agents) h)
-out_sends point [] agents h job is = is
-out_sends point (s ∷ ss) agents h job is = out_sends point ss (with_send agents s.agent (queued_of point s)) h job (out_send agents s.agent (queued_of point s) h job is)
+pub out_sends : {X : Type 0} (to : X → ℕ) (of : X → Action) (by : SentBy) (xs : List X) (agents : List Agent) (h : ℕ) (job : JobSeen) → IsOut job h (slice_get agents h) → IsOut job h (slice_get (with_each to of by xs agents) h)
+out_sends to of by [] agents h job is = is
+out_sends to of by (x ∷ xs) agents h job is =
+    out_sends to of by xs (with_send agents (to x) (record { action = of x; by = by })) h job (out_send agents (to x) (record { action = of x; by = by }) h job is)
+
+-- what is released is the same action
+head_released : (g h : ℕ) (agent : Agent) (queue : List Queued) → head_job g (releasing h agent) (last_released h queue) ≡ head_job g agent queue
+head_released g h agent [] = refl
+head_released g h agent (q ∷ qs) = at (has_carried h qs) where
+  at : (b : Bool) → head_job g (releasing h agent) (cond b (q ∷ last_released h qs) (released h q ∷ qs)) ≡ head_job g agent (q ∷ qs)
+  at true = refl
+  at false = refl
+
+out_each_released : (h : ℕ) (cs : List Carry) (agents : List Agent) (g : ℕ) (job : JobSeen) → IsOut job g (slice_get agents g) → IsOut job g (slice_get (with_each_released h cs agents) g)
+out_each_released h [] agents g job is = is
+out_each_released h (c ∷ cs) agents g job is = out_each_released h cs (change_agent agents c.g (releasing h)) g job
+    (stays (IsOut job) agents c.g (releasing h) g (λ agent here out. (ap (λ x. cond agent.is_out x None) (head_released c.g h agent agent.account.queue) ∙ out.0, out.1, out.2)) is)
+
+head_carrying : (g : ℕ) (agent : Agent) (queue : List Queued) → head_job g (agents_in.carrying false agent) queue ≡ head_job g agent queue
+head_carrying g agent [] = refl
+head_carrying g agent (q ∷ qs) = refl
+
+pub out_freed : (store : AgentsSeen) (h g : ℕ) (job : JobSeen) → IsOut job g (slice_get store.agents g) → IsOut job g (slice_get (with_carried_released store h).agents g)
+out_freed store h g job is = by (is_carrying_at store.agents h) where
+  by : (b : Bool) → IsOut job g (slice_get (cond b (with_agents store (change_agent (with_each_released h (agents_in.carries_at store.agents h) store.agents) h (agents_in.carrying false))) store).agents g)
+  by true = stays (IsOut job) (with_each_released h (agents_in.carries_at store.agents h) store.agents) h (agents_in.carrying false) g
+      (λ agent here out. (ap (λ x. cond agent.is_out x None) (head_carrying h agent agent.account.queue) ∙ out.0, out.1, refl))
+      (out_each_released h (agents_in.carries_at store.agents h) store.agents g job is)
+  by false = is
 
 head_moded : (g : ℕ) (mode : ErrorMode) (agent : Agent) (queue : List Queued) → head_job g (moded mode agent) queue ≡ head_job g agent queue
 head_moded g mode agent [] = refl
 head_moded g mode agent (q ∷ qs) = refl
 
 pub out_mode : (agents : List Agent) (g : ℕ) (mode : ErrorMode) (h : ℕ) (job : JobSeen) → IsOut job h (slice_get agents h) → IsOut job h (slice_get (change_agent agents g (moded mode)) h)
-out_mode agents g mode h job is = stays (IsOut job) agents g (moded mode) h (λ agent here out. (ap (λ x. cond agent.is_out x None) (head_moded g mode agent agent.account.queue) ∙ out.0, out.1)) is
+out_mode agents g mode h job is = stays (IsOut job) agents g (moded mode) h (λ agent here out. (ap (λ x. cond agent.is_out x None) (head_moded g mode agent agent.account.queue) ∙ out.0, out.1, out.2)) is
 
 -- of another agent
 pub out_elsewhere : (agents : List Agent) (g : ℕ) (f : Agent → Agent) (h : ℕ) (job : JobSeen) → (g ≡ h → ⊥) → IsOut job h (slice_get agents h) → IsOut job h (slice_get (change_agent agents g f) h)
@@ -91,17 +120,19 @@ out_made agents more h job is = get-append agents more h (IsOut job h) (λ none.
 pub away_same : (agents : List Agent) (g h : ℕ) (f : Agent → Agent) → ((agent : Agent) → (f agent).is_out ≡ agent.is_out) → is_out_at (change_agent agents g f) h ≡ is_out_at agents h
 away_same agents g h f same = seen_same out_of agents g h f (λ agent here. same agent)
 
-pub away_sends : (point : ℕ) (ss : List Sent) (agents : List Agent) (g : ℕ) → is_out_at (with_sends point ss agents) g ≡ is_out_at agents g
-away_sends point [] agents g = refl
-away_sends point (s ∷ ss) agents g = away_sends point ss (with_send agents s.agent (queued_of point s)) g ∙ away_same agents s.agent g (queuing (queued_of point s)) (λ agent. refl)
+pub away_sends : {X : Type 0} (to : X → ℕ) (of : X → Action) (by : SentBy) (xs : List X) (agents : List Agent) (g : ℕ) → is_out_at (with_each to of by xs agents) g ≡ is_out_at agents g
+away_sends to of by xs agents g = seen_each out_of to of by (λ q agent. refl) xs agents g
+
+pub away_freed : (store : AgentsSeen) (h g : ℕ) → is_out_at (with_carried_released store h).agents g ≡ is_out_at store.agents g
+away_freed store h g = seen_freed out_of store h g (λ agent. refl) (λ agent. refl)
 
 pub away_made : (agents : List Agent) (more : Agent) (g : ℕ) → more.is_out ≡ false → is_out_at (agents ++ more ∷ []) g ≡ is_out_at agents g
 away_made agents more g none = see_more out_of more none agents g
 
-pub ended_in : (mode : ErrorMode) (judgement : Result Edn AgentError) (agent : Agent) → (after_end mode judgement agent).is_out ≡ false
-ended_in mode (Ok v) agent = refl
-ended_in Fail (Err error) agent = refl
-ended_in Continue (Err error) agent = refl
+pub ended_in : (mode : ErrorMode) (judgement : Result Edn AgentError) (cs : List Carry) (agent : Agent) → (after_end mode judgement cs agent).is_out ≡ false
+ended_in mode (Ok v) cs agent = refl
+ended_in Fail (Err error) cs agent = refl
+ended_in Continue (Err error) cs agent = refl
 
 -- where an agent isn't out any more
 not_here : (agents : List Agent) (g : ℕ) (f : Agent → Agent) (there : Option Agent) → slice_get agents g ≡ there → ((agent : Agent) → (f agent).is_out ≡ false) → is_out_at (put_agent agents g f there) g ≡ false
@@ -131,7 +162,7 @@ owned_put jobs a held g mine owner = by (cases_eq owner.0 a) where
 -- ---- the jobs of all actors
 
 held_as : (means : Means) (old new : List Agent) (held : HeldSeen) → IsHeld means old held → IsOut held.job held.job.agent (slice_get new held.job.agent) → IsHeld means new held
-held_as means old new held is out = record { out = out.0; sound = out.1; meant = is.meant }
+held_as means old new held is out = record { out = out.0; sound = out.1; released = out.2; meant = is.meant }
 
 -- where they stay
 pub kept_all : (means : Means) (old new : Present) → new.jobs ≡ old.jobs → ((h : ℕ) (job : JobSeen) → IsOut job h (slice_get old.agents.agents h) → IsOut job h (slice_get new.agents.agents h))
@@ -143,7 +174,7 @@ kept_all means old new same each away are = record {
 } where
   on : (o : Option HeldSeen) → WithJob o (IsHeld means old.agents.agents) (Unit {0}) → WithJob o (IsHeld means new.agents.agents) (Unit {0})
   on None is = tt
-  on (Some held) is = held_as means old.agents.agents new.agents.agents held is (each held.job.agent held.job (is.out, is.sound))
+  on (Some held) is = held_as means old.agents.agents new.agents.agents held is (each held.job.agent held.job (is.out, is.sound, is.released))
 
 pub jobs_same : (means : Means) (old new : Present) → new.jobs ≡ old.jobs → new.agents.agents ≡ old.agents.agents → AreJobs means old → AreJobs means new
 jobs_same means old new same agents are = kept_all means old new same (λ h job out. subst (λ l. IsOut job h (slice_get l h)) (sym agents) out) (λ g is_out. ap (λ l. is_out_at l g) (sym agents) ∙ is_out) are
@@ -179,10 +210,11 @@ module _ (means : Means) (old : Present) (store : AgentsSeen) (a : ℕ) (held : 
 
 -- ---- take
 
-ready_parts : (e : Option AgentError) (out released : Bool) → (not (is_some e) && not out && released) ≡ true → (e ≡ None) × (out ≡ false)
-ready_parts None false released is = (refl, refl)
-ready_parts None true released is = absurd cc
-ready_parts (Some error) out released is = absurd cc
+ready_parts : (e : Option AgentError) (out carrying free : Bool) → (not (is_some e) && not out && not carrying && free) ≡ true → (e ≡ None) × (out ≡ false) × (carrying ≡ false)
+ready_parts None false false free is = (refl, refl, refl)
+ready_parts None false true free is = absurd cc
+ready_parts None true carrying free is = absurd cc
+ready_parts (Some error) out carrying free is = absurd cc
 
 head_outed : (g : ℕ) (agent : Agent) (queue : List Queued) → head_job g (outed true agent) queue ≡ head_job g agent queue
 head_outed g agent [] = refl
@@ -205,12 +237,13 @@ jobs_taken means old a told added after taken free_hands are = by (slice_get old
       → AreJobs means (with_job old (with_out old.agents taken.job.agent true) a (Some (record { job = taken.job; outcome = None })))
   by None is ready first = absurd cc
   by (Some agent) is ready first =
-      let parts = ready_parts agent.error agent.is_out (has_released old.agents.unreleased agent.account.queue) ready in
+      let parts = ready_parts agent.error agent.is_out agent.is_carrying (has_released old.agents.unreleased agent.account.queue) ready in
       let there = ap (λ o. slice_get (put_agent old.agents.agents taken.job.agent (outed true) o) taken.job.agent) is ∙ set-here old.agents.agents taken.job.agent (outed true agent) (slice_get_within old.agents.agents taken.job.agent agent is) in
       put_all means old (with_out old.agents taken.job.agent true) a (Some (record { job = taken.job; outcome = None }))
       (record {
         out = ap (out_if_here taken.job.agent) there ∙ (head_outed taken.job.agent agent agent.account.queue ∙ first);
         sound = ap error_if_here there ∙ parts.0;
+        released = ap is_carrying_if_here there ∙ parts.2;
         meant = tt;
       })
       (λ b other. outs (old.jobs b) (are.held b) (λ job out. free agent is parts.1 job out))
@@ -233,7 +266,7 @@ jobs_taken means old a told added after taken free_hands are = by (slice_get old
         outs : (o : Option HeldSeen) → WithJob o (IsHeld means old.agents.agents) (Unit {0}) → ((job : JobSeen) → job_out old.agents.agents job.agent ≡ Some job → taken.job.agent ≡ job.agent → ⊥)
             → WithJob o (λ other. IsOut other.job other.job.agent (slice_get (change_agent old.agents.agents taken.job.agent (outed true)) other.job.agent)) (Unit {0})
         outs None is free = tt
-        outs (Some other) is free = out_elsewhere old.agents.agents taken.job.agent (outed true) other.job.agent other.job (free other.job is.out) (is.out, is.sound)
+        outs (Some other) is free = out_elsewhere old.agents.agents taken.job.agent (outed true) other.job.agent other.job (free other.job is.out) (is.out, is.sound, is.released)
 
         aways : (o : Option HeldSeen) → WithJob o (IsHeld means old.agents.agents) (Unit {0}) → ((job : JobSeen) → job_out old.agents.agents job.agent ≡ Some job → taken.job.agent ≡ job.agent → ⊥) → Apart (Some (record { job = taken.job; outcome = None })) o
         aways None is free = tt
@@ -248,14 +281,14 @@ away_from x held now (Some other) is same apart = subst (λ (j : JobSeen). j.age
 pub jobs_run : (means : Means) (old : Present) (a : ℕ) (held : HeldSeen) → old.jobs a ≡ Some held → AreJobs means old → AreJobs means (with_job old old.agents a (Some (run means held.job)))
 jobs_run means old a held is are =
     let mine : IsHeld means old.agents.agents held = subst (λ o. WithJob o (IsHeld means old.agents.agents) (Unit {0})) is (are.held a) in
-    put_all means old old.agents a (Some (run means held.job)) (record { out = mine.out; sound = mine.sound; meant = refl })
+    put_all means old old.agents a (Some (run means held.job)) (record { out = mine.out; sound = mine.sound; released = mine.released; meant = refl })
     (λ b other. outs (old.jobs b) (are.held b))
     (λ b other. away_from (old.jobs a) held (run means held.job) (old.jobs b) is refl (are.apart a b (λ same. other (sym same))))
     (λ g is_out. owned_put old.jobs a (Some (run means held.job)) g (λ own. (a, subst (λ o. WithJob o (λ (x : HeldSeen). x.job.agent ≡ g) ⊥) (sym (put_here old.jobs a (Some (run means held.job)))) (subst (λ o. WithJob o (λ (x : HeldSeen). x.job.agent ≡ g) ⊥) is own))) (are.owned g is_out))
     are where
       outs : (o : Option HeldSeen) → WithJob o (IsHeld means old.agents.agents) (Unit {0}) → WithJob o (λ other. IsOut other.job other.job.agent (slice_get old.agents.agents other.job.agent)) (Unit {0})
       outs None is = tt
-      outs (Some other) is = (is.out, is.sound)
+      outs (Some other) is = (is.out, is.sound, is.released)
 
 -- ---- a job that is given up, whatever becomes of its agent
 
@@ -270,4 +303,4 @@ jobs_gone means old a held f none is are =
     are where
       outs : (o : Option HeldSeen) → WithJob o (IsHeld means old.agents.agents) (Unit {0}) → Apart (Some held) o → WithJob o (λ other. IsOut other.job other.job.agent (slice_get (change_agent old.agents.agents held.job.agent f) other.job.agent)) (Unit {0})
       outs None is apart = tt
-      outs (Some other) is apart = out_elsewhere old.agents.agents held.job.agent f other.job.agent other.job apart (is.out, is.sound)
+      outs (Some other) is apart = out_elsewhere old.agents.agents held.job.agent f other.job.agent other.job apart (is.out, is.sound, is.released)

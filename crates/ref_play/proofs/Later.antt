@@ -1,7 +1,6 @@
 -- What an open transaction relies on stays while others act.
 use Rattle.std.proofs.Common.{◌≡◌, ℕ, zero, suc, ◌+◌, ◌<◌, ◌≤◌, cond, Bool, true, false, List, [], ◌∷◌, ◌++◌, length, length-append, Option, None, Some, slice_get, slice_index_or, refl, sym, ap, subst, ◌∙◌, arith, inl, inr, ◌⊎◌}
 use Rattle.std.proofs.lemmas.Bool.{cases_eq}
-use Rattle.std.proofs.lemmas.List.{length-set}
 use Rattle.ref_value.specs.Edn.{Edn}
 use Rattle.ref_fun.specs.Meaning.{Means}
 use Rattle.ref_fun.specs.declared.rules.Rule.{Rule}
@@ -10,14 +9,14 @@ use Rattle.ref_log.specs.declared.entries.Stamp.{Stamp}
 use Rattle.ref_log.specs.declared.sends.Sent.{Sent}
 use Rattle.ref_log.specs.Laws.{step-refs, step-untouched}
 use Rattle.ref_log.specs.Replay.{is_touched}
-use Rattle.ref_agents.specs.Agents.{AgentsSeen, put_agent, queued_of, queuing, with_send, with_sends}
-use Rattle.ref_agents.specs.declared.agents.Agent.{Agent}
+use Rattle.ref_agents.specs.Agents.{AgentsSeen}
+use Rattle.ref_agents.specs.declared.accounts.SentBy.TheVariants.{Commit}
 use Rattle.ref_tx.specs.Seen.{TxSeen}
 use Rattle.ref_refs.specs.Commit.{entry_of}
-use Rattle.ref_refs.specs.Make.{with_ref}
 use Rattle.ref_refs.specs.Seen.{changed_at}
 use Rattle.ref_play.specs.Present.{IsCommitted, Present, with_made_ref}
 use Rattle.ref_play.specs.Runs.{IsOpen, KnowsTally}
+use Rattle.ref_play.proofs.Given.{each-length}
 use Rattle.ref_world.specs.World.{values_now}
 use Rattle.ref_world.specs.declared.commits.Receipt.{Receipt}
 
@@ -62,16 +61,6 @@ open_later means old new tx later is = record {
 
 -- ---- a commit
 
-put-length : (agents : List Agent) (g : ℕ) (change : Agent → Agent) (there : Option Agent) → length (put_agent agents g change there) ≡ length agents
-put-length agents g change None = refl
-put-length agents g change (Some agent) = length-set agents g (change agent)
-
-pub sends-length : (point : ℕ) (sends : List Sent) (agents : List Agent) → length (with_sends point sends agents) ≡ length agents
-sends-length point [] agents = refl
-sends-length point (s ∷ ss) agents =
-    sends-length point ss (with_send agents s.agent (queued_of point s))
-    ∙ put-length agents s.agent (queuing (queued_of point s)) (slice_get agents s.agent)
-
 moved : (b : Bool) (at p last now : ℕ) → now ≡ (cond b at last) → now ≤ p → p < at → (b ≡ false) × (last ≡ now)
 moved true at p last now is before past = absurd (omega (arith, is, before, past))
 moved false at p last now is before past = (refl, sym is)
@@ -84,7 +73,7 @@ later_commit means old new a stamp tx receipt added is = record {
       let stays = moved (is_touched tx.dones r) (old.point + 1) old.point (changed_at old.refs.lasts r) (changed_at new.refs.lasts r) (is.lasts r) before (omega arith) in
       (stays.1, sym (step-untouched means (old.point + 1) (entry_of stamp tx) (values_now old.refs old.atoms) (values_now new.refs new.atoms) r is.values stays.0));
   tally = inl is.tally;
-  agents = omega (arith, sends-length (old.point + 1) tx.sends old.agents.agents, ap (λ (s : AgentsSeen). length s.agents) is.agents);
+  agents = omega (arith, each-length (λ (s : Sent). s.agent) (λ (s : Sent). s.action) (Commit (old.point + 1)) tx.sends old.agents.agents, ap (λ (s : AgentsSeen). length s.agents) is.agents);
 }
 
 -- ---- a ref that is made

@@ -31,7 +31,7 @@ use Rattle.std.proofs.Common.{false, Result, Err, OnErr}
 use Rattle.ref_play.specs.Machine.{Folds, checkpoint_of}
 use Rattle.ref_play.specs.declared.events.Act.TheVariants as acts
 use Rattle.ref_play.specs.declared.events.Reply.TheVariants as replies
-use Rattle.ref_play.specs.Runs.{AreJobs, AreOpen, IsLawful, IsLook, IsOpen, IsServed}
+use Rattle.ref_play.specs.Runs.{AreCarried, AreJobs, AreOpen, IsLawful, IsLook, IsOpen, IsServed}
 use Rattle.ref_world.specs.Shares.{all_parts}
 use Rattle.ref_world.specs.World.{IsWorld, with_tally}
 use Rattle.ref_play.specs.declared.events.Event.{Event}
@@ -40,11 +40,9 @@ use Rattle.ref_play.proofs.Acting.{Acted, Goes, acted, adds, closes, grows, hear
 use Rattle.ref_play.proofs.Puts.{put_here, put_other}
 use Rattle.ref_tx.specs.Inner.{with_sent}
 use Rattle.ref_fun.specs.declared.actions.Action.{Action}
-use Rattle.ref_log.specs.declared.sends.Sent.{Sent}
-use Rattle.std.proofs.Common.{◌&&◌, true, nat_lt}
-use Rattle.std.specs.List.{list_all}
-use Rattle.std.proofs.lemmas.Bool.{and_from}
-use Rattle.std.proofs.lemmas.List.Folds.{list_all-append}
+use Rattle.ref_fun.specs.Actions.{absent_agent}
+use Rattle.std.proofs.Common.{true}
+use Rattle.ref_play.proofs.Receivers.{none_more}
 use Rattle.ref_play.proofs.Grows.{answer-Ok, called-Ok, looks_grown, open_grown}
 use Rattle.ref_play.proofs.Later.{IsLater, open_later}
 use Rattle.ref_play.proofs.Left.{left}
@@ -62,7 +60,7 @@ open_begun means now = record {
   sends = refl;
 }
 
-open_sent : (means : Means) (now : Present) (t : TxSeen) (g : ℕ) (action : Action) → nat_lt g t.agents ≡ true → IsOpen means now t → IsOpen means now (with_sent t g action)
+open_sent : (means : Means) (now : Present) (t : TxSeen) (g : ℕ) (action : Action) → absent_agent t.agents g action ≡ None → IsOpen means now t → IsOpen means now (with_sent t g action)
 open_sent means now t g action known is = record {
   is = record { answered = is.is.answered; tallied = is.is.tallied };
   point = is.point;
@@ -70,8 +68,7 @@ open_sent means now t g action known is = record {
   same = is.same;
   tally = is.tally;
   agents = is.agents;
-  sends = list_all-append (λ (s : Sent). nat_lt s.agent t.agents) t.sends (record { agent = g; action = action } ∷ [])
-      ∙ and_from (list_all (λ (s : Sent). nat_lt s.agent t.agents) t.sends) (nat_lt g t.agents && true) is.sends (and_from (nat_lt g t.agents) true known refl);
+  sends = none_more t.agents t.sends (record { agent = g; action = action }) is.sends known;
 }
 
 looks_sent : (means : Means) (t : TxSeen) (g : ℕ) (action : Action) (looks : List Look) → AllByRecursion (IsLook means t) looks → AllByRecursion (IsLook means (with_sent t g action)) looks
@@ -211,6 +208,7 @@ module _ (means : Means) (accepts : Accepts) (knows : Known) (k l : Machine) (e 
     opens = opens_after;
     looks = heard_all;
     jobs = did.jobs lawful.jobs;
+    carried = did.carried (lawful.opens e.actor, lawful.jobs, lawful.carried);
   }
 
   served_after_all : IsServed knows l.now
@@ -266,7 +264,9 @@ module _ (means : Means) (accepts : Accepts) (knows : Known) (k l : Machine) (e 
     counted = did.counted ∙ ap (with_all_counted k.now.refs.tally k.now.point k.now.share) did.adds_all;
     jobs = did.jobs lawful.jobs;
     handled = did.handled lawful.jobs;
-    given = did.given (lawful.opens e.actor);
+    given = did.given (lawful.opens e.actor, lawful.jobs, lawful.carried);
+    queues = did.queues (lawful.opens e.actor, lawful.jobs, lawful.carried);
+    carrying = did.carrying (lawful.opens e.actor, lawful.jobs, lawful.carried);
     refused = λ is.
         let none = no_folds (checkpoint_of e.act) r step.went step.folds is in (
           (did.refused is).1,
@@ -316,6 +316,9 @@ module _ (means : Means) (accepts : Accepts) (knows : Known) (base : Base) (log 
   pub jobs_kept : AreJobs means old → AreJobs means new
   jobs_kept = done.jobs
 
+  pub carried_kept : AreOpen means old → AreJobs means old → AreCarried old.agents.agents → AreCarried new.agents.agents
+  carried_kept before jobs carried = done.carried (before a, jobs, carried)
+
   pub served_kept : IsServed knows old → IsServed knows new
   unfolding Serves
   served_kept is = (done.refs_known is.0, done.atoms_known is.1, done.agents_known is.2, λ b. by b (cases_eq b a)) where
@@ -331,8 +334,8 @@ nothing_heard means None = tt
 nothing_heard means (Some t) = tt
 
 pub lawful_first : (means : Means) (m : Machine) → m.gone ≡ [] → IsWorld means m.base m.log m.now.refs m.now.atoms m.now.agents.unreleased → m.now.point ≡ point_after m.base m.log → length m.now.refs.lasts ≡ length m.now.refs.values → m.now.share.parts ≡ all_parts
-    → AreOpen means m.now → AreJobs means m.now → ((a : ℕ) → m.looks a ≡ []) → IsLawful means m
-lawful_first means m none world point count share before jobs silent =
+    → AreOpen means m.now → AreJobs means m.now → AreCarried m.now.agents.agents → ((a : ℕ) → m.looks a ≡ []) → IsLawful means m
+lawful_first means m none world point count share before jobs carried silent =
     let all : history m ≡ m.log = ap (λ g. g ++ m.log) none in
     record {
       world = subst (λ x. IsWorld means x (history m) m.now.refs m.now.atoms m.now.agents.unreleased) (sym (base_named m.now.refs.tally m.base world.tally))
@@ -343,4 +346,5 @@ lawful_first means m none world point count share before jobs silent =
       opens = before;
       looks = λ a. subst (λ ls. WithTx (m.now.txs a) (λ t. AllByRecursion (IsLook means t) ls) (Unit {0})) (sym (silent a)) (nothing_heard means (m.now.txs a));
       jobs = jobs;
+      carried = carried;
     }

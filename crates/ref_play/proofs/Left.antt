@@ -79,10 +79,9 @@ module _ (means : Means) (accepts : Accepts) (knows : Known) (old : Present) (a 
     by None is h = calls acts.Begin replies.Begin Anything _ reply added new (λ f. refl) (λ f. refl)
         (λ p ok. by_equations acts.Begin (replies.Begin (Ok p)) (replies.Begin (Ok p)) new (with_tx old a (Some (begun old))) refl ok.1.1 (put_here old.txs a (Some (begun old)), refl)) h
 
-  left_send_in_tx : (g code : ℕ) (args : List Edn) (reply : Reply) (added : List Entry) (new : Present) → Acts means accepts knows old a (acts.SendInTx g code args) reply added new → Left (acts.SendInTx g code args) reply new
-  left_send_in_tx g code args reply added new did =
-      let act = acts.SendInTx g code args in
-      let action : Action = record { code = code; args = args } in
+  left_send_in_tx : (g : ℕ) (action : Action) (reply : Reply) (added : List Entry) (new : Present) → Acts means accepts knows old a (acts.SendInTx g action) reply added new → Left (acts.SendInTx g action) reply new
+  left_send_in_tx g action reply added new did =
+      let act = acts.SendInTx g action in
       on_tx act reply added new _ (old.txs a) refl refl refl
       (λ tx is h. calls act replies.SendInTx _ _ reply added new (λ f. refl) (λ f. refl) (λ u done. by_equations act (replies.SendInTx (Ok u)) (replies.SendInTx (Ok u)) new (with_tx old a (Some (with_sent tx g action))) refl done.1
       (put_here old.txs a (Some (with_sent tx g action)) ∙ ap (λ o. and_sent o g action) (sym is), refl)) h) did
@@ -169,13 +168,14 @@ module _ (means : Means) (accepts : Accepts) (knows : Known) (old : Present) (a 
   left (acts.Alter r code args) reply added new did = left_operate (acts.Alter r code args) r (Alter code args) replies.Alter reply added new refl refl (λ f. refl) (λ f. refl) (λ w. refl) (λ w. refl) did
   left (acts.Commute r code args) reply added new did = left_operate (acts.Commute r code args) r (Commute code args) replies.Commute reply added new refl refl (λ f. refl) (λ f. refl) (λ w. refl) (λ w. refl) did
   left (acts.Ensure r) reply added new did = left_operate (acts.Ensure r) r Ensure replies.Ensure reply added new refl refl (λ f. refl) (λ f. refl) (λ w. refl) (λ w. refl) did
-  left (acts.SendInTx g code args) reply added new did = left_send_in_tx g code args reply added new did
+  left (acts.SendInTx g action) reply added new did = left_send_in_tx g action reply added new did
   left (acts.Require r rule) reply added new did = on_tx (acts.Require r rule) reply added new _ (old.txs a) refl refl refl
       (λ tx is h. calls (acts.Require r rule) replies.Require _ _ reply added new (λ f. refl) (λ f. refl) (λ u ok. stays (acts.Require r rule) (replies.Require (Ok u)) (replies.Require (Ok u)) new old refl ok.1 refl refl refl (λ e. e)) h) did
   left acts.ReadPoint reply added new did = on_tx acts.ReadPoint reply added new _ (old.txs a) refl refl refl (λ tx is h. stays acts.ReadPoint reply (replies.ReadPoint tx.read_point) new old h.0 h.1.1 refl refl refl (λ e. e)) did
   left (acts.Commit stamp) reply added new did = left_commit stamp reply added new did
   left acts.Abort reply added new did = left_abort reply added new did
   left (acts.Release point) reply added new did = stays (acts.Release point) reply _ new _ did.0 did.1.1 refl refl refl (λ e. e)
+  left (acts.ReleaseCarried g) reply added new did = stays (acts.ReleaseCarried g) reply _ new _ did.0 did.1.1 refl refl refl (λ e. e)
   left (acts.Swap n code args) reply added new did = left_swap (acts.Swap n code args) n (Alter code args) replies.Swap reply added new (λ t. refl) (λ t. refl) did
   left (acts.Reset n v) reply added new did = left_swap (acts.Reset n v) n (Set v) replies.Reset reply added new (λ t. refl) (λ t. refl) did
   left (acts.CompareAndSet n was v) reply added new did = left_compare n was v reply added new did

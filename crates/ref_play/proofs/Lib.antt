@@ -9,6 +9,12 @@ pub mod Laws
 pub mod Standing
 pub mod Slots
 pub mod Given
+pub mod Receivers
+pub mod Held
+pub mod Carried
+pub mod CarriedOut
+pub mod Freed
+pub mod Taken
 pub mod KeptJobs
 pub mod WorkDone
 pub mod Answering
@@ -20,10 +26,12 @@ pub mod PlainLists
 pub mod PlainBooks
 pub mod PlainCommits
 pub mod PlainRules
+pub mod PlainQueues
 pub mod PlainAgents
 pub mod PlainFaults
 pub mod PlainOperations
 pub mod PlainSends
+pub mod PlainReleases
 pub mod PlainReplay
 pub mod PlainAtoms
 pub mod PlainMakes

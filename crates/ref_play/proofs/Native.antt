@@ -1,9 +1,9 @@
 -- A transaction of this world has nothing foreign, and a table that serves it has what its commit needs.
 use Rattle.std.proofs.Common.{◌≡◌, ◌≢◌, ℕ, zero, suc, cond, ◌+◌, ◌<◌, ◌≤◌, ◌^◌, ◌&&◌, ◌||◌, not, nat_lt, Bool, true, false, ◌⊎◌, inl, inr, List, [], ◌∷◌, ◌++◌, length, Option, None, Some, Result, Ok, Err, slice_get, slice_set, refl, sym, ap, subst, ◌∙◌, arith}
-use Rattle.std.specs.List.{find, list_all, range_with_len}
+use Rattle.std.specs.List.{find, range_with_len}
 use Rattle.std.specs.Option.{option_map}
 use Rattle.std.specs.Ordering.{is_eq}
-use Rattle.std.proofs.lemmas.Bool.{and_parts, cases_lt, cases_order, lt-ltb, ltb-false, ltb-true, ne_eqb}
+use Rattle.std.proofs.lemmas.Bool.{and_parts, cases_lt, cases_order, lt-ltb, ltb-false, ne_eqb}
 use Rattle.std.proofs.lemmas.Cmp.{tied_itself}
 use Rattle.ref_value.specs.Edn.{Edn}
 use Rattle.ref_value.specs.OrderLaws.{edn_cmp_total}
@@ -20,7 +20,6 @@ use Rattle.ref_log.specs.declared.faults.AuditFault.{AuditFault}
 use Rattle.ref_log.specs.declared.guards.Guard.{Guard}
 use Rattle.ref_log.specs.declared.operations.Done.{Done}
 use Rattle.ref_log.specs.declared.operations.Op.{Op}
-use Rattle.ref_log.specs.declared.sends.Sent.{Sent}
 use Rattle.ref_tx.specs.Inner.{AreAnswers, IsTx, after_ops, ops_on, value_after}
 use Rattle.ref_tx.specs.Seen.{TxSeen}
 use Rattle.ref_refs.specs.Commit.{alien, alien_value, changed_after, commit_refusal, conflict, conflict_on, differs, differs_at, early_refusal, first_invalid, first_protected, full_book, has_ref, invalid, lacking, lacking_rule, or_fault, past_points, refused, refused_at}
@@ -30,6 +29,7 @@ use Rattle.ref_refs.specs.declared.faults.Alien.TheVariants as aliens
 use Rattle.ref_refs.specs.declared.faults.CommitFault.{CommitFault}
 use Rattle.ref_refs.specs.declared.faults.CommitFault.TheVariants.{BookFull, Conflict, Foreign, Invalid, Memory, NoSuchFun, PointLimit, Refused}
 use Rattle.ref_world.specs.World.{room}
+use Rattle.ref_play.proofs.Receivers.{none_later}
 use Rattle.ref_play.specs.Present.{Present}
 use Rattle.ref_play.specs.Laws.{IsNative}
 use Rattle.ref_play.specs.Runs.{IsOpen, KnowsTally}
@@ -94,13 +94,6 @@ refs_here means began values former [] are count = refl
 refs_here means began values former (d ∷ ds) are count =
     let below = began_at means began (former ++ d ∷ []) d.r d.answer are.0 in
     rw (lt-ltb d.r (length values) (omega (arith, below, count))) (refs_here means began values (former ++ d ∷ []) ds are.1 count)
-
-agents_here : (n m : ℕ) (ss : List Sent) → list_all (λ s. nat_lt s.agent n) ss ≡ true → n ≤ m → find (λ s. not (nat_lt s.agent m)) ss ≡ None
-agents_here n m [] all count = refl
-agents_here n m (s ∷ ss) all count =
-    let parts = and_parts (nat_lt s.agent n) (list_all (λ x. nat_lt x.agent n) ss) all in
-    let below = ltb-true s.agent n parts.0 in
-    rw (lt-ltb s.agent m (omega (arith, below, count))) (agents_here n m ss parts.1 count)
 
 fits_unknown : (means : Means) (began : List Edn) (former ds : List Done) (t : ℕ) → AreAnswers means began former ds → length began ≤ t → fit_tally (Some t) ds ≡ true
 fits_unknown means began former [] t are count = refl
@@ -176,7 +169,7 @@ native_protected means now tx (Some r) is found = tt
 aliens_none : (means : Means) (now : Present) (tx : TxSeen) → IsOpen means now tx → alien now.refs (now.point + 1) (length now.agents.agents) tx ≡ None
 aliens_none means now tx is =
     let refs = ap (option_map (λ (d : Done). Foreign (aliens.Ref d.r))) (refs_here means tx.began now.refs.values [] tx.dones is.is.answered is.count) in
-    let sent = ap (option_map (λ (s : Sent). Foreign (aliens.Agent s.agent))) (agents_here tx.agents (length now.agents.agents) tx.sends is.sends is.agents) in
+    let sent = ap (option_map (λ g. Foreign (aliens.Agent g))) (none_later tx.agents (length now.agents.agents) tx.sends is.agents is.sends) in
     let tally = ap (λ b. cond b None (Some (Foreign aliens.Tally))) (fits_by means tx now.refs.tally is.is is.tally) in
     let point = ap (λ b. cond b None (Some (Foreign (aliens.Point tx.read_point)))) (lt-ltb tx.read_point (now.point + 1) (omega (arith, is.point))) in
     rw (refs, sent, tally, point) refl

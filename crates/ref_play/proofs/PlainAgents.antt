@@ -1,15 +1,18 @@
 -- What definitions of agents and jobs say, in plain words.
-use Rattle.std.proofs.Common.{◌≡◌, ◌≢◌, ℕ, zero, suc, cond, ◌&&◌, not, is_some, Bool, true, false, List, [], ◌∷◌, Option, None, Some, Result, Ok, Err, slice_get, slice_set, refl, sym, ap, subst, ◌∙◌}
+use Rattle.std.proofs.Common.{◌≡◌, ◌≢◌, ◌↔◌, ℕ, zero, suc, cond, ◌<◌, ◌≤◌, ◌&&◌, not, nat_lt, is_some, Bool, true, false, List, [], ◌∷◌, ◌++◌, length, Option, None, Some, Result, Ok, Err, slice_get, slice_set, refl, sym, ap, subst, ◌∙◌, arith}
 use Rattle.std.specs.Global.{Vec}
 use Rattle.std.specs.List.{AllByRecursion}
 use Rattle.std.specs.BTreeMap.{is_at}
 use Rattle.std.specs.Ordering.{is_eq, nat_cmp}
 use Rattle.std.specs.FinMap.{nat_cmp-IsAntisymmetric}
-use Rattle.std.proofs.lemmas.Bool.{and_from, and_parts, false_from_ne_true, not-true, or_from, or_parts}
+use Rattle.std.proofs.lemmas.Bool.{and_from, and_parts, false_from_ne_true, le-ltb, lt-ltb, ltb-false, ltb-true, not-true, or_from, or_parts}
 use Rattle.std.proofs.lemmas.Cmp.{nat_cmp_total, tied_itself}
 use Rattle.std.specs.Cmp.{Equal-is}
 use Rattle.ref_value.specs.Edn.{Edn}
+use Rattle.ref_fun.specs.Actions.{absent_agent}
 use Rattle.ref_fun.specs.Rule.{Accepts, is_accepted, passes, unknown}
+use Rattle.ref_fun.specs.declared.actions.Action.{Action}
+use Rattle.ref_fun.specs.declared.carries.Carry.{Carry}
 use Rattle.ref_fun.specs.declared.faults.Cause.{Cause}
 use Rattle.ref_fun.specs.declared.rules.Rule.{Rule}
 use Rattle.ref_log.specs.Guards.{keys_at, keys_if_here, rule_at}
@@ -18,14 +21,15 @@ use Rattle.ref_log.specs.declared.guards.Guard.{Guard}
 use Rattle.ref_log.specs.declared.notices.Notice.{Notice}
 use Rattle.ref_log.specs.declared.notices.Who.TheVariants as who
 use Rattle.ref_agents.specs.Account.{AccountSeen, has_point, has_released, is_released_by, kept_queue, with_ended, with_head_ended}
-use Rattle.ref_agents.specs.Agents.{AgentsSeen, change_agent, ended, head_job, is_ready_at, is_ready_if_here, job_out, next_job, out_if_here, put_agent, revived, send_refusal, send_refusal_if_here, with_agents}
-use Rattle.ref_agents.specs.Ends.{IsAnswer, IsAnswerIfHere, after_end, after_run, judged, restart_refusal, restart_refusal_if_here}
+use Rattle.ref_agents.specs.Agents.{AgentsSeen, carried, carrying, change_agent, ended, head_job, is_ready_at, is_ready_if_here, job_out, next_job, out_if_here, put_agent, revived, send_refusal, send_refusal_if_here, with_agents, with_carries}
+use Rattle.ref_agents.specs.Ends as ends
+use Rattle.ref_agents.specs.Ends.{IsAnswer, IsAnswerIfHere, after_end, ending, has_carry, judged, restart_refusal, restart_refusal_if_here, with_end}
 use Rattle.ref_agents.specs.Jobs.{JobSeen, RanSeen}
 use Rattle.ref_agents.specs.declared.accounts.Mark.{Mark}
 use Rattle.ref_agents.specs.declared.accounts.Mark.TheVariants as marks
 use Rattle.ref_agents.specs.declared.accounts.Queued.{Queued}
 use Rattle.ref_agents.specs.declared.accounts.SentBy.{SentBy}
-use Rattle.ref_agents.specs.declared.accounts.SentBy.TheVariants.{Outside, Commit}
+use Rattle.ref_agents.specs.declared.accounts.SentBy.TheVariants.{Outside, Commit, Carried}
 use Rattle.ref_agents.specs.declared.agents.Agent.{Agent}
 use Rattle.ref_agents.specs.declared.agents.ErrorMode.{ErrorMode}
 use Rattle.ref_agents.specs.declared.agents.ErrorMode.TheVariants as modes
@@ -38,9 +42,13 @@ use Rattle.ref_agents.specs.declared.faults.RestartFault.TheVariants as restarts
 use Rattle.ref_agents.specs.declared.faults.SendFault.{SendFault}
 use Rattle.ref_agents.specs.declared.faults.SendFault.TheVariants as send_faults
 use Rattle.std.specs.Option.{option_map, option_or}
-use Rattle.ref_play.specs.Plain.{HasRule, KnowsRuleOf, RuleAccepts}
-use Rattle.ref_play.specs.PlainAgents.{EndsAs, FailedFor, FinishMeans, HasEnded, IsNext, IsOut, IsReady, IsReleased, JobOutMeans, NextJobMeans, OnlyAgent, ReadyMeans, RestartMeans, RestartRefusals, RestartsSo, SendRefusals, SendsSo, notices}
+use Rattle.ref_play.specs.Plain.{HasRule, KnowsRuleOf, RuleAccepts, agents_of}
+use Rattle.ref_play.specs.Given.{goes_out}
+use Rattle.ref_play.specs.PlainAgents.{EndsAs, FailedFor, FinishMeans, HasEnded, HasFinished, HasReceivers, IsNext, IsOut, IsReady, IsReleased, JobOutMeans, NextJobMeans, OnlyAgent, ReadyMeans, RestartMeans, RestartRefusals, RestartsSo, SendRefusals, SendsSo, carried_to, notices, queued}
 use Rattle.ref_play.proofs.PlainCommits.{has_rule, rule_is}
+use Rattle.ref_play.proofs.PlainLists.{all_map, any_found, found_any, found_none, none_found}
+use Rattle.ref_play.proofs.PlainQueues.{each_here, each_none, set_here, set_other}
+use Rattle.ref_play.proofs.Taken.{answered_out}
 use Rattle.ref_play.proofs.PlainRules.{code_lacked, lacked_code, lacked_none, none_lacked, passes_rule, rule_passes, rule_refuses}
 
 -- ---- ready
@@ -66,10 +74,12 @@ other_points (p ∷ ps) point others =
 released_by : (points : List ℕ) (by : SentBy) → is_released_by points by ≡ true → IsReleased points by
 released_by points Outside is = tt
 released_by points (Commit point) is = points_other points point (not-true (has_point points point) is)
+released_by points (Carried g) is = absurd cc
 
 by_released : (points : List ℕ) (by : SentBy) → IsReleased points by → is_released_by points by ≡ true
 by_released points Outside is = refl
 by_released points (Commit point) is = ap not (other_points points point is)
+by_released points (Carried g) is = absurd is
 
 no_error : (error : Option AgentError) → not (is_some error) ≡ true → error ≡ None
 no_error None is = refl
@@ -80,11 +90,14 @@ is_ready_by store g is = by (slice_get store.agents g) refl is where
   by : (there : Option Agent) → slice_get store.agents g ≡ there → is_ready_if_here store.unreleased there ≡ true → IsReady store g
   by None here is = absurd cc
   by (Some agent) here is = queued agent.account.queue refl parts.1 where
-    parts : ((not (is_some agent.error) && not agent.is_out) ≡ true) × (has_released store.unreleased agent.account.queue ≡ true)
-    parts = and_parts (not (is_some agent.error) && not agent.is_out) (has_released store.unreleased agent.account.queue) is
+    parts : ((not (is_some agent.error) && not agent.is_out && not agent.is_carrying) ≡ true) × (has_released store.unreleased agent.account.queue ≡ true)
+    parts = and_parts (not (is_some agent.error) && not agent.is_out && not agent.is_carrying) (has_released store.unreleased agent.account.queue) is
+
+    three : ((not (is_some agent.error) && not agent.is_out) ≡ true) × (not agent.is_carrying ≡ true)
+    three = and_parts (not (is_some agent.error) && not agent.is_out) (not agent.is_carrying) parts.0
 
     two : (not (is_some agent.error) ≡ true) × (not agent.is_out ≡ true)
-    two = and_parts (not (is_some agent.error)) (not agent.is_out) parts.0
+    two = and_parts (not (is_some agent.error)) (not agent.is_out) three.0
 
     queued : (queue : List Queued) → agent.account.queue ≡ queue → has_released store.unreleased queue ≡ true → IsReady store g
     queued [] waits released = absurd cc
@@ -93,6 +106,7 @@ is_ready_by store g is = by (slice_get store.agents g) refl is where
       here = here;
       sound = no_error agent.error two.0;
       idle = not-true agent.is_out two.1;
+      quiet = not-true agent.is_carrying three.1;
       first = q;
       rest = qs;
       queue = waits;
@@ -102,8 +116,9 @@ is_ready_by store g is = by (slice_get store.agents g) refl is where
 by_ready : (store : AgentsSeen) (g : ℕ) → IsReady store g → is_ready_at store g ≡ true
 by_ready store g is =
     ap (is_ready_if_here store.unreleased) is.here
-    ∙ and_from (not (is_some is.agent.error) && not is.agent.is_out) (has_released store.unreleased is.agent.account.queue)
-    (and_from (not (is_some is.agent.error)) (not is.agent.is_out) (ap (λ e. not (is_some e)) is.sound) (ap not is.idle))
+    ∙ and_from (not (is_some is.agent.error) && not is.agent.is_out && not is.agent.is_carrying) (has_released store.unreleased is.agent.account.queue)
+    (and_from (not (is_some is.agent.error) && not is.agent.is_out) (not is.agent.is_carrying)
+    (and_from (not (is_some is.agent.error)) (not is.agent.is_out) (ap (λ e. not (is_some e)) is.sound) (ap not is.idle)) (ap not is.quiet))
     (ap (has_released store.unreleased) is.queue ∙ by_released store.unreleased is.first.by is.released)
 
 pub ready_means : ReadyMeans
@@ -147,18 +162,6 @@ job_out_means agents g job = (out_by agents g job, by_out agents g job)
 
 -- ---- one agent changes
 
-pub set_here : (agents : List Agent) (g : ℕ) (before after : Agent) → slice_get agents g ≡ Some before → slice_get (slice_set agents g after) g ≡ Some after
-set_here [] g before after here = absurd cc
-set_here (x ∷ xs) zero before after here = refl
-set_here (x ∷ xs) (suc g) before after here = set_here xs g before after here
-
-pub set_other : (agents : List Agent) (g h : ℕ) (after : Agent) → h ≢ g → slice_get (slice_set agents g after) h ≡ slice_get agents h
-set_other [] g h after other = refl
-set_other (x ∷ xs) zero zero after other = absurd (other refl)
-set_other (x ∷ xs) zero (suc h) after other = refl
-set_other (x ∷ xs) (suc g) zero after other = refl
-set_other (x ∷ xs) (suc g) (suc h) after other = set_other xs g h after (λ same. other (ap suc same))
-
 only_changed : (store : AgentsSeen) (g : ℕ) (change : Agent → Agent) (before : Agent) → slice_get store.agents g ≡ Some before → OnlyAgent g (change before) store (with_agents store (change_agent store.agents g change))
 only_changed store g change before here =
     let changed : change_agent store.agents g change ≡ slice_set store.agents g (change before) = ap (put_agent store.agents g change) here in
@@ -190,22 +193,25 @@ restart_means store g state clear before here = (
     cleared = queue_cleared clear before.account.queue;
     mode = refl;
     out = refl;
+    carrying = refl;
   },
 )
 
 -- ---- how a job ends
 
-has_ended : (before : Agent) (mark : Mark) (value : Edn) (error : Option AgentError) → before.account.queue ≢ [] → HasEnded before (ended mark value error before) mark value error
-has_ended before mark value error waiting = by before.account.queue refl where
-  by : (queue : List Queued) → before.account.queue ≡ queue → HasEnded before (ended mark value error before) mark value error
+-- an agent to which so much was added, and whose first action ended then
+has_ended : (before after : Agent) (mark : Mark) (value : Edn) (error : Option AgentError) (more : List Queued) → before.account.queue ≢ [] → after.value ≡ value → after.error ≡ error → after.is_out ≡ false → after.mode ≡ before.mode
+    → after.account ≡ with_ended (queued before more).account mark → HasEnded before after mark value error more
+has_ended before after mark value error more waiting value_is error_is idle mode account_is = by before.account.queue refl where
+  by : (queue : List Queued) → before.account.queue ≡ queue → HasEnded before after mark value error more
   by [] waits = absurd (waiting waits)
   by (q ∷ qs) waits =
-      let account : with_ended before.account mark ≡ with_head_ended before.account mark (q ∷ qs) = ap (with_head_ended before.account mark) waits in
+      let account : after.account ≡ with_head_ended (queued before more).account mark (q ∷ (qs ++ more)) = account_is ∙ ap (λ l. with_head_ended (queued before more).account mark (l ++ more)) waits in
       record {
-        value_is = refl;
-        error_is = refl;
-        idle = refl;
-        mode = refl;
+        value_is = value_is;
+        error_is = error_is;
+        idle = idle;
+        mode = mode;
         start = ap (λ (a : AccountSeen). a.start) account;
         first = q;
         rest = qs;
@@ -213,6 +219,10 @@ has_ended before mark value error waiting = by before.account.queue refl where
         wait = ap (λ (a : AccountSeen). a.queue) account;
         handled = ap (λ (a : AccountSeen). a.handled) account;
       }
+
+carries_some : (cs : List Carry) → has_carry cs ≡ true ↔ cs ≢ []
+carries_some [] = ((λ is. absurd cc), λ some. absurd (some refl))
+carries_some (c ∷ cs) = ((λ is none. absurd cc), λ some. refl)
 
 module _ (accepts : Accepts) (guards : List Guard) (g : ℕ) where
   abbrev Gives : Result Edn Cause → Edn → Type 0
@@ -262,18 +272,27 @@ module _ (accepts : Accepts) (guards : List Guard) (guard : Guard) (ran : RanSee
   watches_are : (v : Edn) → notices_of (who.Agent ran.job.agent) (keys_at guards ran.job.agent) before.value v ≡ notices ran.job.agent guard.watches before.value v
   watches_are v = ap (λ keys. notices_of (who.Agent ran.job.agent) keys before.value v) (ap keys_if_here here)
 
-  changed : (told : Vec Notice) (v : Edn) → Judged ≡ Ok v → told.items ≡ notices_of (who.Agent ran.job.agent) (keys_at guards ran.job.agent) before.value v → (after : Agent) → HasEnded before after marks.Done v None → EndsAs accepts guards guard ran before after (Changed told)
-  changed told v is says after ends =
-      let value = accepted_value accepts guards ran.job.agent ran.outcome v is in
-      (v, value.0, value.1, says ∙ watches_are v, ends)
+  abbrev Then : Result Edn AgentError → Agent
+  Then judgement = queued before (carried_to ran.job.agent (ends.goes_out judgement ran.job.action.carries) ran.job.agent)
 
-  ends_as : (answer : Finished) → before.account.queue ≢ [] → (mode : ErrorMode) → before.mode ≡ mode → (judgement : Result Edn AgentError) → Judged ≡ judgement → Answers mode judgement answer → EndsAs accepts guards guard ran before (after_end mode judgement before) answer
-  ends_as (Changed told) waiting modes.Fail mode (Ok v) is answers = changed told v is answers (ended marks.Done v None before) (has_ended before marks.Done v None waiting)
-  ends_as (Changed told) waiting modes.Continue mode (Ok v) is answers = changed told v is answers (ended marks.Done v None before) (has_ended before marks.Done v None waiting)
-  ends_as (Failed told) waiting modes.Fail mode (Err error) is answers =
-      (mode, failed_for accepts guards ran.job.agent ran.outcome told (is ∙ ap Err (sym answers)), subst (λ e. HasEnded before (ended marks.Failed before.value (Some error) before) marks.Failed before.value (Some e)) (sym answers) (has_ended before marks.Failed before.value (Some error) waiting))
+  changed : (told : Vec Notice) (v : Edn) → Judged ≡ Ok v → told.items ≡ notices_of (who.Agent ran.job.agent) (keys_at guards ran.job.agent) before.value v → before.account.queue ≢ []
+      → EndsAs accepts guards guard ran before (carrying (has_carry ran.job.action.carries) (ended marks.Done v None (queued before (carried_to ran.job.agent ran.job.action.carries ran.job.agent)))) (Changed told)
+  changed told v is says waiting =
+      let value = accepted_value accepts guards ran.job.agent ran.outcome v is in
+      (v, value.0, value.1, says ∙ watches_are v, has_ended before _ marks.Done v None (carried_to ran.job.agent ran.job.action.carries ran.job.agent) waiting refl refl refl refl refl, carries_some ran.job.action.carries)
+
+  ends_as : (answer : Finished) → before.account.queue ≢ [] → (mode : ErrorMode) → before.mode ≡ mode → (judgement : Result Edn AgentError) → Judged ≡ judgement → Answers mode judgement answer
+      → EndsAs accepts guards guard ran before (after_end mode judgement ran.job.action.carries (Then judgement)) answer
+  ends_as (Changed told) waiting modes.Fail mode (Ok v) is answers = changed told v is answers waiting
+  ends_as (Changed told) waiting modes.Continue mode (Ok v) is answers = changed told v is answers waiting
+  ends_as (Failed told) waiting modes.Fail mode (Err error) is answers = (
+    mode,
+    failed_for accepts guards ran.job.agent ran.outcome told (is ∙ ap Err (sym answers)),
+    has_ended before _ marks.Failed before.value (Some told) [] waiting refl (ap Some (sym answers)) refl refl refl,
+    refl,
+  )
   ends_as (Continued told) waiting modes.Continue mode (Err error) is answers =
-      (mode, failed_for accepts guards ran.job.agent ran.outcome told (is ∙ ap Err (sym answers)), has_ended before marks.Passed before.value None waiting)
+      (mode, failed_for accepts guards ran.job.agent ran.outcome told (is ∙ ap Err (sym answers)), has_ended before _ marks.Passed before.value None [] waiting refl refl refl refl refl, refl)
   ends_as (Changed told) waiting modes.Fail mode (Err error) is answers = absurd answers
   ends_as (Changed told) waiting modes.Continue mode (Err error) is answers = absurd answers
   ends_as (Failed told) waiting modes.Fail mode (Ok v) is answers = absurd answers
@@ -284,20 +303,36 @@ module _ (accepts : Accepts) (guards : List Guard) (guard : Guard) (ran : RanSee
   ends_as (Continued told) waiting modes.Fail mode (Err error) is answers = absurd answers
 
   answered_by : (answer : Finished) (after : Agent) → EndsAs accepts guards guard ran before after answer → Answers before.mode Judged answer
-  answered_by (Changed told) after (v, is, accepted, says, ends) = subst (λ j. Answers before.mode j (Changed told)) (sym (value_judged accepts guards ran.job.agent ran.outcome v is accepted)) (any before.mode) where
+  answered_by (Changed told) after (v, is, accepted, says, ended_so, carries) = subst (λ j. Answers before.mode j (Changed told)) (sym (value_judged accepts guards ran.job.agent ran.outcome v is accepted)) (any before.mode) where
     any : (mode : ErrorMode) → Answers mode (Ok v) (Changed told)
     any modes.Fail = says ∙ sym (watches_are v)
     any modes.Continue = says ∙ sym (watches_are v)
-  answered_by (Failed error) after (mode, failed, ends) =
+  answered_by (Failed error) after (mode, failed, ended_so, stays) =
       subst (λ m. Answers m Judged (Failed error)) (sym mode) (subst (λ j. Answers modes.Fail j (Failed error)) (sym (error_judged accepts guards ran.job.agent ran.outcome error failed)) refl)
-  answered_by (Continued error) after (mode, failed, ends) =
+  answered_by (Continued error) after (mode, failed, ended_so, stays) =
       subst (λ m. Answers m Judged (Continued error)) (sym mode) (subst (λ j. Answers modes.Continue j (Continued error)) (sym (error_judged accepts guards ran.job.agent ran.outcome error failed)) refl)
+
+-- what goes out, to the agent and to all others
+finished : (store : AgentsSeen) (g : ℕ) (judgement : Result Edn AgentError) (cs out : List Carry) (before : Agent) → slice_get store.agents g ≡ Some before → ends.goes_out judgement cs ≡ out
+    → HasFinished g (ending judgement cs (queued before (carried_to g (ends.goes_out judgement cs) g))) out store (with_end store g judgement cs)
+finished store g judgement cs out before here goes = subst (λ l. HasFinished g (ending judgement cs (queued before (carried_to g (ends.goes_out judgement cs) g))) l store (with_end store g judgement cs)) goes (record {
+  here = ap (λ o. slice_get (put_agent (with_carries g (ends.goes_out judgement cs) store.agents) g (ending judgement cs) o) g) mine ∙ set_here (with_carries g (ends.goes_out judgement cs) store.agents) g (queued before (carried_to g (ends.goes_out judgement cs) g)) (ending judgement cs (queued before (carried_to g (ends.goes_out judgement cs) g))) mine;
+  others = λ h agent other there. ap (λ o. slice_get (put_agent (with_carries g (ends.goes_out judgement cs) store.agents) g (ending judgement cs) o) h) mine
+      ∙ (set_other (with_carries g (ends.goes_out judgement cs) store.agents) g h (ending judgement cs (queued before (carried_to g (ends.goes_out judgement cs) g))) other ∙ each_here (λ (c : Carry). c.g) carried (Carried g) (ends.goes_out judgement cs) store.agents h agent there);
+  none = λ h none. ap (λ o. slice_get (put_agent (with_carries g (ends.goes_out judgement cs) store.agents) g (ending judgement cs) o) h) mine
+      ∙ (set_other (with_carries g (ends.goes_out judgement cs) store.agents) g h (ending judgement cs (queued before (carried_to g (ends.goes_out judgement cs) g))) (λ same. let both = sym none ∙ (ap (slice_get store.agents) same ∙ here) in absurd cc)
+      ∙ each_none (λ (c : Carry). c.g) carried (Carried g) (ends.goes_out judgement cs) store.agents h none);
+  guards = refl;
+  unreleased = refl;
+}) where
+  mine : slice_get (with_carries g (ends.goes_out judgement cs) store.agents) g ≡ Some (queued before (carried_to g (ends.goes_out judgement cs) g))
+  mine = each_here (λ (c : Carry). c.g) carried (Carried g) (ends.goes_out judgement cs) store.agents g before here
 
 pub finish_means : (accepts : Accepts) → FinishMeans accepts
 finish_means accepts store ran before guard answer here guarded waiting = (
   λ answers. (
-    after_run accepts (rule_at store.guards ran.job.agent) ran.outcome before,
-    only_changed store ran.job.agent (after_run accepts (rule_at store.guards ran.job.agent) ran.outcome) before here,
+    ending (judged accepts (rule_at store.guards ran.job.agent) ran.outcome) ran.job.action.carries (queued before (carried_to ran.job.agent (ends.goes_out (judged accepts (rule_at store.guards ran.job.agent) ran.outcome) ran.job.action.carries) ran.job.agent)),
+    finished store ran.job.agent (judged accepts (rule_at store.guards ran.job.agent) ran.outcome) ran.job.action.carries (goes_out answer ran.job.action.carries) before here (answered_out accepts store ran answer ran.job.action.carries answers),
     ends_as accepts store.guards guard ran guarded before answer waiting before.mode refl (judged accepts (rule_at store.guards ran.job.agent) ran.outcome) refl (subst (IsAnswerIfHere accepts store.guards ran answer) here answers),
   ),
   λ left. subst (IsAnswerIfHere accepts store.guards ran answer) (sym here) (answered_by accepts store.guards guard ran guarded before answer left.0 left.2),
@@ -362,25 +397,41 @@ restart_refusals accepts knows store g state refusal = (λ is. subst (RestartsSo
 
 -- ---- when an action can be sent
 
-module _ (agents : List Agent) (g : ℕ) where
+module _ (agents : List Agent) (g : ℕ) (action : Action) where
   abbrev asked_to_send : Bool → Option SendFault
   asked_to_send failed = cond failed (Some send_faults.Failed) None
 
-  sends_so : SendsSo agents g (send_refusal agents g)
-  sends_so = by (slice_get agents g) refl where
-    judged : (agent : Agent) → slice_get agents g ≡ Some agent → (error : Option AgentError) → agent.error ≡ error → SendsSo agents g (asked_to_send (is_some error))
-    judged agent here None sound = (agent, here, sound)
-    judged agent here (Some error) failed = (agent, here, λ sound. let both = sym failed ∙ sound in absurd cc)
+  abbrev refusal_of : Option ℕ → Option SendFault → Option SendFault
+  refusal_of absent later = option_or (option_map (λ h. send_faults.NoSuchAgent) absent) later
 
-    by : (found : Option Agent) → slice_get agents g ≡ found → SendsSo agents g (send_refusal_if_here found)
-    by None here = here
-    by (Some agent) here = judged agent here agent.error refl
+  sends_so : SendsSo agents g action (send_refusal agents g action)
+  sends_so = by (absent_agent (length agents) g action) refl where
+    judged : HasReceivers agents g action → (agent : Agent) → slice_get agents g ≡ Some agent → (error : Option AgentError) → agent.error ≡ error → SendsSo agents g action (asked_to_send (is_some error))
+    judged all agent here None sound = (all, (agent, here, sound))
+    judged all agent here (Some error) failed = (all, (agent, here, λ sound. let both = sym failed ∙ sound in absurd cc))
 
-  sends_back : (refusal : Option SendFault) → SendsSo agents g refusal → send_refusal agents g ≡ refusal
-  sends_back None (agent, here, sound) = ap send_refusal_if_here here ∙ ap (λ e. asked_to_send (is_some e)) sound
-  sends_back (Some send_faults.NoSuchAgent) none = ap send_refusal_if_here none
-  sends_back (Some send_faults.Failed) (agent, here, failed) = ap send_refusal_if_here here ∙ ap asked_to_send (has_error agent.error failed)
+    found : HasReceivers agents g action → (there : Option Agent) → slice_get agents g ≡ there → SendsSo agents g action (send_refusal_if_here there)
+    found all None here = absurd (within agents g all.0 here) where
+      within : (xs : List Agent) (i : ℕ) → i < length xs → slice_get xs i ≡ None → ⊥
+      within [] i below none = omega (arith, below)
+      within (x ∷ xs) zero below none = cc
+      within (x ∷ xs) (suc i) below none = within xs i (omega (arith, below)) none
+    found all (Some agent) here = judged all agent here agent.error refl
+
+    by : (absent : Option ℕ) → absent_agent (length agents) g action ≡ absent → SendsSo agents g action (refusal_of absent (send_refusal_if_here (slice_get agents g)))
+    by None is = found (all_map (λ h. nat_lt h (length agents) ≡ true) (λ h. h < length agents) (λ h below. ltb-true h (length agents) below) (agents_of g action) (found_none (λ h. nat_lt h (length agents)) (agents_of g action) is)) (slice_get agents g) refl
+    by (Some h) is = any_found (λ n. nat_lt n (length agents)) (λ n. length agents ≤ n) (λ n past. ltb-false n (length agents) past) (agents_of g action) h is
+
+  none_absent : HasReceivers agents g action → absent_agent (length agents) g action ≡ None
+  none_absent all = none_found (λ h. nat_lt h (length agents)) (agents_of g action) (all_map (λ h. h < length agents) (λ h. nat_lt h (length agents) ≡ true) (λ h below. lt-ltb h (length agents) below) (agents_of g action) all)
+
+  sends_back : (refusal : Option SendFault) → SendsSo agents g action refusal → send_refusal agents g action ≡ refusal
+  sends_back None (all, (agent, here, sound)) = ap (λ o. refusal_of o (send_refusal_if_here (slice_get agents g))) (none_absent all) ∙ (ap send_refusal_if_here here ∙ ap (λ e. asked_to_send (is_some e)) sound)
+  sends_back (Some send_faults.NoSuchAgent) any =
+      let one = found_any (λ n. nat_lt n (length agents)) (λ n. length agents ≤ n) (λ n past. le-ltb n (length agents) past) (agents_of g action) any in
+      ap (λ o. refusal_of o (send_refusal_if_here (slice_get agents g))) one.1
+  sends_back (Some send_faults.Failed) (all, (agent, here, failed)) = ap (λ o. refusal_of o (send_refusal_if_here (slice_get agents g))) (none_absent all) ∙ (ap send_refusal_if_here here ∙ ap asked_to_send (has_error agent.error failed))
   sends_back (Some send_faults.Memory) never = absurd never
 
 pub send_refusals : SendRefusals
-send_refusals agents g refusal = (λ so. subst (SendsSo agents g) so (sends_so agents g), sends_back agents g refusal)
+send_refusals agents g action refusal = (λ so. subst (SendsSo agents g action) so (sends_so agents g action), sends_back agents g action refusal)

@@ -3,7 +3,7 @@ use Rattle.std.proofs.Common.{◌≡◌, ℕ, pos, cond, ◌+◌, ◌<◌, ◌�
 use Rattle.std.specs.List.{AllByRecursion}
 use Rattle.std.proofs.lemmas.Bool.{eq-eqb, eqb-false, eqb-true, le-ltb, lt-ltb, ltb-false, ltb-true}
 use Rattle.ref_value.specs.Edn.{Edn, int}
-use Rattle.ref_log.specs.Tally.{code_of, counted, is_tally, moved_by, moved_by_done, moved_by_dones}
+use Rattle.ref_log.specs.Tally.{code_of, counted, is_tally, moved_by, moved_by_dones}
 use Rattle.ref_log.specs.declared.counting.Side.{Side}
 use Rattle.ref_log.specs.declared.counting.Side.TheVariants.{Added, Taken}
 use Rattle.ref_log.specs.declared.operations.Done.{Done}

@@ -1,11 +1,12 @@
 -- What a commit asks for, in plain words.
-use Rattle.std.proofs.Common.{Equal, Greater, Less, Ordering, ◌≡◌, ℕ, zero, suc, pos, cond, ◌<◌, ◌≤◌, ◌^◌, ◌==◌, ◌&&◌, ◌||◌, not, nat_lt, Bool, true, false, ◌⊎◌, inl, inr, List, [], ◌∷◌, ◌++◌, length, Option, None, Some, Result, Ok, Err, slice_get, slice_set, refl, sym, ap, subst, ◌∙◌, arith}
+use Rattle.std.proofs.Common.{Equal, Greater, Less, Ordering, ◌≡◌, ℕ, zero, suc, pos, cond, ◌<◌, ◌≤◌, ◌^◌, ◌==◌, ◌&&◌, ◌||◌, not, nat_lt, Bool, true, false, inl, inr, List, [], ◌∷◌, ◌++◌, length, Option, None, Some, Result, Ok, Err, slice_get, slice_set, refl, sym, ap, subst, ◌∙◌, arith}
 use Rattle.std.specs.List.{AllByRecursion, find}
 use Rattle.std.specs.BTreeSet.{insert_key}
-use Rattle.std.specs.Option.{option_map}
+use Rattle.std.specs.Option.{option_map, option_or}
 use Rattle.std.specs.Ordering.{match_ordering, nat_cmp}
 use Rattle.std.specs.FinMap.{nat_cmp-IsAntisymmetric}
 use Rattle.std.proofs.lemmas.List.{length-set}
+use Rattle.std.proofs.lemmas.List.Folds.{find-append}
 use Rattle.std.proofs.lemmas.Bool.{and_from, and_parts, eq-eqb, eqb-true, le-ltb, lt-ltb, ltb-false, ltb-true, not-false}
 use Rattle.std.proofs.lemmas.Option.{get_or_from_slice_get, unwrap_or-slice_get}
 use Rattle.ref_value.specs.Edn.{Edn, int}
@@ -28,13 +29,14 @@ use Rattle.ref_log.specs.declared.sends.Sent.{Sent}
 use Rattle.ref_tx.specs.Inner.{AreAnswers, IsTx, and_place, given, value_after}
 use Rattle.ref_tx.specs.Laws.{value_after-here}
 use Rattle.ref_tx.specs.Seen.{TxSeen}
-use Rattle.ref_refs.specs.Commit.{alien, alien_agent, alien_point, alien_ref, alien_tally, alien_value, changed_after, commit_refusal, commuted_code, commuted_codes, conflict, conflict_on, differs, differs_at, early_refusal, first_invalid, first_protected, has_ref, invalid, lacking, lacking_rule, needed_rule, full_book, or_fault, past_points, refused, refused_at, unknown_at}
+use Rattle.ref_fun.specs.Actions.{absent_agent}
+use Rattle.ref_refs.specs.Commit.{alien, alien_agent, alien_point, alien_ref, alien_tally, alien_value, changed_after, commit_refusal, commuted_code, commuted_codes, conflict, conflict_on, differs, differs_at, early_refusal, first_absent, first_invalid, first_protected, has_ref, invalid, lacking, lacking_rule, needed_rule, full_book, or_fault, past_points, refused, refused_at, unknown_at}
 use Rattle.ref_refs.specs.Seen.{RefsSeen, changed_at}
 use Rattle.ref_refs.specs.Watches.{touched_from, touched_refs}
 use Rattle.ref_refs.specs.declared.faults.Alien.TheVariants as aliens
 use Rattle.ref_refs.specs.declared.faults.CommitFault.{CommitFault}
 use Rattle.ref_refs.specs.declared.faults.CommitFault.TheVariants.{Foreign, Invalid, NoSuchFun, PointLimit}
-use Rattle.ref_play.specs.Plain.{CanCommit, Changes, CommitsWhereItCan, Counts, HasCommuted, HasRule, IsChanged, IsProtected, KnowsRuleOf, Leads, Makes, Protects, RuleAccepts}
+use Rattle.ref_play.specs.Plain.{CanCommit, Changes, CommitsWhereItCan, Counts, HasCommuted, HasRule, IsChanged, IsProtected, KnowsRuleOf, Leads, Makes, Protects, RuleAccepts, agents_of, all_agents_of}
 use Rattle.ref_play.proofs.Native.{changed_by_protected, differs_itself, mapped_none, none_of, not_past, range_none}
 use Rattle.ref_play.proofs.Placed.{Agrees, agrees_more}
 use Rattle.ref_play.proofs.PlainBooks.{has_room, not_full, sum_is, sums_to}
@@ -112,15 +114,21 @@ by_refs values ds here =
     ap (option_map (λ (d : Done). Foreign (aliens.Ref d.r)))
     (none_found (λ (d : Done). has_ref values d.r) ds (all_map (λ (d : Done). d.r < length values) (λ (d : Done). nat_lt d.r (length values) ≡ true) (λ d below. lt-ltb d.r (length values) below) ds here))
 
-pub sends_by : (agents : ℕ) (ss : List Sent) → alien_agent agents ss ≡ None → AllByRecursion (λ s. s.agent < agents) ss
-sends_by agents ss none =
-    all_map (λ (s : Sent). nat_lt s.agent agents ≡ true) (λ (s : Sent). s.agent < agents) (λ s here. ltb-true s.agent agents here) ss
-    (found_none (λ (s : Sent). nat_lt s.agent agents) ss (mapped_none (λ (s : Sent). Foreign (aliens.Agent s.agent)) (find (λ (s : Sent). not (nat_lt s.agent agents)) ss) none))
+-- the first agent that isn't here is the first of all that get something
+pub found_all : (agents : ℕ) (ss : List Sent) → first_absent agents ss ≡ find (λ h. not (nat_lt h agents)) (all_agents_of ss)
+found_all agents [] = refl
+found_all agents (s ∷ ss) =
+    ap (option_or (absent_agent agents s.agent s.action)) (found_all agents ss) ∙ sym (find-append (λ h. not (nat_lt h agents)) (agents_of s.agent s.action) (all_agents_of ss))
 
-pub by_sends : (agents : ℕ) (ss : List Sent) → AllByRecursion (λ s. s.agent < agents) ss → alien_agent agents ss ≡ None
+pub sends_by : (agents : ℕ) (ss : List Sent) → alien_agent agents ss ≡ None → AllByRecursion (λ g. g < agents) (all_agents_of ss)
+sends_by agents ss none =
+    all_map (λ g. nat_lt g agents ≡ true) (λ g. g < agents) (λ g here. ltb-true g agents here) (all_agents_of ss)
+    (found_none (λ g. nat_lt g agents) (all_agents_of ss) (sym (found_all agents ss) ∙ mapped_none (λ g. Foreign (aliens.Agent g)) (first_absent agents ss) none))
+
+pub by_sends : (agents : ℕ) (ss : List Sent) → AllByRecursion (λ g. g < agents) (all_agents_of ss) → alien_agent agents ss ≡ None
 by_sends agents ss here =
-    ap (option_map (λ (s : Sent). Foreign (aliens.Agent s.agent)))
-    (none_found (λ (s : Sent). nat_lt s.agent agents) ss (all_map (λ (s : Sent). s.agent < agents) (λ (s : Sent). nat_lt s.agent agents ≡ true) (λ s below. lt-ltb s.agent agents below) ss here))
+    ap (option_map (λ g. Foreign (aliens.Agent g)))
+    (found_all agents ss ∙ none_found (λ g. nat_lt g agents) (all_agents_of ss) (all_map (λ g. g < agents) (λ g. nat_lt g agents ≡ true) (λ g below. lt-ltb g agents below) (all_agents_of ss) here))
 
 pub read_by : (at point : ℕ) → alien_point at point ≡ None → point < at
 read_by at point none = ltb-true point at (if_none (nat_lt point at) (Foreign (aliens.Point point)) none)

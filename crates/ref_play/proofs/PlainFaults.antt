@@ -24,18 +24,18 @@ use Rattle.ref_log.specs.declared.operations.Op.TheVariants.{Set, Alter, Commute
 use Rattle.ref_log.specs.declared.sends.Sent.{Sent}
 use Rattle.ref_tx.specs.Inner.{IsTx}
 use Rattle.ref_tx.specs.Seen.{TxSeen}
-use Rattle.ref_refs.specs.Commit.{alien, alien_agent, alien_point, alien_ref, alien_tally, alien_value, changed_after, commit_refusal, commuted_code, commuted_codes, conflict, conflict_on, differs, differs_at, early_refusal, first_invalid, first_protected, has_ref, invalid, lacking, lacking_rule, full_book, or_fault, past_points, refused, refused_at, unknown_at}
+use Rattle.ref_refs.specs.Commit.{alien, alien_agent, alien_point, alien_ref, alien_tally, alien_value, changed_after, commit_refusal, commuted_code, commuted_codes, conflict, conflict_on, differs, differs_at, early_refusal, first_absent, first_invalid, first_protected, has_ref, invalid, lacking, lacking_rule, full_book, or_fault, past_points, refused, refused_at, unknown_at}
 use Rattle.ref_refs.specs.Seen.{RefsSeen, changed_at}
 use Rattle.ref_refs.specs.Watches.{touched_from, touched_refs}
 use Rattle.ref_refs.specs.declared.faults.Alien.TheVariants as aliens
 use Rattle.ref_refs.specs.declared.faults.CommitFault.{CommitFault}
 use Rattle.ref_refs.specs.declared.faults.CommitFault.TheVariants.{BookFull, Conflict, Foreign, Invalid, Memory, NoSuchFun, PointLimit, Refused}
 use Rattle.ref_refs.specs.declared.faults.Conflict as told
-use Rattle.ref_play.specs.Plain.{AnyByRecursion, AreRising, Changes, CommutesBy, Counts, FirstWithout, HasAgents, HasCommuted, HasRefs, HasRule, IsChanged, IsCurrent, IsHere, IsKnown, IsMade, IsProtected, IsSmallestInvalid, IsSmallestOther, KnowsRuleOf, LacksFun, Leads, NamesSmallest, OnlyCounts, RefusalsSayWhy, RefusedOn, RefusesValue, RuledBy, SumsTo, Why}
+use Rattle.ref_play.specs.Plain.{AnyByRecursion, AreRising, Changes, CommutesBy, Counts, FirstWithout, HasAgents, HasCommuted, HasRefs, HasRule, IsChanged, IsCurrent, IsHere, IsKnown, IsMade, IsProtected, IsSmallestInvalid, IsSmallestOther, KnowsRuleOf, LacksFun, Leads, NamesSmallest, OnlyCounts, RefusalsSayWhy, RefusedOn, RefusesValue, RuledBy, SumsTo, Why, all_agents_of}
 use Rattle.ref_play.proofs.Native.{differs_itself, none_of, not_past}
 use Rattle.ref_play.proofs.PlainBooks.{by_full, full_by, sum_is, sums_to}
-use Rattle.ref_play.proofs.PlainLists.{all_map, any_each, any_pass, each_any, some_passes}
-use Rattle.ref_play.proofs.PlainCommits.{IsAcceptedAt, accepted_by, accepts_by, by_accepted, by_changes, by_counts, by_funs, by_last, by_preds, by_read, by_refs, by_sends, by_tally, by_unchanged, by_values, by_within, changes_by, counts_by, each_touched, funs_by, has_rule, here_by, insert_from, is_protected_by, last_by, lead_on, leads_after, leads_refused, makes_place, none_or, place_makes, pred_by, preds_by, protected_is, read_by, refs_by, rule_is, same_by, sends_by, tally_by, there, touched_each, unchanged_by, values_by}
+use Rattle.ref_play.proofs.PlainLists.{all_map, any_each, any_pass, each_any, some_passes, first_found, found_first}
+use Rattle.ref_play.proofs.PlainCommits.{IsAcceptedAt, accepted_by, accepts_by, by_accepted, by_changes, by_counts, by_funs, by_last, by_preds, by_read, by_refs, by_sends, by_tally, by_unchanged, by_values, by_within, changes_by, counts_by, each_touched, found_all, funs_by, has_rule, here_by, insert_from, is_protected_by, last_by, lead_on, leads_after, leads_refused, makes_place, none_or, place_makes, pred_by, preds_by, protected_is, read_by, refs_by, rule_is, same_by, sends_by, tally_by, there, touched_each, unchanged_by, values_by}
 
 -- ---- the first of faults
 
@@ -56,26 +56,6 @@ map_some f (Some x) fault is = (x, refl, cc)
 if_some : (b : Bool) (f fault : CommitFault) → cond b None (Some f) ≡ Some fault → (b ≡ false) × (f ≡ fault)
 if_some true f fault is = absurd cc
 if_some false f fault is = (refl, cc)
-
--- ---- the first element that fails a test
-
-module _ {X : Type 0} (p : X → Bool) (P Q : X → Type 0) (to : (x : X) → p x ≡ true → P x) (from : (x : X) → P x → p x ≡ true) where
-  pub first_found : (xs : List X) (x : X) → find (λ y. not (p y)) xs ≡ Some x → Q x → FirstWithout P Q xs
-  first_found [] x is q = absurd cc
-  first_found (y ∷ ys) x is q = by (p y) refl is (first_found ys x) where
-    by : (b : Bool) → p y ≡ b → cond (not b) (Some y) (find (λ z. not (p z)) ys) ≡ Some x → (find (λ z. not (p z)) ys ≡ Some x → Q x → FirstWithout P Q ys) → FirstWithout P Q (y ∷ ys)
-    by true passes is later = inr (to y passes, later is q)
-    by false fails is later =
-        let same : x ≡ y = cc in
-        let no : P y → ⊥ = λ so. let passes = from y so in absurd cc in
-        inl (no, subst Q same q)
-
-  pub found_first : (xs : List X) → FirstWithout P Q xs → (x : X) × (find (λ y. not (p y)) xs ≡ Some x) × Q x
-  found_first [] first = absurd first
-  found_first (y ∷ ys) (inl here) = (y, ap (λ b. cond (not b) (Some y) (find (λ z. not (p z)) ys)) (false_from_ne_true (p y) (λ is. here.0 (to y is))), here.1)
-  found_first (y ∷ ys) (inr later) =
-      let rest = found_first ys later.1 in
-      (rest.0, ap (λ b. cond (not b) (Some y) (find (λ z. not (p z)) ys)) (from y later.0) ∙ rest.1, rest.2)
 
 -- some element fails where not all pass
 some_fails : {X : Type 0} (p : X → Bool) (P : X → Type 0) → ((x : X) → p x ≡ false → P x) → (xs : List X) → list_all p xs ≡ false → AnyByRecursion P xs
@@ -105,15 +85,15 @@ by_ref values ds r first =
     let one = found_first (λ (d : Done). has_ref values d.r) (λ (d : Done). d.r < length values) (λ (d : Done). d.r ≡ r) (λ d so. ltb-true d.r (length values) so) (λ d so. lt-ltb d.r (length values) so) ds first in
     ap (option_map (λ (d : Done). Foreign (aliens.Ref d.r))) one.1 ∙ ap (λ n. Some (Foreign (aliens.Ref n))) one.2
 
-pub agent_by : (agents : ℕ) (ss : List Sent) (fault : CommitFault) → alien_agent agents ss ≡ Some fault → (g : ℕ) × (Foreign (aliens.Agent g) ≡ fault) × FirstWithout (λ (s : Sent). s.agent < agents) (λ (s : Sent). s.agent ≡ g) ss
+pub agent_by : (agents : ℕ) (ss : List Sent) (fault : CommitFault) → alien_agent agents ss ≡ Some fault → (g : ℕ) × (Foreign (aliens.Agent g) ≡ fault) × FirstWithout (λ h. h < agents) (λ h. h ≡ g) (all_agents_of ss)
 agent_by agents ss fault is =
-    let one = map_some (λ (s : Sent). Foreign (aliens.Agent s.agent)) (find (λ (s : Sent). not (nat_lt s.agent agents)) ss) fault is in
-    (one.0.agent, one.2, first_found (λ (s : Sent). nat_lt s.agent agents) (λ (s : Sent). s.agent < agents) (λ (s : Sent). s.agent ≡ one.0.agent) (λ s so. ltb-true s.agent agents so) (λ s so. lt-ltb s.agent agents so) ss one.0 one.1 refl)
+    let one = map_some (λ g. Foreign (aliens.Agent g)) (first_absent agents ss) fault is in
+    (one.0, one.2, first_found (λ h. nat_lt h agents) (λ h. h < agents) (λ h. h ≡ one.0) (λ h so. ltb-true h agents so) (λ h so. lt-ltb h agents so) (all_agents_of ss) one.0 (sym (found_all agents ss) ∙ one.1) refl)
 
-pub by_agent : (agents : ℕ) (ss : List Sent) (g : ℕ) → FirstWithout (λ (s : Sent). s.agent < agents) (λ (s : Sent). s.agent ≡ g) ss → alien_agent agents ss ≡ Some (Foreign (aliens.Agent g))
+pub by_agent : (agents : ℕ) (ss : List Sent) (g : ℕ) → FirstWithout (λ h. h < agents) (λ h. h ≡ g) (all_agents_of ss) → alien_agent agents ss ≡ Some (Foreign (aliens.Agent g))
 by_agent agents ss g first =
-    let one = found_first (λ (s : Sent). nat_lt s.agent agents) (λ (s : Sent). s.agent < agents) (λ (s : Sent). s.agent ≡ g) (λ s so. ltb-true s.agent agents so) (λ s so. lt-ltb s.agent agents so) ss first in
-    ap (option_map (λ (s : Sent). Foreign (aliens.Agent s.agent))) one.1 ∙ ap (λ n. Some (Foreign (aliens.Agent n))) one.2
+    let one = found_first (λ h. nat_lt h agents) (λ h. h < agents) (λ h. h ≡ g) (λ h so. ltb-true h agents so) (λ h so. lt-ltb h agents so) (all_agents_of ss) first in
+    ap (option_map (λ h. Foreign (aliens.Agent h))) (found_all agents ss ∙ one.1) ∙ ap (λ n. Some (Foreign (aliens.Agent n))) one.2
 
 -- an operation on the tally that doesn't count
 Miscounts : Option ℕ → Done → Type 0

@@ -1,8 +1,8 @@
 -- Tests of lists as facts of their elements.
-use Rattle.std.proofs.Common.{◌≡◌, ℕ, zero, suc, cond, ◌+◌, ◌<◌, ◌≤◌, not, Bool, true, false, ◌⊎◌, inl, inr, List, [], ◌∷◌, Option, None, Some, refl, ap, subst, ◌∙◌, arith}
+use Rattle.std.proofs.Common.{◌≡◌, ℕ, zero, suc, cond, ◌+◌, ◌<◌, ◌≤◌, not, Bool, true, false, ◌⊎◌, inl, inr, List, [], ◌∷◌, Option, None, Some, refl, sym, ap, subst, ◌∙◌, arith}
 use Rattle.std.specs.List.{AllByRecursion, find, list_all, list_any, range_with_len}
-use Rattle.std.proofs.lemmas.Bool.{and_from, and_parts, or_cases, or_left, or_right}
-use Rattle.ref_play.specs.Plain.{AnyByRecursion}
+use Rattle.std.proofs.lemmas.Bool.{and_from, and_parts, false_from_ne_true, or_cases, or_left, or_right}
+use Rattle.ref_play.specs.Plain.{AnyByRecursion, FirstWithout}
 
 pub all_map : {X : Type 0} (P Q : X → Type 0) → ((x : X) → P x → Q x) → (xs : List X) → AllByRecursion P xs → AllByRecursion Q xs
 all_map P Q on [] all = tt
@@ -66,3 +66,42 @@ none_range p zero from all = refl
 none_range p (suc n) from all =
     ap (λ b. cond b (Some from) (find p (range_with_len (from + 1) n))) (all from (omega arith) (omega arith))
     ∙ none_range p n (from + 1) (λ r after below. all r (omega (arith, after)) (omega (arith, below)))
+
+-- ---- the first element that fails a test
+
+module _ {X : Type 0} (p : X → Bool) (P Q : X → Type 0) (to : (x : X) → p x ≡ true → P x) (from : (x : X) → P x → p x ≡ true) where
+  pub first_found : (xs : List X) (x : X) → find (λ y. not (p y)) xs ≡ Some x → Q x → FirstWithout P Q xs
+  first_found [] x is q = absurd cc
+  first_found (y ∷ ys) x is q = by (p y) refl is (first_found ys x) where
+    by : (b : Bool) → p y ≡ b → cond (not b) (Some y) (find (λ z. not (p z)) ys) ≡ Some x → (find (λ z. not (p z)) ys ≡ Some x → Q x → FirstWithout P Q ys) → FirstWithout P Q (y ∷ ys)
+    by true passes is later = inr (to y passes, later is q)
+    by false fails is later =
+        let same : x ≡ y = cc in
+        let no : P y → ⊥ = λ so. let passes = from y so in absurd cc in
+        inl (no, subst Q same q)
+
+  pub found_first : (xs : List X) → FirstWithout P Q xs → (x : X) × (find (λ y. not (p y)) xs ≡ Some x) × Q x
+  found_first [] first = absurd first
+  found_first (y ∷ ys) (inl here) = (y, ap (λ b. cond (not b) (Some y) (find (λ z. not (p z)) ys)) (false_from_ne_true (p y) (λ is. here.0 (to y is))), here.1)
+  found_first (y ∷ ys) (inr later) =
+      let rest = found_first ys later.1 in
+      (rest.0, ap (λ b. cond (not b) (Some y) (find (λ z. not (p z)) ys)) (from y later.0) ∙ rest.1, rest.2)
+
+-- some element fails exactly where a first one does
+pub any_found : {X : Type 0} (p : X → Bool) (P : X → Type 0) → ((x : X) → p x ≡ false → P x) → (xs : List X) (x : X) → find (λ y. not (p y)) xs ≡ Some x → AnyByRecursion P xs
+any_found p P on [] x is = absurd cc
+any_found p P on (y ∷ ys) x is = by (p y) refl is (any_found p P on ys x) where
+  by : (b : Bool) → p y ≡ b → cond (not b) (Some y) (find (λ z. not (p z)) ys) ≡ Some x → (find (λ z. not (p z)) ys ≡ Some x → AnyByRecursion P ys) → AnyByRecursion P (y ∷ ys)
+  by true passes is later = inr (later is)
+  by false fails is later = inl (on y fails)
+
+pub found_any : {X : Type 0} (p : X → Bool) (P : X → Type 0) → ((x : X) → P x → p x ≡ false) → (xs : List X) → AnyByRecursion P xs → (x : X) × (find (λ y. not (p y)) xs ≡ Some x)
+found_any p P on [] any = absurd any
+found_any {X} p P on (y ∷ ys) any = by (p y) refl any (found_any p P on ys) where
+  fails : p y ≡ true → p y ≡ false → ⊥
+  fails is isnt = let both : true ≡ false = sym is ∙ isnt in cc
+
+  by : (b : Bool) → p y ≡ b → P y ⊎ AnyByRecursion P ys → (AnyByRecursion P ys → (x : X) × (find (λ z. not (p z)) ys ≡ Some x)) → (x : X) × (cond (not b) (Some y) (find (λ z. not (p z)) ys) ≡ Some x)
+  by false is any later = (y, refl)
+  by true is (inl here) later = absurd (fails is (on y here))
+  by true is (inr there) later = later there

@@ -6,7 +6,12 @@ use Rattle.std.proofs.lemmas.List.{append-nil, append_assoc}
 use Rattle.ref_value.specs.Edn.{Edn}
 use Rattle.ref_fun.specs.Meaning.{Means}
 use Rattle.ref_fun.specs.Rule.{Accepts}
+use Rattle.ref_fun.specs.Actions.{absent_agent, missing_fun}
+use Rattle.ref_fun.specs.declared.actions.Action.{Action}
 use Rattle.ref_fun.specs.declared.rules.Rule.{Rule}
+use Rattle.std.specs.List.{AllByRecursion}
+use Rattle.std.specs.Option.{option_map, option_or}
+use Rattle.std.proofs.Common.{◌≤◌, nat_lt}
 use Rattle.ref_fun.specs.declared.faults.Cause.{Cause}
 use Rattle.ref_log.specs.Replay.{codes_of, is_commute, is_set, missing, place}
 use Rattle.ref_log.specs.Tally.{fits_tally, is_tally}
@@ -18,12 +23,12 @@ use Rattle.ref_tx.specs.Laws.{value_after-elsewhere}
 use Rattle.ref_tx.specs.Seen.{TxSeen}
 use Rattle.ref_tx.specs.declared.faults.TxFault.{TxFault}
 use Rattle.ref_tx.specs.declared.faults.TxFault.TheVariants as txs
-use Rattle.ref_play.specs.Plain.{Counts, Makes}
+use Rattle.ref_play.specs.Plain.{Counts, Makes, agents_of, functions_of}
 use Rattle.ref_play.specs.PlainTx.{AnswersSo, Calls, Commutes, HasCalled, InnerMeans, IsAllowed, IsCommuted, IsValueIn, LeadsAt, MaySet, OperationsMean, RequirementsMean, RequiresSo, SendsInTxMean, SendsSo, Sets, TxMeans}
 use Rattle.ref_play.proofs.Placed.{get-below}
 use Rattle.ref_play.proofs.PlainCommits.{by_counts, counts_by, fits_one, makes_place, one_fits, place_makes, there}
 use Rattle.ref_play.proofs.PlainFaults.{place_refuses, refuses_place}
-use Rattle.ref_play.proofs.PlainLists.{all_map, all_pass, any_pass, each_passes, some_passes}
+use Rattle.ref_play.proofs.PlainLists.{all_map, all_pass, any_found, any_pass, each_passes, first_found, found_any, found_first, found_none, none_found, some_passes}
 
 -- ---- in-transaction values
 
@@ -347,24 +352,35 @@ requirements_mean means accepts knows tx r rule refusal is = (λ so. subst (Requ
 
 -- ---- what is sent
 
-module _ (knows : ℕ → Bool) (tx : TxSeen) (g code : ℕ) where
-  abbrev sent : Bool → Bool → Option TxFault
-  sent has here = cond (not has) (Some (txs.NoSuchFun code)) (cond (not here) (Some txs.NoSuchAgent) None)
+module _ (knows : ℕ → Bool) (tx : TxSeen) (g : ℕ) (action : Action) where
+  abbrev sent : Option ℕ → Option ℕ → Option TxFault
+  sent lacked absent = option_or (option_map txs.NoSuchFun lacked) (option_map (λ h. txs.NoSuchAgent) absent)
 
-  sends_so : SendsSo knows tx g code (send_refusal knows tx g code)
-  sends_so = by (knows code) refl (nat_lt g tx.agents) refl where
-    by : (has : Bool) → knows code ≡ has → (here : Bool) → nat_lt g tx.agents ≡ here → SendsSo knows tx g code (sent has here)
-    by false unknown here b = (refl, unknown)
-    by true has true here = (has, ltb-true g tx.agents here)
-    by true has false past = (has, ltb-false g tx.agents past)
+  have : missing_fun knows action ≡ None → AllByRecursion (λ code. knows code ≡ true) (functions_of action)
+  have none = found_none knows (functions_of action) none
 
-  by_sent : (has : Bool) → knows code ≡ has → (here : Bool) → nat_lt g tx.agents ≡ here → send_refusal knows tx g code ≡ sent has here
-  by_sent has h here b = ap (λ x. sent x (nat_lt g tx.agents)) h ∙ ap (sent has) b
+  sends_so : SendsSo knows tx g action (send_refusal knows tx g action)
+  sends_so = by (missing_fun knows action) refl (absent_agent tx.agents g action) refl where
+    by : (lacked : Option ℕ) → missing_fun knows action ≡ lacked → (absent : Option ℕ) → absent_agent tx.agents g action ≡ absent → SendsSo knows tx g action (sent lacked absent)
+    by (Some code) is absent a = first_found knows (λ c. knows c ≡ true) (λ c. c ≡ code) (λ c so. so) (λ c so. so) (functions_of action) code is refl
+    by None is None a = (have is, all_map (λ h. nat_lt h tx.agents ≡ true) (λ h. h < tx.agents) (λ h below. ltb-true h tx.agents below) (agents_of g action) (found_none (λ h. nat_lt h tx.agents) (agents_of g action) a))
+    by None is (Some h) a = (have is, any_found (λ n. nat_lt n tx.agents) (λ n. tx.agents ≤ n) (λ n past. ltb-false n tx.agents past) (agents_of g action) h a)
 
-  sends_back : (refusal : Option TxFault) → SendsSo knows tx g code refusal → send_refusal knows tx g code ≡ refusal
-  sends_back None (has, below) = by_sent true has true (lt-ltb g tx.agents below)
-  sends_back (Some (txs.NoSuchFun lacked)) (same, unknown) = by_sent false unknown (nat_lt g tx.agents) refl ∙ ap (λ n. Some (txs.NoSuchFun n)) (sym same)
-  sends_back (Some txs.NoSuchAgent) (has, after) = by_sent true has false (le-ltb g tx.agents after)
+  by_sent : (lacked : Option ℕ) → missing_fun knows action ≡ lacked → (absent : Option ℕ) → absent_agent tx.agents g action ≡ absent → send_refusal knows tx g action ≡ sent lacked absent
+  by_sent lacked l absent a = ap (λ x. sent x (absent_agent tx.agents g action)) l ∙ ap (sent lacked) a
+
+  has_all : AllByRecursion (λ code. knows code ≡ true) (functions_of action) → missing_fun knows action ≡ None
+  has_all all = none_found knows (functions_of action) all
+
+  sends_back : (refusal : Option TxFault) → SendsSo knows tx g action refusal → send_refusal knows tx g action ≡ refusal
+  sends_back None (all, here) = by_sent None (has_all all) None
+      (none_found (λ h. nat_lt h tx.agents) (agents_of g action) (all_map (λ h. h < tx.agents) (λ h. nat_lt h tx.agents ≡ true) (λ h below. lt-ltb h tx.agents below) (agents_of g action) here))
+  sends_back (Some (txs.NoSuchFun lacked)) first =
+      let one = found_first knows (λ c. knows c ≡ true) (λ c. c ≡ lacked) (λ c so. so) (λ c so. so) (functions_of action) first in
+      by_sent (Some one.0) one.1 (absent_agent tx.agents g action) refl ∙ ap (λ n. Some (txs.NoSuchFun n)) one.2
+  sends_back (Some txs.NoSuchAgent) (all, any) =
+      let one = found_any (λ n. nat_lt n tx.agents) (λ n. tx.agents ≤ n) (λ n past. le-ltb n tx.agents past) (agents_of g action) any in
+      by_sent None (has_all all) (Some one.0) one.1
   sends_back (Some txs.NoSuchRef) never = absurd never
   sends_back (Some txs.SetAfterCommute) never = absurd never
   sends_back (Some txs.TallyOnly) never = absurd never
@@ -373,4 +389,4 @@ module _ (knows : ℕ → Bool) (tx : TxSeen) (g code : ℕ) where
   sends_back (Some txs.Memory) never = absurd never
 
 pub sends_in_tx_mean : SendsInTxMean
-sends_in_tx_mean knows tx g code refusal = (λ so. subst (SendsSo knows tx g code) so (sends_so knows tx g code), sends_back knows tx g code refusal)
+sends_in_tx_mean knows tx g action refusal = (λ so. subst (SendsSo knows tx g action) so (sends_so knows tx g action), sends_back knows tx g action refusal)

@@ -1,62 +1,18 @@
 -- What a commit sends and when it may be taken, in plain words.
-use Rattle.std.proofs.Common.{Equal, Greater, Less, Ordering, ◌≡◌, ◌≢◌, ℕ, cond, ◌<◌, ◌==◌, Bool, true, false, ◌⊎◌, inl, inr, List, [], ◌∷◌, map, Option, None, Some, slice_get, slice_set, refl, sym, ap, subst, ◌∙◌, arith}
+use Rattle.std.proofs.Common.{Equal, Greater, Less, Ordering, ◌≡◌, ◌≢◌, ℕ, cond, ◌<◌, Bool, true, false, ◌⊎◌, inl, inr, List, [], ◌∷◌, refl, sym, ap, subst, ◌∙◌, arith}
 use Rattle.std.specs.BTreeMap.{is_at}
 use Rattle.std.specs.BTreeSet.{insert_key}
-use Rattle.std.specs.List.{AllByRecursion, filter}
+use Rattle.std.specs.List.{AllByRecursion}
 use Rattle.std.specs.Ordering.{MatchOrdering, match_ordering, nat_cmp}
 use Rattle.std.specs.Set.{remove_key}
-use Rattle.std.proofs.lemmas.Bool.{eqb-false, eqb-true}
-use Rattle.std.proofs.lemmas.List.{append-nil, append_assoc}
 use Rattle.ref_log.specs.declared.sends.Sent.{Sent}
-use Rattle.ref_agents.specs.Agents.{put_agent, queued_of, queuing, with_send, with_sends, with_unreleased}
-use Rattle.ref_agents.specs.declared.accounts.Queued.{Queued}
-use Rattle.ref_agents.specs.declared.agents.Agent.{Agent}
+use Rattle.ref_agents.specs.Agents.{with_unreleased}
+use Rattle.ref_agents.specs.declared.accounts.SentBy.TheVariants.{Commit}
 use Rattle.ref_play.specs.Plain.{AnyByRecursion, AreRising}
-use Rattle.ref_play.specs.PlainAgents.{ReleaseMeans, SendsMean, queued, sent_by}
-use Rattle.ref_play.proofs.PlainAgents.{at_itself, at_same, set_here, set_other}
+use Rattle.ref_play.specs.PlainAgents.{ReleaseMeans, SendsMean}
+use Rattle.ref_play.proofs.PlainAgents.{at_itself, at_same}
+use Rattle.ref_play.proofs.PlainQueues.{each_here, each_none}
 use Rattle.ref_play.proofs.PlainFaults.{rank}
-
--- ---- queues
-
-sent_one : (agents : List Agent) (h g : ℕ) (q : Queued) (agent : Agent) → slice_get agents g ≡ Some agent → slice_get (with_send agents h q) g ≡ Some (cond (h == g) (queuing q agent) agent)
-sent_one agents h g q agent here = by (h == g) refl where
-  others : h ≢ g → (found : Option Agent) → slice_get agents h ≡ found → slice_get (with_send agents h q) g ≡ Some agent
-  others other None is = ap (λ o. slice_get (put_agent agents h (queuing q) o) g) is ∙ here
-  others other (Some x) is = ap (λ o. slice_get (put_agent agents h (queuing q) o) g) is ∙ (set_other agents h g (queuing q x) (λ same. other (sym same)) ∙ here)
-
-  by : (b : Bool) → (h == g) ≡ b → slice_get (with_send agents h q) g ≡ Some (cond b (queuing q agent) agent)
-  by true is =
-      let same = eqb-true h g is in
-      let there = ap (slice_get agents) same ∙ here in
-      ap (λ o. slice_get (put_agent agents h (queuing q) o) g) there
-      ∙ (ap (slice_get (slice_set agents h (queuing q agent))) (sym same) ∙ set_here agents h agent (queuing q agent) there)
-  by false is = others (eqb-false h g is) (slice_get agents h) refl
-
-sent_none : (agents : List Agent) (h g : ℕ) (q : Queued) → slice_get agents g ≡ None → slice_get (with_send agents h q) g ≡ None
-sent_none agents h g q none = by (slice_get agents h) refl where
-  by : (found : Option Agent) → slice_get agents h ≡ found → slice_get (with_send agents h q) g ≡ None
-  by None is = ap (λ o. slice_get (put_agent agents h (queuing q) o) g) is ∙ none
-  by (Some x) is =
-      let other : g ≢ h = λ same. let both = sym none ∙ (ap (slice_get agents) same ∙ is) in absurd cc in
-      ap (λ o. slice_get (put_agent agents h (queuing q) o) g) is ∙ (set_other agents h g (queuing q x) other ∙ none)
-
--- with another queue
-abbrev requeued : Agent → List Queued → Agent
-requeued agent queue = record agent { account = record agent.account { queue = queue } }
-
-sends_here : (point : ℕ) (ss : List Sent) (agents : List Agent) (g : ℕ) (agent : Agent) → slice_get agents g ≡ Some agent → slice_get (with_sends point ss agents) g ≡ Some (queued agent (sent_by point ss g))
-sends_here point [] agents g agent here = here ∙ ap (λ l. Some (requeued agent l)) (sym (append-nil agent.account.queue))
-sends_here point (s ∷ ss) agents g agent here =
-    sends_here point ss (with_send agents s.agent (queued_of point s)) g (cond (s.agent == g) (queuing (queued_of point s) agent) agent) (sent_one agents s.agent g (queued_of point s) agent here)
-    ∙ joined (s.agent == g)
-  where
-    joined : (b : Bool) → Some (queued (cond b (queuing (queued_of point s) agent) agent) (sent_by point ss g)) ≡ Some (queued agent (map (λ (x : Sent). queued_of point x) (cond b (s ∷ filter (λ (x : Sent). x.agent == g) ss) (filter (λ (x : Sent). x.agent == g) ss))))
-    joined true = ap (λ l. Some (requeued agent l)) (append_assoc agent.account.queue (queued_of point s ∷ []) (sent_by point ss g))
-    joined false = refl
-
-sends_none : (point : ℕ) (ss : List Sent) (agents : List Agent) (g : ℕ) → slice_get agents g ≡ None → slice_get (with_sends point ss agents) g ≡ None
-sends_none point [] agents g none = none
-sends_none point (s ∷ ss) agents g none = sends_none point ss (with_send agents s.agent (queued_of point s)) g (sent_none agents s.agent g (queued_of point s) none)
 
 -- ---- what is held
 
@@ -112,8 +68,8 @@ by_held point (s ∷ ss) points p (inr new) = inserting point points p (inr new.
 
 pub sends_mean : SendsMean
 sends_mean store point sends = record {
-  here = λ g agent here. sends_here point sends store.agents g agent here;
-  none = λ g none. sends_none point sends store.agents g none;
+  here = λ g agent here. each_here (λ (s : Sent). s.agent) (λ (s : Sent). s.action) (Commit point) sends store.agents g agent here;
+  none = λ g none. each_none (λ (s : Sent). s.agent) (λ (s : Sent). s.action) (Commit point) sends store.agents g none;
   held = λ p. (held_by point sends store.unreleased p, by_held point sends store.unreleased p);
   guards = refl;
 }

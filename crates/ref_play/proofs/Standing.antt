@@ -13,7 +13,7 @@ use Rattle.ref_play.specs.Sims.{IsPlayed, IsSim, Serves, SimSeen, Stands, machin
 use Rattle.ref_play.specs.declared.events.Act.{Act}
 use Rattle.ref_play.specs.declared.events.Event.{Event}
 use Rattle.ref_play.specs.declared.events.Reply.{Reply}
-use Rattle.ref_play.proofs.Laws.{jobs_kept, lawful_first, opens_kept, parts_kept, runs_have_laws, served_kept, steps_have_laws}
+use Rattle.ref_play.proofs.Laws.{carried_kept, jobs_kept, lawful_first, opens_kept, parts_kept, runs_have_laws, served_kept, steps_have_laws}
 
 module _ (means : Means) (accepts : Accepts) (knows : Known) (old new : SimSeen) (actor : ℕ) (act : Act) (reply : Reply) (did : Serves means accepts knows old actor act reply new) (m : Machine) (stands : Stands means m old) where
   next : Machine
@@ -104,7 +104,7 @@ stands_first means s world count is = record {
   log = refl;
   point = omega arith;
   base = refl;
-  lawful = lawful_first means (machine_of s) refl world refl count is.share is.opens is.jobs (λ a. refl);
+  lawful = lawful_first means (machine_of s) refl world refl count is.share is.opens is.jobs is.carried (λ a. refl);
 }
 
 pub sim_kept : (means : Means) (accepts : Accepts) (knows : Known) (old new : SimSeen) (actor : ℕ) (act : Act) (reply : Reply) → IsWorld means old.world.base old.world.log old.world.refs old.world.atoms old.world.agents.unreleased → length old.world.refs.lasts ≡ length old.world.refs.values
@@ -112,6 +112,7 @@ pub sim_kept : (means : Means) (accepts : Accepts) (knows : Known) (old new : Si
 sim_kept means accepts knows old new actor act reply world count did is = record {
   opens = opens_kept means accepts knows old.world.base old.world.log (present old) (present new) actor act reply did.added world refl count did.acts is.opens;
   jobs = jobs_kept means accepts knows old.world.base old.world.log (present old) (present new) actor act reply did.added world refl count did.acts is.jobs;
+  carried = carried_kept means accepts knows old.world.base old.world.log (present old) (present new) actor act reply did.added world refl count did.acts is.opens is.jobs is.carried;
   share = parts_kept means accepts knows old.world.base old.world.log (present old) (present new) actor act reply did.added world refl count did.acts ∙ is.share;
 }
 

@@ -1,7 +1,8 @@
 -- What each act on a job does, from what its calls tell.
-use Rattle.std.proofs.Common.{List, true, false, ◌≡◌, ◌≢◌, ℕ, [], Option, None, Some, Result, Ok, Err, IfOk, OnOk, OnErr, refl, sym, ap, subst, ◌∙◌}
+use Rattle.std.proofs.Common.{true, false, ◌≡◌, ◌≢◌, ℕ, [], Option, None, Some, Result, Ok, Err, IfOk, OnOk, OnErr, refl, sym, ap, subst, ◌∙◌}
 use Rattle.ref_value.specs.Edn.{Edn}
 use Rattle.ref_fun.specs.Calls.{Known}
+use Rattle.ref_fun.specs.declared.actions.Action.{Action}
 use Rattle.ref_fun.specs.Meaning.{Means}
 use Rattle.ref_fun.specs.Rule.{Accepts}
 use Rattle.ref_fun.specs.declared.faults.Cause.{Cause}
@@ -93,15 +94,15 @@ tells_late memory early reason (Ok x) is = is
 tells_late memory early reason (Err f) is = (is.0, λ want. refl)
 
 module _ (knows : Known) (now : Present) (old left new : ℕ → Option TxSeen) (a : ℕ) (is : now.txs ≡ old) (took : left ≡ put old a None) where
-  pub sent_in_tx : (tx after : TxSeen) (g code : ℕ) (args : List Edn) (told : Result (Unit {0}) TxFault) (early : Option TxFault) → Some tx ≡ old a → TellsOrMemory txs.Memory early (send_refusal knows.funs tx g code) told
-      → OnOk told (after ≡ with_sent tx g (record { code = code; args = args })) → OnErr told (after ≡ tx) → new ≡ put left a (Some after) → SendsInTx knows now a g code args (replies.SendInTx told) [] (record now { txs = new })
-  sent_in_tx tx after g code args told early was tells adds stays back = tx_some (now.txs a) tx _ _ (ap (λ f. f a) is ∙ sym was)
-      (told, refl, tells_late txs.Memory early (send_refusal knows.funs tx g code) told tells, more told adds, same_tx told stays) where
+  pub sent_in_tx : (tx after : TxSeen) (g : ℕ) (action : Action) (told : Result (Unit {0}) TxFault) (early : Option TxFault) → Some tx ≡ old a → TellsOrMemory txs.Memory early (send_refusal knows.funs tx g action) told
+      → OnOk told (after ≡ with_sent tx g action) → OnErr told (after ≡ tx) → new ≡ put left a (Some after) → SendsInTx knows now a g action (replies.SendInTx told) [] (record now { txs = new })
+  sent_in_tx tx after g action told early was tells adds stays back = tx_some (now.txs a) tx _ _ (ap (λ f. f a) is ∙ sym was)
+      (told, refl, tells_late txs.Memory early (send_refusal knows.funs tx g action) told tells, more told adds, same_tx told stays) where
         slots : new ≡ put old a (Some after)
         slots = back ∙ (ap (λ f. put f a (Some after)) took ∙ put_again old a None (Some after))
 
-        more : (x : Result (Unit {0}) TxFault) → OnOk x (after ≡ with_sent tx g (record { code = code; args = args })) → IfOk x (λ u. Becomes (with_tx now a (Some (with_sent tx g (record { code = code; args = args })))) [] (record now { txs = new }))
-        more (Ok u) adds = (refl, ap (λ f. record now { txs = f }) (slots ∙ (ap (λ t. put old a (Some t)) adds ∙ ap (λ f. put f a (Some (with_sent tx g (record { code = code; args = args })))) (sym is))))
+        more : (x : Result (Unit {0}) TxFault) → OnOk x (after ≡ with_sent tx g action) → IfOk x (λ u. Becomes (with_tx now a (Some (with_sent tx g action))) [] (record now { txs = new }))
+        more (Ok u) adds = (refl, ap (λ f. record now { txs = f }) (slots ∙ (ap (λ t. put old a (Some t)) adds ∙ ap (λ f. put f a (Some (with_sent tx g action))) (sym is))))
         more (Err f) adds = tt
 
         same_tx : (x : Result (Unit {0}) TxFault) → OnErr x (after ≡ tx) → OnErr x (Becomes now [] (record now { txs = new }))

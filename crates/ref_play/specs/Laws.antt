@@ -26,7 +26,12 @@ use Rattle.ref_refs.specs.declared.faults.CommitFault.{CommitFault}
 use Rattle.ref_refs.specs.declared.faults.CommitFault.TheVariants as commits
 use Rattle.ref_world.specs.Seen.{ShareSeen}
 use Rattle.ref_world.specs.World.{values_now}
-use Rattle.ref_play.specs.Given.{accepted, ended_by, given_at, handled_at}
+use Rattle.ref_agents.specs.Account.{has_point}
+use Rattle.ref_agents.specs.Agents.{AgentsSeen, is_carrying_at}
+use Rattle.ref_agents.specs.declared.accounts.Queued.{Queued}
+use Rattle.ref_agents.specs.declared.accounts.SentBy.{SentBy}
+use Rattle.ref_agents.specs.declared.accounts.SentBy.TheVariants.{Outside, Commit, Carried}
+use Rattle.ref_play.specs.Given.{accepted, carrying_after, ended_by, given_at, handled_at, queue_after, queue_at}
 use Rattle.ref_play.specs.Machine.{IsStep, Look, Machine, Run, history}
 use Rattle.ref_play.specs.Present.{HeldSeen, Present, WithJob, WithTx, value_at}
 use Rattle.ref_play.specs.Runs.{AreJobs, AreOpen, IsLawful, IsServed}
@@ -71,6 +76,7 @@ is_refused (replies.ReadPoint p) = false
 is_refused (replies.Commit told) = is_fault told
 is_refused replies.Abort = false
 is_refused (replies.Release freed) = false
+is_refused (replies.ReleaseCarried freed) = false
 is_refused (replies.Swap told) = is_fault told
 is_refused (replies.Reset told) = is_fault told
 is_refused (replies.CompareAndSet told) = is_fault told
@@ -103,7 +109,23 @@ IsInner means op r v tx = and_place means op (inner_value means tx r) ≡ Some v
 abbrev pub IsJudged : Means → Accepts → Rule → ℕ → Bool → TxSeen → Type 0
 IsJudged means accepts rule r verdict tx = (v : Edn) × (inner_value means tx r ≡ Some v) × (is_accepted accepts rule v ≡ verdict)
 
--- Each value that an actor gets: in a transaction the in-transaction value, outside of one the value now.
+-- An action may be taken, by what sent it: what came from outside, what a commit sent that is released, and nothing that is marked as
+-- carried.
+abbrev pub IsFree : List ℕ → SentBy → Type 0
+IsFree unreleased Outside = Unit {0}
+IsFree unreleased (Commit point) = has_point unreleased point ≡ false
+IsFree unreleased (Carried g) = ⊥
+
+-- A job of an agent may be taken: what its last action carried is released, and so is the first action that waits.
+pub record MayTake (store : AgentsSeen) (g : ℕ) : Type 0 where
+  pub released : is_carrying_at store.agents g ≡ false
+  pub first : Queued
+  pub rest : List Queued
+  pub queue : queue_at store.agents g ≡ first ∷ rest
+  pub is_free : IsFree store.unreleased first.by
+
+-- What an actor is told: in a transaction the in-transaction value, outside of one the value now; the agent of a job that may be
+-- taken; and whether anything that an agent carried was held.
 abbrev pub IsTold : Means → Accepts → Present → Option TxSeen → Act → Reply → Type 0
 IsTold means accepts now tx (acts.Deref r) (replies.Deref (Ok v)) = Of tx (λ t. inner_value means t r ≡ Some v)
 IsTold means accepts now tx (acts.RefSet r w) (replies.RefSet (Ok v)) = Of tx (IsInner means (Set w) r v)
@@ -116,6 +138,8 @@ IsTold means accepts now tx acts.ReadPoint (replies.ReadPoint p) = Of tx (λ t. 
 IsTold means accepts now tx (acts.Swap n code args) (replies.Swap (Ok s)) = (slice_get now.atoms.values n ≡ Some s.old) × (means code args s.old ≡ Ok s.new)
 IsTold means accepts now tx (acts.Reset n v) (replies.Reset (Ok s)) = (slice_get now.atoms.values n ≡ Some s.old) × (v ≡ s.new)
 IsTold means accepts now tx (acts.ValueOf w) (replies.ValueOf (Ok v)) = v ≡ value_at now w
+IsTold means accepts now tx acts.Take (replies.Take (Ok (Some told))) = MayTake now.agents told.0
+IsTold means accepts now tx (acts.ReleaseCarried g) (replies.ReleaseCarried was) = was ≡ is_carrying_at now.agents.agents g
 IsTold means accepts now tx act reply = Unit {0}
 
 -- ---- where a transaction begins
@@ -157,7 +181,7 @@ left_open now tx (acts.RefSet r w) (replies.RefSet (Ok v)) = and_done tx r (Set 
 left_open now tx (acts.Alter r code args) (replies.Alter (Ok v)) = and_done tx r (Alter code args) v
 left_open now tx (acts.Commute r code args) (replies.Commute (Ok v)) = and_done tx r (Commute code args) v
 left_open now tx (acts.Ensure r) (replies.Ensure (Ok v)) = and_done tx r Ensure v
-left_open now tx (acts.SendInTx g code args) (replies.SendInTx (Ok u)) = and_sent tx g (record { code = code; args = args })
+left_open now tx (acts.SendInTx g action) (replies.SendInTx (Ok u)) = and_sent tx g action
 left_open now tx (acts.Commit stamp) (replies.Commit (Ok receipt)) = None
 left_open now tx acts.Abort replies.Abort = None
 left_open now tx act reply = tx
@@ -270,8 +294,13 @@ pub record HasLaws (means : Means) (accepts : Accepts) (k : Machine) (e : Event)
   pub jobs : AreJobs means l.now
   pub held : IsLeft means (k.now.jobs e.actor) e.act r (l.now.jobs e.actor)
   pub handled : (g : ℕ) → handled_at l.now.agents.agents g ≡ ended_by k.now (k.now.jobs e.actor) e.act r g
-  -- Only an answered send or commit gives an agent something: nothing of an aborted or refused transaction is in a queue.
-  pub given : (g : ℕ) → given_at l.now.agents.agents g ≡ accepted k.now (k.now.txs e.actor) e.act r g
+  -- Only an answered send or commit gives an agent something, and the end of a job whose state changed, with what its action carried:
+  -- nothing of an aborted or refused transaction is in a queue, nor of a failed action.
+  pub given : (g : ℕ) → given_at l.now.agents.agents g ≡ accepted k.now (k.now.txs e.actor) (k.now.jobs e.actor) e.act r g
+  -- What an action carried stands at the ends of the queues, in order, from the very event in which its job ends. It is held until it
+  -- is released, and so long its agent waits too.
+  pub queues : (g : ℕ) → queue_at l.now.agents.agents g ≡ queue_after k.now (k.now.txs e.actor) (k.now.jobs e.actor) e.act r g
+  pub carrying : (g : ℕ) → is_carrying_at l.now.agents.agents g ≡ carrying_after k.now (k.now.jobs e.actor) e.act r g
   -- A refusal changes nothing, and what an actor has open no other actor changes.
   pub refused : is_refused r ≡ true → (l.now ≡ k.now) × (l.gone ≡ k.gone) × (l.log ≡ k.log)
   pub others : (a : ℕ) → a ≢ e.actor → (l.now.txs a ≡ k.now.txs a) × (l.looks a ≡ k.looks a) × (l.now.jobs a ≡ k.now.jobs a)

@@ -6,6 +6,7 @@ use Rattle.ref_value.specs.Edn.{Edn, int}
 use Rattle.ref_fun.specs.Calls.{Known}
 use Rattle.ref_fun.specs.Meaning.{Means}
 use Rattle.ref_fun.specs.Rule.{Accepts}
+use Rattle.ref_fun.specs.declared.actions.Action.{Action}
 use Rattle.ref_fun.specs.declared.rules.Rule.{Rule}
 use Rattle.ref_log.specs.Replay.{last_change, replay}
 use Rattle.ref_log.specs.declared.entries.Entry.{Entry}
@@ -14,6 +15,7 @@ use Rattle.ref_log.specs.declared.guards.Guard.{Guard}
 use Rattle.ref_log.specs.declared.notices.Notice.{Notice}
 use Rattle.ref_log.specs.declared.notices.Who.TheVariants as who
 use Rattle.ref_log.specs.declared.operations.Done.{Done}
+use Rattle.ref_log.specs.declared.sends.Sent.{Sent}
 use Rattle.ref_log.specs.declared.operations.Op.{Op}
 use Rattle.ref_log.specs.declared.operations.Op.TheVariants.{Set, Alter, Commute, Ensure}
 use Rattle.ref_log.specs.declared.states.Base.{Base}
@@ -163,12 +165,25 @@ pub record LastsMean : Type 0 where
 
 -- ---- commits
 
--- The refs of its operations are here; so are the agents that it sends to.
+-- The functions that an action needs, its own first, and then those of what it carries, in order; and the agents that get something
+-- where it is sent to g, g first.
+abbrev pub functions_of : Action → List ℕ
+functions_of action = action.code ∷ map (λ c. c.code) action.carries
+
+abbrev pub agents_of : ℕ → Action → List ℕ
+agents_of g action = g ∷ map (λ c. c.g) action.carries
+
+-- the agents that get something of these sends, in order
+abbrev pub all_agents_of : List Sent → List ℕ
+all_agents_of [] = []
+all_agents_of (s ∷ ss) = agents_of s.agent s.action ++ all_agents_of ss
+
+-- The refs of its operations are here; so are the agents that get something of what it sends.
 abbrev pub HasRefs : RefsSeen → TxSeen → Type 0
 HasRefs store tx = AllByRecursion (λ d. d.r < length store.values) tx.dones
 
 abbrev pub HasAgents : ℕ → TxSeen → Type 0
-HasAgents agents tx = AllByRecursion (λ s. s.agent < agents) tx.sends
+HasAgents agents tx = AllByRecursion (λ g. g < agents) (all_agents_of tx.sends)
 
 -- The tally here is only counted up and down.
 abbrev pub OnlyCounts : RefsSeen → TxSeen → Type 0
@@ -303,7 +318,7 @@ module _ (means : Means) (accepts : Accepts) (knows : Known) (store : RefsSeen) 
   -- where so much may still be added to the tally and taken from it
   abbrev pub Why : ℕ → ℕ → CommitFault → Type 0
   Why most_added most_taken (commits.Foreign (aliens.Ref r)) = FirstWithout (λ d. d.r < length store.values) (λ d. d.r ≡ r) tx.dones
-  Why most_added most_taken (commits.Foreign (aliens.Agent g)) = HasRefs store tx × FirstWithout (λ s. s.agent < agents) (λ s. s.agent ≡ g) tx.sends
+  Why most_added most_taken (commits.Foreign (aliens.Agent g)) = HasRefs store tx × FirstWithout (λ h. h < agents) (λ h. h ≡ g) (all_agents_of tx.sends)
   Why most_added most_taken (commits.Foreign aliens.Tally) = HasRefs store tx × HasAgents agents tx × AnyByRecursion (λ d. (store.tally ≡ Some d.r) × (Counts d.op → ⊥)) tx.dones
   Why most_added most_taken (commits.Foreign (aliens.Point p)) = HasRefs store tx × HasAgents agents tx × OnlyCounts store tx × (p ≡ tx.read_point) × (at ≤ p)
   Why most_added most_taken (commits.NoSuchFun code) = IsHere × (LacksFun knows tx code ⊎ (HasFuns knows tx × LacksPred knows store tx code))

@@ -4,6 +4,7 @@ use Rattle.std.specs.List.{AllByRecursion}
 use Rattle.ref_value.specs.Edn.{Edn}
 use Rattle.ref_fun.specs.Meaning.{Means}
 use Rattle.ref_fun.specs.Rule.{Accepts}
+use Rattle.ref_fun.specs.declared.actions.Action.{Action}
 use Rattle.ref_fun.specs.declared.rules.Rule.{Rule}
 use Rattle.ref_log.specs.declared.operations.Done.{Done}
 use Rattle.ref_log.specs.declared.operations.Op.{Op}
@@ -12,7 +13,7 @@ use Rattle.ref_tx.specs.Inner.{IsTx, answer_of, inner_value, send_refusal, unmet
 use Rattle.ref_tx.specs.Seen.{TxSeen}
 use Rattle.ref_tx.specs.declared.faults.TxFault.{TxFault}
 use Rattle.ref_tx.specs.declared.faults.TxFault.TheVariants as txs
-use Rattle.ref_play.specs.Plain.{AnyByRecursion, Counts, Makes, RefusesValue}
+use Rattle.ref_play.specs.Plain.{AnyByRecursion, Counts, FirstWithout, Makes, RefusesValue, agents_of, functions_of}
 
 -- ---- in-transaction values
 
@@ -121,12 +122,16 @@ RequirementsMean means accepts =
     (knows : ℕ → Bool) (tx : TxSeen) (r : ℕ) (rule : Rule) (refusal : Option TxFault) → IsTx means tx.began tx.dones tx.tally
     → unmet accepts knows rule (inner_value means tx r) ≡ refusal ↔ RequiresSo means accepts knows tx r rule refusal
 
-module _ (knows : ℕ → Bool) (tx : TxSeen) (g code : ℕ) where
-  -- The table has the function, which isn't called, and the agent was there at the beginning.
+module _ (knows : ℕ → Bool) (tx : TxSeen) (g : ℕ) (action : Action) where
+  -- The table has the functions, none of which is called, and the agents were there at the beginning. Of several functions that the
+  -- table lacks the first is named.
+  abbrev HasFunctions : Type 0
+  HasFunctions = AllByRecursion (λ code. knows code ≡ true) (functions_of action)
+
   abbrev pub SendsSo : Option TxFault → Type 0
-  SendsSo None = (knows code ≡ true) × (g < tx.agents)
-  SendsSo (Some (txs.NoSuchFun lacked)) = (lacked ≡ code) × (knows code ≡ false)
-  SendsSo (Some txs.NoSuchAgent) = (knows code ≡ true) × (tx.agents ≤ g)
+  SendsSo None = HasFunctions × AllByRecursion (λ h. h < tx.agents) (agents_of g action)
+  SendsSo (Some (txs.NoSuchFun lacked)) = FirstWithout (λ code. knows code ≡ true) (λ code. code ≡ lacked) (functions_of action)
+  SendsSo (Some txs.NoSuchAgent) = HasFunctions × AnyByRecursion (λ h. tx.agents ≤ h) (agents_of g action)
   SendsSo (Some txs.NoSuchRef) = ⊥
   SendsSo (Some txs.SetAfterCommute) = ⊥
   SendsSo (Some txs.TallyOnly) = ⊥
@@ -135,4 +140,4 @@ module _ (knows : ℕ → Bool) (tx : TxSeen) (g code : ℕ) where
   SendsSo (Some txs.Memory) = ⊥
 
 abbrev pub SendsInTxMean : Type 0
-SendsInTxMean = (knows : ℕ → Bool) (tx : TxSeen) (g code : ℕ) (refusal : Option TxFault) → send_refusal knows tx g code ≡ refusal ↔ SendsSo knows tx g code refusal
+SendsInTxMean = (knows : ℕ → Bool) (tx : TxSeen) (g : ℕ) (action : Action) (refusal : Option TxFault) → send_refusal knows tx g action ≡ refusal ↔ SendsSo knows tx g action refusal

@@ -49,7 +49,7 @@ use Rattle.ref_atoms.specs.declared.faults.AtomFault.{AtomFault}
 use Rattle.ref_atoms.specs.declared.faults.AtomFault.TheVariants as atoms
 use Rattle.ref_agents.specs.Agents as agents
 use Rattle.ref_agents.specs.Account.{has_point}
-use Rattle.ref_agents.specs.Agents.{AgentsSeen, error_at, is_ready_at, next_job, outside, with_out, with_send}
+use Rattle.ref_agents.specs.Agents.{AgentsSeen, error_at, is_carrying_at, is_ready_at, next_job, outside, with_out, with_send}
 use Rattle.ref_agents.specs.Ends.{IsAnswerOf, lacking, restart_refusal, with_finish}
 use Rattle.ref_agents.specs.Jobs.{JobSeen, RanSeen}
 use Rattle.ref_agents.specs.Make as agent_makes
@@ -184,10 +184,10 @@ abbrev pub ReadsPoint : Present → ℕ → Reply → List Entry → Present →
 ReadsPoint old a reply added new = OnTx old a reply added new (λ tx. (reply ≡ replies.ReadPoint tx.read_point) × Becomes old added new)
 
 -- The send waits with the transaction for its commit.
-abbrev pub SendsInTx : Known → Present → ℕ → ℕ → ℕ → List Edn → Reply → List Entry → Present → Type 0
-SendsInTx knows old a g code args reply added new = OnTx old a reply added new (λ tx.
-    Calls replies.SendInTx (TellsOrMemory txs.Memory None (send_refusal knows.funs tx g code))
-    (λ u. Becomes (with_tx old a (Some (with_sent tx g (record { code = code; args = args })))) added new) old reply added new)
+abbrev pub SendsInTx : Known → Present → ℕ → ℕ → Action → Reply → List Entry → Present → Type 0
+SendsInTx knows old a g action reply added new = OnTx old a reply added new (λ tx.
+    Calls replies.SendInTx (TellsOrMemory txs.Memory None (send_refusal knows.funs tx g action))
+    (λ u. Becomes (with_tx old a (Some (with_sent tx g action))) added new) old reply added new)
 
 abbrev pub Aborts : Present → ℕ → Reply → List Entry → Present → Type 0
 Aborts old a reply added new = OnTx old a reply added new (λ tx. (reply ≡ replies.Abort) × Becomes (with_tx old a None) added new)
@@ -337,12 +337,16 @@ MakesAgent accepts knows old value rule mode reply added new =
 
 abbrev pub Sends : Present → ℕ → Action → Reply → List Entry → Present → Type 0
 Sends old g action reply added new =
-    Calls replies.Send (TellsOrMemory sends.Memory None (agents.send_refusal old.agents.agents g))
+    Calls replies.Send (TellsOrMemory sends.Memory None (agents.send_refusal old.agents.agents g action))
     (λ u. Becomes (with_store old (agents.with_agents old.agents (with_send old.agents.agents g (outside action)))) added new) old reply added new
 
 abbrev pub Releases : Present → ℕ → Reply → List Entry → Present → Type 0
 Releases old point reply added new =
     (reply ≡ replies.Release (has_point old.agents.unreleased point)) × Becomes (with_store old (agents.with_release old.agents point)) added new
+
+abbrev pub ReleasesCarried : Present → ℕ → Reply → List Entry → Present → Type 0
+ReleasesCarried old g reply added new =
+    (reply ≡ replies.ReleaseCarried (is_carrying_at old.agents.agents g)) × Becomes (with_store old (agents.with_carried_released old.agents g)) added new
 
 abbrev pub Restarts : Accepts → Known → Present → ℕ → Edn → Bool → Reply → List Entry → Present → Type 0
 Restarts accepts knows old g state clear reply added new =
@@ -434,12 +438,13 @@ Acts means accepts knows old a (acts.RefSet r v) = Operates means knows old a r 
 Acts means accepts knows old a (acts.Alter r code args) = Operates means knows old a r (Alter code args) replies.Alter
 Acts means accepts knows old a (acts.Commute r code args) = Operates means knows old a r (Commute code args) replies.Commute
 Acts means accepts knows old a (acts.Ensure r) = Operates means knows old a r Ensure replies.Ensure
-Acts means accepts knows old a (acts.SendInTx g code args) = SendsInTx knows old a g code args
+Acts means accepts knows old a (acts.SendInTx g action) = SendsInTx knows old a g action
 Acts means accepts knows old a (acts.Require r rule) = Requires means accepts knows old a r rule
 Acts means accepts knows old a acts.ReadPoint = ReadsPoint old a
 Acts means accepts knows old a (acts.Commit stamp) = Commits means accepts knows old a stamp
 Acts means accepts knows old a acts.Abort = Aborts old a
 Acts means accepts knows old a (acts.Release point) = Releases old point
+Acts means accepts knows old a (acts.ReleaseCarried g) = ReleasesCarried old g
 Acts means accepts knows old a (acts.Swap n code args) = Swaps means accepts knows old n (Alter code args) replies.Swap
 Acts means accepts knows old a (acts.Reset n v) = Swaps means accepts knows old n (Set v) replies.Reset
 Acts means accepts knows old a (acts.CompareAndSet n was v) = Compares accepts knows old n was v

@@ -16,7 +16,7 @@ use Rattle.ref_world.specs.World.{point_of}
 use Rattle.ref_play.specs.Laws.{LawsAlong}
 use Rattle.ref_play.specs.Machine.{Folds, Machine, Run, checkpoint_of}
 use Rattle.ref_play.specs.Present.{Acts, HeldSeen, Present}
-use Rattle.ref_play.specs.Runs.{AreHeld, AreOpen, IsLawful, IsServed}
+use Rattle.ref_play.specs.Runs.{AreCarried, AreHeld, AreOpen, IsLawful, IsServed}
 use Rattle.ref_play.specs.declared.events.Act.{Act}
 use Rattle.ref_play.specs.declared.events.Event.{Event}
 use Rattle.ref_play.specs.declared.events.Reply.{Reply}
@@ -81,10 +81,11 @@ present s = record {
   jobs = jobs_of s.jobs;
 }
 
--- What its type guarantees: what is always so of open transactions and of jobs, and that the share is whole.
+-- What its type guarantees: what is always so of open transactions, of jobs and of what is carried, and that the share is whole.
 pub record IsSim (means : Means) (s : SimSeen) : Type 0 where
   pub opens : AreOpen means (present s)
   pub jobs : AreHeld means s.world.agents.agents (jobs_of s.jobs)
+  pub carried : AreCarried s.world.agents.agents
   pub share : s.share.parts ≡ all_parts
 
 -- The log after a call: with these entries more, of which the first went into the base.

@@ -30,8 +30,8 @@ pub enum Act {
     /// As `Alter`; the commit makes it once more, on the latest value.
     Commute(u32, u32, Args),
     Ensure(u32),
-    /// An agent, the function's code and the further arguments.
-    SendInTx(u32, u32, Args),
+    /// An agent and the action, which waits with the transaction for its commit.
+    SendInTx(u32, Action),
     Require(u32, Rule),
     ReadPoint,
     Commit(Stamp),
@@ -39,6 +39,8 @@ pub enum Act {
     Abort,
     /// The point of a commit whose sends may be taken from now on.
     Release(u64),
+    /// An agent: what its last action carried may be taken from now on.
+    ReleaseCarried(u32),
     /// An atom, the function's code and the further arguments.
     Swap(u32, u32, Args),
     Reset(u32, Value),
@@ -72,16 +74,17 @@ impl Drop for Act {
     fn drop(self) {
         match self {
             Act::Begin | Act::ReadPoint | Act::Abort => {}
-            Act::Deref(_) | Act::Ensure(_) | Act::Commit(_) | Act::Release(_) => {}
+            Act::Deref(_) | Act::Ensure(_) | Act::Commit(_) => {}
+            Act::Release(_) | Act::ReleaseCarried(_) => {}
             Act::Take | Act::Run | Act::PutBack | Act::Finish => {}
             Act::SetErrorMode(_, _) | Act::Checkpoint(_) => {}
             Act::ValueOf(_) | Act::ErrorOf(_) => {}
             Act::RefSet(_, _value) | Act::Reset(_, _value) => {}
             Act::Alter(_, _, _args) | Act::Commute(_, _, _args) => {}
-            Act::SendInTx(_, _, _args) | Act::Swap(_, _, _args) => {}
+            Act::Swap(_, _, _args) => {}
             Act::Require(_, _rule) => {}
             Act::CompareAndSet(_, _old, _new) => {}
-            Act::Send(_, _action) => {}
+            Act::SendInTx(_, _action) | Act::Send(_, _action) => {}
             Act::Restart(_, _state, _) => {}
             Act::SetValidator(_, _rule) => {}
             Act::AddWatch(_, _key) | Act::RemoveWatch(_, _key) => {}
@@ -115,6 +118,8 @@ pub enum Reply {
     Abort,
     /// Whether the commit had sends and wasn't released before.
     Release(bool),
+    /// Whether the agent's last action carried anything that wasn't released before.
+    ReleaseCarried(bool),
     Swap(Result<Swapped, AtomFault>),
     Reset(Result<Swapped, AtomFault>),
     CompareAndSet(Result<Cas, AtomFault>),
@@ -147,7 +152,8 @@ impl Drop for Reply {
     fn drop(self) {
         match self {
             Reply::NoTx | Reply::NoJob | Reply::Busy => {}
-            Reply::ReadPoint(_) | Reply::Abort | Reply::Release(_) => {}
+            Reply::ReadPoint(_) | Reply::Abort => {}
+            Reply::Release(_) | Reply::ReleaseCarried(_) => {}
             Reply::PutBack | Reply::RemoveWatch(_) => {}
             Reply::Begin(_begun) => {}
             Reply::Deref(_value)

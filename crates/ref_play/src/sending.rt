@@ -1,6 +1,6 @@
 //! What actors do with agents.
 ghost use Rattle.std.specs.Prelude.{◌≡◌, ◌≢◌, [], None, IfOk, OnErr};
-ghost use Rattle.ref_play.specs.Present.{MakesAgent, Releases, Restarts, Sends, SetsMode};
+ghost use Rattle.ref_play.specs.Present.{MakesAgent, Releases, ReleasesCarried, Restarts, Sends, SetsMode};
 ghost use Rattle.ref_play.specs.Sims.{SimSeen, present};
 ghost use Rattle.ref_world.specs.World.{with_agents};
 
@@ -41,6 +41,17 @@ pub(crate) fn release<M: Meaning, C: Ledger, A: Ledger, K: Ledger>(
     ensures rest { world.new ≡ with_agents world.old world.new.agents }
 {
     Reply::Release(world.release(point))
+}
+
+// Lets be taken what the last action of an agent carried.
+pub(crate) fn release_carried<M: Meaning, C: Ledger, A: Ledger, K: Ledger>(
+    world: &mut World<M, C, A, K>,
+    g: u32,
+) -> Reply
+    ensures acts { (s : SimSeen) → ReleasesCarried (present (record s { world = world.old })) g result [] (present (record s { world = world.new })) }
+    ensures rest { world.new ≡ with_agents world.old world.new.agents }
+{
+    Reply::ReleaseCarried(world.release_carried(g))
 }
 
 // Restarts a failed agent.

@@ -7,7 +7,7 @@ use crate::changing::{checkpoint, commit, compare_and_set, make_atom, make_ref, 
 use crate::events::{Act, Event, Reply};
 use crate::jobs::Jobs;
 use crate::looking::{add_watch, error_of, remove_watch, set_validator, value_of};
-use crate::sending::{make_agent, release, restart, send, set_error_mode};
+use crate::sending::{make_agent, release, release_carried, restart, send, set_error_mode};
 use crate::transacting::{
     abort, alter, begin, commute, deref, ensure, read_point, ref_set, require, send_in_tx,
 };
@@ -39,12 +39,13 @@ pub(crate) fn serve<M: Meaning, C: Ledger, A: Ledger, K: Ledger, F: Functions<M>
         Act::Alter(r, code, args) => alter(alloc, funs, actors, actor, *r, *code, args),
         Act::Commute(r, code, args) => commute(alloc, funs, actors, actor, *r, *code, args),
         Act::Ensure(r) => ensure(alloc, actors, actor, *r),
-        Act::SendInTx(g, code, args) => send_in_tx(alloc, funs, actors, actor, *g, *code, args),
+        Act::SendInTx(g, action) => send_in_tx(alloc, funs, actors, actor, *g, action),
         Act::Require(r, rule) => require(funs, actors, actor, *r, rule),
         Act::ReadPoint => read_point(actors, actor),
         Act::Commit(stamp) => commit(alloc, funs, world, share, actors, actor, *stamp),
         Act::Abort => abort(actors, actor),
         Act::Release(point) => release(world, *point),
+        Act::ReleaseCarried(g) => release_carried(world, *g),
         Act::Swap(n, code, args) => swap(alloc, funs, world, share, *n, *code, args),
         Act::Reset(n, value) => reset(alloc, funs, world, share, *n, value),
         Act::CompareAndSet(n, old, new) => compare_and_set(alloc, funs, world, share, *n, old, new),

@@ -1,7 +1,7 @@
 //! Laws of the machine, and of the words that it shares with the calls of a world. Each function's contract is a law; none does anything.
 ghost use Rattle.ref_play.specs.Laws.{RunsHaveLaws, StepsHaveLaws};
 ghost use Rattle.ref_play.specs.Plain.{CommitsWhereItCan, LastsMean, NoticesMean, RefusalsSayWhy, ReplayMeans};
-ghost use Rattle.ref_play.specs.PlainAgents.{FinishMeans, JobOutMeans, NextJobMeans, ReadyMeans, ReleaseMeans, RestartMeans, RestartRefusals, SendRefusals, SendsMean};
+ghost use Rattle.ref_play.specs.PlainAgents.{FinishMeans, JobOutMeans, NextJobMeans, ReadyMeans, ReleaseCarriedMeans, ReleaseMeans, RestartMeans, RestartRefusals, SendRefusals, SendsMean};
 ghost use Rattle.ref_play.specs.PlainAtoms.{ChangesMean, ComparesMean};
 ghost use Rattle.ref_play.specs.PlainMakes.{MakingsMean, RulesMean};
 ghost use Rattle.ref_play.specs.PlainTx.{InnerMeans, OperationsMean, RequirementsMean, SendsInTxMean, TxMeans};
@@ -79,8 +79,8 @@ pub fn comparisons_in_plain_words<M: Meaning>()
     ensures { ComparesMean M.accepts }
 {}
 
-/// An agent is ready exactly where it is here, has no error and no action on its way, and its first action that waits was sent outside
-/// of a transaction or by a commit that is released.
+/// An agent is ready exactly where it is here, has no error and no action on its way, nothing that it carried is unreleased, and its
+/// first action that waits was sent outside of a transaction, by a commit that is released, or by an action whose carries are released.
 pub fn ready_in_plain_words()
     ensures { ReadyMeans }
 {}
@@ -105,7 +105,7 @@ pub fn restart_refusals_say_why<M: Meaning>()
     ensures { RestartRefusals M.accepts }
 {}
 
-/// An action can be sent to an agent that is here and isn't failed.
+/// An action can be sent to an agent that is here and isn't failed, where those that it carries sends to are here too.
 pub fn send_refusals_say_why()
     ensures { SendRefusals }
 {}
@@ -118,6 +118,11 @@ pub fn sends_in_plain_words()
 /// A release frees the sends of one commit alone.
 pub fn release_in_plain_words()
     ensures { ReleaseMeans }
+{}
+
+/// The release of what an agent carried frees just that, and nothing else.
+pub fn release_carried_in_plain_words()
+    ensures { ReleaseCarriedMeans }
 {}
 
 /// What the end of a job leaves, by its answer.

@@ -8,7 +8,7 @@ ghost use Rattle.ref_play.specs.declared.events.Reply.TheVariants as replies;
 
 use crate::actors::Actors;
 use crate::events::Reply;
-use ref_fun::{Args, Functions, Meaning, Rule};
+use ref_fun::{Action, Args, Functions, Meaning, Rule};
 use ref_tx::TxFault;
 use ref_value::Value;
 use ref_world::World;
@@ -155,13 +155,12 @@ pub(crate) fn send_in_tx<M: Meaning, F: Functions<M>>(
     actors: &mut Actors<M>,
     actor: u32,
     g: u32,
-    code: u32,
-    args: &Args,
+    action: &Action,
 ) -> Reply
-    ensures { (s : SimSeen) → SendsInTx (F.knows funs.now) (present (record s { slots = actors.old })) actor g code args.now result []
+    ensures { (s : SimSeen) → SendsInTx (F.knows funs.now) (present (record s { slots = actors.old })) actor g action.now result []
         (present (record s { slots = actors.new })) }
 {
-    let Ok(args) = args.share() else {
+    let Ok(action) = action.share() else {
         return match actors.tx(actor) {
             Some(_) => Reply::SendInTx(Err(TxFault::Memory)),
             None => Reply::NoTx,
@@ -170,7 +169,7 @@ pub(crate) fn send_in_tx<M: Meaning, F: Functions<M>>(
     let Some(mut tx) = actors.take(actor) else {
         return Reply::NoTx;
     };
-    let told = tx.send(alloc, funs, g, code, args);
+    let told = tx.send(alloc, funs, g, action);
     actors.put(actor, tx);
     Reply::SendInTx(told)
 }

@@ -224,6 +224,7 @@ reply_text (replies.ReadPoint p) = point_text p
 reply_text (replies.Commit told) = either receipt_text commit_fault_text told
 reply_text replies.Abort = ok_text
 reply_text (replies.Release freed) = flag_text freed
+reply_text (replies.ReleaseCarried freed) = flag_text freed
 reply_text (replies.Swap told) = either swapped_text atom_fault_text told
 reply_text (replies.Reset told) = either swapped_text atom_fault_text told
 reply_text (replies.CompareAndSet told) = either cas_text atom_fault_text told

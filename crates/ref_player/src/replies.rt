@@ -357,7 +357,9 @@ pub(crate) fn append_reply(
         Reply::ReadPoint(point) => append_numbered("point", *point, out),
         Reply::Commit(told) => append_committed(alloc, told, out),
         Reply::Abort | Reply::PutBack => append_word("ok", out),
-        Reply::Release(flag) | Reply::RemoveWatch(flag) => append_word(flag_word(*flag), out),
+        Reply::Release(flag) | Reply::ReleaseCarried(flag) | Reply::RemoveWatch(flag) => {
+            append_word(flag_word(*flag), out)
+        }
         Reply::Swap(told) | Reply::Reset(told) => append_swapped(alloc, told, out),
         Reply::CompareAndSet(told) => append_compared(alloc, told, out),
         Reply::Send(told) => append_word(send_done(told), out),

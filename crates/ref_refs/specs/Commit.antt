@@ -5,11 +5,12 @@
 -- its read point, the values that it began with, its operations with their answers, and what it sends.
 use Rattle.std.specs.Prelude.{ℕ, ◌^◌, ◌==◌, nat_lt, Bool, true, false, not, ◌&&◌, ◌||◌, if◌then◌else◌, List, [], ◌∷◌, ◌++◌, find, length, slice_get, slice_set, Option, None, Some, Result, Ok, Err}
 use Rattle.std.specs.List.{range_with_len}
-use Rattle.std.specs.Option.{option_map}
+use Rattle.std.specs.Option.{option_map, option_or}
 use Rattle.std.specs.Ordering.{eq_by_cmp}
 use Rattle.ref_value.specs.Edn.{Edn}
 use Rattle.ref_value.specs.Order.{edn_cmp}
 use Rattle.ref_fun.specs.declared.faults.Cause.{Cause}
+use Rattle.ref_fun.specs.Actions.{absent_agent}
 use Rattle.ref_fun.specs.Calls.{Known}
 use Rattle.ref_fun.specs.Meaning.{Means}
 use Rattle.ref_fun.specs.Rule.{Accepts, unknown}
@@ -47,9 +48,14 @@ has_ref values r = nat_lt r (length values)
 abbrev pub alien_ref : List Edn → List Done → Option CommitFault
 alien_ref values ds = option_map (λ d. Foreign (aliens.Ref d.r)) (find (λ d. not (has_ref values d.r)) ds)
 
--- the first send to an agent that isn't here, where there are so many
+-- the first agent that isn't here, where there are so many: of each send the one that it goes to, and then those of what its
+-- action carries
+abbrev pub first_absent : ℕ → List Sent → Option ℕ
+first_absent agents [] = None
+first_absent agents (s ∷ ss) = option_or (absent_agent agents s.agent s.action) (first_absent agents ss)
+
 abbrev pub alien_agent : ℕ → List Sent → Option CommitFault
-alien_agent agents ss = option_map (λ s. Foreign (aliens.Agent s.agent)) (find (λ s. not (nat_lt s.agent agents)) ss)
+alien_agent agents ss = option_map (λ g. Foreign (aliens.Agent g)) (first_absent agents ss)
 
 -- an operation that the tally here doesn't take
 abbrev pub alien_tally : Option ℕ → List Done → Option CommitFault

@@ -16,9 +16,8 @@ use Rattle.ref_log.specs.Told.{TellsFault}
 use Rattle.ref_log.specs.declared.faults.AuditFault.{AuditFault}
 use Rattle.ref_log.specs.declared.guards.Guard.{Guard}
 use Rattle.ref_log.specs.declared.operations.Done.{Done}
-use Rattle.ref_log.specs.declared.sends.Sent.{Sent}
 use Rattle.ref_tx.specs.Seen.{TxSeen}
-use Rattle.ref_refs.specs.Commit.{alien, alien_agent, alien_point, alien_ref, alien_tally, alien_value, changed_after, commit_refusal, commuted_codes, conflict, conflict_on, differs_at, early_refusal, first_invalid, full_book, has_ref, invalid, lacking, lacking_rule, needed_rule, or_fault, past_points, refused, refused_at, unknown_at, first_protected}
+use Rattle.ref_refs.specs.Commit.{alien, first_absent, alien_agent, alien_point, alien_ref, alien_tally, alien_value, changed_after, commit_refusal, commuted_codes, conflict, conflict_on, differs_at, early_refusal, first_invalid, full_book, has_ref, invalid, lacking, lacking_rule, needed_rule, or_fault, past_points, refused, refused_at, unknown_at, first_protected}
 use Rattle.ref_refs.specs.Seen.{RefsSeen, changed_at}
 use Rattle.ref_refs.specs.Watches.{touched_refs}
 use Rattle.ref_refs.specs.declared.faults.Alien.TheVariants as aliens
@@ -78,7 +77,7 @@ conflict-fits store tx = by (find (λ r. is_protected tx.dones r && changed_afte
 alien-fits : (store : RefsSeen) (at agents : ℕ) (tx : TxSeen) → Fits tx (alien store at agents tx)
 alien-fits store at agents tx =
     let refs = mapped-fits tx (λ (d : Done). Foreign (aliens.Ref d.r)) (find (λ (d : Done). not (has_ref store.values d.r)) tx.dones) (λ d. tt) in
-    let sent = mapped-fits tx (λ (s : Sent). Foreign (aliens.Agent s.agent)) (find (λ (s : Sent). not (nat_lt s.agent agents)) tx.sends) (λ s. tt) in
+    let sent = mapped-fits tx (λ (g : ℕ). Foreign (aliens.Agent g)) (first_absent agents tx.sends) (λ g. tt) in
     let tally = if-fits tx (fit_tally store.tally tx.dones) None (Some (Foreign aliens.Tally)) tt tt in
     let point = if-fits tx (nat_lt tx.read_point at) None (Some (Foreign (aliens.Point tx.read_point))) tt tt in
     or-fits tx (alien_ref store.values tx.dones) (or_fault (alien_agent agents tx.sends) (or_fault (alien_tally store.tally tx.dones) (alien_point at tx.read_point))) refs

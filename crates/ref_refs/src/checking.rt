@@ -8,7 +8,7 @@ ghost use Rattle.ref_refs.specs.Seen.{are_unchanged_since};
 ghost use Rattle.ref_refs.specs.Smaller.{smaller};
 
 use crate::faults::{Alien, CommitFault};
-use ref_fun::{Functions, Meaning};
+use ref_fun::{Functions, Meaning, absent_agent};
 use ref_log::counting::moved_by_dones;
 use ref_log::{Done, Op, Sent, Side};
 use ref_tx::{Snapshot, Tx};
@@ -28,14 +28,14 @@ pub(crate) fn check_refs(refs: &Snapshot, dones: &[Done]) -> Result<(), CommitFa
     Ok(())
 }
 
-// The first send to an agent that isn't here, where there are so many.
+// The first agent of these sends, and of what they carry, that isn't here, where there are so many.
 pub(crate) fn check_agents(agents: usize, sends: &[Sent]) -> Result<(), CommitFault>
     ensures refused { Tells (alien_agent agents sends.now) result }
     ensures told { IfErr result (λ f. f ≢ Memory) }
 {
     for sent in sends {
-        if sent.agent as usize >= agents {
-            return Err(CommitFault::Foreign(Alien::Agent(sent.agent)));
+        if let Some(g) = absent_agent(agents, sent.agent, &sent.action) {
+            return Err(CommitFault::Foreign(Alien::Agent(g)));
         }
     }
     Ok(())

@@ -19,8 +19,8 @@
 //! functions that mean what Core's mean; with another meaning call [`Shared::begin`], [`Shared::commit`] and [`Shared::release`].
 //!
 //! **Costs.** Each call takes the lock once, and costs what its call of the world costs; `transact` takes it twice for each try, and once
-//! more where what was committed sent something; `work_once` takes it for the job and for its end; `new` and `finish` don't. A body, an
-//! action, a gate and a sink run with the lock free. Functions of the table run under it where a commit commutes, an atom is swapped or a
+//! more where what was committed sent something; `work_once` takes it for the job and for its end, and once more where its action
+//! sends something on; `new` and `finish` don't. A body, an action, a gate and a sink run with the lock free. Functions of the table run under it where a commit commutes, an atom is swapped or a
 //! rule is asked, so they are to be quick; a checkpoint holds it for a replay of the entries that it folds. `finish` is linear in the sizes
 //! of log and receipts, but for logarithms of the workers and of the entries, and takes a byte for each entry and some for each worker.
 //!

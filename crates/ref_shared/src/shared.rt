@@ -125,6 +125,16 @@ impl<M: Meaning, C: Ledger, A: Ledger, K: Ledger> Shared<M, C, A, K> {
         had_sends
     }
 
+    /// Releases what the last handled action of an agent carried, and wakes those who wait for an agent: see
+    /// [`World::release_carried`]. [`Shared::work_once`] does it.
+    pub fn release_carried<R: Wait>(&self, rt: &R, g: u32) -> bool {
+        let had_carries = self.lock(rt).world.release_carried(g);
+        if had_carries {
+            self.ready.notify_all();
+        }
+        had_carries
+    }
+
     /// The value of a reference now, if it is there: of an agent its state. It takes no memory, but std can refuse one more
     /// owner.
     pub fn value_of<R: Wait>(&self, rt: &R, who: Who) -> Result<Option<Value>, AllocError> {

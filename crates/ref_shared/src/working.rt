@@ -21,7 +21,8 @@ pub enum Worked {
 }
 
 impl<M: Meaning, C: Ledger, A: Ledger, K: Ledger> Shared<M, C, A, K> {
-    /// Waits for a ready agent, runs its next action with the lock free, ends it, and gives the sink the notices for the watches.
+    /// Waits for a ready agent, runs its next action with the lock free, ends it, gives the sink the notices for the watches, and
+    /// then releases what the action carried, if its value became the state.
     /// Where [`Shared::close`] was called and no agent is ready, it says so and does nothing. A thread that calls this in
     /// a loop until then is one of a pool; as many of them as there are may run side by side, and no two of them run
     /// actions of one agent at a time.
@@ -46,6 +47,7 @@ impl<M: Meaning, C: Ledger, A: Ledger, K: Ledger> Shared<M, C, A, K> {
             return Ok(Worked::Closed);
         };
         let agent = job.agent();
+        let carries = !job.action().carries.as_slice().is_empty();
         gate.pass(Spot::BeforeAction);
         let ran = match job.run(alloc, funs) {
             Ok(ran) => ran,
@@ -55,12 +57,19 @@ impl<M: Meaning, C: Ledger, A: Ledger, K: Ledger> Shared<M, C, A, K> {
         // The guard is dropped before the match.
         let finished = self.lock(rt).world.finish(alloc, funs, ran);
         match finished {
-            Ok(finished) => {
+            Ok(Finished::Changed(notices)) => {
+                if !carries {
+                    self.ready.notify_one();
+                }
+                tell(sink, notices.as_slice());
+                if carries {
+                    self.release_carried(rt, agent);
+                }
+                Ok(Worked::Did(agent))
+            }
+            Ok(_) => {
                 // The agent's next action may be taken.
                 self.ready.notify_one();
-                if let Finished::Changed(notices) = finished {
-                    tell(sink, notices.as_slice());
-                }
                 Ok(Worked::Did(agent))
             }
             Err((ran, fault)) => {

@@ -4,6 +4,7 @@ use Rattle.std.specs.List.{list_any}
 use Rattle.std.specs.Option.{option_map, option_or}
 use Rattle.ref_value.specs.Edn.{Edn}
 use Rattle.ref_fun.specs.declared.faults.Cause.{Cause}
+use Rattle.ref_fun.specs.Actions.{absent_agent, missing_fun}
 use Rattle.ref_fun.specs.Meaning.{Means}
 use Rattle.ref_fun.specs.Rule.{is_accepted}
 use Rattle.ref_fun.specs.declared.actions.Action.{Action}
@@ -106,12 +107,11 @@ unmet accepts knows rule (Some v) =
 
 -- ---- what is sent
 
--- The first fault of sending an action of the function of this code to an agent. The function isn't called.
-abbrev pub send_refusal : (ℕ → Bool) → TxSeen → ℕ → ℕ → Option TxFault
-send_refusal knows tx g code =
-    if not (knows code) then Some (NoSuchFun code) else
-    if not (nat_lt g tx.agents) then Some NoSuchAgent else
-    None
+-- The first fault of sending an action to an agent. Functions come before agents; none is called.
+abbrev pub send_refusal : (ℕ → Bool) → TxSeen → ℕ → Action → Option TxFault
+send_refusal knows tx g action =
+    option_or (option_map NoSuchFun (missing_fun knows action))
+    (option_map (λ h. NoSuchAgent) (absent_agent tx.agents g action))
 
 -- The transaction with one send more, the last.
 abbrev pub with_sent : TxSeen → ℕ → Action → TxSeen

@@ -13,7 +13,7 @@ ghost use Rattle.ref_tx.specs.declared.faults.TxFault.TheVariants.{NoSuchRef, Me
 use crate::faults::TxFault;
 use crate::owns::Own;
 use crate::snapshots::Snapshot;
-use ref_fun::{Action, CallFault, Functions, Meaning, Rule};
+use ref_fun::{Action, CallFault, Functions, Meaning, Rule, absent_agent, missing_fun};
 use ref_log::{Args, Done, Op, Sent};
 use ref_value::Value;
 use std::alloc::{AllocError, Global};
@@ -225,27 +225,25 @@ impl<M: Meaning> Tx<M> {
     }
 
     /// Sends an action to an agent: Clojure's `send` in a transaction, which holds it until the commit. The table has to have
-    /// the function, and isn't asked for more; there have to have been so many agents when the transaction began. Behind it
-    /// stands what is sent later.
+    /// its function and the functions of what it carries, and isn't asked for more; the agent and those that it carries sends to
+    /// have to have been there when the transaction began. Behind it stands what is sent later.
     pub fn send<F: Functions<M>>(
         &mut self,
         _alloc: Global,
         funs: &F,
         g: u32,
-        code: u32,
-        args: Args,
+        action: Action,
     ) -> Result<(), TxFault>
-        ensures refused { TellsThenMemory Memory (send_refusal (F.knows funs.now).funs self.old g code) result }
-        ensures adds { OnOk result (self.new ≡ with_sent self.old g (record { code = code; args = args })) }
+        ensures refused { TellsThenMemory Memory (send_refusal (F.knows funs.now).funs self.old g action) result }
+        ensures adds { OnOk result (self.new ≡ with_sent self.old g action) }
         ensures err { OnErr result (self.new ≡ self.old) }
     {
-        if !funs.has_fun(code) {
+        if let Some(code) = missing_fun(funs, &action) {
             return Err(TxFault::NoSuchFun(code));
         }
-        if g as usize >= self.agents {
+        if absent_agent(self.agents, g, &action).is_some() {
             return Err(TxFault::NoSuchAgent);
         }
-        let action = Action { code, args };
         self.sends.push(Sent { agent: g, action })?;
         Ok(())
     }

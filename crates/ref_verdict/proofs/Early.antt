@@ -30,13 +30,13 @@ some_said : {A : Type 0} (o : Option A) (key : Key) → is_some o ≡ true → (
 some_said None key e = absurd cc
 some_said (Some x) key e = (x, refl)
 
-no_elements : (o : Option (List Edn)) → is_some o ≡ false → is_some (option_and_then (all_said agent_of) o) ≡ false
-no_elements None e = refl
-no_elements (Some xs) e = absurd cc
+no_elements : (version : Version) (o : Option (List Edn)) → is_some o ≡ false → is_some (option_and_then (all_said (agent_of version)) o) ≡ false
+no_elements version None e = refl
+no_elements version (Some xs) e = absurd cc
 
-no_list : (o : Option Edn) → is_some (option_and_then elements_of o) ≡ false → is_some (option_and_then (list_said agent_of) o) ≡ false
-no_list None e = refl
-no_list (Some x) e = no_elements (elements_of x) e
+no_list : (version : Version) (o : Option Edn) → is_some (option_and_then elements_of o) ≡ false → is_some (option_and_then (list_said (agent_of version)) o) ≡ false
+no_list version None e = refl
+no_list version (Some x) e = no_elements version (elements_of x) e
 
 same_fault : (f g : DumpFault) → Some f ≡ Some g → f ≡ g
 same_fault f g e = cc
@@ -53,8 +53,8 @@ by_parts version es false b fault p q e =
 by_parts version es true false fault p q e =
     let is = same_fault (BadPart keys.Agents) fault e in
     let added = some_said (option_and_then number_of (under es (key_word keys.Added))) keys.Added p in
-    let agents : part_said es keys.Agents (list_said agent_of) ≡ Err (BadPart keys.Agents) =
-    none_said (option_and_then (list_said agent_of) (under es (key_word keys.Agents))) keys.Agents (no_list (under es (key_word keys.Agents)) q) in
+    let agents : part_said es keys.Agents (list_said (agent_of version)) ≡ Err (BadPart keys.Agents) =
+    none_said (option_and_then (list_said (agent_of version)) (under es (key_word keys.Agents))) keys.Agents (no_list version (under es (key_word keys.Agents)) q) in
     ((rw (added.1, agents) refl) ∙ ap Err is, bad_isnt_memory keys.Agents fault is)
 by_parts version es true true fault p q e = absurd cc
 

@@ -18,14 +18,16 @@ use Rattle.ref_log.specs.declared.operations.Op.TheVariants as ops
 use Rattle.ref_log.specs.declared.sends.Sent.{Sent}
 use Rattle.ref_agents.specs.declared.accounts.Handled.{Handled}
 use Rattle.ref_agents.specs.declared.accounts.Mark.{Mark}
-use Rattle.ref_forms.specs.Calls.{action_of, any, args_said, code_for, code_of, rule_of, rule_said}
+use Rattle.ref_forms.specs.Calls.{action_of, any, carrying, args_said, code_for, code_of, rule_of, rule_said}
 use Rattle.ref_forms.specs.Plain.{all_said, and_said, both, elements_of, elements_within, list_said, number_of, only_if, symbol_of, tagged_of}
 use Rattle.ref_forms.specs.Plain.{under}
-use Rattle.ref_verdict.specs.DumpForm.{agent_of, agent_said, agent_with, alter_said, and_entry, call_said, commute_said, done_of, done_said, ensure_said, entries_from, entry_of, entry_said, handled_of, handled_said, kept_of, kept_said, made_atom_said, made_ref_said, mark_of, part_said, queued_of, reference_of, reset_said, sent_of, set_said, stamp_of, status_of, swap_said, transaction_of, tx_said, key_word, values_said}
+use Rattle.ref_verdict.specs.DumpForm.{agent_of, agent_said, agent_with, alter_said, and_entry, call_said, carries_of, carrying_handled_said, commute_said, done_of, done_said, ensure_said, entries_from, entry_of, entry_said, handled_of, handled_said, kept_of, kept_said, made_atom_said, made_ref_said, mark_of, part_said, plain_handled_said, queued_of, reference_of, reset_said, sent_of, set_said, stamp_of, status_of, swap_said, transaction_of, tx_said, key_word, values_said}
 use Rattle.ref_verdict.specs.OfCore.{is_account_of_core, is_agent_rule_of_core, is_entry_of_core, is_handled_of_core, is_kept_of_core, is_op_of_core, is_rule_of_core}
 use Rattle.ref_verdict.specs.Words.{alter_tag, commute_tag, ensure_tag, made_atom_tag, made_ref_tag, reset_tag, set_tag, swap_tag, tx_tag}
 use Rattle.ref_verdict.specs.declared.reading.dumps.Kept.{Kept}
 use Rattle.ref_verdict.specs.declared.reading.dumps.KeptAgent.{KeptAgent}
+use Rattle.ref_verdict.specs.declared.reading.dumps.Version.{Version}
+use Rattle.ref_verdict.specs.declared.reading.dumps.Version.TheVariants.{One, Two, Three}
 use Rattle.ref_verdict.specs.declared.reading.faults.DumpFault.{DumpFault}
 use Rattle.ref_verdict.specs.declared.reading.faults.DumpFault.TheVariants.{BadPart}
 use Rattle.ref_verdict.specs.declared.reading.faults.Key.{Key}
@@ -82,7 +84,7 @@ code_passes is_one x code e =
 
 action_passes : (f args : Edn) (action : Action) → action_of f args ≡ Some action → is_function action.code ≡ true
 action_passes f args action e =
-    let join : ℕ → List Edn → Action = λ code xs. record { code = code; args = xs } in
+    let join : ℕ → List Edn → Action = λ code xs. record { code = code; args = xs; carries = [] } in
     let p = both-Some join (code_of is_function f) (option_and_then (args_said any) (elements_of args)) action e in
     ap (λ (a : Action). is_function a.code) (sym p.4) ∙ code_passes is_function f p.0 p.2
 
@@ -127,18 +129,39 @@ kept_said-passes (v ∷ rule ∷ x ∷ xs) k e = absurd cc
 kept_passes : (x : Edn) (k : Kept) → kept_of x ≡ Some k → is_kept_of_core k ≡ true
 kept_passes x k e = let p = and_then-Some kept_said (elements_of x) k e in kept_said-passes p.0 k p.2
 
-handled_said-passes : (xs : List Edn) (h : Handled) → handled_said xs ≡ Some h → is_handled_of_core h ≡ true
-handled_said-passes [] h e = absurd cc
-handled_said-passes (f ∷ []) h e = absurd cc
-handled_said-passes (f ∷ args ∷ []) h e = absurd cc
-handled_said-passes (f ∷ args ∷ mark ∷ []) h e =
+carrying_passes : (f args carries : Edn) (action : Action) → both carrying (action_of f args) (carries_of carries) ≡ Some action → is_function action.code ≡ true
+carrying_passes f args carries action e =
+    let p = both-Some carrying (action_of f args) (carries_of carries) action e in
+    ap (λ (a : Action). is_function a.code) (sym p.4) ∙ action_passes f args p.0 p.2
+
+plain_handled-passes : (xs : List Edn) (h : Handled) → plain_handled_said xs ≡ Some h → is_handled_of_core h ≡ true
+plain_handled-passes [] h e = absurd cc
+plain_handled-passes (f ∷ []) h e = absurd cc
+plain_handled-passes (f ∷ args ∷ []) h e = absurd cc
+plain_handled-passes (f ∷ args ∷ mark ∷ []) h e =
     let join : Action → Mark → Handled = λ action m. record { action = action; mark = m } in
     let p = both-Some join (action_of f args) (mark_of mark) h e in
     ap is_handled_of_core (sym p.4) ∙ action_passes f args p.0 p.2
-handled_said-passes (f ∷ args ∷ mark ∷ x ∷ xs) h e = absurd cc
+plain_handled-passes (f ∷ args ∷ mark ∷ x ∷ xs) h e = absurd cc
 
-handled_passes : (x : Edn) (h : Handled) → handled_of x ≡ Some h → is_handled_of_core h ≡ true
-handled_passes x h e = let p = and_then-Some handled_said (elements_of x) h e in handled_said-passes p.0 h p.2
+carrying_handled-passes : (xs : List Edn) (h : Handled) → carrying_handled_said xs ≡ Some h → is_handled_of_core h ≡ true
+carrying_handled-passes [] h e = absurd cc
+carrying_handled-passes (f ∷ []) h e = absurd cc
+carrying_handled-passes (f ∷ args ∷ []) h e = absurd cc
+carrying_handled-passes (f ∷ args ∷ carries ∷ []) h e = absurd cc
+carrying_handled-passes (f ∷ args ∷ carries ∷ mark ∷ []) h e =
+    let join : Action → Mark → Handled = λ action m. record { action = action; mark = m } in
+    let p = both-Some join (both carrying (action_of f args) (carries_of carries)) (mark_of mark) h e in
+    ap is_handled_of_core (sym p.4) ∙ carrying_passes f args carries p.0 p.2
+carrying_handled-passes (f ∷ args ∷ carries ∷ mark ∷ x ∷ xs) h e = absurd cc
+
+handled_said-passes : (version : Version) (xs : List Edn) (h : Handled) → handled_said version xs ≡ Some h → is_handled_of_core h ≡ true
+handled_said-passes One xs h e = plain_handled-passes xs h e
+handled_said-passes Two xs h e = plain_handled-passes xs h e
+handled_said-passes Three xs h e = carrying_handled-passes xs h e
+
+handled_passes : (version : Version) (x : Edn) (h : Handled) → handled_of version x ≡ Some h → is_handled_of_core h ≡ true
+handled_passes version x h e = let p = and_then-Some (handled_said version) (elements_of x) h e in handled_said-passes version p.0 h p.2
 
 -- an agent has the rule and the handled actions of its parts
 agent_parts : (start value : Edn) (handled : Option (List Handled)) (queue : Option (List Action)) (failed : Option Bool) (rule : Option (Option Rule)) (agent : KeptAgent) → agent_with start value handled queue failed rule ≡ Some agent → (handled ≡ Some agent.handled) × (rule ≡ Some agent.rule)
@@ -148,20 +171,20 @@ agent_parts start value (Some hs) (Some qs) None rule agent e = absurd cc
 agent_parts start value (Some hs) (Some qs) (Some b) None agent e = absurd cc
 agent_parts start value (Some hs) (Some qs) (Some b) (Some r) agent e = (cc, cc)
 
-agent_said-passes : (xs : List Edn) (agent : KeptAgent) → agent_said xs ≡ Some agent → (is_agent_rule_of_core agent ≡ true) × (is_account_of_core agent ≡ true)
-agent_said-passes [] agent e = absurd cc
-agent_said-passes (a ∷ []) agent e = absurd cc
-agent_said-passes (a ∷ b ∷ []) agent e = absurd cc
-agent_said-passes (a ∷ b ∷ c ∷ []) agent e = absurd cc
-agent_said-passes (a ∷ b ∷ c ∷ d ∷ []) agent e = absurd cc
-agent_said-passes (a ∷ b ∷ c ∷ d ∷ f ∷ []) agent e = absurd cc
-agent_said-passes (start ∷ handled ∷ queue ∷ value ∷ status ∷ rule ∷ []) agent e =
-    let p = agent_parts start value (list_said handled_of handled) (list_said queued_of queue) (status_of status) (rule_of any rule) agent e in
-    (rule_passes rule agent.rule p.1, list_said-pass handled_of is_handled_of_core handled_passes handled agent.handled p.0)
-agent_said-passes (a ∷ b ∷ c ∷ d ∷ f ∷ g ∷ x ∷ xs) agent e = absurd cc
+agent_said-passes : (version : Version) (xs : List Edn) (agent : KeptAgent) → agent_said version xs ≡ Some agent → (is_agent_rule_of_core agent ≡ true) × (is_account_of_core agent ≡ true)
+agent_said-passes version [] agent e = absurd cc
+agent_said-passes version (a ∷ []) agent e = absurd cc
+agent_said-passes version (a ∷ b ∷ []) agent e = absurd cc
+agent_said-passes version (a ∷ b ∷ c ∷ []) agent e = absurd cc
+agent_said-passes version (a ∷ b ∷ c ∷ d ∷ []) agent e = absurd cc
+agent_said-passes version (a ∷ b ∷ c ∷ d ∷ f ∷ []) agent e = absurd cc
+agent_said-passes version (start ∷ handled ∷ queue ∷ value ∷ status ∷ rule ∷ []) agent e =
+    let p = agent_parts start value (list_said (handled_of version) handled) (list_said (queued_of version) queue) (status_of status) (rule_of any rule) agent e in
+    (rule_passes rule agent.rule p.1, list_said-pass (handled_of version) is_handled_of_core (handled_passes version) handled agent.handled p.0)
+agent_said-passes version (a ∷ b ∷ c ∷ d ∷ f ∷ g ∷ x ∷ xs) agent e = absurd cc
 
-agent_passes : (x : Edn) (agent : KeptAgent) → agent_of x ≡ Some agent → (is_agent_rule_of_core agent ≡ true) × (is_account_of_core agent ≡ true)
-agent_passes x agent e = let p = and_then-Some agent_said (elements_of x) agent e in agent_said-passes p.0 agent p.2
+agent_passes : (version : Version) (x : Edn) (agent : KeptAgent) → agent_of version x ≡ Some agent → (is_agent_rule_of_core agent ≡ true) × (is_account_of_core agent ≡ true)
+agent_passes version x agent e = let p = and_then-Some (agent_said version) (elements_of x) agent e in agent_said-passes version p.0 agent p.2
 
 -- ---- entries
 
@@ -237,17 +260,17 @@ transaction_dones (Some s) (Some r) None sends t e = absurd cc
 transaction_dones (Some s) (Some r) (Some ds) None t e = absurd cc
 transaction_dones (Some s) (Some r) (Some ds) (Some ss) t e = cc
 
-tx_passes : (xs : List Edn) (entry : Entry) → tx_said xs ≡ Some entry → is_entry_of_core entry ≡ true
-tx_passes [] entry e = absurd cc
-tx_passes (a ∷ []) entry e = absurd cc
-tx_passes (a ∷ b ∷ []) entry e = absurd cc
-tx_passes (a ∷ b ∷ c ∷ []) entry e = absurd cc
-tx_passes (a ∷ b ∷ c ∷ d ∷ []) entry e = absurd cc
-tx_passes (w ∷ s ∷ read ∷ dones ∷ sends ∷ []) entry e =
-    let p = map-Some Trans (transaction_of (stamp_of w s) (number_of read) (list_said done_of dones) (list_said sent_of sends)) entry e in
-    let of = transaction_dones (stamp_of w s) (number_of read) (list_said done_of dones) (list_said sent_of sends) p.0 p.1 in
+tx_passes : (version : Version) (xs : List Edn) (entry : Entry) → tx_said version xs ≡ Some entry → is_entry_of_core entry ≡ true
+tx_passes version [] entry e = absurd cc
+tx_passes version (a ∷ []) entry e = absurd cc
+tx_passes version (a ∷ b ∷ []) entry e = absurd cc
+tx_passes version (a ∷ b ∷ c ∷ []) entry e = absurd cc
+tx_passes version (a ∷ b ∷ c ∷ d ∷ []) entry e = absurd cc
+tx_passes version (w ∷ s ∷ read ∷ dones ∷ sends ∷ []) entry e =
+    let p = map-Some Trans (transaction_of (stamp_of w s) (number_of read) (list_said done_of dones) (list_said (sent_of version) sends)) entry e in
+    let of = transaction_dones (stamp_of w s) (number_of read) (list_said done_of dones) (list_said (sent_of version) sends) p.0 p.1 in
     ap is_entry_of_core (sym p.2) ∙ list_said-pass done_of (λ d. is_op_of_core d.op) done_passes dones p.0.dones of
-tx_passes (a ∷ b ∷ c ∷ d ∷ f ∷ x ∷ xs) entry e = absurd cc
+tx_passes version (a ∷ b ∷ c ∷ d ∷ f ∷ x ∷ xs) entry e = absurd cc
 
 reset_passes : (xs : List Edn) (entry : Entry) → reset_said xs ≡ Some entry → is_entry_of_core entry ≡ true
 reset_passes [] entry e = absurd cc
@@ -274,18 +297,18 @@ made_atom_passes [] entry e = absurd cc
 made_atom_passes (v ∷ []) entry e = let same : MadeAtom v ≡ entry = cc in ap is_entry_of_core (sym same)
 made_atom_passes (v ∷ x ∷ xs) entry e = absurd cc
 
-entry_said-passes : (tag : List ℕ) (xs : List Edn) (entry : Entry) → entry_said tag xs ≡ Some entry → is_entry_of_core entry ≡ true
-entry_said-passes tag xs entry e =
+entry_said-passes : (version : Version) (tag : List ℕ) (xs : List Edn) (entry : Entry) → entry_said version tag xs ≡ Some entry → is_entry_of_core entry ≡ true
+entry_said-passes version tag xs entry e =
     let P : Entry → Type 0 = λ x. is_entry_of_core x ≡ true in
-    one_of P (bytes_eq tag tx_tag) _ _ entry (tx_passes xs entry)
+    one_of P (bytes_eq tag tx_tag) _ _ entry (tx_passes version xs entry)
     (one_of P (bytes_eq tag reset_tag) _ _ entry (reset_passes xs entry)
     (one_of P (bytes_eq tag swap_tag) _ _ entry (swap_passes xs entry)
     (one_of P (bytes_eq tag made_ref_tag) _ _ entry (made_ref_passes xs entry)
     (one_of P (bytes_eq tag made_atom_tag) _ _ entry (made_atom_passes xs entry)
     (nothing P entry))))) e
 
-entry_passes : (x : Edn) (entry : Entry) → entry_of x ≡ Some entry → is_entry_of_core entry ≡ true
-entry_passes x entry e = let p = and_then-Some (λ (t : List ℕ × List Edn). entry_said t.0 t.1) (tagged_of x) entry e in entry_said-passes p.0.0 p.0.1 entry p.2
+entry_passes : (version : Version) (x : Edn) (entry : Entry) → entry_of version x ≡ Some entry → is_entry_of_core entry ≡ true
+entry_passes version x entry e = let p = and_then-Some (λ (t : List ℕ × List Edn). entry_said version t.0 t.1) (tagged_of x) entry e in entry_said-passes version p.0.0 p.0.1 entry p.2
 
 first_entry : (n : ℕ) (first : Option Entry) (rest : Result (List Entry) DumpFault) (es : List Entry) → ((entry : Entry) → first ≡ Some entry → is_entry_of_core entry ≡ true) → ((more : List Entry) → rest ≡ Ok more → list_all is_entry_of_core more ≡ true) → and_entry n first rest ≡ Ok es → list_all is_entry_of_core es ≡ true
 first_entry n None rest es sound more e = absurd cc
@@ -294,9 +317,9 @@ first_entry n (Some entry) (Ok others) es sound more e =
     let same : entry ∷ others ≡ es = cc in
     ap (list_all is_entry_of_core) (sym same) ∙ and_true (is_entry_of_core entry) (list_all is_entry_of_core others) (sound entry refl) (more others refl)
 
-pub entries_pass : (n : ℕ) (xs : List Edn) (es : List Entry) → entries_from n xs ≡ Ok es → list_all is_entry_of_core es ≡ true
-entries_pass n [] es e = let same : [] ≡ es = cc in ap (list_all is_entry_of_core) (sym same)
-entries_pass n (x ∷ xs) es e = first_entry n (entry_of x) (entries_from (n + 1) xs) es (entry_passes x) (entries_pass (n + 1) xs) e
+pub entries_pass : (version : Version) (n : ℕ) (xs : List Edn) (es : List Entry) → entries_from version n xs ≡ Ok es → list_all is_entry_of_core es ≡ true
+entries_pass version n [] es e = let same : [] ≡ es = cc in ap (list_all is_entry_of_core) (sym same)
+entries_pass version n (x ∷ xs) es e = first_entry n (entry_of version x) (entries_from version (n + 1) xs) es (entry_passes version x) (entries_pass version (n + 1) xs) e
 
 -- ---- parts
 
@@ -313,8 +336,8 @@ part_form es key said a e =
 pub kept_part : (es : List (Edn × Edn)) (key : Key) (ks : List Kept) → part_said es key (values_said kept_of) ≡ Ok ks → list_all is_kept_of_core ks ≡ true
 kept_part es key ks e = let p = part_form es key (values_said kept_of) ks e in values_said-pass kept_of is_kept_of_core kept_passes p.0 ks p.1
 
-pub rules_part : (es : List (Edn × Edn)) (key : Key) (agents : List KeptAgent) → part_said es key (list_said agent_of) ≡ Ok agents → list_all is_agent_rule_of_core agents ≡ true
-rules_part es key agents e = let p = part_form es key (list_said agent_of) agents e in list_said-pass agent_of is_agent_rule_of_core (λ x agent is. (agent_passes x agent is).0) p.0 agents p.1
+pub rules_part : (version : Version) (es : List (Edn × Edn)) (key : Key) (agents : List KeptAgent) → part_said es key (list_said (agent_of version)) ≡ Ok agents → list_all is_agent_rule_of_core agents ≡ true
+rules_part version es key agents e = let p = part_form es key (list_said (agent_of version)) agents e in list_said-pass (agent_of version) is_agent_rule_of_core (λ x agent is. (agent_passes version x agent is).0) p.0 agents p.1
 
-pub accounts_part : (es : List (Edn × Edn)) (key : Key) (agents : List KeptAgent) → part_said es key (list_said agent_of) ≡ Ok agents → list_all is_account_of_core agents ≡ true
-accounts_part es key agents e = let p = part_form es key (list_said agent_of) agents e in list_said-pass agent_of is_account_of_core (λ x agent is. (agent_passes x agent is).1) p.0 agents p.1
+pub accounts_part : (version : Version) (es : List (Edn × Edn)) (key : Key) (agents : List KeptAgent) → part_said es key (list_said (agent_of version)) ≡ Ok agents → list_all is_account_of_core agents ≡ true
+accounts_part version es key agents e = let p = part_form es key (list_said (agent_of version)) agents e in list_said-pass (agent_of version) is_account_of_core (λ x agent is. (agent_passes version x agent is).1) p.0 agents p.1

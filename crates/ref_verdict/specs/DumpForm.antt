@@ -1,6 +1,6 @@
--- Which EDN data is a dump, and what it says. A dump of version 2 is a map with exactly these keys:
+-- Which EDN data is a dump, and what it says. A dump of version 3 is a map with exactly these keys:
 --
---   :dump 2                      the version
+--   :dump 3                      the version
 --   :point N                     the point of the base
 --   :base-refs [[VALUE LAST] ..] the refs of the base; LAST is the point of the last change up to it
 --   :base-atoms [VALUE ..]
@@ -14,7 +14,8 @@
 --   :added N
 --   :taken N
 --
--- One of version 1 has :dump 1, :folded [COMMITS ADDED] and no :taken.
+-- One of version 2 has :dump 2 and the same keys. In its actions nothing is said of carries, and none carries any.
+-- One of version 1 has :dump 1, :folded [COMMITS ADDED] and no :taken, and its actions are written as in version 2.
 -- Numbers are integers of 0 or more. What a form doesn't say, or says in another way, is no part of a dump: it is None here.
 use Rattle.std.specs.Prelude.{ℕ, pos, ◌+◌, ◌-◌, ◌^◌, ◌==◌, ok_or, min, Bool, true, false, not, ◌&&◌, if◌then◌else◌, List, [], ◌∷◌, Option, None, Some, is_some, option_map, option_and_then, Result, Ok, Err}
 use Rattle.std.specs.Prelude as lists
@@ -23,6 +24,7 @@ use Rattle.ref_value.specs.Edn.{Edn, nil, int, pairs_of}
 use Rattle.ref_value.specs.Edn as edn
 use Rattle.ref_value.specs.Names.{bytes_eq}
 use Rattle.ref_fun.specs.declared.actions.Action.{Action}
+use Rattle.ref_fun.specs.declared.carries.Carry.{Carry}
 use Rattle.ref_fun.specs.declared.rules.Rule.{Rule}
 use Rattle.ref_log.specs.declared.entries.Entry.{Entry}
 use Rattle.ref_log.specs.declared.entries.Entry.TheVariants.{Trans, Atom, MadeRef, MadeAtom}
@@ -35,7 +37,7 @@ use Rattle.ref_log.specs.declared.states.Base.{Base}
 use Rattle.ref_agents.specs.declared.accounts.Handled.{Handled}
 use Rattle.ref_agents.specs.declared.accounts.Mark.{Mark}
 use Rattle.ref_agents.specs.declared.accounts.Mark.TheVariants as marks
-use Rattle.ref_forms.specs.Calls.{action_of, any, rule_of}
+use Rattle.ref_forms.specs.Calls.{action_of, any, carrying, rule_of}
 use Rattle.ref_forms.specs.Plain.{all_said, are_known, both, elements_of, elements_within, keyword_of, list_said, number_of, stamp_number, tagged_of, under}
 use Rattle.ref_verdict.specs.Words.{added_key, agents_key, alter_tag, atoms_key, base_atoms_key, base_refs_key, commits_key, commute_tag, done_mark, dump_key, ensure_tag, entries_key, failed_mark, failed_status, folded_key, keys_of, made_atom_tag, made_ref_tag, passed_mark, point_key, ready_status, refs_key, reset_tag, set_tag, swap_tag, taken_key, tally_key, tx_tag}
 use Rattle.ref_verdict.specs.declared.reading.dumps.Changed.{Changed}
@@ -43,7 +45,7 @@ use Rattle.ref_verdict.specs.declared.reading.dumps.Dump.{Dump}
 use Rattle.ref_verdict.specs.declared.reading.dumps.Kept.{Kept}
 use Rattle.ref_verdict.specs.declared.reading.dumps.KeptAgent.{KeptAgent}
 use Rattle.ref_verdict.specs.declared.reading.dumps.Version.{Version}
-use Rattle.ref_verdict.specs.declared.reading.dumps.Version.TheVariants.{One, Two}
+use Rattle.ref_verdict.specs.declared.reading.dumps.Version.TheVariants.{One, Two, Three}
 use Rattle.ref_verdict.specs.declared.reading.faults.DumpFault.{DumpFault}
 use Rattle.ref_verdict.specs.declared.reading.faults.DumpFault.TheVariants.{NotDump, BadVersion, BadPart, BadEntry}
 use Rattle.ref_verdict.specs.declared.reading.faults.Key.{Key}
@@ -59,6 +61,36 @@ values_said said x = option_and_then (all_said said) (elements_within (2 ^ 32 - 
 -- since a dump has fewer, and so none that is replayed has one where the verdict is ok.
 abbrev pub reference_of : Edn → Option ℕ
 reference_of x = option_map (λ n. min n (2 ^ 32 - 1)) (number_of x)
+
+-- ---- actions
+
+-- [G F [ARG ..]]: a send that an action carries
+abbrev pub carry_said : List Edn → Option Carry
+carry_said (g ∷ f ∷ args ∷ []) = both (λ n action. record { g = n; code = action.code; args = action.args }) (reference_of g) (action_of f args)
+carry_said xs = None
+
+abbrev pub carry_of : Edn → Option Carry
+carry_of x = option_and_then carry_said (elements_of x)
+
+-- [CARRY ..], at most 8
+abbrev pub carries_of : Edn → Option (List Carry)
+carries_of x = option_and_then (all_said carry_of) (elements_within 8 x)
+
+-- F [ARG ..]
+abbrev pub plain_action_said : List Edn → Option Action
+plain_action_said (f ∷ args ∷ []) = action_of f args
+plain_action_said xs = None
+
+-- F [ARG ..] [CARRY ..]
+abbrev pub carrying_action_said : List Edn → Option Action
+carrying_action_said (f ∷ args ∷ carries ∷ []) = both carrying (action_of f args) (carries_of carries)
+carrying_action_said xs = None
+
+-- an action as a version writes it
+abbrev pub action_said : Version → List Edn → Option Action
+action_said One xs = plain_action_said xs
+action_said Two xs = plain_action_said xs
+action_said Three xs = carrying_action_said xs
 
 -- ---- entries
 
@@ -93,13 +125,13 @@ done_said tag xs =
 abbrev pub done_of : Edn → Option Done
 done_of x = option_and_then (λ t. done_said t.0 t.1) (tagged_of x)
 
--- [G F [ARG ..]]
-abbrev pub sent_said : List Edn → Option Sent
-sent_said (g ∷ f ∷ args ∷ []) = both (λ n action. record { agent = n; action = action }) (reference_of g) (action_of f args)
-sent_said xs = None
+-- [G F [ARG ..]], and in version 3 [G F [ARG ..] [CARRY ..]]
+abbrev pub sent_said : Version → List Edn → Option Sent
+sent_said version [] = None
+sent_said version (g ∷ xs) = both (λ n action. record { agent = n; action = action }) (reference_of g) (action_said version xs)
 
-abbrev pub sent_of : Edn → Option Sent
-sent_of x = option_and_then sent_said (elements_of x)
+abbrev pub sent_of : Version → Edn → Option Sent
+sent_of version x = option_and_then (sent_said version) (elements_of x)
 
 abbrev pub stamp_of : Edn → Edn → Option Stamp
 stamp_of w s = both (λ worker step. record { worker = worker; step = step }) (stamp_number w) (stamp_number s)
@@ -108,9 +140,10 @@ abbrev pub transaction_of : Option Stamp → Option ℕ → Option (List Done) �
 transaction_of (Some stamp) (Some read) (Some dones) (Some sends) = Some (record { stamp = stamp; read_point = read; dones = dones; sends = sends })
 transaction_of stamp read dones sends = None
 
-abbrev pub tx_said : List Edn → Option Entry
-tx_said (w ∷ s ∷ read ∷ dones ∷ sends ∷ []) = option_map Trans (transaction_of (stamp_of w s) (number_of read) (list_said done_of dones) (list_said sent_of sends))
-tx_said xs = None
+abbrev pub tx_said : Version → List Edn → Option Entry
+tx_said version (w ∷ s ∷ read ∷ dones ∷ sends ∷ []) =
+    option_map Trans (transaction_of (stamp_of w s) (number_of read) (list_said done_of dones) (list_said (sent_of version) sends))
+tx_said version xs = None
 
 -- `reset!` answers the value that it sets.
 abbrev pub reset_said : List Edn → Option Entry
@@ -129,17 +162,17 @@ made_atom_said (v ∷ []) = Some (MadeAtom v)
 made_atom_said xs = None
 
 -- [:tx W S READ [DONE ..] [SEND ..]], [:reset A V], [:swap A F [ARG ..] ANSWER], [:made-ref V] or [:made-atom V]
-abbrev pub entry_said : List ℕ → List Edn → Option Entry
-entry_said tag xs =
-    if bytes_eq tag tx_tag then tx_said xs else
+abbrev pub entry_said : Version → List ℕ → List Edn → Option Entry
+entry_said version tag xs =
+    if bytes_eq tag tx_tag then tx_said version xs else
     if bytes_eq tag reset_tag then reset_said xs else
     if bytes_eq tag swap_tag then swap_said xs else
     if bytes_eq tag made_ref_tag then made_ref_said xs else
     if bytes_eq tag made_atom_tag then made_atom_said xs else
     None
 
-abbrev pub entry_of : Edn → Option Entry
-entry_of x = option_and_then (λ t. entry_said t.0 t.1) (tagged_of x)
+abbrev pub entry_of : Version → Edn → Option Entry
+entry_of version x = option_and_then (λ t. entry_said version t.0 t.1) (tagged_of x)
 
 -- All entries, or the position of the first that is none, counted from this number on.
 abbrev pub and_entry : ℕ → Option Entry → Result (List Entry) DumpFault → Result (List Entry) DumpFault
@@ -147,9 +180,9 @@ and_entry n None es = Err (BadEntry n)
 and_entry n (Some e) (Ok es) = Ok (e ∷ es)
 and_entry n (Some e) (Err fault) = Err fault
 
-abbrev pub entries_from : ℕ → List Edn → Result (List Entry) DumpFault
-entries_from n [] = Ok []
-entries_from n (x ∷ xs) = and_entry n (entry_of x) (entries_from (n + 1) xs)
+abbrev pub entries_from : Version → ℕ → List Edn → Result (List Entry) DumpFault
+entries_from version n [] = Ok []
+entries_from version n (x ∷ xs) = and_entry n (entry_of version x) (entries_from version (n + 1) xs)
 
 -- ---- references
 
@@ -180,20 +213,27 @@ abbrev pub mark_of : Edn → Option Mark
 mark_of x = option_and_then mark_said (keyword_of x)
 
 -- [F [ARG ..] MARK]
-abbrev pub handled_said : List Edn → Option Handled
-handled_said (f ∷ args ∷ mark ∷ []) = both (λ action m. record { action = action; mark = m }) (action_of f args) (mark_of mark)
-handled_said xs = None
+abbrev pub plain_handled_said : List Edn → Option Handled
+plain_handled_said (f ∷ args ∷ mark ∷ []) = both (λ action m. record { action = action; mark = m }) (action_of f args) (mark_of mark)
+plain_handled_said xs = None
 
-abbrev pub handled_of : Edn → Option Handled
-handled_of x = option_and_then handled_said (elements_of x)
+-- [F [ARG ..] [CARRY ..] MARK]
+abbrev pub carrying_handled_said : List Edn → Option Handled
+carrying_handled_said (f ∷ args ∷ carries ∷ mark ∷ []) =
+    both (λ action m. record { action = action; mark = m }) (both carrying (action_of f args) (carries_of carries)) (mark_of mark)
+carrying_handled_said xs = None
 
--- [F [ARG ..]]
-abbrev pub queued_said : List Edn → Option Action
-queued_said (f ∷ args ∷ []) = action_of f args
-queued_said xs = None
+abbrev pub handled_said : Version → List Edn → Option Handled
+handled_said One xs = plain_handled_said xs
+handled_said Two xs = plain_handled_said xs
+handled_said Three xs = carrying_handled_said xs
 
-abbrev pub queued_of : Edn → Option Action
-queued_of x = option_and_then queued_said (elements_of x)
+abbrev pub handled_of : Version → Edn → Option Handled
+handled_of version x = option_and_then (handled_said version) (elements_of x)
+
+-- [F [ARG ..]], and in version 3 [F [ARG ..] [CARRY ..]]
+abbrev pub queued_of : Version → Edn → Option Action
+queued_of version x = option_and_then (action_said version) (elements_of x)
 
 -- whether an agent is failed
 abbrev pub status_said : List ℕ → Option Bool
@@ -210,12 +250,13 @@ agent_with start value (Some handled) (Some queue) (Some failed) (Some rule) = S
 agent_with start value handled queue failed rule = None
 
 -- [START HANDLED QUEUE VALUE STATUS RULE]
-abbrev pub agent_said : List Edn → Option KeptAgent
-agent_said (start ∷ handled ∷ queue ∷ value ∷ status ∷ rule ∷ []) = agent_with start value (list_said handled_of handled) (list_said queued_of queue) (status_of status) (rule_of any rule)
-agent_said xs = None
+abbrev pub agent_said : Version → List Edn → Option KeptAgent
+agent_said version (start ∷ handled ∷ queue ∷ value ∷ status ∷ rule ∷ []) =
+    agent_with start value (list_said (handled_of version) handled) (list_said (queued_of version) queue) (status_of status) (rule_of any rule)
+agent_said version xs = None
 
-abbrev pub agent_of : Edn → Option KeptAgent
-agent_of x = option_and_then agent_said (elements_of x)
+abbrev pub agent_of : Version → Edn → Option KeptAgent
+agent_of version x = option_and_then (agent_said version) (elements_of x)
 
 -- ---- the map
 
@@ -228,6 +269,7 @@ books_with commits added taken = None
 abbrev pub folded_said : Version → List Edn → Option (ℕ × ℕ × ℕ)
 folded_said One (commits ∷ added ∷ []) = books_with (number_of commits) (number_of added) (Some 0)
 folded_said Two (commits ∷ added ∷ taken ∷ []) = books_with (number_of commits) (number_of added) (number_of taken)
+folded_said Three (commits ∷ added ∷ taken ∷ []) = books_with (number_of commits) (number_of added) (number_of taken)
 folded_said version xs = None
 
 abbrev pub folded_of : Version → Edn → Option (ℕ × ℕ × ℕ)
@@ -254,9 +296,22 @@ key_word keys.Refs = refs_key
 key_word keys.Taken = taken_key
 key_word keys.Tally = tally_key
 
--- The version whose keys a map can have: only one of version 2 has a book of what was taken.
+abbrev pub version_number : Version → ℕ
+version_number One = 1
+version_number Two = 2
+version_number Three = 3
+
+-- whether a value is the number of a version
+abbrev pub is_version : Version → Option Edn → Bool
+is_version version (Some (int (pos n))) = n == version_number version
+is_version version x = false
+
+-- The version that a map can have by its keys: one of version 1 has no book of what was taken. Those of versions 2 and 3 have the same
+-- keys, and it is of version 3 where it says so.
 abbrev pub version_of : List (Edn × Edn) → Version
-version_of es = if is_some (under es taken_key) then Two else One
+version_of es =
+    if is_some (under es taken_key) then (if is_version Three (under es dump_key) then Three else Two) else
+    One
 
 -- Each key is one of these, and each of these is there.
 abbrev pub are_keys : List (List ℕ) → List (Edn × Edn) → Bool
@@ -291,12 +346,13 @@ base_with point refs atoms tally folded = record {
 abbrev pub taken_said : Version → List (Edn × Edn) → Result ℕ DumpFault
 taken_said One es = Ok 0
 taken_said Two es = part_said es keys.Taken number_of
+taken_said Three es = part_said es keys.Taken number_of
 
 -- What the parts say, read in the order of their keys, and the entries last. Of entries there are at most 2^62, as of points.
 abbrev pub parts_said : Version → List (Edn × Edn) → Result Dump DumpFault
 parts_said version es =
     and_then (part_said es keys.Added number_of) (λ added.
-    and_then (part_said es keys.Agents (list_said agent_of)) (λ agents.
+    and_then (part_said es keys.Agents (list_said (agent_of version))) (λ agents.
     and_then (part_said es keys.Atoms (values_said kept_of)) (λ atoms.
     and_then (part_said es keys.BaseAtoms (values_said Some)) (λ base_atoms.
     and_then (part_said es keys.BaseRefs (values_said changed_of)) (λ base_refs.
@@ -307,7 +363,7 @@ parts_said version es =
     and_then (part_said es keys.Refs (values_said kept_of)) (λ refs.
     and_then (taken_said version es) (λ taken.
     and_then (part_said es keys.Tally tally_of) (λ tally.
-    and_then (entries_from 1 forms) (λ entries.
+    and_then (entries_from version 1 forms) (λ entries.
     Ok (record {
       version = version;
       base = base_with point base_refs base_atoms tally folded;
@@ -319,15 +375,6 @@ parts_said version es =
       added = added;
       taken = taken;
     }))))))))))))))
-
-abbrev pub version_number : Version → ℕ
-version_number One = 1
-version_number Two = 2
-
--- whether a value is the number of a version
-abbrev pub is_version : Version → Option Edn → Bool
-is_version version (Some (int (pos n))) = n == version_number version
-is_version version x = false
 
 -- why entries are those of no dump, as far as it is known from their keys and the version
 abbrev pub misfit : List (Edn × Edn) → Option DumpFault

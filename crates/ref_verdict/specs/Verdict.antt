@@ -7,11 +7,11 @@
 --   RefRule N    the rule of ref N doesn't accept its value now; AtomRule N and AgentRule N likewise
 --   Fold N       the start of agent N, folded over its done actions, isn't its state, or a done action refuses
 --   Count        the books aren't those up to the base and what the entries add to them, or an entry changes the tally in
---                another way than by adding to it and, in version 2, taking from it
+--                another way than by adding to it and, but in version 1, taking from it
 --   Ok           none of these
 --
--- Entries are replayed in order on the base, their operations in order. Stamps, read points, sends, the points of last changes,
--- statuses, and the marks of actions that weren't done aren't asked.
+-- Entries are replayed in order on the base, their operations in order. Stamps, read points, sends, what actions carry, the points of
+-- last changes, statuses, and the marks of actions that weren't done aren't asked.
 use Rattle.std.specs.Prelude.{ℕ, ◌+◌, ◌==◌, ◌&&◌, ◌||◌, Bool, false, true, not, if◌then◌else◌, List, [], ◌∷◌, map, option_map, unwrap_or, Option, None, Some, Result, Ok, Err}
 use Rattle.std.specs.List.{list_all, position_from}
 use Rattle.std.specs.Option.{option_or}
@@ -36,7 +36,7 @@ use Rattle.ref_verdict.specs.declared.reading.dumps.Dump.{Dump}
 use Rattle.ref_verdict.specs.declared.reading.dumps.Kept.{Kept}
 use Rattle.ref_verdict.specs.declared.reading.dumps.KeptAgent.{KeptAgent}
 use Rattle.ref_verdict.specs.declared.reading.dumps.Version.{Version}
-use Rattle.ref_verdict.specs.declared.reading.dumps.Version.TheVariants.{One, Two}
+use Rattle.ref_verdict.specs.declared.reading.dumps.Version.TheVariants.{One, Two, Three}
 use Rattle.ref_verdict.specs.declared.reading.faults.DumpFault.{DumpFault}
 use Rattle.ref_verdict.specs.declared.reports.Verdict.{Verdict}
 use Rattle.ref_verdict.specs.declared.reports.Verdict.TheVariants as verdicts
@@ -70,6 +70,7 @@ breaks_fold agent = not (is_value agent.value (after_handled core_means agent.ha
 abbrev pub fits_version : Version → Op → Bool
 fits_version One op = fits_side Added op
 fits_version Two op = fits_tally op
+fits_version Three op = fits_tally op
 
 abbrev pub fit_version : Version → Option ℕ → List Done → Bool
 fit_version version tally ds = list_all (λ d. not (is_tally tally d.r) || fits_version version d.op) ds

@@ -1,12 +1,13 @@
 -- The words of dumps, and the forms that stand in more than one place of a dump. Keys, tags, marks and statuses are keywords;
 -- each stands here without its colon.
-use Rattle.std.specs.Prelude.{ℕ, pos, List, [], ◌∷◌, Option, None, Some, codes}
+use Rattle.std.specs.Prelude.{ℕ, pos, List, [], ◌∷◌, map, Option, None, Some, codes}
 use Rattle.ref_value.specs.Edn.{Edn, nil, int, symbol, vector, items_of}
 use Rattle.ref_fun.specs.Names.{core_names, name_in}
 use Rattle.ref_fun.specs.declared.actions.Action.{Action}
+use Rattle.ref_fun.specs.declared.carries.Carry.{Carry}
 use Rattle.ref_fun.specs.declared.rules.Rule.{Rule}
 use Rattle.ref_verdict.specs.declared.reading.dumps.Version.{Version}
-use Rattle.ref_verdict.specs.declared.reading.dumps.Version.TheVariants.{One, Two}
+use Rattle.ref_verdict.specs.declared.reading.dumps.Version.TheVariants.{One, Two, Three}
 
 -- ---- the keys of the map
 
@@ -49,14 +50,19 @@ taken_key = codes "taken"
 abbrev pub tally_key : List ℕ
 tally_key = codes "tally"
 
+-- those of versions 2 and 3, in value order
+abbrev pub later_keys : List (List ℕ)
+later_keys =
+    added_key ∷ agents_key ∷ atoms_key ∷ base_atoms_key ∷ base_refs_key ∷ commits_key
+    ∷ dump_key ∷ entries_key ∷ folded_key ∷ point_key ∷ refs_key ∷ taken_key ∷ tally_key ∷ []
+
 -- those of a version, in value order
 abbrev pub keys_of : Version → List (List ℕ)
 keys_of One =
     added_key ∷ agents_key ∷ atoms_key ∷ base_atoms_key ∷ base_refs_key ∷ commits_key
     ∷ dump_key ∷ entries_key ∷ folded_key ∷ point_key ∷ refs_key ∷ tally_key ∷ []
-keys_of Two =
-    added_key ∷ agents_key ∷ atoms_key ∷ base_atoms_key ∷ base_refs_key ∷ commits_key
-    ∷ dump_key ∷ entries_key ∷ folded_key ∷ point_key ∷ refs_key ∷ taken_key ∷ tally_key ∷ []
+keys_of Two = later_keys
+keys_of Three = later_keys
 
 -- ---- what an entry begins with
 
@@ -123,9 +129,16 @@ named None = nil
 abbrev pub name_form : ℕ → Edn
 name_form code = named (name_in core_names code)
 
--- [F [ARG ..]] in a list of more
+-- [G F [ARG ..]]: a send that an action carries
+abbrev pub carry_form : Carry → Edn
+carry_form c = vector_form (number_form c.g ∷ name_form c.code ∷ vector_form c.args ∷ [])
+
+abbrev pub carries_form : List Carry → Edn
+carries_form carries = vector_form (map carry_form carries)
+
+-- F [ARG ..] [CARRY ..]
 abbrev pub action_forms : Action → List Edn
-action_forms action = name_form action.code ∷ vector_form action.args ∷ []
+action_forms action = name_form action.code ∷ vector_form action.args ∷ carries_form action.carries ∷ []
 
 -- [P ARG ..], or nil where there is no rule
 abbrev pub rule_form : Option Rule → Edn

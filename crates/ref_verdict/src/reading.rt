@@ -8,6 +8,7 @@ ghost use Rattle.ref_verdict.specs.OfCore.{IsOfCore};
 ghost use Rattle.ref_verdict.specs.Reading.{Told};
 ghost use Rattle.ref_verdict.specs.declared.reading.faults.DumpFault.TheVariants.{Memory};
 
+pub(crate) mod actions;
 pub mod dumps;
 pub(crate) mod entries;
 pub mod faults;
@@ -63,18 +64,18 @@ fn parts_in(alloc: Global, version: Version, entries: &Entries) -> Result<Dump, 
     ensures points { IfOk result (λ dump. point_after dump.base dump.entries < 2 ^ 64) }
 {
     let added = number_part(entries, Key::Added)?;
-    let agents = list_part(alloc, entries, Key::Agents)?;
-    let atoms = values_part(alloc, entries, Key::Atoms)?;
-    let base_atoms = values_part(alloc, entries, Key::BaseAtoms)?;
-    let base_refs = values_part(alloc, entries, Key::BaseRefs)?;
+    let agents = list_part(alloc, version, entries, Key::Agents)?;
+    let atoms = values_part(alloc, version, entries, Key::Atoms)?;
+    let base_atoms = values_part(alloc, version, entries, Key::BaseAtoms)?;
+    let base_refs = values_part(alloc, version, entries, Key::BaseRefs)?;
     let commits = number_part(entries, Key::Commits)?;
     let forms = entry_forms(entries)?;
     let folded = folded_part(version, entries)?;
     let point = number_part(entries, Key::Point)?;
-    let refs = values_part(alloc, entries, Key::Refs)?;
+    let refs = values_part(alloc, version, entries, Key::Refs)?;
     let taken = taken_part(version, entries)?;
     let tally = tally_part(entries)?;
-    let entries = entries_in(alloc, forms)?;
+    let entries = entries_in(alloc, version, forms)?;
     let base = base_of(alloc, point, &base_refs, base_atoms, tally, folded)?;
     Ok(Dump {
         version,

@@ -8,15 +8,10 @@ use denote.Param.SendFields.{declared_send, declared_sync, variants_send, varian
 use Rattle.std.proofs.Crossing as std
 use Rattle.std.specs.declared.sync.ledger.Ledger as Ledger
 use Rattle.ref_value.proofs.data.Value.TheLaws.TheKnot as knot
-use Rattle.ref_value.specs.contracts.data.Value as Value
-use Rattle.ref_fun.specs.contracts.actions.Action as Action
-use Rattle.ref_fun.specs.contracts.arguments.Args as Args
-use Rattle.ref_fun.specs.contracts.rules.Rule as Rule
-use Rattle.ref_log.proofs.lists.SharedVec.TheSendSync as lists
-use Rattle.ref_log.specs.contracts.operations.Op as Op
-use Rattle.ref_log.specs.contracts.sends.Sent as Sent
+use Rattle.ref_fun.proofs.lists.SharedVec.TheSendSync as lists
 use Rattle.ref_audit.specs.contracts.reports.Reason as Reason
 use Rattle.ref_audit.specs.contracts.reports.Refusal as Refusal
+use Rattle.ref_world.proofs.Crossing.{action_send, action_sync, op_send, op_sync, rule_send, rule_sync, sent_send, sent_sync, value_send, value_sync}
 use Rattle.ref_shared.proofs.Crossing.{crosses as shared_crosses}
 use Rattle.ref_plan.specs.contracts.plans.PlannedOp as PlannedOp
 use Rattle.ref_plan.specs.contracts.plans.Step as Step
@@ -28,60 +23,6 @@ use Rattle.ref_workload.specs.contracts.running.workers.Run as Run
 ruleset plain = (std.crosses, knot.crosses, sendable)
 
 -- ---- plans
-
-value_send : IsSend Value.the_row
-value_send = search plain depth 60
-
-value_sync : IsSync Value.the_row
-value_sync = search plain depth 60
-
-args_send : IsSend Args.the_row
-args_send = search (value_send, plain) depth 60
-
-args_sync : IsSync Args.the_row
-args_sync = search (value_sync, value_send, plain) depth 60
-
-op_send : IsSend Op.the_row
-op_send = variants_send Op.enum (
-  (value_send, tt),
-  (
-    (search plain depth 60, (args_send, tt)),
-    (
-      (search plain depth 60, (args_send, tt)),
-      (tt, tt),
-    ),
-  ),
-)
-
-op_sync : IsSync Op.the_row
-op_sync = variants_sync Op.enum (
-  (value_sync, tt),
-  (
-    (search plain depth 60, (args_sync, tt)),
-    (
-      (search plain depth 60, (args_sync, tt)),
-      (tt, tt),
-    ),
-  ),
-)
-
-action_send : IsSend Action.the_row
-action_send = declared_send Action.the_type (search plain depth 60, (args_send, tt))
-
-action_sync : IsSync Action.the_row
-action_sync = declared_sync Action.the_type (search plain depth 60, (args_sync, tt))
-
-sent_send : IsSend Sent.the_row
-sent_send = declared_send Sent.the_type (search plain depth 60, (action_send, tt))
-
-sent_sync : IsSync Sent.the_row
-sent_sync = declared_sync Sent.the_type (search plain depth 60, (action_sync, tt))
-
-rule_send : IsSend Rule.the_row
-rule_send = declared_send Rule.the_type (search plain depth 60, (args_send, tt))
-
-rule_sync : IsSync Rule.the_row
-rule_sync = declared_sync Rule.the_type (search plain depth 60, (args_sync, tt))
 
 planned_send : IsSend PlannedOp.the_row
 planned_send = variants_send PlannedOp.enum (

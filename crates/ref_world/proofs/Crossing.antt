@@ -3,17 +3,22 @@
 -- `search` alone finds no proof of it: an enum of four variants and a struct of some fields are beyond its steps. So each type's fact
 -- stands on those of its fields, in the order of the crates below.
 use denote.RattleType.{RattleType}
-use denote.Param.Send.{IsSend, IsSync, sendable, view_send}
+use denote.Param.Send.{IsSend, IsSync, sendable, view_send, view_sync}
 use denote.Param.SendFields.{declared_send, declared_sync, variants_send, variants_sync}
 use Rattle.std.proofs.Crossing.{crosses, Arc-send}
 use Rattle.std.proofs.MapsCrossingOver as over
 use Rattle.std.specs.declared.sync.ledger.Ledger as Ledger
 use Rattle.ref_value.proofs.data.Value.TheLaws.TheKnot as knot
-use Rattle.ref_log.proofs.lists.SharedVec.TheSendSync as lists
+use Rattle.ref_fun.proofs.lists.SharedVec.TheSendSync as lists
 use Rattle.ref_pmap.proofs.Crossing.{numbered_send}
 use Rattle.ref_pvec.proofs.Crossing.{vector_send}
 use Rattle.ref_value.specs.contracts.data.Value as Value
+use Rattle.ref_fun.specs.contracts.actions.Action as Action
 use Rattle.ref_fun.specs.contracts.arguments.Args as Args
+use Rattle.ref_fun.specs.contracts.arguments.Args.TheInside as InArgs
+use Rattle.ref_fun.specs.contracts.carries.Carries as Carries
+use Rattle.ref_fun.specs.contracts.carries.Carries.TheInside as InCarries
+use Rattle.ref_fun.specs.contracts.carries.Carry as Carry
 use Rattle.ref_fun.specs.declared.meanings.Meaning as Meaning
 use Rattle.ref_log.specs.contracts.operations.Op as Op
 use Rattle.ref_log.specs.contracts.operations.Done as Done
@@ -55,19 +60,37 @@ use Rattle.ref_world.specs.contracts.worlds.World.TheInside as InWorld
 
 ruleset plain = (crosses, knot.crosses, sendable)
 
-value_send : IsSend Value.the_row
+pub value_send : IsSend Value.the_row
 value_send = search plain depth 60
 
-value_sync : IsSync Value.the_row
+pub value_sync : IsSync Value.the_row
 value_sync = search plain depth 60
 
-args_send : IsSend Args.the_row
-args_send = search (value_send, plain) depth 60
+pub args_send : IsSend Args.the_row
+args_send = view_send _ _ _ _ _ (declared_send InArgs.the_type (search (value_send, value_sync, lists.the_send, plain) depth 60, tt))
 
-args_sync : IsSync Args.the_row
-args_sync = search (value_sync, value_send, plain) depth 60
+pub args_sync : IsSync Args.the_row
+args_sync = view_sync _ _ _ _ _ (declared_sync InArgs.the_type (search (value_sync, value_send, lists.the_sync, plain) depth 60, tt))
 
-op_send : IsSend Op.the_row
+carry_send : IsSend Carry.the_row
+carry_send = declared_send Carry.the_type (search plain depth 60, (search plain depth 60, (args_send, tt)))
+
+carry_sync : IsSync Carry.the_row
+carry_sync = declared_sync Carry.the_type (search plain depth 60, (search plain depth 60, (args_sync, tt)))
+
+carries_send : IsSend Carries.the_row
+carries_send = view_send _ _ _ _ _ (declared_send InCarries.the_type (search (carry_send, carry_sync, lists.the_send, plain) depth 60, tt))
+
+carries_sync : IsSync Carries.the_row
+carries_sync = view_sync _ _ _ _ _ (declared_sync InCarries.the_type (search (carry_sync, carry_send, lists.the_sync, plain) depth 60, tt))
+
+pub action_send : IsSend Action.the_row
+action_send = declared_send Action.the_type (search plain depth 60, (args_send, (carries_send, tt)))
+
+pub action_sync : IsSync Action.the_row
+action_sync = declared_sync Action.the_type (search plain depth 60, (args_sync, (carries_sync, tt)))
+
+pub op_send : IsSend Op.the_row
 op_send = variants_send Op.enum (
   (value_send, tt),
   (
@@ -82,7 +105,7 @@ op_send = variants_send Op.enum (
   ),
 )
 
-op_sync : IsSync Op.the_row
+pub op_sync : IsSync Op.the_row
 op_sync = variants_sync Op.enum (
   (value_sync, tt),
   (
@@ -103,11 +126,11 @@ done_send = declared_send Done.the_type (search plain depth 60, (op_send, (value
 done_sync : IsSync Done.the_row
 done_sync = declared_sync Done.the_type (search plain depth 60, (op_sync, (value_sync, tt)))
 
-sent_send : IsSend Sent.the_row
-sent_send = search (args_send, plain) depth 60
+pub sent_send : IsSend Sent.the_row
+sent_send = declared_send Sent.the_type (search plain depth 60, (action_send, tt))
 
-sent_sync : IsSync Sent.the_row
-sent_sync = search (args_sync, plain) depth 60
+pub sent_sync : IsSync Sent.the_row
+sent_sync = declared_sync Sent.the_type (search plain depth 60, (action_sync, tt))
 
 stamp_send : IsSend Stamp.the_row
 stamp_send = search plain depth 60
@@ -166,8 +189,11 @@ entry_send = variants_send Entry.enum (
 receipt_send : IsSend LogReceipt.the_row
 receipt_send = declared_send LogReceipt.the_type (search plain depth 60, (entry_send, tt))
 
-rule_send : IsSend Rule.the_row
+pub rule_send : IsSend Rule.the_row
 rule_send = declared_send Rule.the_type (search plain depth 60, (args_send, tt))
+
+pub rule_sync : IsSync Rule.the_row
+rule_sync = declared_sync Rule.the_type (search plain depth 60, (args_sync, tt))
 
 watches_send : IsSend Watches.the_row
 watches_send = view_send _ _ _ _ _ (declared_send InWatches.the_type (search (value_send, plain) depth 60, tt))
@@ -209,10 +235,10 @@ base_sync = declared_sync Base.the_type (
 )
 
 queued_send : IsSend Queued.the_row
-queued_send = search plain depth 60
+queued_send = declared_send Queued.the_type (action_send, (search plain depth 60, tt))
 
 handled_send : IsSend Handled.the_row
-handled_send = search (value_send, plain) depth 60
+handled_send = declared_send Handled.the_type (action_send, (search plain depth 60, tt))
 
 account_send : IsSend Account.the_row
 account_send = search (value_send, handled_send, queued_send, plain) depth 60

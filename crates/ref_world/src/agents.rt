@@ -3,7 +3,7 @@ ghost use Rattle.ref_log.specs.Told.{TellsThenMemory};
 ghost use Rattle.std.specs.Prelude.{◌≡◌, ◌≢◌, ℕ, true, false, None, Some, IfOk, IfErr, IfSome, OnErr, OnOk, length, option_copied, slice_get};
 ghost use Rattle.ref_agents.specs.Account.{has_point};
 ghost use Rattle.ref_agents.specs.Agents as agents;
-ghost use Rattle.ref_agents.specs.Agents.{AreAgents, account_at, error_at, is_ready_at, job_out, next_job, outside, send_refusal};
+ghost use Rattle.ref_agents.specs.Agents.{AreAgents, account_at, error_at, is_carrying_at, is_ready_at, job_out, next_job, outside, send_refusal};
 ghost use Rattle.ref_agents.specs.Ends.{IsAnswerOf, lacking, restart_refusal, with_finish};
 ghost use Rattle.ref_agents.specs.Make as makes;
 ghost use Rattle.ref_agents.specs.declared.faults.FinishFault.TheVariants as finishes;
@@ -47,10 +47,10 @@ impl<M: Meaning, C: Ledger, A: Ledger, K: Ledger> World<M, C, A, K> {
     }
 
     /// Sends an action to an agent, as Clojure's `send` outside of a transaction: it waits behind the others, and may be taken at
-    /// once. A failed agent takes none. Whether a table has its function is asked where it is run. A refused call changes
-    /// nothing.
+    /// once. A failed agent takes none. The agents that it carries sends to have to be here. Whether a table has a function is asked
+    /// where it is run. A refused call changes nothing.
     pub fn send(&mut self, alloc: Global, g: u32, action: Action) -> Result<(), SendFault>
-        ensures refused { TellsThenMemory sends.Memory (send_refusal self.old.agents.agents g) result }
+        ensures refused { TellsThenMemory sends.Memory (send_refusal self.old.agents.agents g action) result }
         ensures sends { OnOk result (self.new
             ≡ with_agents self.old
             (agents.with_agents self.old.agents (agents.with_send self.old.agents.agents g (outside action)))) }
@@ -69,8 +69,18 @@ impl<M: Meaning, C: Ledger, A: Ledger, K: Ledger> World<M, C, A, K> {
         self.agents.release(point)
     }
 
-    /// Returns the first action of some agent that is ready: one that isn't failed, of which no job is on its way, and whose
-    /// first action is released. None only where no agent is ready. The action stays in the queue. The time is linear in the
+    /// Lets be taken what the last handled action of an agent carried, which is for when its notices were delivered, and answers
+    /// whether it carried anything that wasn't released, even if all of it was dropped meanwhile. It takes no memory. For each send
+    /// it walks back over what that agent was sent since.
+    pub fn release_carried(&mut self, g: u32) -> bool
+        ensures was { result ≡ is_carrying_at self.old.agents.agents g }
+        ensures releases { self.new ≡ with_agents self.old (agents.with_carried_released self.old.agents g) }
+    {
+        self.agents.release_carried(g)
+    }
+
+    /// Returns the first action of some agent that is ready: one that isn't failed, of which no job is on its way, whose last action
+    /// carried nothing that isn't released, and whose first action is released. None only where no agent is ready. The action stays in the queue. The time is linear in the
     /// number of agents with actions that wait which have to be looked at. A refused call changes nothing.
     pub fn take(&mut self) -> Result<Option<Job>, AllocError>
         ensures ready { IfOk result (λ found. IfSome found (λ job. is_ready_at self.old.agents job.agent ≡ true)) }
@@ -99,8 +109,9 @@ impl<M: Meaning, C: Ledger, A: Ledger, K: Ledger> World<M, C, A, K> {
     }
 
     /// Ends a job that has run, exactly where it is on its way here. Where the function gave a value that the agent's rule
-    /// accepts, that is the state from now on. Else the state stays, and the agent is failed or goes on, by its error mode.
-    /// The action leaves the queue. The time is linear in the sizes of its arguments and its state, which are compared, and
+    /// accepts, that is the state from now on, and what the action carries is added to its queues, in order: it is held until
+    /// `release_carried`, and so long the agent isn't ready. Else the state stays, the agent is failed or goes on, by its error
+    /// mode, and nothing goes out. The action leaves the queue. The time is linear in the sizes of its arguments and its state, which are compared, and
     /// in the number of watches. A refused call changes nothing, and returns the job.
     pub fn finish<F: Functions<M>>(
         &mut self,

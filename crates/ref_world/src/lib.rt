@@ -7,7 +7,8 @@
 //! [`World::begin`] returns a transaction and [`World::commit_with`] commits it; [`World::swap`], [`World::reset`] and
 //! [`World::compare_and_set`] change an atom; [`World::make_ref`] and [`World::make_atom`] make a reference. Each of these changes adds
 //! one entry at the next point, also where all values stay; a comparison that answers false adds none. Agents have no entries: what is
-//! sent waits in a queue, where a commit's sends are held until [`World::release`], which is for when its watches were called.
+//! sent waits in a queue, where a commit's sends are held until [`World::release`], which is for when its watches were called. So is what
+//! an action carried, until [`World::release_carried`].
 //! [`World::take`] returns a job, which is run without the world and comes back to [`World::finish`] or [`World::put_back`].
 //!
 //! | Type | Is |

@@ -97,7 +97,7 @@ pub(crate) fn arguments<R: AllocGlobal + Env>(rt: &R) -> io::Result<Vec<String>>
     Ok(std::env::args(rt)?.collect(rt.alloc())?)
 }
 
-/// The version of workloads and of lists of events, as `--version` prints it.
+/// The newest version of workloads, as `--version` prints it.
 pub(crate) fn version(alloc: Global) -> Result<String, AllocError> {
     format!(in alloc; "format {FORMAT_VERSION}")
 }

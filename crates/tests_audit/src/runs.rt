@@ -2,7 +2,7 @@
 ghost use Rattle.std.specs.Prelude.{◌≡◌};
 ghost use Rattle.ref_world.specs.Shares.{IsBlank};
 
-use crate::values::{action_of, args_of, value_of};
+use crate::values::{action_of, args_of, carrying_of, value_of};
 use ref_agents::ErrorMode;
 use ref_audit::{
     DumpMakeFault, Names, Refusal, Verdict, audit_own_dump, audit_world, dump, report,
@@ -45,7 +45,12 @@ pub(crate) enum Call<'a> {
     Commute(u32, u32, &'a str),
     Ensure(u32),
     Send(u32, u32, &'a str),
+    /// With what the action carries.
+    SendCarry(u32, u32, &'a str, &'a [Carried<'a>]),
 }
+
+/// A send that an action carries: the agent's number, the function's code, and the arguments.
+pub(crate) type Carried<'a> = (u32, u32, &'a str);
 
 #[derive(Clone, Copy, Drop)]
 pub(crate) enum Step<'a> {
@@ -54,8 +59,12 @@ pub(crate) enum Step<'a> {
     Swap(u32, u32, &'a str),
     Reset(u32, &'a str),
     Send(u32, u32, &'a str),
+    /// With what the action carries.
+    SendCarry(u32, u32, &'a str, &'a [Carried<'a>]),
     /// The commit at this point is released.
     Release(u64),
+    /// What the last action of this agent carried is released.
+    ReleaseCarried(u32),
     /// The action of some agent is taken, run and finished.
     Act,
     /// The entries up to this point are folded.
@@ -204,6 +213,18 @@ fn take_step<C: Ledger, A: Ledger, K: Ledger>(
             world.send(alloc, *g, action)?;
             Ok(())
         }
+        Step::SendCarry(g, code, args, carried) => {
+            let action = carrying_of(alloc, *code, args, carried)?;
+            world.send(alloc, *g, action)?;
+            Ok(())
+        }
+        Step::ReleaseCarried(g) => {
+            if world.release_carried(*g) {
+                Ok(())
+            } else {
+                Err(Fail::new("nothing that was carried is released"))
+            }
+        }
         Step::Release(point) => {
             if world.release(*point) {
                 Ok(())
@@ -258,7 +279,10 @@ fn make_call(
             tx.ensure(alloc, *r)?;
         }
         Call::Send(g, code, args) => {
-            tx.send(alloc, funs, *g, *code, args_of(alloc, args)?)?;
+            tx.send(alloc, funs, *g, action_of(alloc, *code, args)?)?;
+        }
+        Call::SendCarry(g, code, args, carried) => {
+            tx.send(alloc, funs, *g, carrying_of(alloc, *code, args, carried)?)?;
         }
     }
     Ok(())

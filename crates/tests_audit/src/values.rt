@@ -1,6 +1,6 @@
 //! Values, arguments and actions, as texts say them.
 use ref_edn::{Node, Value, read_one};
-use ref_fun::{Action, Args, MOST_ARGUMENTS};
+use ref_fun::{Action, Args, Carries, Carry, MOST_ARGUMENTS, MOST_CARRIES};
 use std::alloc::Global;
 use std::test::Fail;
 
@@ -27,8 +27,30 @@ pub fn args_of(alloc: Global, text: &str) -> Result<Args, Fail> {
 
 /// The action of a function by its code, with the arguments that a vector has.
 pub fn action_of(alloc: Global, code: u32, args: &str) -> Result<Action, Fail> {
+    Ok(Action::new(code, args_of(alloc, args)?))
+}
+
+/// The same with at most 8 sends that it carries, each an agent's number, a code and arguments.
+pub fn carrying_of(
+    alloc: Global,
+    code: u32,
+    args: &str,
+    carried: &[(u32, u32, &str)],
+) -> Result<Action, Fail> {
+    let mut carries = Vec::new(alloc);
+    for (g, code, args) in carried {
+        carries.push(Carry {
+            g: *g,
+            code: *code,
+            args: args_of(alloc, args)?,
+        })?;
+    }
+    if carries.len() > MOST_CARRIES {
+        return Err(Fail::new("at most 8 carried sends"));
+    }
     Ok(Action {
         code,
         args: args_of(alloc, args)?,
+        carries: Carries::of(alloc, carries)?,
     })
 }

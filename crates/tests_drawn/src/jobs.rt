@@ -1,18 +1,18 @@
 //! The calls of agents, each on a world and on its model.
 use crate::sides::Side;
 use ref_agents::{FinishFault, Finished, Job, ModeFault, Ran, RestartFault, SendFault};
-use ref_fun::{Action, Core};
+use ref_fun::Core;
 use std::sync::ledger::Ledger;
 use tests_plain::agents::Ended;
 use tests_plain::held::{
     Hand, Held, Slip, count_finished, count_foreign, finish_number, forsake, into_job, is_same_end,
     run,
 };
-use tests_plain::making::{args_from, value_from};
+use tests_plain::making::{action_from, value_from};
 use tests_plain::memory::Memory;
 use tests_plain::model::{Kind, Model};
 use tests_plain::outcomes::{Played, Row, Stop};
-use tests_plain::plain::{Plain, PlainCall};
+use tests_plain::plain::{Plain, PlainAction};
 use tests_plain::player::Player;
 use tests_plain::shows::Shows;
 use tests_plain::tables::Table;
@@ -118,7 +118,8 @@ fn compare_finish<C: Ledger, A: Ledger, K: Ledger, M: Memory>(
 ) -> Played {
     let wanted = side.model.finish(table, slip.job, ended)?;
     if let Ok(finished) = &wanted {
-        count_finished(player, finished, side.number == slip.home);
+        let carries = !slip.job.action.carries.is_empty();
+        count_finished(player, finished, side.number == slip.home, carries);
     }
     player.told(is_same_end(seen, &wanted, slip), finish_number(&wanted))
 }
@@ -189,11 +190,11 @@ fn sent<C: Ledger, A: Ledger, K: Ledger, M: Memory>(
     player: &mut Player<M>,
     side: &mut Side<C, A, K>,
     g: u32,
-    call: PlainCall,
+    action: PlainAction,
 ) -> Result<(), SendFault> {
-    let (code, args) = (call.code, args_from(player.alloc, call.given)?);
+    let action = action_from(player.alloc, action)?;
     player.memory.begin();
-    let seen = side.world.send(player.alloc, g, Action { code, args });
+    let seen = side.world.send(player.alloc, g, action);
     player.memory.end();
     seen
 }
@@ -204,12 +205,12 @@ fn send<C: Ledger, A: Ledger, K: Ledger, M: Memory>(
 ) -> Played {
     player.calls(Row::Send);
     let g = player.draws.number(&side.model, Kind::Agent);
-    let call = player.draws.action();
-    let seen = sent(player, side, g, call);
+    let action = player.draws.action();
+    let seen = sent(player, side, g, action);
     if player.refuses(seen == Err(SendFault::Memory)) {
         return Ok(());
     }
-    let wanted = side.model.send(g, call)?;
+    let wanted = side.model.send(g, action)?;
     let number = match wanted {
         Ok(()) => 0,
         Err(fault) => fault.number(),
@@ -237,6 +238,19 @@ fn release<C: Ledger, A: Ledger, K: Ledger, M: Memory>(
     let waits = side.model.has_queued(point);
     let wanted = side.model.release(point);
     player.told(seen == wanted, release_number(wanted, waits))
+}
+
+fn release_carried<C: Ledger, A: Ledger, K: Ledger, M: Memory>(
+    player: &mut Player<M>,
+    side: &mut Side<C, A, K>,
+) -> Played {
+    player.calls(Row::ReleaseCarried);
+    let g = player.draws.carrying(&side.model);
+    player.memory.begin();
+    let seen = side.world.release_carried(g);
+    player.memory.end();
+    let wanted = side.model.release_carried(g);
+    player.told(seen == wanted, if wanted { 0 } else { 1 })
 }
 
 fn restarted<C: Ledger, A: Ledger, K: Ledger, M: Memory>(
@@ -319,6 +333,8 @@ pub(crate) fn call_on_agents<C: Ledger, A: Ledger, K: Ledger, M: Memory>(
     let restarts = wants_restart(player, &side.model);
     match player.draws.below(12) {
         0..=3 if releases => release(player, side),
+        0 if side.model.first_carrying().is_some() => release_carried(player, side),
+        7 => release_carried(player, side),
         4..=6 if restarts => restart(player, side),
         8 => set_error_mode(player, side),
         _ => send(player, side),

@@ -35,6 +35,19 @@ const ROWS: &[(&str, PlayFault)] = &[
         "{:version 1 :refs [[a 0]] :events [[0 :alter a f]]}",
         PlayFault::Script(ScriptFault::UnknownFun(0)),
     ),
+    // An action that carries nothing, that carries to what is no agent, and that carries no function.
+    (
+        "{:version 1 :agents [[g 0]] :events [[0 :send-carry g [inc]]]}",
+        PlayFault::Script(ScriptFault::BadEvent(0)),
+    ),
+    (
+        "{:version 1 :refs [[a 0]] :agents [[g 0]] :events [[0 :begin] [0 :send-carry-in-tx g [inc] [g f] [a inc]]]}",
+        PlayFault::Script(ScriptFault::UnknownName(1)),
+    ),
+    (
+        "{:version 1 :agents [[g 0]] :events [[0 :begin] [0 :begin] [0 :send-carry g [inc] [g inc] [g f]]]}",
+        PlayFault::Script(ScriptFault::UnknownFun(2)),
+    ),
 ];
 
 #[test]

@@ -34,6 +34,17 @@ const PLAYS: &[(&str, &str)] = &[
          5 9 :take -> job 1 1\n6 9 :run -> ok\n7 9 :put-back -> ok\n8 9 :run -> no-job\n9 8 :take -> job 1 1\n\
          agent g 0 ready\nagent h 1 ready\ncommits 0\naudit ok\n",
     ),
+    // Each act with carried sends: in a transaction and outside of one, and their release.
+    (
+        "{:version 1 :agents [[g 0] [h 0]] :events [[0 :begin] [0 :send-carry-in-tx g [+ 1] [[:agent 1] + 10]] [0 :commit] \
+         [0 :release 1] [0 :send-carry h [+ 2] [g + 20] [h + 200]] [9 :take] [9 :run] [9 :finish] [8 :take] [8 :run] [8 :finish] \
+         [9 :take] [0 :release-carried h] [9 :take] [9 :put-back] [0 :release-carried [:agent 0]] [0 :release-carried g]]}",
+        "0 0 :begin -> point 0\n1 0 :send-carry-in-tx g [+ 1] [[:agent 1] + 10] -> ok\n2 0 :commit -> point 1\n\
+         3 0 :release 1 -> true\n4 0 :send-carry h [+ 2] [g + 20] [h + 200] -> ok\n5 9 :take -> job 0 0\n6 9 :run -> ok\n\
+         7 9 :finish -> changed\n8 8 :take -> job 1 0\n9 8 :run -> ok\n10 8 :finish -> changed\n11 9 :take -> none\n\
+         12 0 :release-carried h -> true\n13 9 :take -> none\n14 9 :put-back -> no-job\n15 0 :release-carried [:agent 0] -> true\n\
+         16 0 :release-carried g -> false\nagent g 1 ready\nagent h 2 ready\ncommits 1\naudit ok\n",
+    ),
     // Each act on atoms, with a watch, and a reference by its number.
     (
         "{:version 1 :atoms [[w 0] [x 1]] :events [[0 :add-watch x :k] [0 :swap x + 1 2] [0 :reset [:atom 1] 5] [0 :cas x 5 6] \

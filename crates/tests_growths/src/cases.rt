@@ -22,6 +22,7 @@ pub(crate) const FULL: &str = "
 /// each agent, a restart of each, and one more of each kind. Between them actions are run.
 pub(crate) const AFTER: &str = "
     [finish] [commit 1] [commit 2] [next] [acts] [releases] [acts]
+    [release-carried g] [release-carried h] [release-carried i] [acts] [release-carried g] [release-carried h] [release-carried i] [acts]
     [error g] [error h] [error i] [rule a] [rule b] [rule x] [rule g] [rule i] [changed a] [changed b] [changed c] [changed t]
     [begin 3] [3 set a 50] [3 set b 51] [3 set c 52] [3 commute t + 1] [commit 3] [swap x + 1] [swap y + 1]
     [restart h 1] [send g + 1] [send h + 1] [send i conj 9] [acts]
@@ -78,6 +79,8 @@ pub(crate) const DRAWN: &[&str] = &[
     "[send h - 100]",
     "[send i conj n]",
     "[send i + 1]",
+    "[send-carry i [conj n] [g + 1] [h + n]]",
+    "[release-carried i]",
     "[act]",
     "[act] [act] [act]",
     "[lose i]",
@@ -104,6 +107,18 @@ pub(crate) const DRAWN: &[&str] = &[
 
 // The only agent that is ready is i, which had the last turn.
 const ONE_READY: &str = "[finish] [acts] [send i conj n] [act] [send i conj n]";
+
+// The job of an action that sends on, one to its own agent, has run.
+const CARRYING: &str =
+    "[finish] [release-carried i] [acts] [send-carry i [conj n] [g + 1] [h + 2] [i conj n]] [run]";
+
+// Its agent is carrying.
+const CARRIED: &str =
+    "[finish] [release-carried i] [acts] [send-carry i [conj n] [g + 1] [h + 2] [i conj n]] [run] [finish]";
+
+// The only agent that is ready is i, with such an action.
+const CARRYING_READY: &str =
+    "[finish] [release-carried i] [acts] [send-carry i [conj n] [g + 1] [h + 2] [i conj n]]";
 
 impl Case {
     /// Whether the call is one on a world that threads share.
@@ -184,6 +199,11 @@ pub(crate) const CASES: &[Case] = &[
         call: Call::Row("[send i conj n]"),
     },
     Case {
+        name: "send, carrying",
+        before: "",
+        call: Call::Row("[send-carry i [conj n] [g + 1] [h + 2] [i conj n]]"),
+    },
+    Case {
         name: "release",
         before: "[begin 1] [1 send i conj 1] [commit 1]",
         call: Call::Row("[release p]"),
@@ -197,6 +217,16 @@ pub(crate) const CASES: &[Case] = &[
         name: "finish",
         before: "[send i conj n] [run]",
         call: Call::Row("[finish]"),
+    },
+    Case {
+        name: "finish, carrying",
+        before: CARRYING,
+        call: Call::Row("[finish]"),
+    },
+    Case {
+        name: "release_carried",
+        before: CARRIED,
+        call: Call::Row("[release-carried i]"),
     },
     Case {
         name: "restart",
@@ -259,6 +289,11 @@ pub(crate) const CASES: &[Case] = &[
     Case {
         name: "Shared::work_once, end",
         before: ONE_READY,
+        call: Call::Shared(SharedCall::End, "[act]"),
+    },
+    Case {
+        name: "Shared::work_once, end of what carries",
+        before: CARRYING_READY,
         call: Call::Shared(SharedCall::End, "[act]"),
     },
     Case {

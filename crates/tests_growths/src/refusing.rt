@@ -151,6 +151,13 @@ impl<'a, R: Input, C: Ledger, A: Ledger, K: Ledger> Subject for Refusing<'a, R, 
         answer
     }
 
+    fn release_carried(&mut self, g: u32) -> bool {
+        self.refuser.begin();
+        let answer = self.whole.release_carried(g);
+        self.refuser.end();
+        answer
+    }
+
     fn take(&mut self) -> Result<Option<Job>, AllocError> {
         self.refuser.begin();
         let answer = self.whole.take();

@@ -9,7 +9,7 @@ use crate::trials::{Plan, Trial};
 use ref_audit::dump;
 use ref_edn::Value;
 use ref_fun::codes::{CONJ, PLUS};
-use ref_fun::{Core, FunTable};
+use ref_fun::{Action, Core, FunTable};
 use ref_log::{Notice, Stamp};
 use ref_shared::{Gate, GatherFault, Shared, Spot, WatchSink, WorkFault, Worked};
 use ref_tx::{Tx, TxFault};
@@ -75,9 +75,24 @@ fn body(alloc: Global, funs: &FunTable, tx: &mut Tx<Core>) -> Result<(), TxFault
     let text = read(alloc, "5 1")?;
     let _ = tx.alter(alloc, funs, 0, PLUS, args_from(alloc, &text, 1)?)?;
     let _ = tx.commute(alloc, funs, 3, PLUS, args_from(alloc, &text, 1)?)?;
-    tx.send(alloc, funs, 0, PLUS, args_from(alloc, &text, 1)?)?;
-    tx.send(alloc, funs, 2, CONJ, args_from(alloc, &text, 1)?)?;
-    tx.send(alloc, funs, 0, PLUS, args_from(alloc, &text, 1)?)
+    tx.send(
+        alloc,
+        funs,
+        0,
+        Action::new(PLUS, args_from(alloc, &text, 1)?),
+    )?;
+    tx.send(
+        alloc,
+        funs,
+        2,
+        Action::new(CONJ, args_from(alloc, &text, 1)?),
+    )?;
+    tx.send(
+        alloc,
+        funs,
+        0,
+        Action::new(PLUS, args_from(alloc, &text, 1)?),
+    )
 }
 
 // What a call answered, and whether a request was refused.

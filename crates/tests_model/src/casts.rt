@@ -1,11 +1,12 @@
 //! Actors of the model, and the acts that are drawn for them.
 use crate::wanted::Wanted;
-use ref_fun::Action;
 use ref_play::Act;
 use std::alloc::{AllocError, Global};
 use tests_drawn::checkpoints::{answer, fold};
 use tests_plain::agents::{Ended, PlainJob, plain_run};
-use tests_plain::making::{any_rule_from, args_from, rule_from, value_and_rule_from, value_from};
+use tests_plain::making::{
+    action_from, any_rule_from, args_from, rule_from, value_and_rule_from, value_from,
+};
 use tests_plain::memory::Ample;
 use tests_plain::model::{Kind, Model, PlainStart};
 use tests_plain::outcomes::Stop;
@@ -104,10 +105,10 @@ fn operate(player: &mut Player<Ample>, actor: &mut Actor, table: Table, r: u32) 
 
 fn send_in_tx(player: &mut Player<Ample>, model: &Model, actor: &mut Actor, table: Table) -> Told {
     let g = player.draws.number(model, Kind::Agent);
-    let call = player.draws.action();
-    let act = Act::SendInTx(g, call.code, args_from(player.alloc, call.given)?);
+    let action = player.draws.action();
+    let act = Act::SendInTx(g, action_from(player.alloc, action)?);
     let wanted = match &mut actor.tx {
-        Some(tx) => Wanted::SendInTx(tx.send(table, g, call)?),
+        Some(tx) => Wanted::SendInTx(tx.send(table, g, action)?),
         None => Wanted::NoTx,
     };
     Ok((act, wanted))
@@ -220,11 +221,15 @@ fn with_job(
 
 fn send(player: &mut Player<Ample>, model: &mut Model) -> Told {
     let g = player.draws.number(model, Kind::Agent);
-    let call = player.draws.action();
-    let args = args_from(player.alloc, call.given)?;
-    let wanted = Wanted::Send(model.send(g, call)?);
-    let code = call.code;
-    Ok((Act::Send(g, Action { code, args }), wanted))
+    let action = player.draws.action();
+    let wanted = Wanted::Send(model.send(g, action)?);
+    Ok((Act::Send(g, action_from(player.alloc, action)?), wanted))
+}
+
+fn release_carried(player: &mut Player<Ample>, model: &mut Model) -> Told {
+    let g = player.draws.carrying(model);
+    let wanted = Wanted::ReleaseCarried(model.release_carried(g));
+    Ok((Act::ReleaseCarried(g), wanted))
 }
 
 fn release(player: &mut Player<Ample>, model: &mut Model) -> Told {
@@ -261,9 +266,11 @@ fn error_of(player: &mut Player<Ample>, model: &Model) -> Told {
 fn on_agents(player: &mut Player<Ample>, model: &mut Model, table: Table) -> Told {
     match player.draws.below(12) {
         0..=3 if !model.held.is_empty() => release(player, model),
+        0..=3 if model.first_carrying().is_some() => release_carried(player, model),
         4 | 5 if model.first_failed().is_some() => restart(player, model, table),
         6 => set_mode(player, model),
         7 => error_of(player, model),
+        8 if player.draws.once_in(2) => release_carried(player, model),
         8 => release(player, model),
         9 => restart(player, model, table),
         _ => send(player, model),

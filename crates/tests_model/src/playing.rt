@@ -25,7 +25,7 @@ fn play_lists(rt: &(impl Abort + AllocGlobal), first: u64) -> Result<(), Fail> {
 // Two tests, since each has a minute.
 #[test]
 fn drawn_calls_answer_as_the_model(rt: HostRuntime) -> Result<(), Fail> {
-    play_lists(&rt, 0)
+    play_lists(&rt, 10000)
 }
 
 #[test]

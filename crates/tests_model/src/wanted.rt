@@ -29,6 +29,7 @@ pub(crate) enum Wanted {
     Commit(Result<PlainReceipt, CommitFault>),
     Abort,
     Release(bool),
+    ReleaseCarried(bool),
     Change(PlainOp, Result<PlainChange, AtomFault>),
     Compare(Result<Option<PlainChange>, AtomFault>),
     Send(Result<(), SendFault>),
@@ -57,6 +58,7 @@ impl Drop for Wanted {
             Wanted::SendInTx(_) | Wanted::Require(_) | Wanted::ReadPoint(_) => {}
             Wanted::Commit(_receipt) => {}
             Wanted::Abort | Wanted::Release(_) | Wanted::Send(_) => {}
+            Wanted::ReleaseCarried(_) => {}
             Wanted::Change(_, _change) => {}
             Wanted::Compare(_change) => {}
             Wanted::Take(_) | Wanted::Run(_) | Wanted::PutBack => {}
@@ -128,6 +130,9 @@ fn is_made(reply: &Reply, kind: Kind, wanted: Result<u32, MakeFault>) -> bool {
 fn is_of_agents(reply: &Reply, wanted: &Wanted) -> bool {
     match wanted {
         Wanted::Release(is_now) => matches!(reply, Reply::Release(told) if told == is_now),
+        Wanted::ReleaseCarried(was) => {
+            matches!(reply, Reply::ReleaseCarried(told) if told == was)
+        }
         Wanted::Send(sent) => matches!(reply, Reply::Send(told) if told == sent),
         Wanted::Run(ran) => matches!(reply, Reply::Run(told) if told == ran),
         Wanted::PutBack => matches!(reply, Reply::PutBack),
@@ -202,35 +207,36 @@ fn place_in_transactions(wanted: &Wanted) -> (usize, bool) {
         Wanted::ReadPoint(_) => (8, false),
         Wanted::Commit(receipt) => (9, receipt.is_err()),
         Wanted::Abort => (10, false),
-        _ => (27, false),
+        _ => (28, false),
     }
 }
 
 fn place_in_agents(wanted: &Wanted) -> (usize, bool) {
     match wanted {
         Wanted::Release(is_now) => (11, !*is_now),
-        Wanted::Send(sent) => (12, sent.is_err()),
-        Wanted::Take(_) => (13, false),
-        Wanted::Run(ran) => (14, ran.is_err()),
-        Wanted::PutBack => (15, false),
-        Wanted::Finish(finished) => (16, finished.is_err()),
-        Wanted::Restart(done) => (17, done.is_err()),
-        Wanted::Mode(set) => (18, set.is_err()),
-        Wanted::Error(error) => (19, error.is_none()),
+        Wanted::ReleaseCarried(was) => (12, !*was),
+        Wanted::Send(sent) => (13, sent.is_err()),
+        Wanted::Take(_) => (14, false),
+        Wanted::Run(ran) => (15, ran.is_err()),
+        Wanted::PutBack => (16, false),
+        Wanted::Finish(finished) => (17, finished.is_err()),
+        Wanted::Restart(done) => (18, done.is_err()),
+        Wanted::Mode(set) => (19, set.is_err()),
+        Wanted::Error(error) => (20, error.is_none()),
         _ => place_in_transactions(wanted),
     }
 }
 
 fn place(wanted: &Wanted) -> (usize, bool) {
     match wanted {
-        Wanted::Change(_, change) => (20, change.is_err()),
-        Wanted::Compare(change) => (21, change.is_err()),
-        Wanted::Rule(set) => (22, set.is_err()),
-        Wanted::Watch(added) => (23, added.is_err()),
-        Wanted::Unwatch(was) => (24, !*was),
-        Wanted::Make(_, made) => (25, made.is_err()),
-        Wanted::Checkpoint(count) => (26, count.is_err()),
-        Wanted::Value(value) => (27, value.is_none()),
+        Wanted::Change(_, change) => (21, change.is_err()),
+        Wanted::Compare(change) => (22, change.is_err()),
+        Wanted::Rule(set) => (23, set.is_err()),
+        Wanted::Watch(added) => (24, added.is_err()),
+        Wanted::Unwatch(was) => (25, !*was),
+        Wanted::Make(_, made) => (26, made.is_err()),
+        Wanted::Checkpoint(count) => (27, count.is_err()),
+        Wanted::Value(value) => (28, value.is_none()),
         _ => place_in_agents(wanted),
     }
 }
@@ -249,6 +255,7 @@ const KINDS: &[(&str, bool)] = &[
     ("commit", true),
     ("abort", false),
     ("release", true),
+    ("release_carried", true),
     ("send", true),
     ("take", false),
     ("run", true),

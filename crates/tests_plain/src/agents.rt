@@ -1,6 +1,6 @@
 //! Agents of the model.
 use crate::model::{Answer, Model, PlainStart, Told};
-use crate::plain::{Plain, PlainCall, means, passes};
+use crate::plain::{Plain, PlainAction, PlainCall, means, passes};
 use crate::tables::Table;
 use ref_agents::{
     AgentError, ErrorMode, FinishFault, JobFault, Mark, ModeFault, RestartFault, SendFault, SentBy,
@@ -14,19 +14,21 @@ use std::alloc::{AllocError, Global};
 pub struct PlainJob {
     pub agent: u32,
     pub number: u64,
-    pub call: PlainCall,
+    pub action: PlainAction,
     pub state: Plain,
 }
 
 /// What an agent has next to its state, its rule and its watches.
 pub struct PlainAccount {
     pub start: Plain,
-    pub handled: Vec<(PlainCall, Mark)>,
-    pub queue: Vec<(PlainCall, SentBy)>,
+    pub handled: Vec<(PlainAction, Mark)>,
+    pub queue: Vec<(PlainAction, SentBy)>,
     pub mode: ErrorMode,
     pub error: Option<AgentError>,
     /// The job that is out.
     pub out: Option<PlainJob>,
+    /// Whether what its last action carried isn't released.
+    pub is_carrying: bool,
 }
 
 // A function of its own, which each place that drops one calls; a derived one would be written out there.
@@ -39,6 +41,7 @@ impl Drop for PlainAccount {
             mode: _,
             error: _,
             out: _,
+            is_carrying: _,
         } = self;
     }
 }
@@ -72,14 +75,15 @@ impl PlainAccount {
             mode: start.mode,
             error: None,
             out: None,
+            is_carrying: false,
         }
     }
 
     // The head of the queue is handled.
     fn end(&mut self, mark: Mark) -> Result<(), AllocError> {
         if !self.queue.is_empty() {
-            let (call, _) = self.queue.remove(0);
-            self.handled.push((call, mark))?;
+            let (action, _) = self.queue.remove(0);
+            self.handled.push((action, mark))?;
         }
         self.out = None;
         Ok(())
@@ -109,11 +113,24 @@ impl PlainAccount {
     }
 }
 
+/// The first agent that isn't one of so many, of an action that is sent to an agent.
+pub fn absent_of(agents: usize, g: u32, action: PlainAction) -> Option<u32> {
+    if g as usize >= agents {
+        return Some(g);
+    }
+    for (to, _) in action.carries {
+        if *to as usize >= agents {
+            return Some(*to);
+        }
+    }
+    None
+}
+
 /// What comes of the action of a job, by a table.
 pub fn plain_run(table: Table, job: PlainJob) -> Result<Ended, JobFault> {
-    match table.lacked_fun(job.call.code) {
+    match table.lacked_fun(job.action.call.code) {
         Some(code) => Err(JobFault::NoSuchFun(code)),
-        None => Ok(means(job.call, job.state)),
+        None => Ok(means(job.action.call, job.state)),
     }
 }
 
@@ -155,22 +172,60 @@ impl Model {
         false
     }
 
-    pub fn queue(&mut self, g: u32, call: PlainCall, by: SentBy) -> Result<(), AllocError> {
+    fn is_carrying(&self, g: u32) -> bool {
+        match self.accounts.get(g as usize) {
+            Some(account) => account.is_carrying,
+            None => false,
+        }
+    }
+
+    /// The first agent that is carrying.
+    pub fn first_carrying(&self) -> Option<u32> {
+        for (g, account) in (0..u32::MAX).zip(&self.accounts) {
+            if account.is_carrying {
+                return Some(g);
+            }
+        }
+        None
+    }
+
+    pub fn queue(&mut self, g: u32, action: PlainAction, by: SentBy) -> Result<(), AllocError> {
         if let Some(account) = self.accounts.get_mut(g as usize) {
-            account.queue.push((call, by))?;
+            account.queue.push((action, by))?;
         }
         Ok(())
     }
 
-    pub fn send(&mut self, g: u32, call: PlainCall) -> Answer<(), SendFault> {
-        if g as usize >= self.accounts.len() {
+    /// The first agent that isn't here, of an action that is sent to an agent.
+    pub fn absent(&self, g: u32, action: PlainAction) -> Option<u32> {
+        absent_of(self.accounts.len(), g, action)
+    }
+
+    pub fn send(&mut self, g: u32, action: PlainAction) -> Answer<(), SendFault> {
+        if self.absent(g, action).is_some() {
             return Ok(Err(SendFault::NoSuchAgent));
         }
         if self.is_failed(g) {
             return Ok(Err(SendFault::Failed));
         }
-        self.queue(g, call, SentBy::Outside)?;
+        self.queue(g, action, SentBy::Outside)?;
         Ok(Ok(()))
+    }
+
+    /// What the last action of an agent carried is as if it was sent from outside.
+    pub fn release_carried(&mut self, g: u32) -> bool {
+        let was = self.is_carrying(g);
+        if let Some(account) = self.accounts.get_mut(g as usize) {
+            account.is_carrying = false;
+        }
+        for account in self.accounts.iter_mut() {
+            for queued in account.queue.iter_mut() {
+                if queued.1 == SentBy::Carried(g) {
+                    queued.1 = SentBy::Outside;
+                }
+            }
+        }
+        was
     }
 
     pub fn release(&mut self, point: u64) -> bool {
@@ -187,20 +242,24 @@ impl Model {
         match by {
             SentBy::Outside => true,
             SentBy::Commit(point) => !self.held.contains(&point),
+            SentBy::Carried(_) => false,
         }
     }
 
     /// The job of an agent that is ready.
     pub fn ready_job(&self, g: u32) -> Option<PlainJob> {
         let account = self.accounts.get(g as usize)?;
-        let (call, by) = account.queue.first().copied()?;
-        if account.error.is_some() || account.out.is_some() || !self.is_free(by) {
+        let (action, by) = account.queue.first().copied()?;
+        if account.error.is_some() || account.out.is_some() || account.is_carrying {
+            return None;
+        }
+        if !self.is_free(by) {
             return None;
         }
         Some(PlainJob {
             agent: g,
             number: account.handled.len() as u64,
-            call,
+            action,
             state: self.agents.get(g as usize)?.value,
         })
     }
@@ -245,7 +304,7 @@ impl Model {
         };
         let differs = (
             out.number != job.number,
-            out.call != job.call,
+            out.action != job.action,
             out.state != job.state,
         );
         match differs {
@@ -264,10 +323,26 @@ impl Model {
         is_out
     }
 
+    // What an action of an agent carries is in its queues, and held.
+    fn carry(&mut self, g: u32, action: PlainAction) -> Result<(), AllocError> {
+        if let Some(account) = self.accounts.get_mut(g as usize) {
+            account.is_carrying = !action.carries.is_empty();
+        }
+        for (to, call) in action.carries {
+            let carried = PlainAction {
+                call: *call,
+                carries: &[],
+            };
+            self.queue(*to, carried, SentBy::Carried(g))?;
+        }
+        Ok(())
+    }
+
     // Ends the head of the queue with the new state, or with why there is none.
     fn end(
         &mut self,
         g: u32,
+        action: PlainAction,
         judged: Result<Plain, AgentError>,
     ) -> Result<PlainFinished, AllocError> {
         let mut told = Vec::new(self.alloc);
@@ -281,6 +356,7 @@ impl Model {
             Err(error) => account.fail(error),
             Ok(_) => {
                 account.end(Mark::Done)?;
+                self.carry(g, action)?;
                 Ok(PlainFinished::Changed(told))
             }
         }
@@ -300,7 +376,7 @@ impl Model {
         if let Some(code) = table.lacked_pred(rule) {
             return Ok(Err(FinishFault::NoSuchFun(code)));
         }
-        Ok(Ok(self.end(job.agent, judged(rule, ended))?))
+        Ok(Ok(self.end(job.agent, job.action, judged(rule, ended))?))
     }
 
     fn rule_of(&self, g: u32) -> Option<PlainCall> {

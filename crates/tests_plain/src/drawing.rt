@@ -1,12 +1,38 @@
 //! What is drawn: numbers, values, functions, rules, references.
 use crate::model::{Kind, Model, PlainStart};
-use crate::plain::{Given, Plain, PlainCall};
+use crate::plain::{Given, Plain, PlainAction, PlainCall};
 use crate::tables::Table;
 use ref_agents::ErrorMode;
 use ref_log::Who;
 
 // Half of what a book can hold, and one more.
 const HALF: i64 = 4_611_686_018_427_387_904;
+
+const MORE: PlainCall = PlainCall {
+    code: 1,
+    given: Given::One(Plain::Int(10)),
+};
+
+const FAILS: PlainCall = PlainCall {
+    code: 2,
+    given: Given::One(Plain::Nil),
+};
+
+const LACKED: PlainCall = PlainCall {
+    code: 7,
+    given: Given::Nothing,
+};
+
+// What actions carry.
+const CARRIED: &[&[(u32, PlainCall)]] = &[
+    &[(0, MORE)],
+    &[(1, MORE)],
+    &[(0, FAILS), (0, MORE)],
+    &[(1, MORE), (0, FAILS)],
+    &[(1, FAILS), (0, MORE), (1, MORE)],
+    &[(0, MORE), (2, MORE)],
+    &[(0, LACKED), (1, MORE)],
+];
 
 /// Numbers that follow one another as if by chance. The same first one gives the same row.
 #[derive(Clone, Copy, Drop)]
@@ -94,8 +120,25 @@ impl Draws {
         }
     }
 
-    /// An action. Two of them are drawn often: one that fails, and one that may be the same in two worlds.
-    pub fn action(&mut self) -> PlainCall {
+    // What is carried: mostly nothing.
+    fn carries(&mut self) -> &'static [(u32, PlainCall)] {
+        let i = self.below(CARRIED.len().saturating_mul(4));
+        match CARRIED.get(i) {
+            Some(carries) => carries,
+            None => &[],
+        }
+    }
+
+    /// An action, and what it carries.
+    pub fn action(&mut self) -> PlainAction {
+        PlainAction {
+            call: self.acted(),
+            carries: self.carries(),
+        }
+    }
+
+    // The function of an action. Two of them are drawn often: one that fails, and one that may be the same in two worlds.
+    fn acted(&mut self) -> PlainCall {
         let (code, given) = match self.below(8) {
             0..=2 => (2, Given::One(Plain::Nil)),
             3..=5 => (1, Given::One(Plain::Int(1))),
@@ -209,6 +252,14 @@ impl Draws {
             (Some(point), _) if self.once_in(2) => point,
             (_, Some(point)) if !self.once_in(4) => *point,
             _ => self.below(model.log.len().saturating_add(2)) as u64,
+        }
+    }
+
+    /// An agent that is carrying, or now and then any.
+    pub fn carrying(&mut self, model: &Model) -> u32 {
+        match model.first_carrying() {
+            Some(g) if !self.once_in(4) => g,
+            _ => self.number(model, Kind::Agent),
         }
     }
 

@@ -145,7 +145,12 @@ pub fn finish_number(wanted: &Result<PlainFinished, FinishFault>) -> u8 {
 }
 
 /// Counts what else there is to say of a job that ended.
-pub fn count_finished<M: Memory>(player: &mut Player<M>, finished: &PlainFinished, is_near: bool) {
+pub fn count_finished<M: Memory>(
+    player: &mut Player<M>,
+    finished: &PlainFinished,
+    is_near: bool,
+    carries: bool,
+) {
     let number = match finished {
         PlainFinished::Changed(told) if told.is_empty() => 0,
         PlainFinished::Changed(_) => 1,
@@ -157,6 +162,9 @@ pub fn count_finished<M: Memory>(player: &mut Player<M>, finished: &PlainFinishe
     player.count(Row::Ended, number);
     if !is_near {
         player.count(Row::Ended, 6);
+    }
+    if carries && number < 2 {
+        player.count(Row::Ended, 7);
     }
 }
 

@@ -2,8 +2,8 @@
 ghost use Rattle.std.specs.Prelude.{◌≤◌, length};
 
 use crate::model::PlainStart;
-use crate::plain::{Given, Plain, PlainCall};
-use ref_fun::{Args, MOST_ARGUMENTS, Rule};
+use crate::plain::{Given, Plain, PlainAction, PlainCall};
+use ref_fun::{Action, Args, Carries, Carry, MOST_ARGUMENTS, MOST_CARRIES, Rule};
 use ref_value::{Node, Value};
 use std::alloc::{AllocError, Global};
 
@@ -36,6 +36,27 @@ pub fn args_from(alloc: Global, given: Given) -> Result<Args, AllocError> {
         return Err(AllocError);
     }
     Args::of(alloc, values)
+}
+
+/// The action that the model has.
+pub fn action_from(alloc: Global, action: PlainAction) -> Result<Action, AllocError> {
+    let mut carries = Vec::new(alloc);
+    for (g, call) in action.carries {
+        let args = args_from(alloc, call.given)?;
+        carries.push(Carry {
+            g: *g,
+            code: call.code,
+            args,
+        })?;
+    }
+    if carries.len() > MOST_CARRIES {
+        return Err(AllocError);
+    }
+    Ok(Action {
+        code: action.call.code,
+        args: args_from(alloc, action.call.given)?,
+        carries: Carries::of(alloc, carries)?,
+    })
 }
 
 pub fn rule_from(alloc: Global, rule: PlainCall) -> Result<Rule, AllocError> {

@@ -1,9 +1,9 @@
 //! Open transactions: the calls of them, each on one and on its model, and what came of their commits.
-use crate::making::{args_from, rule_from, value_from};
+use crate::making::{action_from, args_from, rule_from, value_from};
 use crate::memory::Memory;
 use crate::model::Model;
 use crate::outcomes::{Played, Row};
-use crate::plain::{Plain, PlainCall, PlainOp};
+use crate::plain::{Plain, PlainAction, PlainCall, PlainOp};
 use crate::player::Player;
 use crate::shows::{Shows, agree};
 use crate::tables::Table;
@@ -211,11 +211,11 @@ fn sent<M: Memory>(
     table: Table,
     tx: &mut Tx<Core>,
     g: u32,
-    call: PlainCall,
+    action: PlainAction,
 ) -> Result<(), TxFault> {
-    let args = args_from(player.alloc, call.given)?;
+    let action = action_from(player.alloc, action)?;
     player.memory.begin();
-    let seen = tx.send(player.alloc, &table, g, call.code, args);
+    let seen = tx.send(player.alloc, &table, g, action);
     player.memory.end();
     seen
 }
@@ -223,12 +223,12 @@ fn sent<M: Memory>(
 fn send<M: Memory>(player: &mut Player<M>, open: &mut Open) -> Played {
     player.calls(Row::SendInside);
     let g = player.draws.near(open.plain.agents);
-    let (table, call) = (player.draws.table(), player.draws.action());
-    let seen = sent(player, table, &mut open.tx, g, call);
+    let (table, action) = (player.draws.table(), player.draws.action());
+    let seen = sent(player, table, &mut open.tx, g, action);
     if player.refuses(seen == Err(TxFault::Memory)) {
         return Ok(());
     }
-    let wanted = open.plain.send(table, g, call)?;
+    let wanted = open.plain.send(table, g, action)?;
     told(player, open, seen == wanted, wanted.err())
 }
 

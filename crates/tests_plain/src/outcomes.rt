@@ -56,6 +56,7 @@ pub enum Row {
     ServedBy,
     Send,
     Release,
+    ReleaseCarried,
     Take,
     PutBack,
     Run,
@@ -117,6 +118,7 @@ const ROWS: &[(&str, &str)] = &[
     ("served_by", "full - fewer not-fewer"),
     ("send", "ok NoSuchAgent Failed"),
     ("release", "true false cleared"),
+    ("release_carried", "true false"),
     ("take", "job none"),
     ("put_back", "ok refused in-another-world"),
     ("run", "gave NoSuchFun refused"),
@@ -129,7 +131,7 @@ const ROWS: &[(&str, &str)] = &[
     ),
     (
         "finished",
-        "untold told failed-refused failed-invalid passed-refused passed-invalid in-another-world",
+        "untold told failed-refused failed-invalid passed-refused passed-invalid in-another-world carrying",
     ),
     ("foreign job", "none-out number action state"),
     (

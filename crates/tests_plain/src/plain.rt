@@ -23,6 +23,13 @@ pub struct PlainCall {
     pub given: Given,
 }
 
+/// An action: a function with its arguments, and those that it carries, each with its agent.
+#[derive(Clone, Copy, Drop, PartialEq)]
+pub struct PlainAction {
+    pub call: PlainCall,
+    pub carries: &'static [(u32, PlainCall)],
+}
+
 /// An operation on a ref or an atom.
 #[derive(Clone, Copy, Drop, PartialEq)]
 pub enum PlainOp {

@@ -1,12 +1,12 @@
 //! Whether what is seen is what the model has.
 use crate::agents::{PlainAccount, PlainFinished, PlainJob};
 use crate::model::{Model, PlainChange, PlainEntry, Told};
-use crate::plain::{Given, Plain, PlainCall, PlainOp};
+use crate::plain::{Given, Plain, PlainAction, PlainCall, PlainOp};
 use crate::tables::Table;
 use crate::transactions::{PlainDone, PlainSent, PlainTx};
 use ref_agents::{Account, Finished, Handled, Job, Mark};
 use ref_atoms::{Cas, Swapped};
-use ref_fun::{Action, Args, Core, Rule};
+use ref_fun::{Action, Args, Carry, Core, Rule};
 use ref_log::{AuditFault, Base, Done, Entry, Notice, Op, PlainState, Sent, Transaction};
 use ref_pvec::PVec;
 use ref_tx::{Snapshot, Tx};
@@ -71,9 +71,17 @@ impl Shows<Given> for Args {
     }
 }
 
-impl Shows<PlainCall> for Action {
-    fn shows(&self, plain: &PlainCall) -> bool {
-        self.code == plain.code && self.args.shows(&plain.given)
+impl Shows<(u32, PlainCall)> for Carry {
+    fn shows(&self, plain: &(u32, PlainCall)) -> bool {
+        self.g == plain.0 && self.code == plain.1.code && self.args.shows(&plain.1.given)
+    }
+}
+
+impl Shows<PlainAction> for Action {
+    fn shows(&self, plain: &PlainAction) -> bool {
+        self.code == plain.call.code
+            && self.args.shows(&plain.call.given)
+            && show(self.carries.as_slice(), plain.carries)
     }
 }
 
@@ -130,7 +138,7 @@ impl Shows<PlainJob> for Job {
     fn shows(&self, plain: &PlainJob) -> bool {
         self.agent() == plain.agent
             && self.number() == plain.number
-            && self.action().shows(&plain.call)
+            && self.action().shows(&plain.action)
             && self.state().shows(&plain.state)
     }
 }
@@ -156,7 +164,7 @@ impl Shows<PlainDone> for Done {
 
 impl Shows<PlainSent> for Sent {
     fn shows(&self, plain: &PlainSent) -> bool {
-        self.agent == plain.agent && self.action.shows(&plain.call)
+        self.agent == plain.agent && self.action.shows(&plain.action)
     }
 }
 
@@ -190,15 +198,15 @@ impl Shows<PlainTx> for Tx<Core> {
 
 // ---- Agents
 
-impl Shows<(PlainCall, Mark)> for Handled {
-    fn shows(&self, plain: &(PlainCall, Mark)) -> bool {
+impl Shows<(PlainAction, Mark)> for Handled {
+    fn shows(&self, plain: &(PlainAction, Mark)) -> bool {
         self.action.shows(&plain.0) && self.mark == plain.1
     }
 }
 
 fn is_queue(seen: &Account, wanted: &PlainAccount) -> bool {
-    for (queued, (call, by)) in seen.queue().zip(&wanted.queue) {
-        if !queued.action.shows(call) || queued.by != *by {
+    for (queued, (action, by)) in seen.queue().zip(&wanted.queue) {
+        if !queued.action.shows(action) || queued.by != *by {
             return false;
         }
     }

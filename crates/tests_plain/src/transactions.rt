@@ -1,6 +1,7 @@
 //! Transactions of the model: what they answer while they are open, and their commit.
+use crate::agents::absent_of;
 use crate::model::{Answer, Model, PlainEntry, Reference, Told};
-use crate::plain::{Plain, PlainCall, PlainOp, fits_tally, passes, place};
+use crate::plain::{Plain, PlainAction, PlainCall, PlainOp, fits_tally, passes, place};
 use crate::tables::Table;
 use ref_agents::SentBy;
 use ref_log::{Stamp, Who};
@@ -20,7 +21,20 @@ pub struct PlainDone {
 #[derive(Clone, Copy, Drop, PartialEq)]
 pub struct PlainSent {
     pub agent: u32,
-    pub call: PlainCall,
+    pub action: PlainAction,
+}
+
+// The first function of an action that a table lacks: its own, and then those that it carries.
+fn lacked(table: Table, action: PlainAction) -> Option<u32> {
+    if let Some(code) = table.lacked_fun(action.call.code) {
+        return Some(code);
+    }
+    for (_, call) in action.carries {
+        if let Some(code) = table.lacked_fun(call.code) {
+            return Some(code);
+        }
+    }
+    None
 }
 
 /// A transaction: what it began with, and what it did.
@@ -120,14 +134,14 @@ impl PlainTx {
         Ok(answer)
     }
 
-    pub fn send(&mut self, table: Table, agent: u32, call: PlainCall) -> Answer<(), TxFault> {
-        if let Some(code) = table.lacked_fun(call.code) {
+    pub fn send(&mut self, table: Table, agent: u32, action: PlainAction) -> Answer<(), TxFault> {
+        if let Some(code) = lacked(table, action) {
             return Ok(Err(TxFault::NoSuchFun(code)));
         }
-        if agent as usize >= self.agents {
+        if absent_of(self.agents, agent, action).is_some() {
             return Ok(Err(TxFault::NoSuchAgent));
         }
-        self.sends.push(PlainSent { agent, call })?;
+        self.sends.push(PlainSent { agent, action })?;
         Ok(Ok(()))
     }
 
@@ -211,8 +225,8 @@ impl Model {
 
     fn alien_agent(&self, tx: &PlainTx) -> Option<u32> {
         for sent in &tx.sends {
-            if sent.agent as usize >= self.agents.len() {
-                return Some(sent.agent);
+            if let Some(g) = self.absent(sent.agent, sent.action) {
+                return Some(g);
             }
         }
         None
@@ -348,7 +362,7 @@ impl Model {
     // The sends stand at the ends of the queues, and are held.
     fn send_all(&mut self, at: u64, sends: &[PlainSent]) -> Result<(), AllocError> {
         for sent in sends {
-            self.queue(sent.agent, sent.call, SentBy::Commit(at))?;
+            self.queue(sent.agent, sent.action, SentBy::Commit(at))?;
         }
         if !sends.is_empty() {
             self.held.push(at)?;

@@ -6,8 +6,8 @@ use ref_log::{Stamp, Who};
 use ref_play::Act;
 use std::alloc::{AllocError, Global};
 use tests_rows::forms::{
-    Start, action_from, agent_at, args_from, atom_at, code_at, number_at, ref_at, rule_at,
-    start_of, value_at, who_of, word_at,
+    Start, action_from, agent_at, args_from, atom_at, carrying_from, code_at, number_at, ref_at,
+    rule_at, start_of, value_at, who_of, word_at,
 };
 
 type Acted = Result<Act, AllocError>;
@@ -72,10 +72,13 @@ fn on_atom(alloc: Global, word: &str, call: &[Value]) -> Acted {
 }
 
 fn on_agent(alloc: Global, word: &str, call: &[Value]) -> Acted {
-    let (g, code) = (agent_at(call, 1), code_at(call, 2));
+    let g = agent_at(call, 1);
     match word {
         "send" => Ok(Act::Send(g, action_from(alloc, call, 2)?)),
-        "send-in-tx" => Ok(Act::SendInTx(g, code, args_from(alloc, call, 3)?)),
+        "send-carry" => Ok(Act::Send(g, carrying_from(alloc, call, 2)?)),
+        "send-in-tx" => Ok(Act::SendInTx(g, action_from(alloc, call, 2)?)),
+        "send-carry-in-tx" => Ok(Act::SendInTx(g, carrying_from(alloc, call, 2)?)),
+        "release-carried" => Ok(Act::ReleaseCarried(g)),
         "restart" => {
             let clears = matches!(word_at(call, 3), "clear");
             Ok(Act::Restart(g, value_at(call, 2)?, clears))

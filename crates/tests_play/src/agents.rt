@@ -46,6 +46,38 @@ fn sends_wait_for_their_commit(rt: HostRuntime) -> Result<(), Fail> {
 }
 
 #[test]
+fn actions_carry_sends(rt: HostRuntime) -> Result<(), Fail> {
+    check_all(
+        rt.alloc(),
+        r##"
+            // What an action carries waits from its end on, and its agent with it, until it is released, once.
+            [] [] [0 0] [0 send-carry g [+ 1] [h + 10] :ok] [0 send g + 2 :ok] [account h [0 0]] [0 take [g 0]] [0 run :ok] [account h [0 0]] [0 release-carried g false] [0 finish :changed] [account h [0 1]] [1 take :none] [1 release-carried h false] [1 take :none] [1 release-carried g true] [1 release-carried g false] [0 take [h 0]] [1 take [g 1]] [2 take :none] [0 run :ok] [1 run :ok] [0 finish :changed] [1 finish :changed] [0 release-carried g false] [0 value-of g 3] [0 value-of h 10]
+            // To itself, behind what waits already.
+            [] [] [[rule 0 [>= 0]]] [0 send-carry g [+ 1] [g - 11] :ok] [0 send g + 10 :ok] [0 take [g 0]] [0 run :ok] [0 finish :changed] [account g [0 :done 2]] [0 take :none] [0 release-carried g true] [0 take [g 1]] [0 run :ok] [0 finish :changed] [0 take [g 2]] [0 run :ok] [0 finish :changed] [0 value-of g 0]
+            // In order, of which there may be eight.
+            [] [] [0 [rule 0 [>= 0]]] [0 send-carry g [+ 1] [h + 5] [h - 5] [h + 1] [h - 1] [h + 7] [h - 7] [h + 2] [h - 1] :ok] [0 take [g 0]] [0 run :ok] [0 finish :changed] [account h [0 8]] [0 release-carried g true] [0 take [h 0]] [0 run :ok] [0 finish :changed] [0 take [h 1]] [0 run :ok] [0 finish :changed] [0 take [h 2]] [0 run :ok] [0 finish :changed] [0 take [h 3]] [0 run :ok] [0 finish :changed] [0 take [h 4]] [0 run :ok] [0 finish :changed] [0 take [h 5]] [0 run :ok] [0 finish :changed] [0 take [h 6]] [0 run :ok] [0 finish :changed] [0 take [h 7]] [0 run :ok] [0 finish :changed] [0 value-of h 1] [0 take :none]
+            // Those of an action that fails, in both modes, never go out; nor before the end, where it is put back.
+            [] [] [[rule 0 [>= 0]] 0] [0 send-carry g [- 1] [h + 10] :ok] [0 take [g 0]] [0 run :ok] [0 finish [:failed :invalid]] [account h [0 0]] [0 release-carried g false] [0 take :none] [0 restart g 5 :ok] [0 take :none] [0 release-carried g false] [account h [0 0]]
+            [] [] [[continue 0 [>= 0]] 0] [0 send-carry g [- 1] [h + 10] :ok] [0 send g + 1 :ok] [0 take [g 0]] [0 run :ok] [0 finish [:continued :invalid]] [account h [0 0]] [0 release-carried g false] [0 take [g 1]] [1 take :none]
+            [] [] [0 0] [0 send-carry g [+ :k] [h + 10] :ok] [0 take [g 0]] [0 run :ok] [0 finish [:failed [:refused :wrong-kind]]] [account h [0 0]] [0 release-carried g false]
+            [] [] [0 0] [0 send-carry g [+ 1] [h + 10] :ok] [0 take [g 0]] [0 run :ok] [0 put-back :ok] [account h [0 0]] [0 release-carried g false] [0 take [g 0]] [0 run :ok] [0 finish :changed] [account h [0 1]]
+            // One to a failed agent waits there, held until it is released and the agent restarted; with clear nothing comes of it.
+            [] [] [0 [rule 0 [>= 0]]] [0 send h - 1 :ok] [0 take [h 0]] [0 run :ok] [0 finish [:failed :invalid]] [0 send-carry g [+ 1] [h + 10] :ok] [0 take [g 0]] [0 run :ok] [0 finish :changed] [account h [0 :failed 1]] [0 release-carried g true] [0 take :none] [0 restart h 5 :ok] [0 take [h 0]] [0 run :ok] [0 finish :changed] [0 value-of h 15]
+            [] [] [0 [rule 0 [>= 0]]] [0 send h - 1 :ok] [0 take [h 0]] [0 run :ok] [0 finish [:failed :invalid]] [0 send-carry g [+ 1] [h + 10] :ok] [0 take [g 0]] [0 run :ok] [0 finish :changed] [0 restart h 5 :ok] [0 take :none] [0 release-carried g true] [0 take [h 0]] [0 run :ok] [0 finish :changed] [0 value-of h 15]
+            [] [] [0 [rule 0 [>= 0]]] [0 send h - 1 :ok] [0 take [h 0]] [0 run :ok] [0 finish [:failed :invalid]] [0 send-carry g [+ 1] [h + 10] :ok] [0 send g + 2 :ok] [0 take [g 0]] [0 run :ok] [0 finish :changed] [1 restart h 5 clear :ok] [account h [5 0]] [0 take :none] [0 release-carried g true] [0 release-carried g false] [0 take [g 1]] [1 take :none] [0 value-of h 5]
+            // What one agent carried is released for itself. What was released isn't held again by what the same agent carries later.
+            [] [] [0 0 0] [0 send-carry g [+ 1] [h + 10] :ok] [0 send-carry i [+ 1] [h + 100] :ok] [0 take [g 0]] [0 run :ok] [0 finish :changed] [0 take [i 0]] [0 run :ok] [0 finish :changed] [account h [0 2]] [0 release-carried i true] [0 take :none] [0 release-carried g true] [0 take [h 0]] [0 run :ok] [0 finish :changed] [0 value-of h 10] [0 take [h 1]] [0 run :ok] [0 finish :changed] [0 value-of h 110]
+            [] [] [0 0] [0 send-carry g [+ 1] [h + 10] :ok] [0 send-carry g [+ 2] [h + 100] :ok] [0 take [g 0]] [0 run :ok] [0 finish :changed] [0 release-carried g true] [0 take [h 0]] [1 take [g 1]] [0 put-back :ok] [1 run :ok] [1 finish :changed] [account h [0 2]] [0 take [h 0]] [0 run :ok] [0 finish :changed] [0 take :none] [0 value-of h 10] [0 release-carried g true] [0 take [h 1]]
+            // Of a transaction: first the commit is released, then what its actions carry.
+            [] [] [0 0] [0 begin 0] [0 send-carry-in-tx g [+ 1] [h + 10] :ok] [0 commit 0 0 [1 0 0]] [account h [0 0]] [0 take :none] [0 release-carried g false] [0 release 1 true] [0 take [g 0]] [0 run :ok] [0 finish :changed] [0 take :none] [0 release 1 false] [0 release-carried g true] [0 take [h 0]] [0 run :ok] [0 finish :changed] [0 value-of h 10]
+            // Agents and functions that aren't there. In a transaction all functions come before all agents.
+            [] [] [0 0] [0 send-carry g [+ 1] [i + 1] :no-such-agent] [0 send-carry i [+ 1] [h + 1] :no-such-agent] [0 send-carry g [+ 1] [h + 1] [i + 1] :no-such-agent] [account g [0 0]] [0 release-carried i false] [0 begin 0] [0 send-carry-in-tx g [conj 1] [i + 1] [:no-such-fun 7]] [0 send-carry-in-tx i [+ 1] [h + 1] [h conj 1] [:no-such-fun 7]] [0 send-carry-in-tx g [+ 1] [h + 1] [i + 1] :no-such-agent] [0 send-carry-in-tx i [+ 1] [h + 1] :no-such-agent] [1 make-agent 0 i] [0 send-carry-in-tx g [+ 1] [i + 1] :no-such-agent] [1 send-carry g [+ 1] [i + 1] :ok]
+            [] [] [0 0] [0 send-carry g [+ 1] [h conj 1] :ok] [0 take [g 0]] [0 run :ok] [0 finish :changed] [0 release-carried g true] [0 take [h 0]] [0 run [:no-such-fun 7]]
+        "##,
+    )
+}
+
+#[test]
 fn agents_fail_and_are_restarted(rt: HostRuntime) -> Result<(), Fail> {
     check_all(
         rt.alloc(),

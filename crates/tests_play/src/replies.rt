@@ -146,6 +146,7 @@ fn said_of_agent(alloc: Global, reply: &Reply) -> Said {
     match reply {
         Reply::Send(told) => ("send", done(alloc, told)),
         Reply::Release(is_now) => ("release", truth(*is_now)),
+        Reply::ReleaseCarried(is_now) => ("release-carried", truth(*is_now)),
         Reply::Take(told) => ("take", taken(alloc, told)),
         Reply::Run(told) => ("run", done(alloc, told)),
         Reply::PutBack => ("put-back", word(alloc, "ok")),

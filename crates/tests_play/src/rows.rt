@@ -12,6 +12,8 @@
 //! | `[0 commit 3 4 [1 3 4]]` | by worker 3 in step 4: the point, the stamp, the notices |
 //! | `[0 swap x + 1 [1 2]]`, `[0 reset x 2 [1 2]]`, `[0 cas x 1 2 true]` | the values before and after; whether it was set; notices |
 //! | `[0 send g + 1 :ok]`, `[0 release 1 true]` | whether there was something to release |
+//! | `[0 send-carry g [+ 1] [h + 10] :ok]`, `[0 send-carry-in-tx g [+ 1] [h + 10] :ok]` | an action that carries sends |
+//! | `[0 release-carried g true]` | whether what it carried wasn't released |
 //! | `[0 take [g 0]]`, `[0 run :ok]`, `[0 put-back :ok]` | the agent and the number of the job, or `:none` |
 //! | `[0 finish :changed]`, `[0 finish [:failed :invalid]]` | how it ended, and the notices |
 //! | `[0 restart g 5 :ok]`, `[0 restart g 5 clear :ok]`, `[0 set-error-mode g continue :ok]`, `[0 error-of g :invalid]` | the error |
@@ -106,6 +108,15 @@ fn event_of(alloc: Global, parts: &[Value]) -> Result<Event, AllocError> {
     Ok(Event { actor, act })
 }
 
+// The call that an act is: two acts are one call where an action carries sends or not.
+fn call_of(act: &str) -> &str {
+    match act {
+        "send-carry" => "send",
+        "send-carry-in-tx" => "send-in-tx",
+        _ => act,
+    }
+}
+
 // Whether a reply is what the form at a place says.
 fn check_reply(alloc: Global, row: &[Value], place: usize, reply: &Reply) -> Checked {
     let Some(form) = row.get(place) else {
@@ -115,7 +126,7 @@ fn check_reply(alloc: Global, row: &[Value], place: usize, reply: &Reply) -> Che
     let (act, told) = said(alloc, reply);
     let told = told?;
     let (called, _table) = act_and_table(word_at(&parts, 1));
-    if act != "" && act != called {
+    if act != "" && act != call_of(called) {
         return differs(place, word(alloc, "reply-of-another-act")?);
     }
     check(place, told, &parts)

@@ -364,6 +364,10 @@ impl Subject for Apart {
         self.agents.release(point)
     }
 
+    fn release_carried(&mut self, g: u32) -> bool {
+        self.agents.release_carried(g)
+    }
+
     fn take(&mut self) -> Result<Option<Job>, AllocError> {
         self.agents.take()
     }

@@ -1,8 +1,8 @@
 //! The calls of a row on transactions, refs and atoms.
 use crate::answers::{Form, number, truth, word};
 use crate::forms::{
-    agent_at, args_from, atom_at, code_at, number_at, ref_at, rule_at, start_of, value_at, who_of,
-    word_at,
+    action_from, agent_at, args_from, atom_at, carrying_from, code_at, number_at, ref_at, rule_at,
+    start_of, value_at, who_of, word_at,
 };
 use crate::jobs::{agents_answer, is_of_agents};
 use crate::subjects::{By, Kind, Open, Receipt, STAMP, Subject};
@@ -10,7 +10,7 @@ use crate::tables::Tables;
 use crate::words::{name, open_form, snapshot_form, told_form, values_form, variant_form, vector};
 use ref_atoms::{AtomFault, Swapped};
 use ref_edn::{Node, Value};
-use ref_fun::{Core, Rule};
+use ref_fun::{Action, Core, Rule};
 use ref_log::{Base, Done, Entry, Notice, Who};
 use ref_pvec::PVec;
 use ref_refs::CommitFault;
@@ -175,13 +175,13 @@ fn operated(by: By, open: &mut Open, called: &str, r: u32, call: &[Value]) -> Fo
 }
 
 // Sends an action in a transaction. It is stored as the last, or the transaction is as before.
-fn sent(by: By, open: &mut Open, call: &[Value]) -> Form {
+fn sent(by: By, open: &mut Open, g: u32, action: Action) -> Form {
     let By { alloc, funs } = by;
-    let (g, code) = (agent_at(call, 1), code_at(call, 2));
+    let wanted = action.share()?;
     let before = open_form(alloc, open)?;
-    let answer = open.send(alloc, funs, g, code, args_from(alloc, call, 3)?);
+    let answer = open.send(alloc, funs, g, action);
     let is_right = match (&answer, open.sends().last()) {
-        (Ok(()), Some(sent)) => sent.agent == g && sent.action.code == code,
+        (Ok(()), Some(sent)) => sent.agent == g && sent.action.is_same(&wanted),
         (Ok(()), None) => false,
         (Err(_), _) => open_form(alloc, open)? == before,
     };
@@ -205,7 +205,18 @@ fn operate<S: Subject>(
     };
     let r = ref_at(call, 1, stage.subject.extent().tally);
     let answer = match called {
-        "send" => sent(by, &mut open, call),
+        "send" => sent(
+            by,
+            &mut open,
+            agent_at(call, 1),
+            action_from(by.alloc, call, 2)?,
+        ),
+        "send-carry" => sent(
+            by,
+            &mut open,
+            agent_at(call, 1),
+            carrying_from(by.alloc, call, 2)?,
+        ),
         _ => operated(by, &mut open, called, r, call),
     };
     put_back(&mut stage.open, i, open);

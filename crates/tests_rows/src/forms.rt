@@ -3,7 +3,7 @@ ghost use Rattle.std.specs.Prelude.{◌≤◌, length};
 
 use ref_agents::ErrorMode;
 use ref_edn::{Node, Value, read_all};
-use ref_fun::{Action, Args, MOST_ARGUMENTS, Rule, code_of};
+use ref_fun::{Action, Args, Carries, Carry, MOST_ARGUMENTS, MOST_CARRIES, Rule, code_of};
 use ref_log::Who;
 use std::alloc::{AllocError, Global};
 
@@ -144,9 +144,34 @@ pub fn args_from(alloc: Global, call: &[Value], start: usize) -> Result<Args, Al
 
 /// `+ 1`: a function with its arguments, from a place on.
 pub fn action_from(alloc: Global, call: &[Value], start: usize) -> Result<Action, AllocError> {
+    let args = args_from(alloc, call, start.saturating_add(1))?;
+    Ok(Action::new(code_at(call, start), args))
+}
+
+// The send that `[h + 10]` carries.
+fn carry_from(alloc: Global, form: &Value) -> Result<Carry, AllocError> {
+    let call = members(alloc, form)?;
+    Ok(Carry {
+        g: agent_at(&call, 0),
+        code: code_at(&call, 1),
+        args: args_from(alloc, &call, 2)?,
+    })
+}
+
+/// `[+ 1] [h + 10] ..`: a function with its arguments, and what is carried, from a place on.
+pub fn carrying_from(alloc: Global, call: &[Value], start: usize) -> Result<Action, AllocError> {
+    let own = members(alloc, &value_at(call, start)?)?;
+    let mut carries = Vec::new(alloc);
+    for i in start.saturating_add(1)..call.len() {
+        carries.push(carry_from(alloc, &value_at(call, i)?)?)?;
+    }
+    if carries.len() > MOST_CARRIES {
+        return Err(AllocError);
+    }
     Ok(Action {
-        code: code_at(call, start),
-        args: args_from(alloc, call, start.saturating_add(1))?,
+        code: code_at(&own, 0),
+        args: args_from(alloc, &own, 1)?,
+        carries: Carries::of(alloc, carries)?,
     })
 }
 

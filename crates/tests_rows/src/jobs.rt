@@ -2,13 +2,13 @@
 use crate::answers::{Form, number, truth, word};
 use crate::apart::Apart;
 use crate::calls::{Answer, left, made, refused, settled, wrong};
-use crate::forms::{action_from, agent_at, number_at, read, value_at, word_at};
+use crate::forms::{action_from, agent_at, carrying_from, number_at, read, value_at, word_at};
 use crate::rows::starts_of;
 use crate::subjects::{By, Subject};
 use crate::words::{name, told_form, variant_form, vector};
 use ref_agents::{ErrorMode, FinishFault, Finished, Job, Ran};
 use ref_edn::Value;
-use ref_fun::Core;
+use ref_fun::{Action, Core};
 use ref_log::Who;
 use std::alloc::Global;
 
@@ -81,13 +81,14 @@ fn lose<S: Subject>(alloc: Global, subject: &mut S) -> Answer {
     left(name(alloc, who)?)
 }
 
-fn stranger<S: Subject>(by: By, subject: &mut S, call: &[Value]) -> Answer {
+// Ends a job of another store's agent here.
+fn stranger<S: Subject>(by: By, subject: &mut S, g: u32, action: Action) -> Answer {
     let alloc = by.alloc;
-    let starts = starts_of(alloc, &read(alloc, "[] [] [0]")?)?;
+    let starts = starts_of(alloc, &read(alloc, "[] [] [0 0]")?)?;
     let Ok(mut other) = Apart::start(by, starts) else {
         return wrong(alloc, "no-agents");
     };
-    let sent = other.send(alloc, agent_at(call, 1), action_from(alloc, call, 2)?);
+    let sent = other.send(alloc, g, action);
     match other.take()? {
         Some(job) if sent.is_ok() => run(by, subject, job),
         Some(job) => {
@@ -112,32 +113,68 @@ fn set_mode<S: Subject>(alloc: Global, subject: &mut S, call: &[Value]) -> Answe
     settled(alloc, subject.set_error_mode(agent_at(call, 1), mode))
 }
 
-fn send<S: Subject>(alloc: Global, subject: &mut S, call: &[Value]) -> Answer {
-    let action = action_from(alloc, call, 2)?;
-    settled(alloc, subject.send(alloc, agent_at(call, 1), action))
+fn send<S: Subject>(alloc: Global, subject: &mut S, g: u32, action: Action) -> Answer {
+    settled(alloc, subject.send(alloc, g, action))
 }
 
 fn release<S: Subject>(subject: &mut S, call: &[Value]) -> Answer {
     made(truth(subject.release(number_at(call, 1)))?)
 }
 
+fn release_carried<S: Subject>(subject: &mut S, call: &[Value]) -> Answer {
+    made(truth(subject.release_carried(agent_at(call, 1)))?)
+}
+
 /// Whether a call is one on agents.
 pub fn is_of_agents(called: &str) -> bool {
     matches!(
         called,
-        "send" | "release" | "act" | "next" | "lose" | "stranger" | "restart" | "mode"
+        "send"
+            | "send-carry"
+            | "release-carried"
+            | "stranger-carry"
+            | "release"
+            | "act"
+            | "next"
+            | "lose"
+            | "stranger"
+            | "restart"
+            | "mode"
     )
 }
 
 /// What a call on agents answers.
 pub fn agents_answer<S: Subject>(by: By, subject: &mut S, called: &str, call: &[Value]) -> Answer {
     match called {
-        "send" => send(by.alloc, subject, call),
+        "send" => send(
+            by.alloc,
+            subject,
+            agent_at(call, 1),
+            action_from(by.alloc, call, 2)?,
+        ),
+        "send-carry" => send(
+            by.alloc,
+            subject,
+            agent_at(call, 1),
+            carrying_from(by.alloc, call, 2)?,
+        ),
+        "release-carried" => release_carried(subject, call),
         "release" => release(subject, call),
         "act" => act(by, subject),
         "next" => next(by.alloc, subject),
         "lose" => lose(by.alloc, subject),
-        "stranger" => stranger(by, subject, call),
+        "stranger" => stranger(
+            by,
+            subject,
+            agent_at(call, 1),
+            action_from(by.alloc, call, 2)?,
+        ),
+        "stranger-carry" => stranger(
+            by,
+            subject,
+            agent_at(call, 1),
+            carrying_from(by.alloc, call, 2)?,
+        ),
         "restart" => restart(by, subject, call),
         _ => set_mode(by.alloc, subject, call),
     }

@@ -214,6 +214,8 @@ pub trait Subject: Drop + Sized {
 
     fn release(&mut self, point: u64) -> bool;
 
+    fn release_carried(&mut self, g: u32) -> bool;
+
     fn take(&mut self) -> Result<Option<Job>, AllocError>;
 
     fn put_back(&mut self, job: Job) -> Result<(), Job>;

@@ -280,6 +280,10 @@ impl<C: Ledger, A: Ledger, K: Ledger> Subject for Whole<C, A, K> {
         self.world.release(point)
     }
 
+    fn release_carried(&mut self, g: u32) -> bool {
+        self.world.release_carried(g)
+    }
+
     fn take(&mut self) -> Result<Option<Job>, AllocError> {
         self.world.take()
     }

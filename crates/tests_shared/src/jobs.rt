@@ -2,7 +2,7 @@
 use crate::steps::commit;
 use crate::worlds::{STAMP, Stop, agent, at_least, done, int_at, one_arg, plain_start, value};
 use ref_fun::codes::PLUS;
-use ref_fun::{Core, CoreFunctions};
+use ref_fun::{Action, Core, CoreFunctions};
 use ref_log::Who;
 use ref_shared::{Open, Quiet, Shared, WorkFault, Worked};
 use ref_tx::Tx;
@@ -36,7 +36,7 @@ pub fn two_agents(alloc: Global) -> Result<Start, AllocError> {
 /// `send h + 4` in a transaction.
 pub fn send_four(alloc: Global, tx: &mut Tx<Core>) -> Result<(), Stop> {
     let args = one_arg(alloc, "4")?;
-    done(tx.send(alloc, &CoreFunctions, 1, PLUS, args))
+    done(tx.send(alloc, &CoreFunctions, 1, Action::new(PLUS, args)))
 }
 
 /// Commits `send h + 4`, which is held, and returns the point.

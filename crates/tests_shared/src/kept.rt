@@ -7,7 +7,7 @@ use crate::same::same;
 use crate::worlds::{STAMP, Stop, action, closed, done, one_arg, value};
 use ref_agents::{AgentError, ErrorMode, Finished, Job};
 use ref_fun::codes::PLUS;
-use ref_fun::{Cause, Core, CoreFunctions};
+use ref_fun::{Action, Cause, Core, CoreFunctions};
 use ref_log::Who;
 use ref_shared::Shared;
 use ref_tx::Tx;
@@ -82,7 +82,7 @@ fn watch_and_send<C: Ledger, A: Ledger, K: Ledger>(
 
 fn send_one(alloc: Global, tx: &mut Tx<Core>) -> Result<(), Stop> {
     let one = one_arg(alloc, "1")?;
-    done(tx.send(alloc, &CoreFunctions, 0, PLUS, one))
+    done(tx.send(alloc, &CoreFunctions, 0, Action::new(PLUS, one)))
 }
 
 // Commits `send g + 1`, which is held, and returns the point.

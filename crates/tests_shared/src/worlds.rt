@@ -60,10 +60,7 @@ pub fn one_arg(alloc: Global, text: &str) -> Result<Args, AllocError> {
 }
 
 pub fn action(alloc: Global, code: u32, text: &str) -> Result<Action, AllocError> {
-    Ok(Action {
-        code,
-        args: one_arg(alloc, text)?,
-    })
+    Ok(Action::new(code, one_arg(alloc, text)?))
 }
 
 /// `[>= BOUND]`.

@@ -6,6 +6,7 @@
 //! | Modules | |
 //! |---|---|
 //! | `threads`, `side_by_side`, `stress` | transactions, agents, all together |
+//! | `chains` | by five: 64 agents whose actions send on |
 //! | `checkpoints` | views and checkpoints, a view read by another thread |
 //! | `looks` | by two: at each step between, the lock is free |
 //! | `waking` | by two or three: who waits for an agent is woken |
@@ -13,6 +14,8 @@
 //! | [`flags`] | how far threads have come. It stands outside of the tests: the proof of what crosses threads names it |
 #![tactic(auto)]
 
+#[cfg(test)]
+mod chains;
 #[cfg(test)]
 mod checkpoints;
 pub mod flags;

@@ -3,7 +3,7 @@ ghost use Rattle.std.specs.Prelude.{◌≡◌};
 ghost use Rattle.ref_world.specs.Shares.{IsBlank};
 
 use ref_fun::codes::{MINUS, PLUS};
-use ref_fun::{Core, CoreFunctions};
+use ref_fun::{Action, Carries, Carry, Core, CoreFunctions};
 use ref_log::{Stamp, Who};
 use ref_shared::{Open, Quiet, Shared, Worked};
 use ref_tx::Tx;
@@ -54,14 +54,29 @@ fn on_turn(n: u32, refs: u32) -> u32 {
     if refs == 0 { 0 } else { n % refs }
 }
 
-// Adds 1 to two of the refs and to the tally, which comes after them, and sends `+ 1` to an agent.
+// `+ 1`, which carries `+ 1` to an agent.
+fn carrying(alloc: Global, to: u32) -> Result<Action, Stop> {
+    let carry = Carry {
+        g: to,
+        code: PLUS,
+        args: one_arg(alloc, "1")?,
+    };
+    Ok(Action {
+        code: PLUS,
+        args: one_arg(alloc, "1")?,
+        carries: Carries::of(alloc, vec![in alloc; carry]?)?,
+    })
+}
+
+// Adds 1 to two of the refs and to the tally, which comes after them, and sends `+ 1` to an agent, which sends it on to the other.
 fn change(alloc: Global, tx: &mut Tx<Core>, n: u32) -> Result<(), Stop> {
     let refs = refs_of(tx);
     add(alloc, tx, on_turn(n, refs), "1")?;
     add(alloc, tx, on_turn(n.saturating_add(1), refs), "1")?;
     let _ = done(tx.commute(alloc, &CoreFunctions, refs, PLUS, one_arg(alloc, "3")?))?;
     let _ = done(tx.commute(alloc, &CoreFunctions, refs, MINUS, one_arg(alloc, "2")?))?;
-    done(tx.send(alloc, &CoreFunctions, n % 2, PLUS, one_arg(alloc, "1")?))
+    let to = n % 2;
+    done(tx.send(alloc, &CoreFunctions, to, carrying(alloc, 1 - to)?))
 }
 
 // Fifty rounds of a transaction and a change of the atom. It answers the share, and whether none was refused.
@@ -183,7 +198,7 @@ fn pool<R: Wait, C: Ledger, A: Ledger, K: Ledger>(
 }
 
 // How many actions two threads ran.
-fn two_pools<
+pub(crate) fn two_pools<
     C: Ledger + Send + Sync,
     A: Ledger + Send + Sync,
     K: Ledger + Send + Sync,
@@ -293,11 +308,11 @@ fn try_all<
 // What six threads come to, on however many refs.
 fn wanted() -> Sums {
     Sums {
-        actions: 200,
+        actions: 400,
         refs: 400,
         tally: Some(200),
         atom: Some(200),
-        agents: (Some(100), Some(100)),
+        agents: (Some(200), Some(200)),
         waiting: (Some(0), Some(0)),
         receipts: 400,
         commits: 200,

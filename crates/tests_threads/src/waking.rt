@@ -465,7 +465,7 @@ fn two_meet_and_release<
 
 // `send g + 1` and `send h + 4` in a transaction.
 fn send_both(alloc: Global, tx: &mut Tx<Core>) -> Result<(), Stop> {
-    done(tx.send(alloc, &CoreFunctions, 0, PLUS, one_arg(alloc, "1")?))?;
+    done(tx.send(alloc, &CoreFunctions, 0, action(alloc, PLUS, "1")?))?;
     send_four(alloc, tx)
 }
 

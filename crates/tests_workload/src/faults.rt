@@ -20,7 +20,7 @@ const ROWS: &[(&str, &str, usize, &str, PlanFault)] = &[
         PlanFault::NotWorkload,
     ),
     (
-        "{:version 2 :atoms [",
+        "{:version 3 :atoms [",
         "1 ",
         4_097,
         "]}",
@@ -82,6 +82,28 @@ const ROWS: &[(&str, &str, usize, &str, PlanFault)] = &[
         8,
         "]]]}",
         UNKNOWN_NAME,
+    ),
+    // So many carried sends too.
+    (
+        "{:version 2 :workers [[[:send-carry g [f] ",
+        "[h f] ",
+        9,
+        "]]]}",
+        BAD_STEP,
+    ),
+    (
+        "{:version 2 :workers [[[:send-carry g [f] ",
+        "[h f] ",
+        8,
+        "]]]}",
+        UNKNOWN_NAME,
+    ),
+    (
+        "{:version 1 :workers [[[:send-carry g [f] ",
+        "[h f] ",
+        1,
+        "]]]}",
+        BAD_STEP,
     ),
     // Names come before functions, over the whole step.
     (
@@ -145,7 +167,7 @@ fn a_plan_has_what_is_declared(rt: HostRuntime) -> Result<(), Fail> {
 
 const PLAN_FAULTS: &[(PlanFault, u8, &str)] = &[
     (PlanFault::NotWorkload, 1, "not a workload"),
-    (PlanFault::BadVersion, 2, "a version other than 1"),
+    (PlanFault::BadVersion, 2, "a version other than 1 and 2"),
     (
         PlanFault::BadReference(Who::Ref(3)),
         3,

@@ -55,7 +55,7 @@ const TEXT: &str = "{:version 1 :refs [[a 0]] :workers [[[:tx [:alter a + 5] [:a
 const TEXT_REPORT: &str = "ref a 6\ncommits 1\naudit ok\n";
 
 const TEXT_DUMP: &str =
-    "{:added 0, :agents [], :atoms [], :base-atoms [], :base-refs [[0 0]], :commits 1, :dump 2, :entries [[:tx 0 0 0 [[:alter 0 + [5] 5] [:alter 0 + [1] 6]] []]], :folded [0 0 0], :point 0, :refs [[6 nil]], :taken 0, :tally nil}\n";
+    "{:added 0, :agents [], :atoms [], :base-atoms [], :base-refs [[0 0]], :commits 1, :dump 3, :entries [[:tx 0 0 0 [[:alter 0 + [5] 5] [:alter 0 + [1] 6]] []]], :folded [0 0 0], :point 0, :refs [[6 nil]], :taken 0, :tally nil}\n";
 
 const WRITTEN: &[(&str, Options, &str)] = &[
     (TEXT, REPORT, TEXT_REPORT),
@@ -79,7 +79,7 @@ const WRITTEN: &[(&str, Options, &str)] = &[
     (
         "{:version 1 :refs [[a 0]] :workers [[[:tx [:alter a + 5]] [:tx [:alter a + 1]]]]}",
         DUMP,
-        "{:added 0, :agents [], :atoms [], :base-atoms [], :base-refs [[0 0]], :commits 2, :dump 2, :entries [[:tx 0 0 0 [[:alter 0 + [5] 5]] []] [:tx 0 1 1 [[:alter 0 + [1] 6]] []]], :folded [0 0 0], :point 0, :refs [[6 nil]], :taken 0, :tally nil}\n",
+        "{:added 0, :agents [], :atoms [], :base-atoms [], :base-refs [[0 0]], :commits 2, :dump 3, :entries [[:tx 0 0 0 [[:alter 0 + [5] 5]] []] [:tx 0 1 1 [[:alter 0 + [1] 6]] []]], :folded [0 0 0], :point 0, :refs [[6 nil]], :taken 0, :tally nil}\n",
     ),
 ];
 
@@ -101,7 +101,7 @@ const REFUSED: &[(&str, RunFault)] = &[
     ),
     ("{:version 1} {", RunFault::NotEdn(ReadFault::Trailing(13))),
     ("[1)", RunFault::NotEdn(ReadFault::WrongClose(2))),
-    ("{:version 2}", RunFault::Plan(PlanFault::BadVersion)),
+    ("{:version 3}", RunFault::Plan(PlanFault::BadVersion)),
     (
         "{:version 1 :refs [[a 0]] :atoms [[a 1]]}",
         RunFault::Plan(PlanFault::NameTwice(Who::Atom(0))),

@@ -129,3 +129,58 @@ fn an_agent_takes_what_a_worker_sends_in_order(rt: HostRuntime) -> Result<(), Fa
     }
     Ok(())
 }
+
+// Each worker sends to an agent of its own, whose actions count, and carry the worker's numbers on to g, two each.
+fn carries_of(alloc: Global, worker: usize) -> Result<String, AllocError> {
+    let mut steps = String::new(alloc);
+    for n in 0..ROUNDS {
+        let first = worker.saturating_mul(100).saturating_add(2 * n);
+        let second = first.saturating_add(1);
+        let send = format!(in alloc;
+            "[:send-carry w{worker} [inc] [g conj {first}] [w{worker} + 10] [g conj {second}]]"
+        )?;
+        let step = if n % 2 == 0 {
+            format!(in alloc; "{send} ")?
+        } else {
+            format!(in alloc; "[:tx {send}] ")?
+        };
+        steps.push_str(&step)?;
+    }
+    Ok(steps)
+}
+
+fn carrying(alloc: Global) -> Result<String, AllocError> {
+    let mut workers = String::new(alloc);
+    for worker in 0..WORKERS {
+        let steps = carries_of(alloc, worker)?;
+        workers.push_str(&format!(in alloc; "[{steps}] ")?)?;
+    }
+    format!(in alloc;
+        "{{:version 2 :agents [[g []] [w0 0] [w1 0] [w2 0] [w3 0]] :pool 4 :workers [{workers}]}}"
+    )
+}
+
+fn number_at(elements: &[Value], at: usize) -> Option<i64> {
+    match elements.get(at)?.node() {
+        Node::Int(n) => Some(*n),
+        _ => None,
+    }
+}
+
+#[test]
+fn an_agent_takes_what_another_carries_in_order(rt: HostRuntime) -> Result<(), Fail> {
+    let alloc = rt.alloc();
+    let seen = run_four(&rt, &carrying(alloc)?)?;
+    // `agent g [..] ready`, then `agent w0 275 ready` and so on.
+    let elements = read_all(alloc, &seen.report)?;
+    assert_eq!(rt; elements.len(), 24);
+    let numbers = numbers_of(alloc, &elements[2])?;
+    assert_eq!(rt; numbers.len(), 2 * WORKERS * ROUNDS);
+    for worker in 0..4i64 {
+        assert_eq!(rt; in_order(&numbers, worker), Some(50));
+    }
+    for worker in 0..WORKERS {
+        assert_eq!(rt; number_at(&elements, 4 * worker + 6), Some(275));
+    }
+    Ok(())
+}

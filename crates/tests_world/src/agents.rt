@@ -3,6 +3,44 @@ use std::test::Fail;
 use tests_rows::rows::check_anywhere;
 
 #[test]
+fn carried_sends_by_hand(rt: HostRuntime) -> Result<(), Fail> {
+    check_anywhere(
+        rt.alloc(),
+        "",
+        r##"
+            // What an action carries is in its queue once its value is the state. Until it is released neither can be taken: the agent is
+            // carrying, and what it carried is held.
+            [] [] [0 0] [send-carry g [+ 1] [h + 10] :ok] [send g + 5 :ok] [account h [0 0]] [act :changed] [now g 1] [account g [0 :done 1]] [account h [0 1]] [act :none] [release-carried g true] [release-carried g false] [act :changed] [act :changed] [act :none] [now g 6] [now h 10]
+            // It waits in its order, before what is sent later.
+            [] [] [0 1] [watch h :k true] [send-carry g [+ 1] [h - 3] [h + 7] :ok] [act :changed] [send h + 5 :ok] [account h [1 3]] [act :none] [release-carried g true] [act [:changed [h :k 1 -2]]] [act [:changed [h :k -2 5]]] [act [:changed [h :k 5 10]]]
+            // To the agent itself.
+            [] [] [0] [send-carry g [+ 1] [g + 10] :ok] [act :changed] [now g 1] [account g [0 :done 1]] [act :none] [release-carried g true] [act :changed] [now g 11] [release-carried g false]
+            // Eight to one agent.
+            [] [] [0 0] [send-carry g [+ 1] [h + 1] [h + 1] [h + 1] [h + 1] [h + 1] [h + 1] [h + 1] [h + 1] :ok] [act :changed] [account h [0 8]] [release-carried g true] [act :changed] [act :changed] [act :changed] [act :changed] [act :changed] [act :changed] [act :changed] [act :changed] [act :none] [now h 8]
+            // A failed agent gets it, and holds it until a restart.
+            [] [] [0 [rule 0 [>= 0]]] [send h - 1 :ok] [act [:failed :invalid]] [send-carry g [+ 1] [h + 10] :ok] [act :changed] [account h [0 :failed 1]] [release-carried g true] [act :none] [restart h 5 :ok] [act :changed] [now h 15]
+            // What a restart has dropped is released, too, and nothing comes of it.
+            [] [] [0 [rule 0 [>= 0]]] [send h - 1 :ok] [act [:failed :invalid]] [send-carry g [+ 1] [h + 10] :ok] [act :changed] [restart h 5 clear :ok] [account h [5 0]] [release-carried g true] [release-carried g false] [act :none] [now h 5]
+            // What was released isn't held again by the agent's next action.
+            [] [] [0 [rule 0 [>= 0]]] [send h - 1 :ok] [act [:failed :invalid]] [send-carry g [+ 1] [h + 1] :ok] [act :changed] [release-carried g true] [send-carry g [+ 1] [h + 2] :ok] [act :changed] [restart h 0 :ok] [act :changed] [now h 1] [act :none] [release-carried g true] [act :changed] [now h 3]
+            // A release is of one agent.
+            [] [] [0 0 0] [send-carry g [+ 1] [i + 1] :ok] [send-carry h [+ 1] [i + 10] :ok] [act :changed] [act :changed] [account i [0 2]] [release-carried h true] [act :none] [release-carried g true] [act :changed] [now i 1] [act :changed] [now i 11]
+            // An action that fails sends nothing, in either mode.
+            [] [] [[rule 0 [>= 0]] 0] [send-carry g [- 1] [h + 10] :ok] [act [:failed :invalid]] [release-carried g false] [account h [0 0]] [act :none]
+            [] [] [[continue 0 [>= 0]] 0] [send-carry g [- 1] [h + 10] :ok] [send-carry g [+ :k] [h + 10] :ok] [act [:continued :invalid]] [act [:continued [:refused :wrong-kind]]] [release-carried g false] [account h [0 0]] [act :none]
+            // A job of an action that carries something else is foreign, and sends nothing.
+            [] [] [0 0] [send-carry g [+ 1] [h + 10] :ok] [lose g] [stranger g + 1 :foreign] [stranger-carry g [+ 1] [h + 11] :foreign] [stranger-carry g [+ 1] [g + 10] :foreign] [stranger-carry g [+ 1] [h + 10] [h + 10] :foreign] [account h [0 0]] [stranger-carry g [+ 1] [h + 10] :changed] [account h [0 1]]
+            // All agents have to be here. A function is asked for where it is run.
+            [] [] [0 0] [send-carry g [+ 1] [h + 1] [i + 1] :no-such-agent] [send-carry i [+ 1] [g + 1] :no-such-agent] [account g [0 0]] [send-carry g [+ 1] [h 99] :ok] [act :changed] [release-carried g true] [act [:no-such-fun 99]]
+            // A transaction asks for all functions first, and then for all agents.
+            [] [] [0 0] [begin 1 0] [1 send-carry g [+ 1] [h 99] [:no-such-fun 99]] [1 send-carry i [+ 1] [g 98] [h 99] [:no-such-fun 98]] [1 send-carry i [97 1] [g 98] [:no-such-fun 97]] [1 send-carry g [+ 1] [h + 1] [i + 1] :no-such-agent] [1 send-carry g [+ 1] [h + 10] :ok] [commit 1 1] [act :none] [release-carried g false] [release 1 true] [act :changed] [act :none] [account h [0 1]] [release-carried g true] [act :changed] [now h 10]
+            // It may be sent by a transaction of a world with fewer agents: the first one that isn't here is returned.
+            [0] [] [0 0 0] [begin 1 0] [1 send-carry g [+ 1] [i + 5] [h + 5] :ok] [1 send h + 1 :ok] [other [0] [] [0] :ok] [commit 1 [:foreign :agent 2]]
+        "##,
+    )
+}
+
+#[test]
 fn agents_by_hand(rt: HostRuntime) -> Result<(), Fail> {
     check_anywhere(
         rt.alloc(),

@@ -66,8 +66,9 @@ impl Form for Handled {
     fn to_value(&self, alloc: Global) -> Result<Value, DumpMakeFault> {
         let name = name(alloc, self.action.code)?;
         let args = vector_of_values(alloc, self.action.args.as_slice())?;
+        let carries = vector_of_all(alloc, self.action.carries.as_slice())?;
         let mark = word_of(self.mark).keyword(alloc)?;
-        vector_of(alloc, vec![in alloc; name, args, mark]?)
+        vector_of(alloc, vec![in alloc; name, args, carries, mark]?)
     }
 }
 
@@ -78,7 +79,8 @@ impl Form for Queued {
     fn to_value(&self, alloc: Global) -> Result<Value, DumpMakeFault> {
         let name = name(alloc, self.action.code)?;
         let args = vector_of_values(alloc, self.action.args.as_slice())?;
-        vector_of(alloc, vec![in alloc; name, args]?)
+        let carries = vector_of_all(alloc, self.action.carries.as_slice())?;
+        vector_of(alloc, vec![in alloc; name, args, carries]?)
     }
 }
 

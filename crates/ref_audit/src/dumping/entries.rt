@@ -3,11 +3,12 @@ ghost use Rattle.std.specs.Prelude.{◌≡◌, IfErr, IfOk};
 ghost use Rattle.ref_value.specs.Edn.{nesting};
 ghost use Rattle.ref_audit.specs.Dumped.{atom_form, call_form, done_form, entry_form, made_form, op_form, reset_form, sent_form};
 ghost use Rattle.ref_audit.specs.Made.{IsMakeFault, word_text};
+ghost use Rattle.ref_verdict.specs.Words.{carry_form};
 
 use crate::dumping::forms::{Form, name, number, vector_of, vector_of_all, vector_of_values};
 use crate::faults::DumpMakeFault;
 use crate::words::Word;
-use ref_fun::Args;
+use ref_fun::{Args, Carry};
 use ref_log::{Done, Entry, Op, Sent, Transaction};
 use ref_value::Value;
 use std::alloc::Global;
@@ -60,6 +61,19 @@ impl Form for Sent {
         let agent = number(u64::from(self.agent))?;
         let name = name(alloc, self.action.code)?;
         let args = vector_of_values(alloc, self.action.args.as_slice())?;
+        let carries = vector_of_all(alloc, self.action.carries.as_slice())?;
+        vector_of(alloc, vec![in alloc; agent, name, args, carries]?)
+    }
+}
+
+impl Form for Carry {
+    ghost form = { carry_form };
+
+    #[tactic(auto, using(crate::proofs::Depths::make_faults))]
+    fn to_value(&self, alloc: Global) -> Result<Value, DumpMakeFault> {
+        let agent = number(u64::from(self.g))?;
+        let name = name(alloc, self.code)?;
+        let args = vector_of_values(alloc, self.args.as_slice())?;
         vector_of(alloc, vec![in alloc; agent, name, args]?)
     }
 }

@@ -84,7 +84,7 @@ pub(crate) fn entries_of<C: Ledger, A: Ledger, K: Ledger>(
     all.push(pair(alloc, Word::BaseAtoms, base_atoms)?)?;
     all.push(pair(alloc, Word::BaseRefs, base_refs)?)?;
     all.push(pair(alloc, Word::Commits, number(world.commits())?)?)?;
-    all.push(pair(alloc, Word::Dump, number(2)?)?)?;
+    all.push(pair(alloc, Word::Dump, number(3)?)?)?;
     all.push(pair(alloc, Word::Entries, entries)?)?;
     all.push(pair(alloc, Word::Folded, folded)?)?;
     all.push(pair(alloc, Word::Point, number(base.point)?)?)?;

@@ -1,13 +1,13 @@
 //! Codes of actions that no function of Core has.
 ghost use Rattle.std.specs.Prelude.{◌≡◌, ℕ, Option, min};
-ghost use Rattle.ref_audit.specs.Dumped.{least, lesser, unnamed_code, unnamed_in_account, unnamed_in_entry, unnamed_in_handled, unnamed_in_queued, unnamed_in_sent};
+ghost use Rattle.ref_audit.specs.Dumped.{least, lesser, unnamed_code, unnamed_in_account, unnamed_in_action, unnamed_in_carry, unnamed_in_entry, unnamed_in_handled, unnamed_in_queued, unnamed_in_sent};
 
 use ref_agents::{Account, Handled, Queued};
-use ref_fun::is_function;
+use ref_fun::{Action, Carry, is_function};
 use ref_log::{Entry, Sent};
 use ref_pvec::PVec;
 
-// What may name actions.
+// What may name functions of actions.
 pub(crate) trait Naming {
     ghost unnamed: { Self → Option ℕ };
 
@@ -31,7 +31,7 @@ impl Naming for Sent {
     ghost unnamed = { unnamed_in_sent };
 
     fn unnamed(&self) -> Option<u32> {
-        unnamed_code(self.action.code)
+        unnamed_in_action(&self.action)
     }
 }
 
@@ -39,7 +39,7 @@ impl Naming for Handled {
     ghost unnamed = { unnamed_in_handled };
 
     fn unnamed(&self) -> Option<u32> {
-        unnamed_code(self.action.code)
+        unnamed_in_action(&self.action)
     }
 }
 
@@ -47,8 +47,25 @@ impl Naming for Queued {
     ghost unnamed = { unnamed_in_queued };
 
     fn unnamed(&self) -> Option<u32> {
-        unnamed_code(self.action.code)
+        unnamed_in_action(&self.action)
     }
+}
+
+impl Naming for Carry {
+    ghost unnamed = { unnamed_in_carry };
+
+    fn unnamed(&self) -> Option<u32> {
+        unnamed_code(self.code)
+    }
+}
+
+fn unnamed_in_action(action: &Action) -> Option<u32>
+    ensures { result ≡ unnamed_in_action action.now }
+{
+    lesser(
+        unnamed_code(action.code),
+        least_of(action.carries.as_slice()),
+    )
 }
 
 fn unnamed_code(code: u32) -> Option<u32>

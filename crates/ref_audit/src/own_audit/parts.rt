@@ -1,10 +1,10 @@
 //! What the types of entries and accounts say, stated of the whole. These calls change nothing.
 ghost use Rattle.std.specs.Prelude.{◌≡◌, true};
 ghost use Rattle.std.specs.List.{list_all};
-ghost use Rattle.ref_audit.specs.OwnDump.{is_small_account, is_small_args, is_small_atom, is_small_done, is_small_entry, is_small_handled, is_small_op, is_small_queued, is_small_sent, is_small_transaction};
+ghost use Rattle.ref_audit.specs.OwnDump.{is_small_account, is_small_action, is_small_args, is_small_atom, is_small_carries, is_small_carry, is_small_done, is_small_entry, is_small_handled, is_small_op, is_small_queued, is_small_sent, is_small_transaction};
 
 use ref_agents::{Account, Handled};
-use ref_fun::Args;
+use ref_fun::{Action, Args, Carries, Carry};
 use ref_log::{Done, Entry, Op, Sent, Transaction};
 use ref_pvec::PVec;
 
@@ -38,11 +38,39 @@ fn tell_dones(dones: &[Done])
     }
 }
 
+fn tell_carry(carry: &Carry)
+    ensures { is_small_carry carry.now ≡ true }
+{
+    let _g = carry.g;
+    tell_args(&carry.args);
+}
+
+fn tell_each(carries: &[Carry])
+    ensures { list_all is_small_carry carries.now ≡ true }
+{
+    for carry in carries {
+        tell_carry(carry);
+    }
+}
+
+fn tell_carries(carries: &Carries)
+    ensures { is_small_carries carries.now ≡ true }
+{
+    tell_each(carries.as_slice());
+}
+
+fn tell_action(action: &Action)
+    ensures { is_small_action action.now ≡ true }
+{
+    tell_args(&action.args);
+    tell_carries(&action.carries);
+}
+
 fn tell_sent(sent: &Sent)
     ensures { is_small_sent sent.now ≡ true }
 {
     let _agent = sent.agent;
-    tell_args(&sent.action.args);
+    tell_action(&sent.action);
 }
 
 fn tell_sends(sends: &[Sent])
@@ -90,7 +118,7 @@ fn tell_handled(handled: &[Handled])
     ensures { list_all is_small_handled handled.now ≡ true }
 {
     for h in handled {
-        tell_args(&h.action.args);
+        tell_action(&h.action);
     }
 }
 
@@ -101,7 +129,7 @@ fn tell_queue(account: &Account)
         let Some(queued) = account.waiting_at(i) else {
             unreachable!()
         };
-        tell_args(&queued.action.args);
+        tell_action(&queued.action);
     }
 }
 

@@ -23,7 +23,7 @@ pub(crate) fn dump_seen<C: Ledger, A: Ledger, K: Ledger>(
     ensures { IfOk result (λ dump. dump ≡ dump_seen world.now) }
 {
     Ok(Dump {
-        version: Version::Two,
+        version: Version::Three,
         base: share_base(world.base())?,
         entries: world.log().share()?,
         refs: kepts_seen(alloc, world, Kind::Ref)?,

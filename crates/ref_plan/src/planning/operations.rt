@@ -1,13 +1,16 @@
 //! The operations of a transaction.
 ghost use Rattle.std.specs.Prelude.{◌≡◌, ◌≢◌, None, Some, IfErr, IfOk};
 ghost use Rattle.ref_forms.specs.Reading.{Reads};
-ghost use Rattle.ref_plan.specs.Operations.{op_of, op_said, ops_said};
+ghost use Rattle.ref_plan.specs.Operations.{op_of, op_said, ops_said, send_carry_said};
 
 use crate::planning::names::Declared;
 use crate::plans::PlannedOp;
+use crate::versions::Version;
+use ref_forms::carrying::carrying_on;
 use ref_forms::plain::{is_same, tagged_in};
 use ref_forms::references::{call_on, number_alone, requirement_on, value_on};
 use ref_forms::{Kind, Wrong};
+use ref_fun::Action;
 use ref_log::{Op, Sent, SharedVec};
 use ref_value::Value;
 use ref_value::vectors::Iter;
@@ -16,14 +19,30 @@ use std::alloc::Global;
 /// How many operations a transaction may have.
 pub const MOST_OPERATIONS: usize = 256;
 
+/// `NAME [F ARG ..] [NAME F ARG ..] ..`: an action for an agent, with what it carries. Version 1 has no such form.
+pub fn send_carry(
+    alloc: Global,
+    version: Version,
+    declared: &Declared,
+    parts: Iter<'_>,
+) -> Result<(u32, Action), Wrong>
+    ensures { Reads (send_carry_said version declared.now parts.entry) result }
+{
+    match version {
+        Version::One => Err(Wrong::Form),
+        Version::Two => carrying_on(alloc, declared, parts),
+    }
+}
+
 // What stands behind the word of an operation.
 fn operation_of(
     alloc: Global,
+    version: Version,
     declared: &Declared,
     word: &[u8],
     parts: Iter<'_>,
 ) -> Result<PlannedOp, Wrong>
-    ensures { Reads (op_said declared.now word.now parts.entry) result }
+    ensures { Reads (op_said version declared.now word.now parts.entry) result }
 {
     if is_same(word, b"set") {
         let (r, value) = value_on(declared, Kind::Ref, parts)?;
@@ -43,36 +62,38 @@ fn operation_of(
     } else if is_same(word, b"send") {
         let (agent, action) = call_on(alloc, declared, Kind::Agent, parts)?;
         Ok(PlannedOp::Send(Sent { agent, action }))
+    } else if is_same(word, b"send-carry") {
+        let (agent, action) = send_carry(alloc, version, declared, parts)?;
+        Ok(PlannedOp::Send(Sent { agent, action }))
     } else {
         Err(Wrong::Form)
     }
 }
 
 /// `[WORD NAME REST ..]`.
-fn operation(alloc: Global, declared: &Declared, form: &Value) -> Result<PlannedOp, Wrong>
-    ensures { Reads (op_of declared.now form.now) result }
+fn operation(
+    alloc: Global,
+    version: Version,
+    declared: &Declared,
+    form: &Value,
+) -> Result<PlannedOp, Wrong>
+    ensures { Reads (op_of version declared.now form.now) result }
 {
     match tagged_in(form) {
-        Some((word, parts)) => operation_of(alloc, declared, word.as_bytes(), parts),
+        Some((word, parts)) => operation_of(alloc, version, declared, word.as_bytes(), parts),
         None => Err(Wrong::Form),
     }
 }
 
-// A wrong name counts more than a wrong function.
-fn worse(worst: Option<Wrong>, wrong: Wrong) -> Wrong
-    requires { wrong ≢ Wrong.Memory }
-    ensures { result ≢ Wrong.Memory }
-{
-    match worst {
-        Some(Wrong::Name) => Wrong::Name,
-        _ => wrong,
-    }
-}
-
-#[tactic(auto, using(crate::proofs::Operations::known_more))]
-fn list_of(alloc: Global, declared: &Declared, forms: Iter<'_>) -> Result<Vec<PlannedOp>, Wrong>
-    ensures ok { IfOk result (λ ops. ops_said declared.now forms.entry ≡ Some ops.items) }
-    ensures wrong { IfErr result (λ w. w ≢ Wrong.Memory → ops_said declared.now forms.entry ≡ None) }
+#[tactic(auto, using(ref_forms::specs::Laws::known_more))]
+fn list_of(
+    alloc: Global,
+    version: Version,
+    declared: &Declared,
+    forms: Iter<'_>,
+) -> Result<Vec<PlannedOp>, Wrong>
+    ensures ok { IfOk result (λ ops. ops_said version declared.now forms.entry ≡ Some ops.items) }
+    ensures wrong { IfErr result (λ w. w ≢ Wrong.Memory → ops_said version declared.now forms.entry ≡ None) }
 {
     let mut ops = Vec::new(alloc);
     let mut worst = None;
@@ -82,11 +103,9 @@ fn list_of(alloc: Global, declared: &Declared, forms: Iter<'_>) -> Result<Vec<Pl
             return Err(Wrong::Form);
         }
         seen += 1;
-        match operation(alloc, declared, form) {
+        match operation(alloc, version, declared, form) {
             Ok(op) => ops.push(op)?,
-            Err(Wrong::Form) => return Err(Wrong::Form),
-            Err(Wrong::Memory) => return Err(Wrong::Memory),
-            Err(wrong) => worst = Some(worse(worst, wrong)),
+            Err(wrong) => worst = Some(wrong.worse(worst)),
         }
     }
     match worst {
@@ -101,11 +120,12 @@ fn list_of(alloc: Global, declared: &Declared, forms: Iter<'_>) -> Result<Vec<Pl
 /// The operations that these forms say, at most 256. A wrong form of any of them comes first, then a wrong name, then a wrong function.
 pub fn operations(
     alloc: Global,
+    version: Version,
     declared: &Declared,
     forms: Iter<'_>,
 ) -> Result<SharedVec<PlannedOp>, Wrong>
-    ensures { Reads (ops_said declared.now forms.entry) result }
+    ensures { Reads (ops_said version declared.now forms.entry) result }
 {
-    let ops = list_of(alloc, declared, forms)?;
+    let ops = list_of(alloc, version, declared, forms)?;
     Ok(SharedVec::of(alloc, ops)?)
 }

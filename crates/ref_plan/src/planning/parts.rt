@@ -12,6 +12,7 @@ ghost use Rattle.ref_plan.specs.Workload.{HasParts, HasVectors, is_short_vector,
 use crate::plan_faults::PlanFault;
 use crate::planning::declarations::MOST_REFERENCES;
 use crate::planning::steps::MOST_STEPS;
+use crate::versions::{Version, version_numbered};
 use ref_forms::maps::{are_known, count, under, vector_under};
 use ref_forms::plain::{elements_in, elements_up_to};
 use ref_value::{Entries, Items, Node, Value};
@@ -27,9 +28,10 @@ const POOL: i64 = 2;
 
 const WORDS: [&str; 6] = ["version", "refs", "atoms", "agents", "workers", "pool"];
 
-/// The forms in a workload's vectors, where they aren't left out, and the number of threads for actions.
+/// The version of a workload, the forms in its vectors, where they aren't left out, and the number of threads for actions.
 #[derive(Drop)]
 pub struct Parts<'a> {
+    pub version: Version,
     pub refs: Option<&'a Items>,
     pub atoms: Option<&'a Items>,
     pub agents: Option<&'a Items>,
@@ -144,9 +146,9 @@ pub fn parts_of<'a>(entries: &'a Entries) -> Result<Parts<'a>, PlanFault>
     ensures atoms { IfOk result (λ p. elements (option_copied p.atoms) ≡ forms_under entries.now atoms_word) }
     ensures agents { IfOk result (λ p. elements (option_copied p.agents) ≡ forms_under entries.now agents_word) }
     ensures workers { IfOk result (λ p. elements (option_copied p.workers) ≡ forms_under entries.now workers_word) }
-    ensures ok { IfOk result (λ p. HasParts entries.now p.pool) }
+    ensures ok { IfOk result (λ p. HasParts entries.now p.version p.pool) }
     ensures told { IfErr result (λ f. f ≢ PlanFault.Memory) }
-    ensures none { OnErr result ((pool : ℕ) → HasParts entries.now pool → ⊥) }
+    ensures none { OnErr result ((version : Version) (pool : ℕ) → HasParts entries.now version pool → ⊥) }
 {
     let Some(found) = found_in(entries) else {
         return Err(PlanFault::NotWorkload);
@@ -160,9 +162,9 @@ pub fn parts_of<'a>(entries: &'a Entries) -> Result<Parts<'a>, PlanFault>
     if !are_vectors(found.workers) {
         return Err(PlanFault::NotWorkload);
     }
-    if version != 1 {
+    let Some(version) = version_numbered(version) else {
         return Err(PlanFault::BadVersion);
-    }
+    };
     if !are_few(&found) {
         return Err(PlanFault::TooMany);
     }
@@ -173,6 +175,7 @@ pub fn parts_of<'a>(entries: &'a Entries) -> Result<Parts<'a>, PlanFault>
         return Err(PlanFault::TooMany);
     };
     Ok(Parts {
+        version,
         refs: found.refs,
         atoms: found.atoms,
         agents: found.agents,

@@ -9,8 +9,9 @@ ghost use Rattle.ref_plan.specs.Workload.{is_short_vector};
 
 use crate::plan_faults::PlanFault;
 use crate::planning::names::Declared;
-use crate::planning::operations::operations;
+use crate::planning::operations::{operations, send_carry};
 use crate::plans::Step;
+use crate::versions::Version;
 use ref_forms::plain::{elements_up_to, is_same, tagged_in};
 use ref_forms::references::{call_on, mode_on, setting_on, state_on, two_values_on, value_on};
 use ref_forms::{Kind, Wrong};
@@ -23,11 +24,17 @@ use std::alloc::Global;
 pub const MOST_STEPS: usize = 10_000;
 
 // What stands behind the word of a step.
-fn step_of(alloc: Global, declared: &Declared, word: &[u8], parts: Iter<'_>) -> Result<Step, Wrong>
-    ensures { Reads (step_said declared.now word.now parts.entry) result }
+fn step_of(
+    alloc: Global,
+    version: Version,
+    declared: &Declared,
+    word: &[u8],
+    parts: Iter<'_>,
+) -> Result<Step, Wrong>
+    ensures { Reads (step_said version declared.now word.now parts.entry) result }
 {
     if is_same(word, b"tx") {
-        Ok(Step::Tx(operations(alloc, declared, parts)?))
+        Ok(Step::Tx(operations(alloc, version, declared, parts)?))
     } else if is_same(word, b"swap") {
         let (atom, action) = call_on(alloc, declared, Kind::Atom, parts)?;
         Ok(Step::Swap(atom, action))
@@ -39,6 +46,9 @@ fn step_of(alloc: Global, declared: &Declared, word: &[u8], parts: Iter<'_>) -> 
         Ok(Step::CompareAndSet(atom, old, new))
     } else if is_same(word, b"send") {
         let (agent, action) = call_on(alloc, declared, Kind::Agent, parts)?;
+        Ok(Step::Send(Sent { agent, action }))
+    } else if is_same(word, b"send-carry") {
+        let (agent, action) = send_carry(alloc, version, declared, parts)?;
         Ok(Step::Send(Sent { agent, action }))
     } else if is_same(word, b"restart") {
         let (agent, (state, clear)) = state_on(declared, parts)?;
@@ -55,11 +65,11 @@ fn step_of(alloc: Global, declared: &Declared, word: &[u8], parts: Iter<'_>) -> 
 }
 
 /// `[WORD REST ..]`.
-fn step(alloc: Global, declared: &Declared, form: &Value) -> Result<Step, Wrong>
-    ensures { Reads (step_of declared.now form.now) result }
+fn step(alloc: Global, version: Version, declared: &Declared, form: &Value) -> Result<Step, Wrong>
+    ensures { Reads (step_of version declared.now form.now) result }
 {
     match tagged_in(form) {
-        Some((word, parts)) => step_of(alloc, declared, word.as_bytes(), parts),
+        Some((word, parts)) => step_of(alloc, version, declared, word.as_bytes(), parts),
         None => Err(Wrong::Form),
     }
 }
@@ -79,17 +89,18 @@ fn plan_fault(wrong: Wrong, worker: u32, step: u32) -> PlanFault
 #[tactic(auto, using(ref_forms::specs::Laws::in_front_and_said))]
 fn steps(
     alloc: Global,
+    version: Version,
     declared: &Declared,
     worker: u32,
     forms: &Items,
 ) -> Result<Vec<Step>, PlanFault>
     requires { length forms.now ≤ most_steps }
-    ensures ok { IfOk result (λ steps. all_said (step_of declared.now) forms.now ≡ Some steps.items) }
-    ensures none { IfErr result (λ f. f ≢ PlanFault.Memory → all_said (step_of declared.now) forms.now ≡ None) }
+    ensures ok { IfOk result (λ steps. all_said (step_of version declared.now) forms.now ≡ Some steps.items) }
+    ensures none { IfErr result (λ f. f ≢ PlanFault.Memory → all_said (step_of version declared.now) forms.now ≡ None) }
 {
     let mut steps = Vec::with_capacity(alloc, forms.len())?;
     for form in forms {
-        match step(alloc, declared, form) {
+        match step(alloc, version, declared, form) {
             Ok(step) => steps.push(step)?,
             Err(wrong) => return Err(plan_fault(wrong, worker, steps.len() as u32)),
         }
@@ -99,18 +110,19 @@ fn steps(
 
 fn worker(
     alloc: Global,
+    version: Version,
     declared: &Declared,
     worker: u32,
     form: &Value,
 ) -> Result<SharedVec<Step>, PlanFault>
     requires { is_short_vector form.now ≡ true }
-    ensures ok { IfOk result (λ steps. worker_of declared.now form.now ≡ Some steps) }
-    ensures none { IfErr result (λ f. f ≢ PlanFault.Memory → worker_of declared.now form.now ≡ None) }
+    ensures ok { IfOk result (λ steps. worker_of version declared.now form.now ≡ Some steps) }
+    ensures none { IfErr result (λ f. f ≢ PlanFault.Memory → worker_of version declared.now form.now ≡ None) }
 {
     let Some(forms) = elements_up_to(form, MOST_STEPS) else {
         unreachable!()
     };
-    let steps = steps(alloc, declared, worker, forms)?;
+    let steps = steps(alloc, version, declared, worker, forms)?;
     Ok(SharedVec::of(alloc, steps)?)
 }
 
@@ -118,17 +130,18 @@ fn worker(
 #[tactic(auto, using(ref_forms::specs::Laws::in_front_and_said))]
 pub fn workers(
     alloc: Global,
+    version: Version,
     declared: &Declared,
     forms: &Items,
 ) -> Result<Vec<SharedVec<Step>>, PlanFault>
     requires few { length forms.now ≤ most_workers }
     requires vectors { list_all is_short_vector forms.now ≡ true }
-    ensures ok { IfOk result (λ workers. all_said (worker_of declared.now) forms.now ≡ Some workers.items) }
-    ensures none { IfErr result (λ f. f ≢ PlanFault.Memory → all_said (worker_of declared.now) forms.now ≡ None) }
+    ensures ok { IfOk result (λ workers. all_said (worker_of version declared.now) forms.now ≡ Some workers.items) }
+    ensures none { IfErr result (λ f. f ≢ PlanFault.Memory → all_said (worker_of version declared.now) forms.now ≡ None) }
 {
     let mut workers = Vec::new(alloc);
     for form in forms {
-        let steps = worker(alloc, declared, workers.len() as u32, form)?;
+        let steps = worker(alloc, version, declared, workers.len() as u32, form)?;
         workers.push(steps)?;
     }
     Ok(workers)

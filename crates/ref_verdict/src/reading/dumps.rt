@@ -12,6 +12,8 @@ pub enum Version {
     One,
     /// With a book of what was taken from the tally.
     Two,
+    /// With the sends that actions carry.
+    Three,
 }
 
 /// A dump of a world.

@@ -1,9 +1,11 @@
 //! Entries and what they are made of.
 ghost use Rattle.std.specs.Prelude.{◌≡◌, ◌≢◌, ◌∷◌, [], None, Some, Ok, IfErr, IfOk, IfNone, IfSome};
 ghost use Rattle.ref_forms.specs.Reading.{Reads};
-ghost use Rattle.ref_verdict.specs.DumpForm.{alter_said, call_said, commute_said, done_of, done_said, ensure_said, entries_from, entry_of, entry_said, made_atom_said, made_ref_said, reference_of, reset_said, sent_of, sent_said, set_said, stamp_of, swap_said, tx_said};
+ghost use Rattle.ref_verdict.specs.DumpForm.{alter_said, call_said, commute_said, done_of, done_said, ensure_said, entry_of, entry_said, made_atom_said, made_ref_said, reset_said, sent_of, sent_said, set_said, stamp_of, swap_said, tx_said};
 ghost use Rattle.ref_verdict.specs.Reading.{Told};
 
+use crate::reading::actions::{action_parts, reference_in};
+use crate::reading::dumps::Version;
 use crate::reading::lists::{FromForm, list_in};
 use ref_forms::Wrong;
 use ref_forms::calls::action_in;
@@ -13,18 +15,6 @@ use ref_log::{Done, Entry, Op, Sent, Stamp, Transaction};
 use ref_value::Value;
 use ref_value::vectors::Iter;
 use std::alloc::Global;
-
-/// The number of a reference. Those past the greatest `u32` are taken as that: no reference has one of them.
-pub fn reference_in(form: &Value) -> Option<u32>
-    ensures { result ≡ reference_of form.now }
-{
-    let n = number_in(form)?;
-    if n < 4_294_967_295 {
-        Some(n as u32)
-    } else {
-        Some(u32::MAX)
-    }
-}
 
 // `R V ANSWER`
 fn set_in(mut parts: Iter<'_>) -> Result<Done, Wrong>
@@ -130,9 +120,9 @@ fn done_in(alloc: Global, tag: &[u8], parts: Iter<'_>) -> Result<Done, Wrong>
 }
 
 impl FromForm for Done {
-    ghost said = { done_of };
+    ghost said = { λ _. done_of };
 
-    fn from_form(alloc: Global, form: &Value) -> Result<Done, Wrong> {
+    fn from_form(alloc: Global, _version: Version, form: &Value) -> Result<Done, Wrong> {
         match tagged_in(form) {
             Some((tag, parts)) => done_in(alloc, tag.as_bytes(), parts),
             None => Err(Wrong::Form),
@@ -140,29 +130,29 @@ impl FromForm for Done {
     }
 }
 
-// `[G F [ARG ..]]`
+// `G F [ARG ..]`, and in version 3 `G F [ARG ..] [CARRY ..]`
+fn sent_in(alloc: Global, version: Version, mut parts: Iter<'_>) -> Result<Sent, Wrong>
+    ensures { Reads (sent_said version parts.entry) result }
+{
+    let Some(g) = parts.next() else {
+        return Err(Wrong::Form);
+    };
+    let Some(agent) = reference_in(g) else {
+        return Err(Wrong::Form);
+    };
+    match action_parts(alloc, version, parts) {
+        Ok(action) => Ok(Sent { agent, action }),
+        Err(wrong) => Err(wrong),
+    }
+}
+
 impl FromForm for Sent {
     ghost said = { sent_of };
 
-    fn from_form(alloc: Global, form: &Value) -> Result<Sent, Wrong> {
-        let Some(forms) = elements_in(form) else {
-            return Err(Wrong::Form);
-        };
-        let mut parts = forms.iter();
-        let (Some(g), Some(f), Some(args), None) = (
-            parts.next(),
-            parts.next(),
-            parts.next(),
-            parts.next(),
-        ) else {
-            return Err(Wrong::Form);
-        };
-        let Some(agent) = reference_in(g) else {
-            return Err(Wrong::Form);
-        };
-        match action_in(alloc, f, args) {
-            Ok(action) => Ok(Sent { agent, action }),
-            Err(wrong) => Err(wrong),
+    fn from_form(alloc: Global, version: Version, form: &Value) -> Result<Sent, Wrong> {
+        match elements_in(form) {
+            Some(forms) => sent_in(alloc, version, forms.iter()),
+            None => Err(Wrong::Form),
         }
     }
 }
@@ -177,8 +167,8 @@ fn stamp_in(worker: &Value, step: &Value) -> Option<Stamp>
 }
 
 // `W S READ [DONE ..] [SEND ..]`
-fn tx_in(alloc: Global, mut parts: Iter<'_>) -> Result<Entry, Wrong>
-    ensures { Reads (tx_said parts.entry) result }
+fn tx_in(alloc: Global, version: Version, mut parts: Iter<'_>) -> Result<Entry, Wrong>
+    ensures { Reads (tx_said version parts.entry) result }
 {
     let (Some(w), Some(s), Some(read), Some(dones), Some(sends), None) = (
         parts.next(),
@@ -193,7 +183,10 @@ fn tx_in(alloc: Global, mut parts: Iter<'_>) -> Result<Entry, Wrong>
     let (Some(stamp), Some(read_point)) = (stamp_in(w, s), number_in(read)) else {
         return Err(Wrong::Form);
     };
-    match (list_in(alloc, dones), list_in(alloc, sends)) {
+    match (
+        list_in(alloc, version, dones),
+        list_in(alloc, version, sends),
+    ) {
         (Ok(dones), Ok(sends)) => Ok(Entry::Trans(Transaction {
             stamp,
             read_point,
@@ -257,11 +250,16 @@ fn made_atom_in(parts: Iter<'_>) -> Result<Entry, Wrong>
     }
 }
 
-fn tagged_entry_in(alloc: Global, tag: &[u8], parts: Iter<'_>) -> Result<Entry, Wrong>
-    ensures { Reads (entry_said tag.now parts.entry) result }
+fn tagged_entry_in(
+    alloc: Global,
+    version: Version,
+    tag: &[u8],
+    parts: Iter<'_>,
+) -> Result<Entry, Wrong>
+    ensures { Reads (entry_said version tag.now parts.entry) result }
 {
     if is_same(tag, b"tx") {
-        tx_in(alloc, parts)
+        tx_in(alloc, version, parts)
     } else if is_same(tag, b"reset") {
         reset_in(parts)
     } else if is_same(tag, b"swap") {
@@ -276,11 +274,11 @@ fn tagged_entry_in(alloc: Global, tag: &[u8], parts: Iter<'_>) -> Result<Entry, 
 }
 
 /// An entry of the log.
-pub(crate) fn entry_in(alloc: Global, form: &Value) -> Result<Entry, Wrong>
-    ensures { Reads (entry_of form.now) result }
+pub(crate) fn entry_in(alloc: Global, version: Version, form: &Value) -> Result<Entry, Wrong>
+    ensures { Reads (entry_of version form.now) result }
 {
     match tagged_in(form) {
-        Some((tag, parts)) => tagged_entry_in(alloc, tag.as_bytes(), parts),
+        Some((tag, parts)) => tagged_entry_in(alloc, version, tag.as_bytes(), parts),
         None => Err(Wrong::Form),
     }
 }

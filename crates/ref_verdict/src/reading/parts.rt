@@ -9,8 +9,9 @@ ghost use Rattle.ref_verdict.specs.Reading.{Told, fault_at};
 ghost use Rattle.ref_verdict.specs.declared.reading.faults.DumpFault.TheVariants.{BadPart};
 ghost use Rattle.ref_verdict.specs.declared.reading.faults.Key.TheVariants as keys;
 
+use crate::reading::actions::reference_in;
 use crate::reading::dumps::Version;
-use crate::reading::entries::{entry_in, reference_in};
+use crate::reading::entries::entry_in;
 use crate::reading::faults::{DumpFault, Key};
 use crate::reading::lists::{FromForm, list_in, values_in};
 use ref_forms::Wrong;
@@ -39,7 +40,7 @@ const KEYS_OF_1: [&str; 12] = [
     "tally",
 ];
 
-const KEYS_OF_2: [&str; 13] = [
+const LATER_KEYS: [&str; 13] = [
     "added",
     "agents",
     "atoms",
@@ -62,18 +63,34 @@ impl Version {
         match self {
             Version::One => 1,
             Version::Two => 2,
+            Version::Three => 3,
         }
     }
 }
 
-/// The version whose keys a map can have.
+fn is_version(version: Version, form: Option<&Value>) -> bool
+    ensures { result ≡ is_version version (option_copied form.entry) }
+{
+    match form {
+        Some(form) => match number_in(form) {
+            Some(n) => n == version.number(),
+            None => false,
+        },
+        None => false,
+    }
+}
+
+/// The version that a map can have by its keys; of versions 2 and 3, which have the same, the one that it says.
 pub(crate) fn version_of(entries: &Entries) -> Version
     ensures { result ≡ version_of entries.now }
 {
-    if under(entries, b"taken").is_some() {
-        Version::Two
+    if under(entries, b"taken").is_none() {
+        return Version::One;
+    }
+    if is_version(Version::Three, under(entries, b"dump")) {
+        Version::Three
     } else {
-        Version::One
+        Version::Two
     }
 }
 
@@ -101,19 +118,7 @@ fn has_keys(version: Version, entries: &Entries) -> bool
 {
     match version {
         Version::One => are_keys(entries, &KEYS_OF_1),
-        Version::Two => are_keys(entries, &KEYS_OF_2),
-    }
-}
-
-fn is_version(version: Version, form: Option<&Value>) -> bool
-    ensures { result ≡ is_version version (option_copied form.entry) }
-{
-    match form {
-        Some(form) => match number_in(form) {
-            Some(n) => n == version.number(),
-            None => false,
-        },
-        None => false,
+        Version::Two | Version::Three => are_keys(entries, &LATER_KEYS),
     }
 }
 
@@ -193,15 +198,16 @@ pub(crate) fn number_part(entries: &Entries, key: Key) -> Result<u64, DumpFault>
 /// A part that is a list.
 pub(crate) fn list_part<T: FromForm>(
     alloc: Global,
+    version: Version,
     entries: &Entries,
     key: Key,
 ) -> Result<SharedVec<T>, DumpFault>
-    ensures { Told (part_said entries.now key (list_said T.said)) result }
+    ensures { Told (part_said entries.now key (list_said (T.said version))) result }
 {
     let Some(form) = form_of(entries, key) else {
         return Err(DumpFault::BadPart(key));
     };
-    match list_in(alloc, form) {
+    match list_in(alloc, version, form) {
         Ok(list) => Ok(list),
         Err(wrong) => Err(fault_at(key, wrong)),
     }
@@ -210,15 +216,16 @@ pub(crate) fn list_part<T: FromForm>(
 /// A part that is a list of what there is of the references of a kind.
 pub(crate) fn values_part<T: FromForm>(
     alloc: Global,
+    version: Version,
     entries: &Entries,
     key: Key,
 ) -> Result<SharedVec<T>, DumpFault>
-    ensures { Told (part_said entries.now key (values_said T.said)) result }
+    ensures { Told (part_said entries.now key (values_said (T.said version))) result }
 {
     let Some(form) = form_of(entries, key) else {
         return Err(DumpFault::BadPart(key));
     };
-    match values_in(alloc, form) {
+    match values_in(alloc, version, form) {
         Ok(list) => Ok(list),
         Err(wrong) => Err(fault_at(key, wrong)),
     }
@@ -233,7 +240,7 @@ fn folded_in(version: Version, form: &Value) -> Option<(u64, u64, u64)>
     };
     match (version, parts.next(), parts.next()) {
         (Version::One, None, None) => Some((number_in(commits)?, number_in(added)?, 0)),
-        (Version::Two, Some(taken), None) => {
+        (Version::Two | Version::Three, Some(taken), None) => {
             Some((number_in(commits)?, number_in(added)?, number_in(taken)?))
         }
         _ => None,
@@ -258,7 +265,7 @@ pub(crate) fn taken_part(version: Version, entries: &Entries) -> Result<u64, Dum
 {
     match version {
         Version::One => Ok(0),
-        Version::Two => number_part(entries, Key::Taken),
+        Version::Two | Version::Three => number_part(entries, Key::Taken),
     }
 }
 
@@ -301,13 +308,17 @@ pub(crate) fn entry_forms(entries: &Entries) -> Result<&Items, DumpFault>
 }
 
 /// The entries, or the position of the first that is none.
-pub(crate) fn entries_in(alloc: Global, forms: &Items) -> Result<PVec<Entry>, DumpFault>
-    ensures reads { Told (entries_from 1 forms.now) result }
+pub(crate) fn entries_in(
+    alloc: Global,
+    version: Version,
+    forms: &Items,
+) -> Result<PVec<Entry>, DumpFault>
+    ensures reads { Told (entries_from version 1 forms.now) result }
     ensures limit { IfOk result (λ es. length es ≤ length forms.now) }
 {
     let mut entries = PVec::empty();
     for i in 0..forms.len() {
-        match entry_in(alloc, forms.at(i)) {
+        match entry_in(alloc, version, forms.at(i)) {
             Ok(entry) => match entries.push(alloc, entry) {
                 Ok(()) => {}
                 Err(_) => return Err(DumpFault::Memory),

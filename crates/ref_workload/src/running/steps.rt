@@ -94,10 +94,7 @@ fn run_op<F: Functions<Core>>(
     match op {
         PlannedOp::On(r, op) => run_on_ref(alloc, funs, tx, *r, op),
         PlannedOp::Require(r, rule) => tx.require(funs, *r, rule),
-        PlannedOp::Send(sent) => {
-            let action = sent.action.share()?;
-            tx.send(alloc, funs, sent.agent, action.code, action.args)
-        }
+        PlannedOp::Send(sent) => tx.send(alloc, funs, sent.agent, sent.action.share()?),
     }
 }
 

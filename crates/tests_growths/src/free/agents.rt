@@ -67,6 +67,9 @@ fn settle<R: Input + Print, C: Ledger, A: Ledger, K: Ledger>(
     free.begin();
     let set = world.set_error_mode(0, ErrorMode::Continue);
     free.end("set_error_mode", set.is_ok());
+    free.begin();
+    let was_carrying = world.release_carried(0);
+    free.end("release_carried", !was_carrying);
 }
 
 pub(crate) fn call_all<R: Input + Print, C: Ledger, A: Ledger, K: Ledger>(

@@ -18,7 +18,7 @@ use tests_rows::whole::declared;
 
 fn events(alloc: Global) -> Result<Vec<Event>, AllocError> {
     let args = args_from(alloc, &read(alloc, "5 1")?, 1)?;
-    let action = Action { code: PLUS, args };
+    let action = Action::new(PLUS, args);
     let mut events = Vec::new(alloc);
     for (actor, act) in [
         (1, Act::Begin),

@@ -13,4 +13,4 @@ returns-clause-none c =
     let has = c.in_ok-parts.ensures in
     λ other p w. no_workers _ _ c.in-Some.ensures.some p w _ _ _ _
     (c.forms_of-refs.ensures ∙ has.refs) (c.forms_of-atoms.ensures ∙ has.atoms) (c.forms_of-agents.ensures ∙ has.agents) (c.forms_of-forms.ensures ∙ has.workers)
-    _ _ _ _ c.in_ok-declared.ensures.ok (c.in-Err.ensures.none other)
+    _ _ has.ok _ _ _ _ c.in_ok-declared.ensures.ok (c.in-Err.ensures.none other)

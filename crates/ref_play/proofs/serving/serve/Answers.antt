@@ -68,6 +68,11 @@ returns-in-Release g c =
     let s : SimSeen = record { world = c.args.world.now; share = c.args.share.now; slots = c.args.actors.now; jobs = c.args.jobs.now } in
     rw c.in-Release.is (of_agents g.M.Meaning.means g.M.Meaning.accepts (g.F.Functions.knows c.args.funs.now) s c.args.event.now.actor (record s { world = c.release.new.world }) _ c.release.result refl c.release.ensures.rest (c.release.ensures.acts s))
 
+pub returns-in-ReleaseCarried : goal.returns-in-ReleaseCarried
+returns-in-ReleaseCarried g c =
+    let s : SimSeen = record { world = c.args.world.now; share = c.args.share.now; slots = c.args.actors.now; jobs = c.args.jobs.now } in
+    rw c.in-ReleaseCarried.is (of_agents g.M.Meaning.means g.M.Meaning.accepts (g.F.Functions.knows c.args.funs.now) s c.args.event.now.actor (record s { world = c.release_carried.new.world }) _ c.release_carried.result refl c.release_carried.ensures.rest (c.release_carried.ensures.acts s))
+
 pub returns-in-Send : goal.returns-in-Send
 returns-in-Send g c =
     let s : SimSeen = record { world = c.args.world.now; share = c.args.share.now; slots = c.args.actors.now; jobs = c.args.jobs.now } in

@@ -11,6 +11,6 @@ returns g c = λ s.
     let told = c.send-told.result in
     let did = c.send-told.ensures in
     let now = present (record s { slots = c.args.actors.now }) in
-    subst (λ xs. SendsInTx knows now c.args.actor c.args.g c.args.code xs (replies.SendInTx told) [] (present (record s { slots = c.put.new.self }))) c.in-Ok.ensures
+    subst (λ x. SendsInTx knows now c.args.actor c.args.g x (replies.SendInTx told) [] (present (record s { slots = c.put.new.self }))) c.in-Ok.ensures
     (sent_in_tx knows now (txs_of c.args.actors.now) (txs_of c.take.new.self) (txs_of c.put.new.self) c.args.actor refl (c.in-Some-take.ensures.takes refl)
-    c.in-Some-take.tx c.send-told.new.self c.args.g c.args.code c.in-Ok.args told _ c.in-Some-take.ensures.was did.refused did.adds did.err c.put.ensures)
+    c.in-Some-take.tx c.send-told.new.self c.args.g c.in-Ok.action told _ c.in-Some-take.ensures.was did.refused did.adds did.err c.put.ensures)

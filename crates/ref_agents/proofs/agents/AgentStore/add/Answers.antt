@@ -16,7 +16,7 @@ invariant_of-self-2 g c =
     let waiting = keys c.self.inside.waiting in
     let start = c.args.start in
     let new : Agent = record (new_agent c.in_ok-value.value c.args.mode) { account = c.new.result } in
-    let ok : IsAgent means new = record { folded = rw (c.new.ensures, c.in_ok-value.ensures) refl; marked = rw c.new.ensures refl; single = refl } in
+    let ok : IsAgent means new = record { folded = rw (c.new.ensures, c.in_ok-value.ensures) refl; marked = rw c.new.ensures refl; single = refl; idle = refl } in
     let room : length items < 2 ^ 20 = subst (λ n. n < 2 ^ 20) (ap (λ s. length s.agents) (sym c.self.view_is)) c.requires.room in
     let guarded = c.in_ok-add.ensures.adds in
     let accepted : AreAccepted accepts c.add.new.self (values_of items ++ start ∷ []) =

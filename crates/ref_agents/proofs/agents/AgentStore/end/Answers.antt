@@ -1,66 +1,29 @@
-use Rattle.std.proofs.Common.{◌≡◌, ◌∙◌, ℕ, false, Some, is_some, slice_get, slice_set, ap, sym, subst}
-use Rattle.ref_log.specs.Guards.{AreAccepted, keys_at, rule_at}
-use Rattle.ref_agents.specs.Agents.{AreAgents, IsAgent, head_job, values_of}
-use Rattle.ref_agents.specs.Ends.{IsAnswer, after_end, judged}
-use Rattle.ref_agents.proofs.Changed.{agent_at, set_agent, waiting_at}
-use Rattle.ref_agents.proofs.Ended.{accepted_after, agent_after, answered, finished_store, head_has, indexed}
-use Rattle.ref_agents.proofs.JobsOut.{head_out, out_fine}
+use Rattle.std.proofs.Common.{◌∙◌, ap, subst}
+use Rattle.ref_fun.specs.declared.carries.Carry.{Carry}
+use Rattle.ref_agents.specs.Agents.{carried, job_out, with_agents, without_each}
+use Rattle.ref_agents.specs.Ends.{IsAnswerOf}
+use Rattle.ref_agents.specs.declared.accounts.SentBy.TheVariants.{Carried}
+use Rattle.ref_agents.proofs.Ended.{answer_each, out_each}
+use Rattle.ref_agents.proofs.SentBack.{each_undone}
 use Rattle.ref_agents.proofs.agents.AgentStore.end.Goals as goal
 
-pub invariant_of-self-2 : goal.invariant_of-self-2
-invariant_of-self-2 g c =
-    let means = g.M.Meaning.means in
-    let accepts = g.M.Meaning.accepts in
-    let items = c.self.inside.agents.items in
-    let guards = c.self.inside.guards in
-    let agents = c.args.self.now.agents in
+pub close-requires-clause-out : goal.close-requires-clause-out
+close-requires-clause-out g c =
     let job = c.args.ran.now.job in
-    let agent = c.index_mut-agent.result.now in
-    let new = c.end.new.self in
-    let i : ℕ = c.agent-g.result in
-    let judgement = c.in_ok-judgement.judgement in
-    let same = ap (λ s. s.agents) c.self.view_is in
-    let at : i ≡ job.agent = c.agent-g.ensures ∙ ap (λ j. j.agent) c.job.ensures in
-    let is : slice_get agents job.agent ≡ Some agent = indexed items agents i job.agent agent job same at c.requires.out c.index_mut-agent.ensures.value in
-    let inside : slice_get items i ≡ Some agent = ap (λ l. slice_get l i) same ∙ ap (λ n. slice_get agents n) at ∙ is in
-    let head : head_job job.agent agent agent.account.queue ≡ Some job = head_out agents job.agent job agent is c.requires.out in
-    let fine : is_some agent.error ≡ false = out_fine means agents job.agent job agent (subst (AreAgents means) same c.self.invariant.3) c.requires.out is in
-    let gave = c.in_ok-judgement.ensures.is ∙ ap (λ o. judged accepts (rule_at guards i) o) c.outcome.ensures.value in
-    let after : new ≡ after_end agent.mode judgement agent = c.in_ok-end.ensures.ends in
-    let ok : IsAgent means new = subst (IsAgent means) (sym after)
-    (agent_after means accepts (rule_at guards i) job.agent agent job c.args.ran.now.outcome judgement (agent_at means items i agent c.self.invariant.3 inside) fine head c.outcome.ensures.meant gave) in
-    let accepted = subst (λ y. AreAccepted accepts guards (values_of (slice_set items i y))) (sym after)
-    (accepted_after accepts guards items i agent agent.mode judgement inside c.in_ok-judgement.ensures.accepted c.self.invariant.2) in
-    set_agent means accepts items guards _ i new ok accepted (λ has. waiting_at items _ i agent c.self.invariant.4 inside (head_has job.agent agent job agent.account.queue head)) c.self.invariant
+    ap (λ s. job_out s.agents job.agent) c.in_ok-queue_all.ensures.ok
+    ∙ out_each (λ (x : Carry). x.g) carried (Carried c.agent-g.result) c.goes_out-carries.result.now c.args.self.now.agents job.agent job c.requires.out
 
-pub returns-clause-ends : goal.returns-clause-ends
-returns-clause-ends g c =
+pub returns-in-Ok-clause-answer : goal.returns-in-Ok-clause-answer
+returns-in-Ok-clause-answer g c =
     let accepts = g.M.Meaning.accepts in
-    let store = c.args.self.now in
-    let agents = c.args.self.now.agents in
-    let job = c.args.ran.now.job in
-    let agent = c.index_mut-agent.result.now in
-    let at = c.agent-g.ensures ∙ ap (λ j. j.agent) c.job.ensures in
-    let is : slice_get agents job.agent ≡ Some agent =
-    indexed c.self.inside.agents.items agents c.agent-g.result job.agent agent job (ap (λ s. s.agents) c.self.view_is) at c.requires.out c.index_mut-agent.ensures.value in
-    let guards = ap (λ s. s.guards) c.self.view_is in
-    let judgement = c.in_ok-judgement.ensures.is ∙ ap (λ o. judged accepts (rule_at c.self.inside.guards c.agent-g.result) o) c.outcome.ensures.value
-    ∙ ap (λ l. judged accepts (rule_at l c.agent-g.result) c.args.ran.now.outcome) guards ∙ ap (λ n. judged accepts (rule_at store.guards n) c.args.ran.now.outcome) at in
-    finished_store accepts c.self.inside.agents.items c.self.inside.guards c.self.inside.unreleased.keys store c.args.ran.now c.agent-g.result agent c.end.new.self c.self.view_is at is
-    (c.in_ok-end.ensures.ends ∙ ap (λ j. after_end agent.mode j agent) judgement)
+    let ran = c.args.ran.now in
+    answer_each (λ (x : Carry). x.g) carried (Carried c.agent-g.result) accepts c.args.self.now ran c.in-Ok.finished c.goes_out-carries.result.now
+    (subst (λ s. IsAnswerOf accepts s ran c.in-Ok.finished) c.in_ok-queue_all.ensures.ok c.in-Ok.ensures.answer)
 
-pub returns-clause-answer : goal.returns-clause-answer
-returns-clause-answer g c =
-    let accepts = g.M.Meaning.accepts in
-    let store = c.args.self.now in
-    let agents = c.args.self.now.agents in
-    let job = c.args.ran.now.job in
-    let agent = c.index_mut-agent.result.now in
-    let at = c.agent-g.ensures ∙ ap (λ j. j.agent) c.job.ensures in
-    let is : slice_get agents job.agent ≡ Some agent =
-    indexed c.self.inside.agents.items agents c.agent-g.result job.agent agent job (ap (λ s. s.agents) c.self.view_is) at c.requires.out c.index_mut-agent.ensures.value in
-    let guards = ap (λ s. s.guards) c.self.view_is in
-    let judgement = c.in_ok-judgement.ensures.is ∙ ap (λ o. judged accepts (rule_at c.self.inside.guards c.agent-g.result) o) c.outcome.ensures.value
-    ∙ ap (λ l. judged accepts (rule_at l c.agent-g.result) c.args.ran.now.outcome) guards ∙ ap (λ n. judged accepts (rule_at store.guards n) c.args.ran.now.outcome) at in
-    let told = subst (λ l. IsAnswer agent.mode c.agent-g.result (keys_at l c.agent-g.result) agent.value c.in_ok-judgement.judgement c.in_ok-end.field-0) guards c.in_ok-end.ensures.answer in
-    answered accepts store c.args.ran.now c.agent-g.result agent c.in_ok-judgement.judgement c.in_ok-end.field-0 at is judgement told
+pub returns-in-Err-close-clause-err : goal.returns-in-Err-close-clause-err
+returns-in-Err-close-clause-err g c =
+    let old = c.args.self.now in
+    let carries = c.goes_out-carries.result.now in
+    c.take_back.ensures
+    ∙ ap (λ s. with_agents s (without_each (λ (x : Carry). x.g) carries s.agents)) (c.in-Err-close.ensures.err ∙ c.in_ok-queue_all.ensures.ok)
+    ∙ ap (λ l. with_agents old l) (each_undone (λ (x : Carry). x.g) carried (Carried c.agent-g.result) carries old.agents)

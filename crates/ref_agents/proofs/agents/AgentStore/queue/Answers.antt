@@ -19,7 +19,7 @@ invariant_of-self-2 g c =
     let new : Agent = record agent { account = c.push.new.self } in
     let waits = waits_still items (has_point (keys c.self.inside.waiting)) (has_point (keys c.insert.new.self)) (is_at (nat_cmp c.args.g)) c.in_ok-insert.ensures.updates.0 was.4 in
     kept means g.M.Meaning.accepts items c.self.inside.guards _ c.args.g agent new is
-    (record { folded = rw same ok.folded; marked = rw same ok.marked; single = ok.single })
+    (record { folded = rw same ok.folded; marked = rw same ok.marked; single = ok.single; idle = ok.idle })
     refl (λ has. c.in_ok-insert.ensures.updates.1) (was.0, was.1, was.2, was.3, waits)
 
 pub returns-clause-ok : goal.returns-clause-ok

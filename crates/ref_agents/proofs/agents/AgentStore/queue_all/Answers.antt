@@ -1,7 +1,7 @@
 use Rattle.std.proofs.Common.{◌∙◌, ◌≤◌, take, length, arith, ap, sym, refl}
 use Rattle.std.proofs.lemmas.List.{take_all}
-use Rattle.ref_agents.specs.Agents.{queued_of, with_agents, with_send, with_sends, without_sends}
-use Rattle.ref_agents.proofs.SentBack.{on_err, on_ok, sends_next, sends_undone}
+use Rattle.ref_agents.specs.Agents.{with_agents, with_each, with_send, without_each}
+use Rattle.ref_agents.proofs.SentBack.{each_next, each_undone, on_err, on_ok}
 use Rattle.ref_agents.proofs.agents.AgentStore.queue_all.Goals as goal
 
 pub loop-i-init : goal.loop-i-init
@@ -14,20 +14,20 @@ returns-then-is_err-clause-err g c =
     let so_far = take c.loop-i.i sends in
     let same = on_err c.queue_one.result _ c.queue_one.ensures.err (sym c.is_err.ensures.value ∙ c.if-is_err.true) ∙ c.loop-i.invariant in
     c.take_back.ensures
-    ∙ ap (λ s. with_agents s (without_sends so_far s.agents)) same
-    ∙ ap (λ l. with_agents old l) (sends_undone c.args.at so_far old.agents)
+    ∙ ap (λ s. with_agents s (without_each g.T.ToAgent.to so_far s.agents)) same
+    ∙ ap (λ l. with_agents old l) (each_undone g.T.ToAgent.to g.T.ToAgent.of c.args.by so_far old.agents)
 
 pub loop-i-preserved : goal.loop-i-preserved
 loop-i-preserved g c =
     let old = c.args.self.now in
     let send = c.index-sends-i.result in
     on_ok c.queue_one.result _ c.queue_one.ensures.ok (sym c.is_err.ensures.value ∙ c.if-is_err.false)
-    ∙ ap (λ s. with_agents s (with_send s.agents send.agent (queued_of c.args.at send))) c.loop-i.invariant
-    ∙ ap (λ l. with_agents old l) (sym (sends_next c.args.at c.args.sends.now c.loop-i.i send old.agents c.loop-i-test.true c.index-sends-i.is))
+    ∙ ap (λ s. with_agents s (with_send s.agents (g.T.ToAgent.to send) (record { action = g.T.ToAgent.of send; by = c.args.by }))) c.loop-i.invariant
+    ∙ ap (λ l. with_agents old l) (sym (each_next g.T.ToAgent.to g.T.ToAgent.of c.args.by c.args.sends.now c.loop-i.i send old.agents c.loop-i-test.true c.index-sends-i.is))
 
 pub returns-clause-ok : goal.returns-clause-ok
 returns-clause-ok g c =
     let old = c.args.self.now in
     let sends = c.args.sends.now in
     let all : length sends ≤ c.loop-i.i = omega (arith, c.loop-i-test.false) in
-    c.loop-i.invariant ∙ ap (λ l. with_agents old (with_sends c.args.at l old.agents)) (take_all c.loop-i.i sends all)
+    c.loop-i.invariant ∙ ap (λ l. with_agents old (with_each g.T.ToAgent.to g.T.ToAgent.of c.args.by l old.agents)) (take_all c.loop-i.i sends all)

@@ -3,7 +3,7 @@ use Rattle.ref_log.specs.Guards.{AreAccepted}
 use Rattle.ref_agents.specs.Account.{has_head}
 use Rattle.ref_agents.specs.Agents.{values_of}
 use Rattle.ref_agents.specs.declared.agents.Agent.{Agent}
-use Rattle.ref_agents.proofs.Changed.{head_kept, restarted_agent, set_agent, there, values_set, waiting_at}
+use Rattle.ref_agents.proofs.Changed.{agent_at, head_kept, restarted_agent, set_agent, there, values_set, waiting_at}
 use Rattle.ref_agents.proofs.agents.AgentStore.revive.Goals as goal
 
 pub invariant_of-self-2 : goal.invariant_of-self-2
@@ -18,7 +18,7 @@ invariant_of-self-2 g c =
     let new : Agent = record agent { value = state; error = None; account = c.restart.new.self } in
     let same = c.restart.ensures ∙ rw c.in_ok-start.ensures refl in
     let wanted : AreAccepted accepts guards (slice_set (values_of items) c.args.g state) = subst (λ s. AreAccepted accepts s.guards (slice_set (values_of s.agents) c.args.g state)) (sym c.self.view_is) c.requires in
-    set_agent means accepts items guards _ c.args.g new (restarted_agent means agent.account new state c.args.clear same refl refl)
+    set_agent means accepts items guards _ c.args.g new (restarted_agent means agent.account new state c.args.clear same refl refl (agent_at means items c.args.g agent c.self.invariant.3 is).idle)
     (subst (AreAccepted accepts guards) (sym (values_set items c.args.g new)) wanted)
     (λ has. waiting_at items _ c.args.g agent c.self.invariant.4 is (head_kept c.args.clear agent.account.queue (ap (λ a. has_head a.queue) (sym same) ∙ has))) c.self.invariant
 

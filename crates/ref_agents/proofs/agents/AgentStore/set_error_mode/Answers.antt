@@ -11,7 +11,7 @@ invariant_of-self-2 g c =
     let is : slice_get items c.args.g ≡ Some agent = there items items c.args.g agent refl c.in-Some.ensures.item.3.0 c.in-Some.ensures.value in
     let ok = agent_at means items c.args.g agent c.self.invariant.3 is in
     kept means g.M.Meaning.accepts items c.self.inside.guards _ c.args.g agent (moded c.args.mode agent) is
-    (record { folded = ok.folded; marked = ok.marked; single = ok.single }) refl (waiting_at items _ c.args.g agent c.self.invariant.4 is) c.self.invariant
+    (record { folded = ok.folded; marked = ok.marked; single = ok.single; idle = ok.idle }) refl (waiting_at items _ c.args.g agent c.self.invariant.4 is) c.self.invariant
 
 pub returns-clause-here : goal.returns-clause-here
 returns-clause-here g c =

@@ -13,7 +13,7 @@ invariant_of-self-2 g c =
     let seen : slice_get agents c.args.g ≡ Some agent = there items agents c.args.g agent (ap (λ s. s.agents) c.self.view_is) c.in-Some.ensures.item.3.0 c.in-Some.ensures.value in
     let ok = agent_at means items c.args.g agent c.self.invariant.3 is in
     kept means g.M.Meaning.accepts items c.self.inside.guards _ c.args.g agent (outed c.args.is_out agent) is
-    (record { folded = ok.folded; marked = ok.marked; single = and_false c.args.is_out (is_some agent.error) (c.requires agent seen) })
+    (record { folded = ok.folded; marked = ok.marked; single = and_false c.args.is_out (is_some agent.error) (c.requires.fine agent seen); idle = and_false c.args.is_out agent.is_carrying (c.requires.idle agent seen) })
     refl (waiting_at items _ c.args.g agent c.self.invariant.4 is) c.self.invariant
 
 pub returns : goal.returns

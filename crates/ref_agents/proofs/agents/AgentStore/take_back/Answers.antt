@@ -1,13 +1,13 @@
 use Rattle.std.proofs.Common.{◌≡◌, ◌∙◌, ◌-◌, ◌<◌, ℕ, drop, length, arith, ap, sym}
 use Rattle.std.proofs.Math.Seq.{drop-length}
-use Rattle.ref_agents.specs.Agents.{with_agents, without_send, without_sends}
+use Rattle.ref_agents.specs.Agents.{with_agents, without_each, without_send}
 use Rattle.ref_agents.proofs.SentBack.{without_next}
 use Rattle.ref_agents.proofs.agents.AgentStore.take_back.Goals as goal
 
 pub loop-left-init : goal.loop-left-init
 loop-left-init g c = record {
   bound = omega arith;
-  back = sym (ap (λ l. with_agents c.args.self.now (without_sends l c.args.self.now.agents)) (drop-length c.args.sends.now));
+  back = sym (ap (λ l. with_agents c.args.self.now (without_each g.T.ToAgent.to l c.args.self.now.agents)) (drop-length c.args.sends.now));
 }
 
 pub loop-left-preserved : goal.loop-left-preserved
@@ -19,13 +19,13 @@ loop-left-preserved g c =
     record {
       bound = omega (arith, c.loop-left.invariant.bound);
       back = c.take_last.ensures
-          ∙ ap (λ x. with_agents c.loop-left.self (without_send c.loop-left.self.agents x.agent)) (sym c.index-sends-left.is)
-          ∙ ap (λ s. with_agents s (without_send s.agents send.agent)) c.loop-left.invariant.back
-          ∙ ap (λ l. with_agents old l) (sym (without_next c.args.sends.now left send old.agents c.loop-left-test.true here c.index-sends-left.is));
+          ∙ ap (λ k. with_agents c.loop-left.self (without_send c.loop-left.self.agents k)) c.agent.ensures
+          ∙ ap (λ s. with_agents s (without_send s.agents (g.T.ToAgent.to send))) c.loop-left.invariant.back
+          ∙ ap (λ l. with_agents old l) (sym (without_next g.T.ToAgent.to c.args.sends.now left send old.agents c.loop-left-test.true here c.index-sends-left.is));
     }
 
 pub returns : goal.returns
 returns g c =
     let old = c.args.self.now in
     let none : c.loop-left.left ≡ 0 = omega (arith, c.loop-left-test.false) in
-    c.loop-left.invariant.back ∙ ap (λ n. with_agents old (without_sends (drop n c.args.sends.now) old.agents)) none
+    c.loop-left.invariant.back ∙ ap (λ n. with_agents old (without_each g.T.ToAgent.to (drop n c.args.sends.now) old.agents)) none

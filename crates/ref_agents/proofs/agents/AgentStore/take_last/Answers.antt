@@ -13,7 +13,7 @@ invariant_of-self-2 g c =
     let ok = agent_at means items c.args.g agent c.self.invariant.3 is in
     let new : Agent = record agent { account = c.pop.new.self } in
     kept means g.M.Meaning.accepts items c.self.inside.guards _ c.args.g agent new is
-    (record { folded = rw same ok.folded; marked = rw same ok.marked; single = ok.single })
+    (record { folded = rw same ok.folded; marked = rw same ok.marked; single = ok.single; idle = ok.idle })
     refl (λ has. waiting_at items _ c.args.g agent c.self.invariant.4 is (head_before agent.account.queue _ (ap (λ a. a.queue) same) has)) c.self.invariant
 
 pub returns : goal.returns

@@ -7,4 +7,4 @@ pub loop-i-preserved : goal.loop-i-preserved
 loop-i-preserved c =
     let queue = c.args.account.now.queue in
     let there : slice_get queue c.loop-i.i ≡ Some c.in-Some.queued.now = search rules in
-    queued_more queue c.loop-i.i c.in-Some.queued.now there c.tell_args.ensures c.loop-i.invariant
+    queued_more queue c.loop-i.i c.in-Some.queued.now there c.tell_action.ensures c.loop-i.invariant

@@ -9,7 +9,7 @@ use Rattle.ref_plan.proofs.planning.steps.workers.Given as goal
 -- What was read, with what is left, is what all forms say.
 abbrev pub invariant-loop-form : goal.invariant-loop-form
 invariant-loop-form l = record {
-  all : in_front l.workers.items (all_said (worker_of l.declared) l.form-iterator) ≡ all_said (worker_of l.declared) l.forms;
+  all : in_front l.workers.items (all_said (worker_of l.version l.declared) l.form-iterator) ≡ all_said (worker_of l.version l.declared) l.forms;
   count : length l.workers.items + length l.form-iterator ≡ length l.forms;
   short : list_all is_short_vector l.form-iterator ≡ true;
 }

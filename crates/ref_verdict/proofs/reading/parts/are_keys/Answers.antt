@@ -1,4 +1,4 @@
-use Rattle.std.proofs.Common.{◌≡◌, ◌&&◌, is_some, map, sym, ap, ◌∙◌}
+use Rattle.std.proofs.Common.{◌&&◌, is_some, map, sym, ap, ◌∙◌}
 use Rattle.std.specs.List.{list_all}
 use Rattle.ref_forms.specs.Plain.{under}
 use Rattle.ref_verdict.proofs.reading.parts.are_keys.Goals as goal

@@ -1,0 +1,41 @@
+use Rattle.std.proofs.Common.{◌≡◌, ◌∙◌, ◌<◌, ℕ, List, ap, get_or, length, subst, sym, take}
+use Rattle.ref_fun.specs.declared.carries.Carry.{Carry}
+use Rattle.ref_agents.specs.Agents.{carries_at, change_agent, releasing, with_agents, with_each_released}
+use Rattle.ref_agents.proofs.Released.{carries_kept, released_next}
+use Rattle.ref_agents.proofs.agents.AgentStore.release_carried.Goals as goal
+
+pub bounds-carries-i : goal.bounds-carries-i
+bounds-carries-i g c =
+    let old = c.args.self.now in
+    let n : ℕ = c.args.g in
+    let same : c.carries.result.now ≡ carries_at old.agents n = c.carries.ensures
+    ∙ ap (λ l. carries_at l n) (c.deref-in-loop-i.ensures.value ∙ ap (λ s. s.agents) (c.self-in-loop-i.view_is ∙ c.loop-i.invariant.released))
+    ∙ carries_kept n n (take c.loop-i.i (carries_at old.agents n)) old.agents in
+    subst (λ k. c.loop-i.i < k) (c.loop-i.invariant.all ∙ sym (ap length same)) c.loop-i-test.true
+
+pub bounds-carries-i-in-loop-i : goal.bounds-carries-i-in-loop-i
+bounds-carries-i-in-loop-i g c =
+    let old = c.args.self.now in
+    let n : ℕ = c.args.g in
+    let same : c.carries.result.now ≡ carries_at old.agents n = c.carries.ensures
+    ∙ ap (λ l. carries_at l n) (c.deref-in-loop-i.ensures.value ∙ ap (λ s. s.agents) (c.self-in-loop-i.view_is ∙ c.loop-i.invariant.released))
+    ∙ carries_kept n n (take c.loop-i.i (carries_at old.agents n)) old.agents in
+    subst (λ k. c.loop-i.i < k) (c.loop-i.invariant.all ∙ sym (ap length same)) c.loop-i-test.true
+
+pub loop-i-preserved : goal.loop-i-preserved
+loop-i-preserved g c =
+    let old = c.args.self.now in
+    let n : ℕ = c.args.g in
+    let all : List Carry = carries_at old.agents n in
+    let carry : Carry = c.index-carries-i.result in
+    let same : c.carries.result.now ≡ all = c.carries.ensures
+    ∙ ap (λ l. carries_at l n) (c.deref-in-loop-i.ensures.value ∙ ap (λ s. s.agents) (c.self-in-loop-i.view_is ∙ c.loop-i.invariant.released))
+    ∙ carries_kept n n (take c.loop-i.i all) old.agents in
+    let is = c.index-carries-i.is ∙ ap (λ l. get_or l c.loop-i.i carry) same in
+    record {
+      released = c.release_to.ensures
+          ∙ ap (λ x. with_agents c.loop-i.self (change_agent c.loop-i.self.agents x.g (releasing n))) (sym c.index-carries-i.is)
+          ∙ ap (λ s. with_agents s (change_agent s.agents carry.g (releasing n))) c.loop-i.invariant.released
+          ∙ ap (λ l. with_agents old l) (released_next n all c.loop-i.i carry old.agents (subst (λ k. c.loop-i.i < k) c.loop-i.invariant.all c.loop-i-test.true) is);
+      all = c.loop-i.invariant.all;
+    }

@@ -1,0 +1,66 @@
+//! How what an action carried is released.
+ghost use Rattle.std.specs.Prelude.{◌≡◌, false};
+ghost use Rattle.ref_agents.specs.Agents.{carries_at, carrying, change_agent, is_carrying_at, releasing, with_agents, with_carried_released};
+
+use crate::agents::{Agent, AgentStore};
+use ref_fun::{Carry, Meaning};
+
+impl<M: Meaning> AgentStore<M> {
+    /// Lets be taken what the last handled action of an agent carried, and answers whether it carried anything that wasn't
+    /// released, even if all of it was dropped meanwhile. From now on it waits as if it was sent from outside, and the agent may be
+    /// ready again. It takes no memory. For each send that was carried it walks back over what that agent was sent since.
+    pub fn release_carried(&mut self, g: u32) -> bool
+        ensures was { result ≡ is_carrying_at self.old.agents g }
+        ensures releases { self.new ≡ with_carried_released self.old g }
+    {
+        if !is_carrying(&self.agents, g) {
+            return false;
+        }
+        for i in 0..carries(&self.agents, g).len() {
+            let h = carries(&self.agents, g)[i].g;
+            self.release_to(h, g);
+        }
+        self.put_down(g);
+        true
+    }
+
+    // What an action of g carried to the agent h is released.
+    fn release_to(&mut self, h: u32, g: u32)
+        ensures { self.new ≡ with_agents self.old (change_agent self.old.agents h (releasing g)) }
+    {
+        let Some(agent) = self.agents.get_mut(h as usize) else {
+            return;
+        };
+        agent.account.release(g);
+    }
+
+    // Nothing of what an agent carried is held any more.
+    fn put_down(&mut self, g: u32)
+        ensures { self.new ≡ with_agents self.old (change_agent self.old.agents g (carrying false)) }
+    {
+        let Some(agent) = self.agents.get_mut(g as usize) else {
+            return;
+        };
+        agent.is_carrying = false;
+    }
+}
+
+// Whether what the last action of an agent carried isn't released.
+fn is_carrying(agents: &[Agent], g: u32) -> bool
+    ensures { result ≡ is_carrying_at agents.now g }
+{
+    match agents.get(g as usize) {
+        Some(agent) => agent.is_carrying,
+        None => false,
+    }
+}
+
+// What it carried.
+fn carries(agents: &[Agent], g: u32) -> &[Carry]
+    ensures { result.now ≡ carries_at agents.now g }
+{
+    match agents.get(g as usize) {
+        Some(agent) => agent.account.carries(),
+        None => &[],
+    }
+}

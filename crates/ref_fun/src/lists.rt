@@ -1,0 +1,200 @@
+//! Lists with several owners, and what can have several owners.
+ghost use Rattle.std.specs.Prelude.{◌≡◌, ◌≢◌, ◌<◌, ◌↔◌, [], ◌^◌, IsTrue, length, IfOk, OnErr, slice_get, slice_index_or, option_copied};
+ghost use Rattle.std.specs.Slice.{IsItemAt};
+ghost use Rattle.std.specs.Iterator.{YieldsFirstRef, item_count};
+
+use ref_value::Value;
+use std::alloc::{AllocError, Global};
+use std::marker::Model;
+use std::sync::Arc;
+
+/// What can have one more owner.
+pub trait Share: Drop {
+    /// One more owner. It takes no memory; only the count of owners can refuse.
+    fn share(&self) -> Result<Self, AllocError>
+        ensures { IfOk result (λ x. x ≡ self.now) };
+}
+
+/// One more owner of each of these.
+pub fn share_all<T: Share>(alloc: Global, items: &[T]) -> Result<Vec<T>, AllocError>
+    ensures { IfOk result (λ all. all.items ≡ items.now) }
+{
+    let mut all = Vec::with_capacity(alloc, items.len())?;
+    for item in items {
+        all.push(item.share()?)?;
+    }
+    Ok(all)
+}
+
+/// The items of a `Vec`, which may have several owners and doesn't change. Contracts see a list.
+#[derive(Drop)]
+pub struct SharedVec<T> {
+    // No block is taken for no items.
+    inside: Option<Arc<Vec<T>>>,
+}
+
+impl<T> Model for SharedVec<T> {
+    ghost use Rattle.std.specs.Prelude.{List, []};
+    ghost use Rattle.std.specs.Coded.{coded_list};
+    ghost use Rattle.std.specs.Option.{option_map_or};
+
+    ghost Value = { List T };
+
+    ghost coded = { coded_list T.code };
+
+    ghost view = { λ a. option_map_or (λ items. items.value.items) a.inside [] };
+}
+
+impl<T: Drop> SharedVec<T> {
+    /// No items. It takes no memory.
+    pub fn none() -> SharedVec<T>
+        ensures { result ≡ [] }
+    {
+        SharedVec { inside: None }
+    }
+
+    /// The items that a `Vec` holds, which isn't copied. Where there are none it takes no memory.
+    pub fn of(alloc: Global, items: Vec<T>) -> Result<SharedVec<T>, AllocError>
+        ensures value { IfOk result (λ xs. xs ≡ items.items) }
+        ensures memory { OnErr result (items.items ≢ []) }
+    {
+        if items.is_empty() {
+            return Ok(SharedVec::none());
+        }
+        Ok(SharedVec {
+            inside: Some(Arc::new(alloc, items)?),
+        })
+    }
+
+    /// How many items there are, in constant time.
+    pub fn len(&self) -> usize
+        ensures { result ≡ length self.now }
+    {
+        match &self.inside {
+            Some(items) => items.len(),
+            None => 0,
+        }
+    }
+
+    /// Whether there are no items.
+    pub fn is_empty(&self) -> bool
+        ensures { IsTrue result ↔ (self.now ≡ []) }
+    {
+        match &self.inside {
+            Some(items) => items.is_empty(),
+            None => true,
+        }
+    }
+
+    /// The item at an index, in constant time.
+    pub fn at(&self, i: usize) -> &T
+        requires { i < length self.now }
+        ensures { result.now ≡ slice_index_or self.now i result.now }
+    {
+        match &self.inside {
+            Some(items) => &items[i],
+            None => unreachable!(),
+        }
+    }
+
+    /// The item at an index, or `None` past the end, in constant time.
+    pub fn get(&self, i: usize) -> Option<&T>
+        ensures value { option_copied result ≡ slice_get self.now i }
+        ensures item { IsItemAt self.now i result }
+    {
+        match &self.inside {
+            Some(items) => items.get(i),
+            None => None,
+        }
+    }
+
+    /// All items.
+    pub fn as_slice(&self) -> &[T]
+        ensures { result.now ≡ self.now }
+    {
+        match &self.inside {
+            Some(items) => items.as_slice(),
+            None => &[],
+        }
+    }
+
+    /// The items from the first on.
+    pub fn iter(&self) -> Iter<'_, T>
+        ensures value { result ≡ self.now }
+        ensures fits { length result < 2 ^ 64 }
+    {
+        Iter {
+            items: self,
+            at: 0,
+            end: self.len(),
+        }
+    }
+
+    /// One more owner. It takes no memory; only the count of owners can refuse.
+    pub fn share(&self) -> Result<SharedVec<T>, AllocError>
+        ensures { IfOk result (λ xs. xs ≡ self.now) }
+    {
+        match &self.inside {
+            Some(items) => Ok(SharedVec {
+                inside: Some(Arc::try_clone(items)?),
+            }),
+            None => Ok(SharedVec::none()),
+        }
+    }
+}
+
+impl Share for Value {
+    fn share(&self) -> Result<Value, AllocError> {
+        Value::share(self)
+    }
+}
+
+/// The items from a place on. Contracts see those that are left.
+#[derive(Drop)]
+pub struct Iter<'a, T> {
+    items: &'a SharedVec<T>,
+    at: usize,
+    end: usize,
+}
+
+impl<'a, T> Model for Iter<'a, T> {
+    ghost use Rattle.std.specs.Prelude.{List, ◌≡◌, ◌≤◌, length, drop};
+    ghost use Rattle.std.specs.Coded.{coded_list};
+
+    ghost Value = { List T };
+
+    ghost coded = { coded_list T.code };
+
+    ghost view = { λ a. drop a.at a.items.now };
+
+    ghost invariant = { λ a. (a.at ≤ a.end) × (a.end ≡ length a.items.now) };
+}
+
+impl<'a, T: Drop> Iterator for Iter<'a, T> {
+    type Item = &'a T;
+
+    ghost next_gives = { YieldsFirstRef (λ s. s) };
+
+    ghost remaining = { item_count (λ s. s) };
+
+    fn next(&mut self) -> Option<&'a T> {
+        if self.at >= self.end {
+            return None;
+        }
+        let x = self.items.at(self.at);
+        self.at += 1;
+        Some(x)
+    }
+}
+
+impl<'a, T: Drop> IntoIterator for &'a SharedVec<T> {
+    type Item = &'a T;
+
+    type IntoIter = Iter<'a, T>;
+
+    ghost into_iter_gives = { λ items it. (it ≡ items.now) × (length it < 2 ^ 64) };
+
+    fn into_iter(self) -> Iter<'a, T> {
+        self.iter()
+    }
+}

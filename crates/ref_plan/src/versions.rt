@@ -1,0 +1,24 @@
+//! The versions of workloads.
+ghost use Rattle.std.specs.Prelude.{◌≡◌, IfNone, IfSome};
+ghost use Rattle.ref_value.specs.Edn.{int};
+ghost use Rattle.ref_plan.specs.Workload.{version_form};
+
+/// The version of a workload.
+#[derive(Clone, Copy, Debug, Drop, PartialEq, Eq)]
+pub enum Version {
+    One,
+    /// An action may carry sends.
+    Two,
+}
+
+/// The version of this number, if there is one.
+pub fn version_numbered(n: i64) -> Option<Version>
+    ensures some { IfSome result (λ version. version_form version ≡ int n) }
+    ensures none { IfNone result ((version : Version) → version_form version ≡ int n → ⊥) }
+{
+    match n {
+        1 => Some(Version::One),
+        2 => Some(Version::Two),
+        _ => None,
+    }
+}

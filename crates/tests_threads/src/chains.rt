@@ -1,0 +1,202 @@
+//! A pool of four threads for 64 agents in chains of eight, whose actions each send on to the next agent of the chain.
+ghost use Rattle.std.specs.Prelude.{◌≡◌};
+ghost use Rattle.ref_world.specs.Shares.{IsBlank};
+
+use crate::stress::two_pools;
+use ref_fun::codes::CONJ;
+use ref_fun::{Action, Args, Carries, Carry, Core};
+use ref_log::Who;
+use ref_shared::Shared;
+use ref_value::{Node, Value};
+use ref_world::{ALL_PARTS, Start, World};
+use std::alloc::{AllocError, Global};
+use std::marker::Brand;
+use std::sync::Wait;
+use std::sync::ledger::{Blank, Ledger};
+use std::test::Fail;
+use std::thread;
+use std::thread::Threads;
+use tests_shared::worlds::{Stop, agent, closed, done, opened, plain_start, value};
+
+const AGENTS: u32 = 64;
+
+/// How many agents a chain has.
+const CHAIN: u32 = 8;
+
+/// How many actions are sent to each agent.
+const ROUNDS: u32 = 6;
+
+/// What is carried is greater by so much.
+const CARRIED: i64 = 1_000;
+
+// The agents, each of which collects what it gets in a vector.
+fn start(alloc: Global) -> Result<Start, AllocError> {
+    let mut start = plain_start(alloc, "", "")?;
+    for _ in 0..AGENTS {
+        start.agents.push(agent(value(alloc, "[]")?, None))?;
+    }
+    Ok(start)
+}
+
+fn number(alloc: Global, n: i64) -> Result<Args, AllocError> {
+    let value = Value::of(Node::Int(n)).map_err(|_| AllocError)?;
+    Args::of(alloc, vec![in alloc; value]?)
+}
+
+// What goes to the next agent of a chain: nothing from the last one.
+fn next(alloc: Global, g: u32, n: i64) -> Result<Carries, AllocError> {
+    if g % CHAIN == CHAIN - 1 {
+        return Ok(Carries::none());
+    }
+    let carry = Carry {
+        g: g.saturating_add(1),
+        code: CONJ,
+        args: number(alloc, n.saturating_add(CARRIED))?,
+    };
+    Carries::of(alloc, vec![in alloc; carry]?)
+}
+
+fn link(alloc: Global, g: u32, n: i64) -> Result<Action, AllocError> {
+    Ok(Action {
+        code: CONJ,
+        args: number(alloc, n)?,
+        carries: next(alloc, g, n)?,
+    })
+}
+
+fn send_one_each<R: Wait, C: Ledger, A: Ledger, K: Ledger>(
+    rt: &R,
+    alloc: Global,
+    shared: &Shared<Core, C, A, K>,
+    n: i64,
+) -> Result<(), Stop> {
+    for g in 0..AGENTS {
+        done(shared.send(rt, alloc, g, link(alloc, g, n)?))?;
+    }
+    Ok(())
+}
+
+fn send_all<R: Wait, C: Ledger, A: Ledger, K: Ledger>(
+    rt: &R,
+    alloc: Global,
+    shared: &Shared<Core, C, A, K>,
+) -> Result<(), Stop> {
+    for n in 0..ROUNDS {
+        send_one_each(rt, alloc, shared, i64::from(n))?;
+    }
+    Ok(())
+}
+
+// Sends all, and then closes the shared world, also if a send was refused.
+fn send_and_close<R: Wait, C: Ledger, A: Ledger, K: Ledger>(
+    rt: &R,
+    alloc: Global,
+    shared: &Shared<Core, C, A, K>,
+) -> Result<(), Stop> {
+    let sent = send_all(rt, alloc, shared);
+    shared.close(rt);
+    sent
+}
+
+fn four_pools<
+    C: Ledger + Send + Sync,
+    A: Ledger + Send + Sync,
+    K: Ledger + Send + Sync,
+    R: Threads + Wait + Sync,
+>(rt: &R, alloc: Global, shared: &Shared<Core, C, A, K>) -> Result<u32, Stop> {
+    let (one, two) = thread::join(
+        rt,
+        move || two_pools(rt, alloc, shared),
+        move || two_pools(rt, alloc, shared),
+    );
+    Ok(one?.saturating_add(two?))
+}
+
+// How many actions four threads ran, while another one sent them.
+fn five<
+    C: Ledger + Send + Sync,
+    A: Ledger + Send + Sync,
+    K: Ledger + Send + Sync,
+    R: Threads + Wait + Sync,
+>(rt: &R, alloc: Global, shared: &Shared<Core, C, A, K>) -> Result<u32, Stop> {
+    let (ran, sent) = thread::join(
+        rt,
+        move || four_pools(rt, alloc, shared),
+        move || send_and_close(rt, alloc, shared),
+    );
+    sent?;
+    ran
+}
+
+// Whether these numbers come in a vector in this order, each once, and nothing else that is as great as the first.
+fn are_in_order(state: &Value, first: i64, end: i64) -> bool {
+    let mut wanted = first;
+    if let Node::Vector(items) = state.node() {
+        for item in items {
+            if let Node::Int(n) = item.node() {
+                if *n >= first && *n < first.saturating_add(CARRIED) {
+                    if *n != wanted {
+                        return false;
+                    }
+                    wanted = wanted.saturating_add(1);
+                }
+            }
+        }
+    }
+    wanted == end
+}
+
+// Whether an agent got what it was sent, and what the one before it sent on, each in order.
+fn is_right(g: u32, state: &Value) -> bool {
+    let rounds = i64::from(ROUNDS);
+    let carried = if g % CHAIN == 0 { 0 } else { rounds };
+    are_in_order(state, 0, rounds) && are_in_order(state, CARRIED, CARRIED.saturating_add(carried))
+}
+
+// The first agent that isn't as it should be.
+fn first_wrong<C: Ledger, A: Ledger, K: Ledger>(world: &World<Core, C, A, K>) -> Option<u32> {
+    for g in 0..AGENTS {
+        match world.value_of(Who::Agent(g)) {
+            Some(state) if is_right(g, state) => {}
+            _ => return Some(g),
+        }
+    }
+    None
+}
+
+fn try_all<
+    C: Ledger + Send + Sync,
+    A: Ledger + Send + Sync,
+    K: Ledger + Send + Sync,
+    R: Threads + Wait + Sync,
+>(
+    rt: &R,
+    alloc: Global,
+    commits: Blank,
+    added: Blank,
+    taken: Blank,
+) -> Result<(u32, Option<u32>), Stop>
+    requires commits { IsBlank commits C.name C.parts }
+    requires added { IsBlank added A.name A.parts }
+    requires taken { IsBlank taken K.name K.parts }
+{
+    let (shared, share) = opened::<C, A, K>(alloc, start(alloc)?, commits, added, taken)?;
+    let ran = five(rt, alloc, &shared)?;
+    let (world, _totals) = closed(alloc, shared, share)?;
+    Ok((ran, first_wrong(&world)))
+}
+
+#[test]
+fn four_threads_run_chains_of_agents(rt: HostRuntime) -> Result<(), Fail> {
+    let alloc = rt.alloc();
+    let (commits, added, taken) = (
+        Blank::new(ALL_PARTS),
+        Blank::new(ALL_PARTS),
+        Blank::new(ALL_PARTS),
+    );
+    let (ran, wrong) = try_all::<Brand, Brand, Brand, _>(&rt, alloc, commits, added, taken)?;
+    assert_eq!(rt; wrong, None);
+    // Six to each agent, and six to each but the first of a chain.
+    assert_eq!(rt; ran, 720);
+    Ok(())
+}
