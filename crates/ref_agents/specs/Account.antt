@@ -66,8 +66,8 @@ fit_marks failed (h ∷ next ∷ hs) = not (is_failed_mark h.mark) && fit_marks 
 abbrev pub has_point : List ℕ → ℕ → Bool
 has_point points point = list_any (is_at (nat_cmp point)) points
 
--- Whether an action may be taken: it was sent outside of a transaction, or the commit that sent it is released.
--- What an action carried isn't released as long as it says so.
+-- Whether an action may be taken, by what sent it. A commit's sends may be taken once that commit is released. The mark Carried
+-- stands only until what its agent's action carried is released, and is Outside from then on.
 abbrev pub is_released_by : List ℕ → SentBy → Bool
 is_released_by unreleased Outside = true
 is_released_by unreleased (Commit point) = not (has_point unreleased point)

@@ -198,7 +198,7 @@ with_commit store point sends =
 abbrev pub with_release : AgentsSeen → ℕ → AgentsSeen
 with_release store point = record store { unreleased = remove_key (is_at (nat_cmp point)) store.unreleased }
 
--- Where what an agent's last action carried isn't released.
+-- Whether an agent's last action carried something that isn't released yet.
 abbrev pub is_carrying_if_here : Option Agent → Bool
 is_carrying_if_here None = false
 is_carrying_if_here (Some agent) = agent.is_carrying

@@ -49,8 +49,8 @@ abbrev pub has_carry : List Carry → Bool
 has_carry [] = false
 has_carry (c ∷ cs) = true
 
--- The agent after that, by its mode, where its action carries these. They are held until they are released, and so long none of
--- its actions is taken.
+-- The agent after that, by its mode, where its action carries these. They are held until they are released, and until then none
+-- of its actions is taken.
 abbrev pub after_end : ErrorMode → Result Edn AgentError → List Carry → Agent → Agent
 after_end mode (Ok v) cs agent = carrying (has_carry cs) (ended marks.Done v None agent)
 after_end Fail (Err error) cs agent = ended marks.Failed agent.value (Some error) agent

@@ -32,11 +32,11 @@ pub struct Handled {
 /// What an action was sent by.
 #[derive(Clone, Copy, Debug, Drop, PartialEq, Eq)]
 pub enum SentBy {
-    /// It was sent outside of a transaction, or the action that carried it is released.
+    /// It was sent outside of a transaction, or an action carried it and it was released since.
     Outside,
     /// The commit at this point sent it.
     Commit(u64),
-    /// The last action that this agent handled carried it, and isn't released.
+    /// The last action that this agent handled carried it, and it isn't released yet.
     Carried(u32),
 }
 

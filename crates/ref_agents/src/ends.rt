@@ -30,9 +30,10 @@ pub enum Finished {
 impl<M: Meaning> AgentStore<M> {
     /// Ends a job that has run, exactly where it is on its way here. Where the function gave a value that the agent's rule
     /// accepts, that is the state from now on, and what the action carries is added to its queues, in order: it is held until
-    /// `release_carried`, and so long the agent isn't ready. Else the state stays, the agent is failed or goes on, by its error
-    /// mode, and nothing goes out. A failed agent is sent what is carried, too. The action leaves the queue. The time is linear in the sizes of its arguments and its state, which are compared, and
-    /// in the number of watches. A refused call changes nothing, and returns the job.
+    /// `release_carried`, and until then the agent isn't ready. Else the state stays, the agent is failed or goes on, by its error
+    /// mode, and nothing goes out. A failed agent is sent what is carried, too. The action leaves the queue. The time is linear in
+    /// the sizes of its arguments and its state, which are compared, in the number of watches, and for each send that is carried
+    /// logarithmic in the number of agents with an action that waits. A refused call changes nothing, and returns the job.
     pub fn finish<F: Functions<M>>(
         &mut self,
         alloc: Global,

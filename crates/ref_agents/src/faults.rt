@@ -39,7 +39,7 @@ impl ModeFault {
 /// Why an action isn't queued. The store is as it was.
 #[derive(Clone, Copy, Debug, Drop, PartialEq, Eq, Error)]
 pub enum SendFault {
-    /// There is no agent of this number.
+    /// There is no agent of this number, or the action carries a send to one that isn't there.
     #[error("there is no such agent")]
     NoSuchAgent,
     /// The agent is failed, and takes no send until it is restarted.

@@ -8,7 +8,7 @@
 //!
 //! At most one job of an agent is on its way; one that isn't finished goes back by [`AgentStore::put_back`]. What a transaction sent is
 //! held until its commit is released ([`AgentStore::send_held`], [`AgentStore::release`]). What an action carries goes out where its
-//! value became the state: it is held until [`AgentStore::release_carried`], and so long its agent takes no other action.
+//! value became the state: it is held until [`AgentStore::release_carried`], and until then its agent takes no other action.
 //!
 //! | Type | Is |
 //! |---|---|

@@ -6,9 +6,9 @@ use crate::agents::{Agent, AgentStore};
 use ref_fun::{Carry, Meaning};
 
 impl<M: Meaning> AgentStore<M> {
-    /// Lets be taken what the last handled action of an agent carried, and answers whether it carried anything that wasn't
-    /// released, even if all of it was dropped meanwhile. From now on it waits as if it was sent from outside, and the agent may be
-    /// ready again. It takes no memory. For each send that was carried it walks back over what that agent was sent since.
+    /// Releases what the last handled action of an agent carried, and returns whether it carried anything that wasn't released,
+    /// even if all of it was dropped meanwhile. From now on it waits as if it was sent from outside, and the agent may be ready
+    /// again. It takes no memory. For each send that was carried it walks back over what that agent was sent since.
     pub fn release_carried(&mut self, g: u32) -> bool
         ensures was { result ≡ is_carrying_at self.old.agents g }
         ensures releases { self.new ≡ with_carried_released self.old g }

@@ -42,7 +42,8 @@ impl Action {
         })
     }
 
-    /// Whether this is the same function with equal arguments, and carries the same sends. Linear in the sizes of their arguments.
+    /// Whether this is the same function with equal arguments, and carries the same sends. Linear in the sizes of all arguments, also
+    /// of those of the sends.
     pub fn is_same(&self, other: &Action) -> bool
         ensures { IsTrue result ↔ (self.now ≡ other.now) }
     {
@@ -51,7 +52,7 @@ impl Action {
 }
 
 /// The first code of an action for which a table has no function, if there is one: its own comes first, and then those of what
-/// it carries, in order. It takes no memory.
+/// it carries, in order. It asks the table once for each of them, and takes no memory.
 pub fn missing_fun<M: Meaning, F: Functions<M>>(funs: &F, action: &Action) -> Option<u32>
     ensures { result ≡ missing_fun (F.knows funs.now).funs action.now }
 {
@@ -62,7 +63,7 @@ pub fn missing_fun<M: Meaning, F: Functions<M>>(funs: &F, action: &Action) -> Op
 }
 
 /// The first agent that isn't one of so many, of an action that is sent to the agent `g`, if there is one: `g` comes first, and then
-/// those of what it carries, in order. It takes no memory.
+/// those of what it carries, in order. Linear in the number of sends that it carries, at most 8. It takes no memory.
 pub fn absent_agent(agents: usize, g: u32, action: &Action) -> Option<u32>
     ensures { result ≡ absent_agent agents g action.now }
 {

@@ -298,7 +298,7 @@ pub record HasLaws (means : Means) (accepts : Accepts) (k : Machine) (e : Event)
   -- nothing of an aborted or refused transaction is in a queue, nor of a failed action.
   pub given : (g : ℕ) → given_at l.now.agents.agents g ≡ accepted k.now (k.now.txs e.actor) (k.now.jobs e.actor) e.act r g
   -- What an action carried stands at the ends of the queues, in order, from the very event in which its job ends. It is held until it
-  -- is released, and so long its agent waits too.
+  -- is released, and until then its agent waits too.
   pub queues : (g : ℕ) → queue_at l.now.agents.agents g ≡ queue_after k.now (k.now.txs e.actor) (k.now.jobs e.actor) e.act r g
   pub carrying : (g : ℕ) → is_carrying_at l.now.agents.agents g ≡ carrying_after k.now (k.now.jobs e.actor) e.act r g
   -- A refusal changes nothing, and what an actor has open no other actor changes.

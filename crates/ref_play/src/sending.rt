@@ -43,7 +43,7 @@ pub(crate) fn release<M: Meaning, C: Ledger, A: Ledger, K: Ledger>(
     Reply::Release(world.release(point))
 }
 
-// Lets be taken what the last action of an agent carried.
+// Releases what the last action of an agent carried.
 pub(crate) fn release_carried<M: Meaning, C: Ledger, A: Ledger, K: Ledger>(
     world: &mut World<M, C, A, K>,
     g: u32,

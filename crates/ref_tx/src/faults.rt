@@ -25,7 +25,7 @@ pub enum TxFault {
     /// The table has no function of this code.
     #[error("no function has code {0}")]
     NoSuchFun(u32),
-    /// There was no agent of this number when the transaction began.
+    /// When the transaction began there was no agent of this number, or the action carries a send to one that wasn't there.
     #[error("no such agent")]
     NoSuchAgent,
     /// The rule doesn't accept the in-transaction value.

@@ -69,9 +69,9 @@ impl<M: Meaning, C: Ledger, A: Ledger, K: Ledger> World<M, C, A, K> {
         self.agents.release(point)
     }
 
-    /// Lets be taken what the last handled action of an agent carried, which is for when its notices were delivered, and answers
-    /// whether it carried anything that wasn't released, even if all of it was dropped meanwhile. It takes no memory. For each send
-    /// it walks back over what that agent was sent since.
+    /// Releases what the last handled action of an agent carried, which is for when its notices were delivered, and returns whether
+    /// it carried anything that wasn't released, even if all of it was dropped meanwhile. It takes no memory. For each send that was
+    /// carried it walks back over what that agent was sent since.
     pub fn release_carried(&mut self, g: u32) -> bool
         ensures was { result ≡ is_carrying_at self.old.agents.agents g }
         ensures releases { self.new ≡ with_agents self.old (agents.with_carried_released self.old.agents g) }
@@ -80,8 +80,9 @@ impl<M: Meaning, C: Ledger, A: Ledger, K: Ledger> World<M, C, A, K> {
     }
 
     /// Returns the first action of some agent that is ready: one that isn't failed, of which no job is on its way, whose last action
-    /// carried nothing that isn't released, and whose first action is released. None only where no agent is ready. The action stays in the queue. The time is linear in the
-    /// number of agents with actions that wait which have to be looked at. A refused call changes nothing.
+    /// carried nothing that isn't released, and whose first action is released. None only where no agent is ready. The action stays
+    /// in the queue. The time is linear in the number of agents with actions that wait which have to be looked at. A refused call
+    /// changes nothing.
     pub fn take(&mut self) -> Result<Option<Job>, AllocError>
         ensures ready { IfOk result (λ found. IfSome found (λ job. is_ready_at self.old.agents job.agent ≡ true)) }
         ensures job { IfOk result (λ found.
@@ -110,9 +111,10 @@ impl<M: Meaning, C: Ledger, A: Ledger, K: Ledger> World<M, C, A, K> {
 
     /// Ends a job that has run, exactly where it is on its way here. Where the function gave a value that the agent's rule
     /// accepts, that is the state from now on, and what the action carries is added to its queues, in order: it is held until
-    /// `release_carried`, and so long the agent isn't ready. Else the state stays, the agent is failed or goes on, by its error
-    /// mode, and nothing goes out. The action leaves the queue. The time is linear in the sizes of its arguments and its state, which are compared, and
-    /// in the number of watches. A refused call changes nothing, and returns the job.
+    /// `release_carried`, and until then the agent isn't ready. Else the state stays, the agent is failed or goes on, by its error
+    /// mode, and nothing goes out. A failed agent is sent what is carried, too. The action leaves the queue. The time is linear in
+    /// the sizes of its arguments and its state, which are compared, in the number of watches, and for each send that is carried
+    /// logarithmic in the number of agents with an action that waits. A refused call changes nothing, and returns the job.
     pub fn finish<F: Functions<M>>(
         &mut self,
         alloc: Global,
