@@ -21,7 +21,7 @@ not_both isnt is = cc
 all_of : (a b : Bool) → a ≡ true → b ≡ true → (a && b) ≡ true
 all_of a b is also = rw (is, also) refl
 
-first : (a b : Bool) → (a && b) ≡ true → a ≡ true
+pub first : (a b : Bool) → (a && b) ≡ true → a ≡ true
 first true b both = refl
 first false b both = both
 

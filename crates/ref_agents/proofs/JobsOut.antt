@@ -6,7 +6,7 @@ use Rattle.std.specs.Ordering.{eq_by_cmp, nat_cmp}
 use Rattle.std.proofs.lemmas.Bool.{eqb-true}
 use Rattle.ref_value.specs.Order.{edn_cmp}
 use Rattle.ref_value.specs.OrderLaws.{edn_eq}
-use Rattle.ref_agents.specs.Account.{has_head, has_point, has_released}
+use Rattle.ref_agents.specs.Account.{has_head, has_point, has_released, number_of}
 use Rattle.ref_fun.specs.Meaning.{Means}
 use Rattle.ref_agents.specs.Agents.{AgentsSeen, AreAgents, AreWaiting, has_queue_if_here, head_job, is_ready_at, is_ready_if_here, job_out, out_if_here}
 use Rattle.ref_agents.specs.Jobs.{JobSeen}
@@ -17,7 +17,7 @@ use Rattle.ref_agents.proofs.Changed.{agent_at, not_both, second}
 -- ---- the job that is on its way
 
 abbrev pub made : ℕ → Agent → Queued → JobSeen
-made g x q = record { agent = g; number = length x.account.handled; action = q.action; state = x.value }
+made g x q = record { agent = g; number = number_of x.account; action = q.action; state = x.value }
 
 abbrev head_of : ℕ → Agent → Option Queued → Option JobSeen
 head_of g x None = None
@@ -38,7 +38,7 @@ some_of a b is = cc
 
 -- where all but the states are equal
 pub is_job : (agents : List Agent) (x : Agent) (q : Queued) (job : JobSeen) (r : Bool) → job_out agents job.agent ≡ Some (made job.agent x q)
-    → job.number ≡ length x.account.handled → job.action ≡ q.action → r ≡ eq_by_cmp edn_cmp job.state x.value
+    → job.number ≡ number_of x.account → job.action ≡ q.action → r ≡ eq_by_cmp edn_cmp job.state x.value
     → (IsTrue r → job_out agents job.agent ≡ Some job) × (job_out agents job.agent ≡ Some job → IsTrue r)
 is_job agents x q job r out number action is =
     let states = edn_eq job.state x.value r is in (

@@ -3,3 +3,4 @@ pub mod JobsOut
 pub mod Ended
 pub mod SentBack
 pub mod Released
+pub mod Folded

@@ -39,8 +39,8 @@ or_later : (a b : Bool) → b ≡ true → (a || b) ≡ true
 or_later true b is = refl
 or_later false b is = is
 
-pub account_is : (a b : AccountSeen) → a.start ≡ b.start → a.handled ≡ b.handled → a.queue ≡ b.queue → a ≡ b
-account_is a b start handled queue = λ i. record { start = start i; handled = handled i; queue = queue i }
+pub account_is : (a b : AccountSeen) → a.start ≡ b.start → a.past ≡ b.past → a.handled ≡ b.handled → a.queue ≡ b.queue → a ≡ b
+account_is a b start past handled queue = λ i. record { start = start i; past = past i; handled = handled i; queue = queue i }
 
 -- where none was carried nothing changes
 pub none_released : (g : ℕ) (queue : List Queued) → has_carried g queue ≡ false → last_released g queue ≡ queue

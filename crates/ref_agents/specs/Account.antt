@@ -1,8 +1,9 @@
--- An agent's account: its start, the actions that it handled since then with their marks, and its queue.
+-- An agent's account: its start, the actions that it handled since then with their marks, its queue, and how many actions were folded
+-- into the start.
 --
 -- Clojure's page on agents: actions are queued, and at most one of an agent runs at a time; where one fails the agent holds
 -- its state, and takes no more or goes on, by its error mode.
-use Rattle.std.specs.Prelude.{ℕ, ◌==◌, ◌-◌, length, map, take, Bool, true, false, not, ◌&&◌, if◌then◌else◌, List, [], ◌∷◌, ◌++◌, Result, Ok, Err}
+use Rattle.std.specs.Prelude.{ℕ, ◌==◌, ◌+◌, ◌-◌, filter, length, map, take, Bool, true, false, not, ◌&&◌, if◌then◌else◌, List, [], ◌∷◌, ◌++◌, Result, Ok, Err}
 use Rattle.std.specs.BTreeMap.{is_at}
 use Rattle.std.specs.List.{list_any}
 use Rattle.std.specs.Ordering.{nat_cmp}
@@ -19,9 +20,11 @@ use Rattle.ref_agents.specs.declared.accounts.SentBy.{SentBy}
 use Rattle.ref_agents.specs.declared.accounts.SentBy.TheVariants.{Outside, Commit, Carried}
 
 pub record AccountSeen : Type 0 where
-  -- the state at the last restart, or at the making
+  -- the state at the last restart, fold or making
   pub start : Edn
-  -- the actions that ended since then, in order
+  -- how many of the actions that ended since the last restart, or the making, were folded into it
+  pub past : ℕ
+  -- the others, in order
   pub handled : List Handled
   -- those that wait, in order; the first may be on its way
   pub queue : List Queued
@@ -143,4 +146,26 @@ kept_queue false queue = queue
 
 -- after a restart with this state, which clears the queue or leaves it
 abbrev pub restarted : AccountSeen → Edn → Bool → AccountSeen
-restarted account state clear = record { start = state; handled = []; queue = kept_queue clear account.queue }
+restarted account state clear = record { start = state; past = 0; handled = []; queue = kept_queue clear account.queue }
+
+-- ---- a fold
+
+-- how many actions ended since the last restart, or the making
+abbrev pub number_of : AccountSeen → ℕ
+number_of account = account.past + length account.handled
+
+-- An account is folded while fewer actions than these ended: 2^62.
+abbrev pub most_folded : ℕ
+most_folded = 4611686018427387904
+
+-- those that are marked failed
+abbrev pub failing : List Handled → List Handled
+failing handled = filter (λ h. is_failed_mark h.mark) handled
+
+-- After a fold at this state, which is its start from then on. Of the actions that ended the one that failed the agent stays.
+abbrev pub folded : AccountSeen → Edn → AccountSeen
+folded account state = record account {
+  start = state;
+  past = account.past + (length account.handled - length (failing account.handled));
+  handled = failing account.handled;
+}

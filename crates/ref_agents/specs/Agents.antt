@@ -1,5 +1,5 @@
 -- What a store of agents shows, and what is always so in it.
-use Rattle.std.specs.Prelude.{◌≡◌, ◌≤◌, ◌^◌, ◌&&◌, ◌∷◌, ℕ, [], Bool, true, false, not, if◌then◌else◌, List, length, map, Option, None, Some, Ok, is_some, slice_get, slice_set}
+use Rattle.std.specs.Prelude.{◌≡◌, ◌≤◌, ◌^◌, ◌&&◌, ◌∷◌, ℕ, nat_lt, [], Bool, true, false, not, if◌then◌else◌, List, length, map, Option, None, Some, Ok, is_some, slice_get, slice_set}
 use Rattle.std.specs.BTreeMap.{is_at}
 use Rattle.std.specs.Option.{option_map, option_or}
 use Rattle.std.specs.BTreeSet.{insert_key}
@@ -14,7 +14,7 @@ use Rattle.ref_fun.specs.declared.carries.Carry.{Carry}
 use Rattle.ref_log.specs.Guards.{AreAccepted}
 use Rattle.ref_log.specs.declared.guards.Guard.{Guard}
 use Rattle.ref_log.specs.declared.sends.Sent.{Sent}
-use Rattle.ref_agents.specs.Account.{AccountSeen, fit_marks, fold_of, has_head, has_point, has_released, last_carries, restarted, with_ended, with_queued, with_released, without_last}
+use Rattle.ref_agents.specs.Account.{AccountSeen, fit_marks, fold_of, folded, has_head, has_point, has_released, last_carries, most_folded, number_of, restarted, with_ended, with_queued, with_released, without_last}
 use Rattle.ref_agents.specs.Jobs.{JobSeen}
 use Rattle.ref_agents.specs.declared.accounts.Mark.{Mark}
 use Rattle.ref_agents.specs.declared.accounts.Queued.{Queued}
@@ -106,7 +106,7 @@ is_ready_at store g = is_ready_if_here store.unreleased (slice_get store.agents 
 
 abbrev pub head_job : ℕ → Agent → List Queued → Option JobSeen
 head_job g agent [] = None
-head_job g agent (q ∷ qs) = Some (record { agent = g; number = length agent.account.handled; action = q.action; state = agent.value })
+head_job g agent (q ∷ qs) = Some (record { agent = g; number = number_of agent.account; action = q.action; state = agent.value })
 
 -- The job that an agent's first action makes: with its number, that of the actions handled before it, and the state now.
 abbrev pub next_job : ℕ → Option Agent → Option JobSeen
@@ -250,6 +250,25 @@ revived state clear agent = record agent { value = state; error = None; account 
 
 abbrev pub with_restart : AgentsSeen → ℕ → Edn → Bool → AgentsSeen
 with_restart store g state clear = with_agents store (change_agent store.agents g (revived state clear))
+
+-- Whether an agent's account can be folded: what its last action carried is released, since a release looks at that action, and
+-- fewer actions ended than can be counted.
+abbrev pub can_fold : Agent → Bool
+can_fold agent = not agent.is_carrying && nat_lt (number_of agent.account) most_folded
+
+abbrev pub can_fold_if_here : Option Agent → Bool
+can_fold_if_here None = false
+can_fold_if_here (Some agent) = can_fold agent
+
+abbrev pub can_fold_at : List Agent → ℕ → Bool
+can_fold_at agents g = can_fold_if_here (slice_get agents g)
+
+-- with its account folded, if it can be
+abbrev pub folding : Agent → Agent
+folding agent = if can_fold agent then record agent { account = folded agent.account agent.value } else agent
+
+abbrev pub with_fold : AgentsSeen → ℕ → AgentsSeen
+with_fold store g = with_agents store (change_agent store.agents g folding)
 
 -- ---- when an action can be sent
 

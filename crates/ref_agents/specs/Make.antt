@@ -17,7 +17,7 @@ agent_refusal accepts knows store start rule = make_refusal accepts knows (lengt
 -- an agent that was just made
 abbrev pub new_agent : Edn → ErrorMode → Agent
 new_agent start mode =
-    record { value = start; mode = mode; error = None; account = record { start = start; handled = []; queue = [] }; is_out = false; is_carrying = false }
+    record { value = start; mode = mode; error = None; account = record { start = start; past = 0; handled = []; queue = [] }; is_out = false; is_carrying = false }
 
 -- The store with an agent more, whose number is the next one.
 abbrev pub with_agent : AgentsSeen → Edn → Option Rule → ErrorMode → AgentsSeen

@@ -1,8 +1,8 @@
 //! An agent's account.
-ghost use Rattle.std.specs.Prelude.{◌≡◌, [], length, OnErr, OnOk, slice_get, option_copied};
+ghost use Rattle.std.specs.Prelude.{◌≡◌, ◌<◌, [], length, OnErr, OnOk, slice_get, option_copied};
 ghost use Rattle.std.specs.Iterator.Runs.{YieldsRefsInOrder, YieldsRefsInReverse};
 ghost use Rattle.std.specs.VecDeque.Iter.{deque_iter_rest, deque_iter_steps, deque_iter_steps_back};
-ghost use Rattle.ref_agents.specs.Account.{is_carried_by, last_carries, released, restarted, with_ended, with_queued, with_released, without_last};
+ghost use Rattle.ref_agents.specs.Account.{folded, is_carried_by, is_failed_mark, last_carries, most_folded, number_of, released, restarted, with_ended, with_queued, with_released, without_last};
 
 use ref_fun::{Action, Carry};
 use ref_value::Value;
@@ -10,6 +10,9 @@ use std::alloc::{AllocError, Global};
 use std::collections::VecDeque;
 use std::collections::vec_deque::Iter;
 use std::marker::Model;
+
+/// An account is folded while fewer actions than these ended: 2^62.
+pub(crate) const MOST_FOLDED: u64 = 4_611_686_018_427_387_904;
 
 /// How an action ended.
 #[derive(Clone, Copy, Debug, Drop, PartialEq, Eq)]
@@ -20,6 +23,17 @@ pub enum Mark {
     Failed,
     /// It failed, or the rule refused its value, and the agent went on.
     Passed,
+}
+
+impl Mark {
+    fn is_failed(self) -> bool
+        ensures { result ≡ is_failed_mark self }
+    {
+        match self {
+            Mark::Failed => true,
+            Mark::Done | Mark::Passed => false,
+        }
+    }
 }
 
 /// An action that ended.
@@ -63,50 +77,64 @@ impl Queued {
     }
 }
 
-/// What an agent was given to do: its start, the actions that ended since then, and those that wait. Contracts see lists.
+/// What an agent was given to do: its start, the actions that ended since then, and those that wait. The start is the state at the
+/// last restart, fold or making. Contracts see lists.
 #[derive(Drop)]
 pub struct Account {
     start: Value,
+    // How many of the actions that ended since the last restart, or the making, were folded into the start.
+    past: u64,
     handled: Vec<Handled>,
     queue: VecDeque<Queued>,
 }
 
 impl Model for Account {
+    ghost use Rattle.std.specs.Prelude.{◌≤◌};
     ghost use Rattle.std.specs.Coded.{codes};
     ghost use Rattle.ref_value.specs.Code.{edn_code};
-    ghost use Rattle.ref_agents.specs.Account.{AccountSeen};
+    ghost use Rattle.ref_agents.specs.Account.{AccountSeen, most_folded};
 
     ghost Value = { AccountSeen };
 
     ghost coded = { Prim.hlevel (codes, edn_code) };
 
-    ghost view = { λ a. record { start = a.start; handled = a.handled.items; queue = a.queue.items } };
+    ghost view = { λ a. record { start = a.start; past = a.past; handled = a.handled.items; queue = a.queue.items } };
+
+    ghost invariant = { λ a. a.past ≤ most_folded };
 }
 
 impl Account {
     /// An account that begins with this state. It takes no memory.
     pub fn new(alloc: Global, start: Value) -> Account
-        ensures { result ≡ record { start = start; handled = []; queue = [] } }
+        ensures { result ≡ record { start = start; past = 0; handled = []; queue = [] } }
     {
         Account {
             start,
+            past: 0,
             handled: Vec::new(alloc),
             queue: VecDeque::new(alloc),
         }
     }
 
-    /// The state at the last restart, or at the making.
+    /// The state at the last restart, fold or making.
     pub fn start(&self) -> &Value
         ensures { result.now ≡ self.now.start }
     {
         &self.start
     }
 
-    /// The actions that ended since then, in order.
+    /// The actions that ended since then, in order; after a fold first the one that failed the agent, if it is failed.
     pub fn handled(&self) -> &[Handled]
         ensures { result.now ≡ self.now.handled }
     {
         self.handled.as_slice()
+    }
+
+    /// How many actions ended since the last restart, or the making, with those that were folded.
+    pub fn number(&self) -> u64
+        ensures { result ≡ number_of self.now }
+    {
+        self.past + self.handled.len() as u64
     }
 
     /// The actions that wait, in order. The first may be on its way.
@@ -188,9 +216,21 @@ impl Account {
         ensures { self.new ≡ restarted self.old state clear }
     {
         self.start = state;
+        self.past = 0;
         self.handled.clear();
         if clear {
             self.queue.clear();
         }
+    }
+
+    // Begins with this state. Of the actions that ended the one that failed the agent stays.
+    pub(crate) fn fold(&mut self, state: Value)
+        requires { number_of self.old < most_folded }
+        ensures { self.new ≡ folded self.old state }
+    {
+        let before = self.handled.len();
+        self.handled.retain(|handled| handled.mark.is_failed());
+        self.past += (before - self.handled.len()) as u64;
+        self.start = state;
     }
 }

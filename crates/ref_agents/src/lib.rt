@@ -38,6 +38,7 @@ pub mod accounts;
 pub mod agents;
 mod ends;
 pub mod faults;
+mod folding;
 pub mod jobs;
 mod making;
 mod releasing;

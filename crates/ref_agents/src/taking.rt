@@ -65,7 +65,7 @@ impl<M: Meaning> AgentStore<M> {
         let Some(queued) = agent.account.waiting_at(0) else {
             return false;
         };
-        if job.number() != agent.account.handled().len() as u64 {
+        if job.number() != agent.account.number() {
             return false;
         }
         if !job.action().is_same(&queued.action) {
@@ -140,7 +140,7 @@ impl<M: Meaning> AgentStore<M> {
             Some(queued) => {
                 let action = queued.action.share()?;
                 let state = agent.value.share()?;
-                Ok(Job::new(g, agent.account.handled().len() as u64, action, state))
+                Ok(Job::new(g, agent.account.number(), action, state))
             }
             None => unreachable!(),
         }

@@ -3,3 +3,4 @@ pub mod Fitting
 pub mod Marking
 pub mod Turns
 pub mod Crossing
+pub mod Forgotten

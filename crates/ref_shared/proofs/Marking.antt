@@ -25,10 +25,10 @@ same_Some x y h = cc
 none_Some : (x : Entry) → None ≡ Some x → ⊥
 none_Some x h = cc
 
-told_here : (p : ℕ) (r : LogReceipt) (rs : List LogReceipt) → r.point ≡ p → told_at p (r ∷ rs) ≡ r.entry ∷ told_at p rs
+pub told_here : (p : ℕ) (r : LogReceipt) (rs : List LogReceipt) → r.point ≡ p → told_at p (r ∷ rs) ≡ r.entry ∷ told_at p rs
 told_here p r rs e = rw (eq-eqb r.point p e) refl
 
-told_other : (p : ℕ) (r : LogReceipt) (rs : List LogReceipt) → (r.point ≡ p → ⊥) → told_at p (r ∷ rs) ≡ told_at p rs
+pub told_other : (p : ℕ) (r : LogReceipt) (rs : List LogReceipt) → (r.point ≡ p → ⊥) → told_at p (r ∷ rs) ≡ told_at p rs
 told_other p r rs n = rw (ne_eqb r.point p n) refl
 
 told_append : (p : ℕ) (rs qs : List LogReceipt) → told_at p (rs ++ qs) ≡ told_at p rs ++ told_at p qs

@@ -1,6 +1,10 @@
 //! Compares what a log holds with the receipts of those who wrote it.
-ghost use Rattle.std.specs.Prelude.{◌+◌, ◌<◌, ◌^◌, IfErr, OnOk, length};
+ghost use Rattle.std.specs.Prelude.{◌+◌, ◌<◌, ◌≤◌, ◌^◌, ◌↔◌, ℕ, List, IfErr, OnOk, length};
+ghost use Rattle.ref_log.specs.declared.entries.Entry.{Entry};
 ghost use Rattle.ref_shared.specs.Gather.{GatherFails, InOrder, ReceiptsMatch};
+ghost use Rattle.ref_shared.specs.declared.faults.GatherFault.{GatherFault};
+ghost use Rattle.ref_world.specs.Shares.{after_point};
+ghost use Rattle.ref_world.specs.declared.shares.LogReceipt.{LogReceipt};
 
 use crate::faults::GatherFault;
 use crate::matching::receipts_match;
@@ -35,3 +39,12 @@ pub fn match_receipts(
     }
     Ok(())
 }
+
+/// For [`match_receipts`] it makes no difference whether the receipts up to a point that isn't past the base's are there:
+/// [`ref_world::Share::forget`] drops them. A law about all logs and receipts, with nothing to run.
+pub fn folded_receipts_say_nothing()
+    ensures matches { (p base : ℕ) (log : List Entry) (rs : List LogReceipt) → p ≤ base
+        → (ReceiptsMatch base log rs ↔ ReceiptsMatch base log (after_point p rs)) }
+    ensures fails { (p base : ℕ) (log : List Entry) (rs : List LogReceipt) (f : GatherFault) → p ≤ base
+        → (GatherFails base log rs f ↔ GatherFails base log (after_point p rs) f) }
+{}

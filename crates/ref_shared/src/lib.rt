@@ -10,10 +10,11 @@
 //! |---|---|
 //! | [`Shared`] | the world under its lock; whenever the lock is free, all holds that the type `World` guarantees |
 //! | [`Gate`], [`Spot`], [`Open`] | what is called between two steps, where that is, and a gate that lets all pass |
-//! | [`WatchSink`], [`Quiet`] | who gets the notices of a commit or an action, and a sink that drops them |
+//! | [`WatchSink`], [`Quiet`] | who gets the notices of a commit or an action, and how an action ended; and a sink that drops both |
 //! | [`Worked`], [`WorkFault`] | what a call of `work_once` did, and why it didn't run an action to its end |
 //! | [`TransactFault`] | why a transaction came to no commit: it gave up, its body ended it, or its commit or memory was refused |
 //! | [`match_receipts`], [`GatherFault`] | the comparison of a log with receipts, which `finish` makes, and why they don't fit |
+//! | [`folded_receipts_say_nothing`] | a law of it: [`Shared::forget`] changes nothing that it says |
 //!
 //! Take it where threads share refs, atoms and agents; otherwise take `ref_world`, whose calls wait for nobody. `transact` is there for
 //! functions that mean what Core's mean; with another meaning call [`Shared::begin`], [`Shared::commit`] and [`Shared::release`].
@@ -27,7 +28,7 @@
 //! **Not promised.** Which thread comes first, how often a transaction is tried within its limit and whether it gets through, that a
 //! waiter ever wakes or an action is ever run, and how long anything takes; a call that locks or waits holds its promise where it
 //! returns. That what was found at one lock holds at the next, and in which order two threads deliver their notices. Of the calls on a
-//! `Shared` only `begin`, `commit`, `transact`, `transact_by`, those on atoms and `finish` have clauses: what the others do, that
+//! `Shared` only `begin`, `commit`, `transact`, `transact_by`, `work_once`, those on atoms, `forget` and `finish` have clauses: what the others do, that
 //! `transact` delivers the notices and then releases the sends, and that no lock is held over a body, an action, a gate or a sink, is only
 //! tested.
 #![tactic(auto)]
@@ -43,6 +44,6 @@ mod working;
 
 pub use faults::{GatherFault, TransactFault, WorkFault};
 pub use gates::{Gate, Open, Quiet, Spot, WatchSink};
-pub use gathering::match_receipts;
+pub use gathering::{folded_receipts_say_nothing, match_receipts};
 pub use shared::Shared;
 pub use working::Worked;

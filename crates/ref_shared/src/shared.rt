@@ -1,11 +1,11 @@
 //! A world under one lock.
-ghost use Rattle.std.specs.Prelude.{◌≡◌, [], true, false, Ok, IfOk, IfErr, OnErr, OnOk};
+ghost use Rattle.std.specs.Prelude.{◌≡◌, ℕ, [], true, false, Ok, IfOk, IfErr, OnErr, OnOk};
 ghost use Rattle.ref_log.specs.Replay.{place};
 ghost use Rattle.ref_log.specs.declared.entries.Entry.TheVariants as entries;
 ghost use Rattle.ref_log.specs.declared.notices.Who.TheVariants as who;
 ghost use Rattle.ref_log.specs.declared.operations.Op.TheVariants.{Alter, Set};
 ghost use Rattle.ref_refs.specs.Conflicts.{ConflictFits};
-ghost use Rattle.ref_world.specs.Shares.{all_parts};
+ghost use Rattle.ref_world.specs.Shares.{all_parts, forgotten};
 ghost use Rattle.ref_shared.specs.Bodies.{IsFresh};
 ghost use Rattle.ref_shared.specs.Commits.{AreCommitted, AreNotices, HasCommitted, HasReceipt};
 ghost use Rattle.ref_shared.specs.Gather.{GatherFails, InOrder, ReceiptsMatch};
@@ -342,10 +342,27 @@ impl<M: Meaning, C: Ledger, A: Ledger, K: Ledger> Shared<M, C, A, K> {
         self.lock(rt).world.checkpoint(alloc, funs, point)
     }
 
+    /// Drops the receipts of a share whose entries are folded into the base: see [`World::forget`]. The lock is held for a look at the
+    /// base, and the receipts are dropped with the lock free. A receipt holds its entry whole, so a checkpoint frees entries only once
+    /// the shares have forgotten them.
+    pub fn forget<R: Wait>(&self, rt: &R, share: &mut Share<C, A, K>)
+        ensures { (point : ℕ) × (share.new ≡ forgotten share.old point) }
+    {
+        let point = self.lock(rt).world.base().point;
+        share.forget(point);
+    }
+
+    /// Folds the account of an agent, and returns whether it did so: see [`World::fold_agent`]. The lock is held for a step for each action
+    /// that ended since the last fold or restart. Actions may be queued, on their way, and end meanwhile.
+    pub fn fold_agent<R: Wait>(&self, rt: &R, g: u32) -> Result<bool, AllocError> {
+        self.lock(rt).world.fold_agent(g)
+    }
+
     /// Takes the world out, with the totals of all its shares, which have to be joined again. It takes no lock and waits for
     /// nobody: it takes the whole shared world. The receipts are compared with the log by
     /// [`match_receipts`]; where they don't fit, or there is no memory to compare them, world and share come back. Of entries that a
-    /// checkpoint folded nothing is compared.
+    /// checkpoint folded nothing is compared. A share that forgot receipts past the base ([`Share::forget`]) doesn't fit until a
+    /// checkpoint has reached the point up to which it forgot.
     pub fn finish(
         self,
         alloc: Global,

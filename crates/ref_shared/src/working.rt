@@ -3,7 +3,7 @@ ghost use Rattle.std.specs.Prelude.{◌≡◌, IfOk, OnErr};
 ghost use Rattle.ref_shared.specs.Sinks.{Tells};
 
 use crate::faults::WorkFault;
-use crate::gates::{Gate, Spot, WatchSink, tell};
+use crate::gates::{Gate, Spot, WatchSink, tell_end};
 use crate::shared::Shared;
 use ref_agents::{FinishFault, Finished, Job};
 use ref_fun::{Functions, Meaning};
@@ -21,8 +21,8 @@ pub enum Worked {
 }
 
 impl<M: Meaning, C: Ledger, A: Ledger, K: Ledger> Shared<M, C, A, K> {
-    /// Waits for a ready agent, runs its next action with the lock free, ends it, gives the sink the notices for the watches, and
-    /// then releases what the action carried, if its value became the state.
+    /// Waits for a ready agent, runs its next action with the lock free, ends it, gives the sink the notices for the watches and then
+    /// how the action ended ([`WatchSink::ended`]), and at last releases what the action carried, if its value became the state.
     /// Where [`Shared::close`] was called and no agent is ready, it says so and does nothing. A thread that calls this in
     /// a loop until then is one of a pool; as many of them as there are may run side by side, and no two of them run
     /// actions of one agent at a time.
@@ -37,7 +37,7 @@ impl<M: Meaning, C: Ledger, A: Ledger, K: Ledger> Shared<M, C, A, K> {
         gate: &mut G,
         sink: &mut S,
     ) -> Result<Worked, WorkFault>
-        ensures told { IfOk result (Tells S.takes M.means sink.old sink.new) }
+        ensures told { IfOk result (Tells S.takes S.ends M.means sink.old sink.new) }
         ensures untold { OnErr result (sink.new ≡ sink.old) }
     {
         let Ok(taken) = self.next_job(rt) else {
@@ -57,19 +57,16 @@ impl<M: Meaning, C: Ledger, A: Ledger, K: Ledger> Shared<M, C, A, K> {
         // The guard is dropped before the match.
         let finished = self.lock(rt).world.finish(alloc, funs, ran);
         match finished {
-            Ok(Finished::Changed(notices)) => {
-                if !carries {
+            Ok(finished) => {
+                let is_carrying = carries && matches!(&finished, Finished::Changed(_));
+                if !is_carrying {
+                    // The agent's next action may be taken.
                     self.ready.notify_one();
                 }
-                tell(sink, notices.as_slice());
-                if carries {
+                tell_end(sink, agent, &finished);
+                if is_carrying {
                     self.release_carried(rt, agent);
                 }
-                Ok(Worked::Did(agent))
-            }
-            Ok(_) => {
-                // The agent's next action may be taken.
-                self.ready.notify_one();
                 Ok(Worked::Did(agent))
             }
             Err((ran, fault)) => {

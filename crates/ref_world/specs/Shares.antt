@@ -1,8 +1,9 @@
 -- What a call does to a share.
-use Rattle.std.specs.Prelude.{◌≡◌, ℕ, ◌+◌, [], ◌∷◌, ◌++◌}
+use Rattle.std.specs.Prelude.{◌≡◌, ℕ, nat_lt, ◌+◌, List, [], ◌∷◌, ◌++◌, filter}
 use Rattle.std.specs.declared.sync.ledger.Blank.{Blank}
 use Rattle.ref_log.specs.declared.entries.Entry.{Entry}
 use Rattle.ref_world.specs.Seen.{ShareSeen}
+use Rattle.ref_world.specs.declared.shares.LogReceipt.{LogReceipt}
 
 -- how many parts all shares of a world have
 abbrev pub all_parts : ℕ
@@ -38,3 +39,11 @@ joined share other = record {
   taken = share.taken + other.taken;
   receipts = share.receipts ++ other.receipts;
 }
+
+-- the receipts of the entries after this point
+abbrev pub after_point : ℕ → List LogReceipt → List LogReceipt
+after_point point receipts = filter (λ r. nat_lt point r.point) receipts
+
+-- without the receipts of the entries up to this point
+abbrev pub forgotten : ShareSeen → ℕ → ShareSeen
+forgotten share point = record share { receipts = after_point point share.receipts }

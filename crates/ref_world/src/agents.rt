@@ -3,7 +3,7 @@ ghost use Rattle.ref_log.specs.Told.{TellsThenMemory};
 ghost use Rattle.std.specs.Prelude.{◌≡◌, ◌≢◌, ℕ, true, false, None, Some, IfOk, IfErr, IfSome, OnErr, OnOk, length, option_copied, slice_get};
 ghost use Rattle.ref_agents.specs.Account.{has_point};
 ghost use Rattle.ref_agents.specs.Agents as agents;
-ghost use Rattle.ref_agents.specs.Agents.{AreAgents, account_at, error_at, is_carrying_at, is_ready_at, job_out, next_job, outside, send_refusal};
+ghost use Rattle.ref_agents.specs.Agents.{AreAgents, account_at, can_fold_at, error_at, is_carrying_at, is_ready_at, job_out, next_job, outside, send_refusal};
 ghost use Rattle.ref_agents.specs.Ends.{IsAnswerOf, lacking, restart_refusal, with_finish};
 ghost use Rattle.ref_agents.specs.Make as makes;
 ghost use Rattle.ref_agents.specs.declared.faults.FinishFault.TheVariants as finishes;
@@ -167,6 +167,26 @@ impl<M: Meaning, C: Ledger, A: Ledger, K: Ledger> World<M, C, A, K> {
         ensures err { OnErr result (self.new ≡ self.old) }
     {
         self.agents.set_error_mode(g, mode)
+    }
+
+    /// Folds the account of an agent: its state is its start from now on, and the actions that ended are dropped, except the one that
+    /// failed the agent, if it is failed. State, queue and error stay, and so does the number of the next job: a job that is on its way
+    /// may come back. Returns whether it did so. Where it returns false nothing changed: there is no such agent, or what its last
+    /// action carried isn't released, or 2^62 actions ended since its last restart.
+    ///
+    /// It takes no memory, but std can refuse one more owner of the state. Then nothing changed. The time is linear in the number of
+    /// actions that ended since the last fold or restart.
+    pub fn fold_agent(&mut self, g: u32) -> Result<bool, AllocError>
+        ensures when { IfOk result (λ done. done ≡ can_fold_at self.old.agents.agents g) }
+        ensures folds { OnOk result (self.new ≡ with_agents self.old (agents.with_fold self.old.agents g)) }
+        // The state of each agent, the job of it that is on its way, and whether it is ready stay.
+        ensures values { agents.values_of self.new.agents.agents ≡ agents.values_of self.old.agents.agents }
+        ensures out { (h : ℕ) → job_out self.new.agents.agents h ≡ job_out self.old.agents.agents h }
+        ensures ready { (h : ℕ) → is_ready_at self.new.agents h ≡ is_ready_at self.old.agents h }
+        ensures memory { OnErr result (can_fold_at self.old.agents.agents g ≡ true) }
+        ensures err { OnErr result (self.new ≡ self.old) }
+    {
+        self.agents.fold(g)
     }
 
     /// The error of a failed agent. It takes no memory.

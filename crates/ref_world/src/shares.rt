@@ -1,6 +1,6 @@
 //! Shares of what is done to a world.
 ghost use Rattle.std.specs.Prelude.{◌≡◌, ◌≢◌, ◌+◌, ◌<◌, ◌≤◌, ◌==◌, ◌↔◌, [], IsSome, IfSome, IfNone, OnOk, OnErr, IfErr};
-ghost use Rattle.ref_world.specs.Shares.{all_parts, joined, whole};
+ghost use Rattle.ref_world.specs.Shares.{all_parts, forgotten, joined, whole};
 
 use ref_log::Entry;
 use std::marker::Model;
@@ -127,6 +127,17 @@ impl<C: Ledger, A: Ledger, K: Ledger> Share<C, A, K> {
             taken,
             receipts: Vec::new(*self.receipts.allocator()),
         })
+    }
+
+    /// Drops the receipts of the entries up to this point. All else stays, and so do the receipts of later entries, in their order.
+    /// [`World::forget`](crate::World::forget) passes the point of the base, up to which no receipt is asked for any more. With a
+    /// later point the share lacks receipts that are still asked for, until a checkpoint has reached that point.
+    ///
+    /// It takes no memory, and the list of receipts has room for as many as before. Linear in the number of receipts.
+    pub fn forget(&mut self, point: u64)
+        ensures { self.new ≡ forgotten self.old point }
+    {
+        self.receipts.retain(|receipt| receipt.point > point);
     }
 
     /// Takes all of another share in. The receipts that were here stand first, in their order, and then the other's, in theirs;

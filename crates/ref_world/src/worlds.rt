@@ -8,7 +8,7 @@ ghost use Rattle.ref_log.specs.declared.faults.MakeFault.TheVariants as makes;
 ghost use Rattle.ref_refs.specs.Seen.{are_unchanged_since};
 ghost use Rattle.ref_world.specs.Starts as starts;
 ghost use Rattle.ref_world.specs.Starts.{first_refusal, start_refusal};
-ghost use Rattle.ref_world.specs.Shares.{IsBlank, all_parts, whole};
+ghost use Rattle.ref_world.specs.Shares.{IsBlank, all_parts, forgotten, whole};
 ghost use Rattle.ref_world.specs.World.{HasLastChanges, are_past, most_booked, point_of};
 
 use crate::books::Books;
@@ -196,6 +196,14 @@ impl<M: Meaning, C: Ledger, A: Ledger, K: Ledger> World<M, C, A, K> {
         ensures most { result ≤ most_booked }
     {
         self.books.taken
+    }
+
+    /// Drops the receipts of a share whose entries are folded into the base. The others stay, and so do commits, additions, takings and
+    /// parts. It takes no memory. Linear in the number of the share's receipts.
+    pub fn forget(&self, share: &mut Share<C, A, K>)
+        ensures { share.new ≡ forgotten share.old self.now.base.point }
+    {
+        share.forget(self.base.point);
     }
 
     /// What a share has of the books, where it is whole: all commits, and all that was added to the tally and taken from it. It

@@ -1,4 +1,6 @@
-//! When a shared world releases what an action carried: after its sink got the notices of that action, and not where it failed.
+//! When a shared world releases what an action carried: after its sink got the notices of that action and heard how it ended, and not
+//! where it failed.
+use ref_agents::Finished;
 use ref_fun::codes::{MINUS, PLUS};
 use ref_fun::{Action, Carries, Carry, Core, CoreFunctions};
 use ref_log::{Notice, Who};
@@ -171,5 +173,82 @@ fn an_action_that_fails_carries_nothing_out(rt: HostRuntime) -> Result<(), Fail>
         values: (Some(0), Some(0)),
     };
     assert_eq!(rt; seen, wanted);
+    Ok(())
+}
+
+// A sink that works where an action ended, and stores what that call and a fold say.
+#[derive(Drop)]
+struct Ender<'a, R: Wait, C: Ledger, A: Ledger, K: Ledger> {
+    rt: &'a R,
+    alloc: Global,
+    shared: &'a Shared<Core, C, A, K>,
+    ended: Option<(Work, Option<bool>)>,
+}
+
+impl<'a, R: Wait, C: Ledger, A: Ledger, K: Ledger> WatchSink for Ender<'a, R, C, A, K> {
+    ghost ends = { λ _ _ _ _. Unit {0} };
+
+    fn told(&mut self, _notice: &Notice) {}
+
+    fn ended(&mut self, agent: u32, _finished: &Finished) {
+        let worked = work(self.rt, self.alloc, self.shared);
+        self.ended = Some((worked, self.shared.fold_agent(self.rt, agent).ok()));
+    }
+}
+
+// What the sink saw, what a fold says after the release, and two more calls.
+#[derive(Debug, Drop, PartialEq)]
+struct Heard {
+    at_sink: Option<(Work, Option<bool>)>,
+    folded: Option<bool>,
+    next: (Work, Work),
+    values: (Option<i64>, Option<i64>),
+}
+
+#[derive(Drop)]
+struct AtEnd;
+
+impl<R: Wait> Scenario<R> for AtEnd {
+    type Outcome = Heard;
+
+    fn run<C: Ledger, A: Ledger, K: Ledger>(
+        &self,
+        rt: &R,
+        alloc: Global,
+        shared: &Shared<Core, C, A, K>,
+        _share: &mut Share<C, A, K>,
+    ) -> Result<Heard, Stop> {
+        send_two(rt, alloc, shared, PLUS)?;
+        shared.close(rt);
+        let mut sink = Ender {
+            rt,
+            alloc,
+            shared,
+            ended: None,
+        };
+        let _ = done(shared.work_once(rt, alloc, &CoreFunctions, &mut Open, &mut sink))?;
+        let folded = shared.fold_agent(rt, 0).ok();
+        let next = (work(rt, alloc, shared), work(rt, alloc, shared));
+        Ok(Heard {
+            at_sink: sink.ended,
+            folded,
+            next,
+            values: agents_at(rt, shared),
+        })
+    }
+}
+
+// Nor is the account folded meanwhile: the release looks at the action that carried it.
+#[test]
+fn what_was_carried_is_held_while_the_sink_hears_of_the_end(rt: HostRuntime) -> Result<(), Fail> {
+    let alloc = rt.alloc();
+    let heard = run_shared(&rt, alloc, two_agents(alloc)?, &AtEnd)?;
+    let wanted = Heard {
+        at_sink: Some((CLOSED, Some(false))),
+        folded: Some(true),
+        next: (Ok(Worked::Did(1)), Ok(Worked::Did(0))),
+        values: (Some(3), Some(4)),
+    };
+    assert_eq!(rt; heard, wanted);
     Ok(())
 }

@@ -4,7 +4,8 @@
 //! | Modules | |
 //! |---|---|
 //! | `calls`, `makings`, `conflicts`, `finishing` | each call, what is made, transactions that are tried again, the end |
-//! | `work`, `kept` | agents, and what a world has when it comes out again |
+//! | `work`, `ends`, `kept` | agents, how a sink hears of their actions, and what a world has when it comes out again |
+//! | `folds` | what is dropped: receipts of folded entries, and actions that ended |
 //! | `strangers` | transactions that were begun in another world |
 //! | `faults` | what faults say |
 //! | `tables`, `same` | a table that may want memory or predicates; an assertion |
@@ -18,9 +19,13 @@ mod calls;
 #[cfg(test)]
 mod conflicts;
 #[cfg(test)]
+mod ends;
+#[cfg(test)]
 mod faults;
 #[cfg(test)]
 mod finishing;
+#[cfg(test)]
+mod folds;
 pub mod jobs;
 #[cfg(test)]
 mod kept;

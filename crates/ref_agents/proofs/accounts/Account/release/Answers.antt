@@ -15,7 +15,7 @@ returns-then-release c =
     let carried : is_carried_by g x.by ≡ true = sym c.release.ensures.was ∙ c.if-release.true in
     let next : c.loop-left.left ≡ suc i = omega (arith, c.loop-left-test.true) in
     let none : has_carried g (drop (suc i) before) ≡ false = subst (λ n. has_carried g (drop n before) ≡ false) next so_far.none in
-    account_is _ (with_released g c.args.self.now) so_far.start so_far.handled
+    account_is _ (with_released g c.args.self.now) so_far.start so_far.past so_far.handled
     (ap (λ l. slice_set l i c.release.new.self) so_far.queue
     ∙ ap (λ y. slice_set before i y) c.release.ensures.releases
     ∙ found_last g before i x here is carried none)
@@ -27,4 +27,4 @@ returns c =
     let so_far = c.loop-left.invariant in
     let end : c.loop-left.left ≡ 0 = omega (arith, c.loop-left-test.false) in
     let none : has_carried g before ≡ false = subst (λ n. has_carried g (drop n before) ≡ false) end so_far.none in
-    account_is _ (with_released g c.args.self.now) so_far.start so_far.handled (so_far.queue ∙ sym (none_released g before none))
+    account_is _ (with_released g c.args.self.now) so_far.start so_far.past so_far.handled (so_far.queue ∙ sym (none_released g before none))

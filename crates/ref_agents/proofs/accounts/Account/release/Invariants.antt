@@ -8,6 +8,7 @@ invariant-loop-left l =
     let before = l.fn.self.queue in
     record {
       start : l.self-inside.start ≡ l.fn.self.start;
+      past : l.self-inside.past ≡ l.fn.self.past;
       handled : l.self-inside.handled.items ≡ l.fn.self.handled;
       queue : l.self-inside.queue.items ≡ before;
       bound : l.left ≤ length before;

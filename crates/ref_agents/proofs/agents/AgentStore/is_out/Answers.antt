@@ -1,4 +1,5 @@
-use Rattle.std.proofs.Common.{◌≡◌, ◌∙◌, Some, length, refl, sym, ap, slice_get}
+use Rattle.std.proofs.Common.{◌≡◌, ◌∙◌, Some, refl, sym, ap, slice_get}
+use Rattle.ref_agents.specs.Account.{number_of}
 use Rattle.ref_agents.proofs.Changed.{there}
 use Rattle.ref_agents.proofs.JobsOut.{is_job, out_here}
 use Rattle.ref_agents.proofs.agents.AgentStore.is_out.Goals as goal
@@ -13,6 +14,6 @@ returns-clause-is g c =
     let is : slice_get agents job.agent ≡ Some agent =
     ap (λ k. slice_get agents k) (sym c.agent.ensures) ∙ there c.deref.result.now agents c.agent.result agent same c.in-Some.ensures.lookup.3.0 c.in-Some.ensures.lookup.1 in
     let first : slice_get agent.account.queue 0 ≡ Some queued = sym c.in-Some-waiting_at.ensures in
-    let number : job.number ≡ length agent.account.handled = sym c.number.ensures ∙ c.if-number-handled.false ∙ ap length c.handled.ensures in
+    let number : job.number ≡ number_of agent.account = sym c.number.ensures ∙ c.if-number.false ∙ c.number-2.ensures in
     let action : job.action ≡ queued.action = sym c.action.ensures ∙ c.if-not-is_same.ensures.0 refl in
     is_job agents agent queued job c.eq.result (out_here agents job.agent agent queued is c.if-not-agent.false first) number action (rw (sym c.state.ensures) c.eq.ensures)

@@ -1,0 +1,101 @@
+-- Accounts that are folded.
+use Rattle.std.proofs.Common.{◌≡◌, ◌∙◌, ℕ, ◌+◌, ◌-◌, ◌≤◌, nat_lt, zero, suc, Bool, true, false, not, ◌&&◌, List, [], ◌∷◌, length, Option, None, Some, Ok, if◌then◌else◌, is_some, slice_get, slice_set, refl, sym, ap, subst, arith}
+use Rattle.ref_value.specs.Edn.{Edn}
+use Rattle.ref_fun.specs.Meaning.{Means}
+use Rattle.ref_fun.specs.Rule.{Accepts}
+use Rattle.ref_log.specs.declared.guards.Guard.{Guard}
+use Rattle.ref_agents.specs.Account.{AccountSeen, after_handled, failing, fit_marks, folded, is_failed_mark, number_of}
+use Rattle.ref_agents.specs.Agents.{IsAgent, IsStore, head_job, is_ready_if_here, out_if_here}
+use Rattle.ref_agents.specs.declared.accounts.Handled.{Handled}
+use Rattle.ref_agents.specs.declared.accounts.Mark.{Mark}
+use Rattle.ref_agents.specs.declared.accounts.Mark.TheVariants.{Done, Failed, Passed}
+use Rattle.ref_agents.specs.declared.accounts.Queued.{Queued}
+use Rattle.ref_agents.specs.declared.agents.Agent.{Agent}
+use Rattle.ref_agents.proofs.Changed.{agent_at, first, kept, not_both, second, waiting_at}
+
+-- ---- the actions that stay
+
+-- they leave the state
+keeps_by : (means : Means) (h : Handled) (hs : List Handled) (v : Edn) (m : Mark) → h.mark ≡ m
+    → after_handled means (failing hs) (Ok v) ≡ Ok v → after_handled means (failing (h ∷ hs)) (Ok v) ≡ Ok v
+keeps_by means h hs v Done is so = rw is so
+keeps_by means h hs v Failed is so = rw is so
+keeps_by means h hs v Passed is so = rw is so
+
+keeps : (means : Means) (hs : List Handled) (v : Edn) → after_handled means (failing hs) (Ok v) ≡ Ok v
+keeps means [] v = refl
+keeps means (h ∷ hs) v = keeps_by means h hs v h.mark refl (keeps means hs v)
+
+fits_one : (failed m : Bool) (h : Handled) → is_failed_mark h.mark ≡ m → fit_marks failed (h ∷ []) ≡ true → fit_marks failed (failing (h ∷ [])) ≡ true
+fits_one true true h is fit = rw (is, is) refl
+fits_one true false h is fit = absurd (not_both is fit)
+fits_one false true h is fit = absurd (not_both (ap not is) fit)
+fits_one false false h is fit = rw is refl
+
+not_true : (b : Bool) → not b ≡ true → b ≡ false
+not_true true is = absurd (not_both refl is)
+not_true false is = refl
+
+-- and their marks fit
+fits : (failed : Bool) (hs : List Handled) → fit_marks failed hs ≡ true → fit_marks failed (failing hs) ≡ true
+fits failed [] fit = fit
+fits failed (h ∷ []) fit = fits_one failed (is_failed_mark h.mark) h refl fit
+fits failed (h ∷ next ∷ hs) fit =
+    rw (not_true (is_failed_mark h.mark) (first (not (is_failed_mark h.mark)) (fit_marks failed (next ∷ hs)) fit))
+    (fits failed (next ∷ hs) (second (not (is_failed_mark h.mark)) (fit_marks failed (next ∷ hs)) fit))
+
+few_by : (h : Handled) (hs : List Handled) (m : Bool) → is_failed_mark h.mark ≡ m → length (failing hs) ≤ length hs → length (failing (h ∷ hs)) ≤ length (h ∷ hs)
+few_by h hs true is so = rw is (omega (arith, so))
+few_by h hs false is so = rw is (omega (arith, so))
+
+pub few : (hs : List Handled) → length (failing hs) ≤ length hs
+few [] = omega arith
+few (h ∷ hs) = few_by h hs (is_failed_mark h.mark) refl (few hs)
+
+number_kept : (account : AccountSeen) (v : Edn) → number_of (folded account v) ≡ number_of account
+number_kept account v = omega (arith, few account.handled)
+
+-- what a fold leaves
+pub folded_is : (account : AccountSeen) (v : Edn) (past : ℕ) (left : List Handled) → left ≡ failing account.handled
+    → past ≡ account.past + (length account.handled - length left)
+    → record { start = v; past = past; handled = left; queue = account.queue } ≡ folded account v
+folded_is account v past left is count = rw (count, is) refl
+
+-- ---- an agent
+
+abbrev pub with_folded : Agent → Agent
+with_folded agent = record agent { account = folded agent.account agent.value }
+
+pub folded_agent : (means : Means) (x : Agent) → IsAgent means x → IsAgent means (with_folded x)
+folded_agent means x ok = record {
+  folded = keeps means x.account.handled x.value;
+  marked = fits (is_some x.error) x.account.handled ok.marked;
+  single = ok.single;
+  idle = ok.idle;
+}
+
+head_kept : (g : ℕ) (x : Agent) (queue : List Queued) → head_job g (with_folded x) queue ≡ head_job g x queue
+head_kept g x [] = refl
+head_kept g x (q ∷ qs) = rw (number_kept x.account x.value) refl
+
+pub out_kept : (g : ℕ) (x : Agent) → out_if_here g (Some (with_folded x)) ≡ out_if_here g (Some x)
+out_kept g x = rw (head_kept g x x.account.queue) refl
+
+pub ready_kept : (unreleased : List ℕ) (x : Agent) → is_ready_if_here unreleased (Some (with_folded x)) ≡ is_ready_if_here unreleased (Some x)
+ready_kept unreleased x = refl
+
+-- the store with the agent whose account was folded
+pub fold_stands : (means : Means) (accepts : Accepts) (agents : List Agent) (guards : List Guard) (waiting : List ℕ) (g : ℕ) (x : Agent) (account : AccountSeen) → slice_get agents g ≡ Some x
+    → account ≡ folded x.account x.value → IsStore means accepts agents guards waiting → IsStore means accepts (slice_set agents g (record x { account = account })) guards waiting
+fold_stands means accepts agents guards waiting g x account is same store =
+    subst (λ (a : AccountSeen). IsStore means accepts (slice_set agents g (record x { account = a })) guards waiting) (sym same)
+    (kept means accepts agents guards waiting g x (with_folded x) is (folded_agent means x (agent_at means agents g x store.3 is)) refl (waiting_at agents waiting g x store.4 is) store)
+
+-- what is the same of an agent and of what it becomes is the same at each number
+pub set_same : {T : Type 0} (f : Option Agent → T) (agents : List Agent) (g : ℕ) (x y : Agent) → slice_get agents g ≡ Some x → f (Some y) ≡ f (Some x)
+    → (h : ℕ) → f (slice_get (slice_set agents g y) h) ≡ f (slice_get agents h)
+set_same f [] g x y is same h = refl
+set_same f (a ∷ agents) zero x y is same zero = same ∙ ap f (sym is)
+set_same f (a ∷ agents) zero x y is same (suc h) = refl
+set_same f (a ∷ agents) (suc g) x y is same zero = refl
+set_same f (a ∷ agents) (suc g) x y is same (suc h) = set_same f agents g x y is same h
