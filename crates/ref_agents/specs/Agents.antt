@@ -108,7 +108,7 @@ abbrev pub head_job : ℕ → Agent → List Queued → Option JobSeen
 head_job g agent [] = None
 head_job g agent (q ∷ qs) = Some (record { agent = g; number = number_of agent.account; action = q.action; state = agent.value })
 
--- The job that an agent's first action makes: with its number, that of the actions handled before it, and the state now.
+-- The job that an agent's first action makes: with its number, that of the actions that ended before it, and the state now.
 abbrev pub next_job : ℕ → Option Agent → Option JobSeen
 next_job g None = None
 next_job g (Some agent) = head_job g agent agent.account.queue

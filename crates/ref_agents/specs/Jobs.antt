@@ -6,7 +6,7 @@ use Rattle.ref_fun.specs.declared.faults.Cause.{Cause}
 
 pub record JobSeen : Type 0 where
   pub agent : ℕ
-  -- how many actions the agent had handled before it, since its last restart or its making
+  -- how many actions of the agent ended before it, since its last restart or its making
   pub number : ℕ
   pub action : Action
   -- the state that it begins with

@@ -48,7 +48,7 @@ impl Job {
         self.agent
     }
 
-    /// How many actions the agent had handled before this one, since its last restart or its making.
+    /// How many actions of the agent ended before this one, since its last restart or its making. A fold leaves it.
     pub fn number(&self) -> u64
         ensures { result ≡ self.now.number }
     {

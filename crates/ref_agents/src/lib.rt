@@ -9,6 +9,7 @@
 //! At most one job of an agent is on its way; one that isn't finished goes back by [`AgentStore::put_back`]. What a transaction sent is
 //! held until its commit is released ([`AgentStore::send_held`], [`AgentStore::release`]). What an action carries goes out where its
 //! value became the state: it is held until [`AgentStore::release_carried`], and until then its agent takes no other action.
+//! [`AgentStore::fold`] drops the actions of an agent that ended.
 //!
 //! | Type | Is |
 //! |---|---|
@@ -25,7 +26,7 @@
 //! **Costs.** A send is logarithmic in the number of agents with an action that waits, and `release` in that of the commits that are
 //! held. `take` looks at such agents until one is ready, and is linear in how many it looks at. `finish` and `put_back` compare
 //! arguments and state of the job, in time linear in their sizes; `finish` tests the rule too and makes a notice for each watch. An
-//! account stores each action that ended until a restart, which takes a step for each that it drops. A `finish` takes a send's time for
+//! account stores each action that ended until a fold or a restart, which takes a step for each that it drops. A `finish` takes a send's time for
 //! each that is carried, and `release_carried` for each walks back over what its agent was sent since.
 //!
 //! **Not promised.** Which of the ready agents `take` returns: they take turns, but no contract says so. That an action is ever run,

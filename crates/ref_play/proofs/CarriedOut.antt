@@ -4,7 +4,7 @@ use Rattle.std.specs.List.{AllByRecursion}
 use Rattle.std.proofs.lemmas.Bool.{cases_eq, eq-eqb, ne_eqb}
 use Rattle.ref_value.specs.Edn.{Edn}
 use Rattle.ref_fun.specs.declared.carries.Carry.{Carry}
-use Rattle.ref_agents.specs.Account.{AccountSeen, last_carries, with_ended, with_head_ended}
+use Rattle.ref_agents.specs.Account.{AccountSeen, last_carries, number_of, with_ended, with_head_ended}
 use Rattle.ref_agents.specs.Agents.{carried, carries_at, carries_if_here, change_agent, error_at, error_if_here, head_job, is_carrying_at, is_carrying_if_here, job_out, out_if_here, with_carries}
 use Rattle.ref_agents.specs.Ends as ends
 use Rattle.ref_agents.specs.Ends.{after_end, ending, has_carry}
@@ -46,7 +46,7 @@ first_out agents g job is = by (slice_get agents g) refl is where
     queued false queue waits is = absurd cc
     queued true [] waits is = absurd cc
     queued true (q ∷ qs) waits is =
-        let same : job ≡ record { agent = g; number = length agent.account.handled; action = q.action; state = agent.value } = cc in
+        let same : job ≡ record { agent = g; number = number_of agent.account; action = q.action; state = agent.value } = cc in
         record { agent = agent; here = here; first = q; rest = qs; queue = waits; action = sym (ap (λ (j : JobSeen). j.action) same) }
 
 -- ---- an agent whose first action ended

@@ -1,5 +1,5 @@
 -- A job that is on its way stays so while others are sent, taken, finished or put back, and no two are of one agent.
-use Rattle.std.proofs.Common.{zero, suc, ◌≡◌, ℕ, ◌&&◌, not, cond, Bool, true, false, ◌⊎◌, inl, inr, is_some, List, [], ◌∷◌, ◌++◌, length, Option, None, Some, Result, Ok, Err, slice_get, refl, sym, ap, subst, ◌∙◌}
+use Rattle.std.proofs.Common.{zero, suc, ◌≡◌, ℕ, ◌&&◌, not, cond, Bool, true, false, ◌⊎◌, inl, inr, is_some, List, [], ◌∷◌, ◌++◌, Option, None, Some, Result, Ok, Err, slice_get, refl, sym, ap, subst, ◌∙◌}
 use Rattle.std.proofs.lemmas.Bool.{cases_eq}
 use Rattle.std.proofs.lemmas.Option.{slice_get_within}
 use Rattle.ref_value.specs.Edn.{Edn}
@@ -7,7 +7,7 @@ use Rattle.ref_fun.specs.Meaning.{Means}
 use Rattle.ref_log.specs.declared.entries.Entry.{Entry}
 use Rattle.ref_fun.specs.declared.actions.Action.{Action}
 use Rattle.ref_fun.specs.declared.carries.Carry.{Carry}
-use Rattle.ref_agents.specs.Account.{has_carried, has_released, last_released, released}
+use Rattle.ref_agents.specs.Account.{has_carried, has_released, last_released, number_of, released}
 use Rattle.ref_agents.specs.Agents.{AgentsSeen, change_agent, error_if_here, head_job, is_carrying_at, is_carrying_if_here, is_ready_if_here, job_out, moded, next_job, out_if_here, outed, put_agent, queuing, releasing, revived, with_agents, with_carried_released, with_each, with_each_released, with_out, with_send}
 use Rattle.ref_agents.specs.Agents as agents_in
 use Rattle.ref_agents.specs.Jobs.{JobSeen}
@@ -39,7 +39,7 @@ module _ (P : ℕ → Option Agent → Type 0) (agents : List Agent) (g : ℕ) (
 abbrev pub IsOut : JobSeen → ℕ → Option Agent → Type 0
 IsOut job h there = (out_if_here h there ≡ Some job) × (error_if_here there ≡ None) × (is_carrying_if_here there ≡ false)
 
-head_more : (g : ℕ) (agent then : Agent) (queue : List Queued) (q : Queued) (job : JobSeen) → length then.account.handled ≡ length agent.account.handled → then.value ≡ agent.value → head_job g agent queue ≡ Some job → head_job g then (queue ++ q ∷ []) ≡ Some job
+head_more : (g : ℕ) (agent then : Agent) (queue : List Queued) (q : Queued) (job : JobSeen) → number_of then.account ≡ number_of agent.account → then.value ≡ agent.value → head_job g agent queue ≡ Some job → head_job g then (queue ++ q ∷ []) ≡ Some job
 head_more g agent then [] q job count value is = absurd cc
 head_more g agent then (x ∷ xs) q job count value is = rw (count, value) is
 

@@ -188,6 +188,7 @@ restart_means store g state clear before here = (
     value = refl;
     error = refl;
     start = refl;
+    past = refl;
     handled = refl;
     kept = queue_kept clear before.account.queue;
     cleared = queue_cleared clear before.account.queue;
@@ -213,6 +214,7 @@ has_ended before after mark value error more waiting value_is error_is idle mode
         idle = idle;
         mode = mode;
         start = ap (λ (a : AccountSeen). a.start) account;
+        past = ap (λ (a : AccountSeen). a.past) account;
         first = q;
         rest = qs;
         waited = waits;

@@ -6,7 +6,7 @@ use Rattle.ref_value.specs.Edn.{Edn}
 use Rattle.ref_fun.specs.Rule.{Accepts}
 use Rattle.ref_fun.specs.declared.carries.Carry.{Carry}
 use Rattle.ref_log.specs.Guards.{keys_at, rule_at}
-use Rattle.ref_agents.specs.Account.{has_point, has_released, is_released_by}
+use Rattle.ref_agents.specs.Account.{has_point, has_released, is_released_by, number_of}
 use Rattle.ref_agents.specs.Agents.{AgentsSeen, head_job, is_carrying_if_here, is_ready_at, is_ready_if_here, job_out, out_if_here}
 use Rattle.ref_agents.specs.Ends as ends
 use Rattle.ref_agents.specs.Ends.{IsAnswer, IsAnswerIfHere, IsAnswerOf, judged}
@@ -61,7 +61,7 @@ carried_here agents job out are = by (slice_get agents job.agent) refl out where
     queued false queue waits is = absurd cc
     queued true [] waits is = absurd cc
     queued true (q ∷ qs) waits is =
-        let same : job ≡ record { agent = job.agent; number = length agent.account.handled; action = q.action; state = agent.value } = cc in
+        let same : job ≡ record { agent = job.agent; number = number_of agent.account; action = q.action; state = agent.value } = cc in
         let waiting = subst (AllByRecursion (IsWaiting agents)) (ap queue_if_here here ∙ waits) (are.waits job.agent) in
         subst (λ (c : List Carry). AreHere (length agents) c) (sym (ap (λ (j : JobSeen). j.action.carries) same)) waiting.0
 

@@ -9,6 +9,7 @@ use Rattle.ref_fun.specs.declared.faults.Cause.{Cause}
 use Rattle.ref_fun.specs.declared.rules.Rule.{Rule}
 use Rattle.ref_log.specs.declared.guards.Guard.{Guard}
 use Rattle.ref_log.specs.declared.sends.Sent.{Sent}
+use Rattle.ref_agents.specs.Account.{number_of}
 use Rattle.ref_agents.specs.Agents.{AgentsSeen, is_ready_at, job_out, next_job, send_refusal, with_carried_released, with_commit, with_release, with_restart}
 use Rattle.ref_agents.specs.Ends.{IsAnswerOf, restart_refusal, with_finish}
 use Rattle.ref_agents.specs.Jobs.{JobSeen, RanSeen}
@@ -57,14 +58,14 @@ pub record IsReady (store : AgentsSeen) (g : ℕ) : Type 0 where
 abbrev pub ReadyMeans : Type 0
 ReadyMeans = (store : AgentsSeen) (g : ℕ) → is_ready_at store g ≡ true ↔ IsReady store g
 
--- The next job of an agent that is here: the first action of its queue, with the number of actions handled before it, on its value.
+-- The next job of an agent that is here: the first action of its queue, with the number of actions that ended before it, on its value.
 pub record IsNext (agents : List Agent) (g : ℕ) (job : JobSeen) : Type 0 where
   pub agent : Agent
   pub here : slice_get agents g ≡ Some agent
   pub first : Queued
   pub rest : List Queued
   pub queue : agent.account.queue ≡ first ∷ rest
-  pub is : job ≡ record { agent = g; number = length agent.account.handled; action = first.action; state = agent.value }
+  pub is : job ≡ record { agent = g; number = number_of agent.account; action = first.action; state = agent.value }
 
 abbrev pub NextJobMeans : Type 0
 NextJobMeans = (agents : List Agent) (g : ℕ) (job : JobSeen) → next_job g (slice_get agents g) ≡ Some job ↔ IsNext agents g job
@@ -92,6 +93,7 @@ pub record IsRestarted (before after : Agent) (state : Edn) (clear : Bool) : Typ
   pub value : after.value ≡ state
   pub error : after.error ≡ None
   pub start : after.account.start ≡ state
+  pub past : after.account.past ≡ 0
   pub handled : after.account.handled ≡ []
   pub kept : clear ≡ false → after.account.queue ≡ before.account.queue
   pub cleared : clear ≡ true → after.account.queue ≡ []
@@ -129,6 +131,7 @@ pub record HasEnded (before after : Agent) (mark : Mark) (value : Edn) (error : 
   pub idle : after.is_out ≡ false
   pub mode : after.mode ≡ before.mode
   pub start : after.account.start ≡ before.account.start
+  pub past : after.account.past ≡ before.account.past
   pub first : Queued
   pub rest : List Queued
   pub waited : before.account.queue ≡ first ∷ rest
@@ -248,6 +251,7 @@ pub record IsFreed (g h : ℕ) (before after : Agent) : Type 0 where
   pub mode : after.mode ≡ before.mode
   pub out : after.is_out ≡ before.is_out
   pub start : after.account.start ≡ before.account.start
+  pub past : after.account.past ≡ before.account.past
   pub handled : after.account.handled ≡ before.account.handled
   pub own : h ≡ g → after.is_carrying ≡ false
   pub carrying : h ≢ g → after.is_carrying ≡ before.is_carrying

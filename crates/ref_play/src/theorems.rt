@@ -85,7 +85,7 @@ pub fn ready_in_plain_words()
     ensures { ReadyMeans }
 {}
 
-/// The next job of an agent has its first action that waits, the number of those that it handled, and its value.
+/// The next job of an agent has its first action that waits, the number of those that ended before it, and its value.
 pub fn next_job_in_plain_words()
     ensures { NextJobMeans }
 {}

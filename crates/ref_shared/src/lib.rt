@@ -20,15 +20,16 @@
 //! functions that mean what Core's mean; with another meaning call [`Shared::begin`], [`Shared::commit`] and [`Shared::release`].
 //!
 //! **Costs.** Each call takes the lock once, and costs what its call of the world costs; `transact` takes it twice for each try, and once
-//! more where what was committed sent something; `work_once` takes it for the job and for its end, and once more where its action
-//! sends something on; `new` and `finish` don't. A body, an action, a gate and a sink run with the lock free. Functions of the table run under it where a commit commutes, an atom is swapped or a
-//! rule is asked, so they are to be quick; a checkpoint holds it for a replay of the entries that it folds. `finish` is linear in the sizes
-//! of log and receipts, but for logarithms of the workers and of the entries, and takes a byte for each entry and some for each worker.
+//! more where what was committed sent something; `work_once` takes it for the job and for its end, and once more where its action sends
+//! something on; `new` and `finish` don't. A body, an action, a gate and a sink run with the lock free. Functions of the table run under it
+//! where a commit commutes, an atom is swapped or a rule is asked, so they are to be quick; a checkpoint holds it for a replay of the
+//! entries that it folds, and `fold_agent` for a step for each action that it drops. `finish` is linear in the sizes of log and receipts,
+//! but for logarithms of the workers and of the entries, and takes a byte for each entry and some for each worker.
 //!
-//! **Not promised.** Which thread comes first, how often a transaction is tried within its limit and whether it gets through, that a
-//! waiter ever wakes or an action is ever run, and how long anything takes; a call that locks or waits holds its promise where it
-//! returns. That what was found at one lock holds at the next, and in which order two threads deliver their notices. Of the calls on a
-//! `Shared` only `begin`, `commit`, `transact`, `transact_by`, `work_once`, those on atoms, `forget` and `finish` have clauses: what the others do, that
+//! **Not promised.** Which thread comes first, how often a transaction is tried within its limit and whether it gets through, that a waiter
+//! ever wakes or an action is ever run, and how long anything takes; a call that locks or waits holds its promise where it returns. That
+//! what was found at one lock holds at the next, and in which order two threads deliver their notices. Of the calls on a `Shared` only
+//! `begin`, `commit`, `transact`, `transact_by`, `work_once`, those on atoms, `forget` and `finish` have clauses: what the others do, that
 //! `transact` delivers the notices and then releases the sends, and that no lock is held over a body, an action, a gate or a sink, is only
 //! tested.
 #![tactic(auto)]

@@ -28,7 +28,8 @@
 //! and a making cost what they do in their stores and a push to the log, a [`ref_pvec::PVec`]; a commit also takes a step for each send,
 //! logarithmic in the number of agents with actions that wait. A checkpoint costs a replay of the entries that it folds, a step for each
 //! ref and atom, and a logarithm of the entries that are left; a join a step for each receipt of the other share. The log holds an entry
-//! until it is folded, a share each receipt, and an account each action that ended until a restart.
+//! until it is folded, a share each receipt until it forgets it ([`World::forget`]), and an account each action that ended until a restart or
+//! a fold ([`World::fold_agent`]). A receipt holds its entry too.
 //!
 //! **Not promised.** That a share which was dropped comes back: no other one is whole then. That a transaction of this world has nothing
 //! foreign, or that one of another world is refused. That watches are called and sends released: both are for the caller. Which agent
