@@ -1,17 +1,17 @@
 -- Accounts that are folded.
-use Rattle.std.proofs.Common.{◌≡◌, ◌∙◌, ℕ, ◌+◌, ◌-◌, ◌≤◌, nat_lt, zero, suc, Bool, true, false, not, ◌&&◌, List, [], ◌∷◌, length, Option, None, Some, Ok, if◌then◌else◌, is_some, slice_get, slice_set, refl, sym, ap, subst, arith}
+use Rattle.std.proofs.Common.{◌≡◌, ◌∙◌, ℕ, ◌+◌, ◌-◌, ◌<◌, ◌≤◌, nat_lt, zero, suc, Bool, true, false, not, ◌&&◌, List, [], ◌∷◌, length, Option, None, Some, Ok, if◌then◌else◌, is_some, slice_get, slice_set, refl, sym, ap, subst, arith}
 use Rattle.ref_value.specs.Edn.{Edn}
 use Rattle.ref_fun.specs.Meaning.{Means}
 use Rattle.ref_fun.specs.Rule.{Accepts}
 use Rattle.ref_log.specs.declared.guards.Guard.{Guard}
-use Rattle.ref_agents.specs.Account.{AccountSeen, after_handled, failing, fit_marks, folded, is_failed_mark, number_of}
-use Rattle.ref_agents.specs.Agents.{IsAgent, IsStore, head_job, is_ready_if_here, out_if_here}
+use Rattle.ref_agents.specs.Account.{AccountSeen, after_handled, failing, fit_marks, folded, is_failed_mark, most_folded, number_of}
+use Rattle.ref_agents.specs.Agents.{AgentsSeen, IsAgent, IsStore, can_fold_at, can_fold_if_here, folding, head_job, is_ready_if_here, out_if_here, put_agent, with_agents, with_fold}
 use Rattle.ref_agents.specs.declared.accounts.Handled.{Handled}
 use Rattle.ref_agents.specs.declared.accounts.Mark.{Mark}
 use Rattle.ref_agents.specs.declared.accounts.Mark.TheVariants.{Done, Failed, Passed}
 use Rattle.ref_agents.specs.declared.accounts.Queued.{Queued}
 use Rattle.ref_agents.specs.declared.agents.Agent.{Agent}
-use Rattle.ref_agents.proofs.Changed.{agent_at, first, kept, not_both, second, waiting_at}
+use Rattle.ref_agents.proofs.Changed.{agent_at, first, kept, not_both, same_set, second, waiting_at}
 
 -- ---- the actions that stay
 
@@ -90,6 +90,27 @@ pub fold_stands : (means : Means) (accepts : Accepts) (agents : List Agent) (gua
 fold_stands means accepts agents guards waiting g x account is same store =
     subst (λ (a : AccountSeen). IsStore means accepts (slice_set agents g (record x { account = a })) guards waiting) (sym same)
     (kept means accepts agents guards waiting g x (with_folded x) is (folded_agent means x (agent_at means agents g x store.3 is)) refl (waiting_at agents waiting g x store.4 is) store)
+
+-- ---- whether it can be folded
+
+not_folded_here : (agents : List Agent) (g : ℕ) (there : Option Agent) → slice_get agents g ≡ there → can_fold_if_here there ≡ false → put_agent agents g folding there ≡ agents
+not_folded_here agents g None is can = refl
+not_folded_here agents g (Some x) is can = rw can (same_set agents g x is)
+
+-- one that can't be stays
+pub not_folded : (store : AgentsSeen) (g : ℕ) → can_fold_at store.agents g ≡ false → with_fold store g ≡ store
+not_folded store g can = ap (with_agents store) (not_folded_here store.agents g (slice_get store.agents g) refl can)
+
+-- one that can be is folded
+pub folding_is : (agents : List Agent) (g : ℕ) (x : Agent) → slice_get agents g ≡ Some x → can_fold_at agents g ≡ true → folding x ≡ with_folded x
+folding_is agents g x is can = rw (sym (ap can_fold_if_here is) ∙ can) refl
+
+less : (a b : ℕ) → nat_lt a b ≡ true → a < b
+less a b is = grind arith
+
+pub few_ended : (agents : List Agent) (g : ℕ) (x : Agent) → slice_get agents g ≡ Some x → can_fold_at agents g ≡ true → number_of x.account < most_folded
+few_ended agents g x is can =
+    less (number_of x.account) most_folded (second (not x.is_carrying) (nat_lt (number_of x.account) most_folded) (sym (ap can_fold_if_here is) ∙ can))
 
 -- what is the same of an agent and of what it becomes is the same at each number
 pub set_same : {T : Type 0} (f : Option Agent → T) (agents : List Agent) (g : ℕ) (x y : Agent) → slice_get agents g ≡ Some x → f (Some y) ≡ f (Some x)

@@ -1,6 +1,6 @@
 //! How accounts are folded.
-ghost use Rattle.std.specs.Prelude.{◌≡◌, ℕ, true, IfOk, OnErr, OnOk};
-ghost use Rattle.ref_agents.specs.Agents.{can_fold, can_fold_at, is_ready_at, job_out, values_of, with_fold};
+ghost use Rattle.std.specs.Prelude.{◌≡◌, ℕ, false, true, IfOk, OnErr, OnOk};
+ghost use Rattle.ref_agents.specs.Agents.{can_fold_at, is_ready_at, job_out, values_of, with_fold};
 
 use crate::accounts::MOST_FOLDED;
 use crate::agents::{Agent, AgentStore};
@@ -25,23 +25,39 @@ impl<M: Meaning> AgentStore<M> {
         ensures memory { OnErr result (can_fold_at self.old.agents g ≡ true) }
         ensures err { OnErr result (self.new ≡ self.old) }
     {
-        let Some(agent) = self.agents.get_mut(g as usize) else {
-            return Ok(false);
-        };
-        if !agent.can_fold() {
+        if !can_fold(&self.agents, g) {
             return Ok(false);
         }
+        match self.fold_account(g) {
+            Ok(()) => Ok(true),
+            Err(e) => Err(e),
+        }
+    }
+
+    // Folds the account of an agent that can be folded.
+    fn fold_account(&mut self, g: u32) -> Result<(), AllocError>
+        requires { can_fold_at self.old.agents g ≡ true }
+        ensures folds { OnOk result (self.new ≡ with_fold self.old g) }
+        ensures values { values_of self.new.agents ≡ values_of self.old.agents }
+        ensures out { (h : ℕ) → job_out self.new.agents h ≡ job_out self.old.agents h }
+        ensures ready { (h : ℕ) → is_ready_at self.new h ≡ is_ready_at self.old h }
+        ensures err { OnErr result (self.new ≡ self.old) }
+    {
+        let Some(agent) = self.agents.get_mut(g as usize) else {
+            return Ok(());
+        };
         let start = agent.value.share()?;
         agent.account.fold(start);
-        Ok(true)
+        Ok(())
     }
 }
 
-impl Agent {
-    // Whether its account can be folded.
-    fn can_fold(&self) -> bool
-        ensures { result ≡ can_fold self.now }
-    {
-        !self.is_carrying && self.account.number() < MOST_FOLDED
+// Whether the account of an agent can be folded.
+fn can_fold(agents: &[Agent], g: u32) -> bool
+    ensures { result ≡ can_fold_at agents.now g }
+{
+    match agents.get(g as usize) {
+        Some(agent) => !agent.is_carrying && agent.account.number() < MOST_FOLDED,
+        None => false,
     }
 }
