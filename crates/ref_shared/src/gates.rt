@@ -2,7 +2,7 @@
 ghost use Rattle.std.specs.Prelude.{◌≡◌, ℕ};
 ghost use Rattle.ref_agents.specs.declared.ends.Finished.{Finished};
 ghost use Rattle.ref_log.specs.declared.notices.Notice.{Notice};
-ghost use Rattle.ref_shared.specs.Sinks.{Ends, TakesAll, TakesEnd};
+ghost use Rattle.ref_shared.specs.Sinks.{Ends, TakesAll, TakesEnd, notices_in};
 
 use ref_agents::Finished;
 use ref_log::Notice;
@@ -67,10 +67,18 @@ impl WatchSink for Quiet {
 pub(crate) fn tell_end<S: WatchSink>(sink: &mut S, agent: u32, finished: &Finished)
     ensures { TakesEnd S.takes S.ends sink.old agent finished.now sink.new }
 {
-    if let Finished::Changed(notices) = finished {
-        tell(sink, notices.as_slice());
-    }
+    tell_changed(sink, finished);
     sink.ended(agent, finished);
+}
+
+// Delivers the notices of an action that ended.
+fn tell_changed<S: WatchSink>(sink: &mut S, finished: &Finished)
+    ensures { TakesAll S.takes sink.old (notices_in finished.now) sink.new }
+{
+    match finished {
+        Finished::Changed(notices) => tell(sink, notices.as_slice()),
+        Finished::Failed(_) | Finished::Continued(_) => {}
+    }
 }
 
 // Delivers each notice, in order.
