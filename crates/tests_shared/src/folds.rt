@@ -59,7 +59,10 @@ fn check_forgetting(
     let wanted = End {
         fault,
         commits: 2,
-        back: fault.map(|_| (true, left)),
+        back: match fault {
+            Some(_) => Some((true, left)),
+            None => None,
+        },
     };
     let found = run_shared(rt, alloc, plain_start(alloc, "0", "")?, &forgetting)?;
     same(rt, found, left);
@@ -68,19 +71,21 @@ fn check_forgetting(
     Ok(())
 }
 
+// Up to which point is folded, up to which the share forgets, if it isn't the base's, how many receipts are left, and the fault.
+const FORGETTING: &[(u64, Option<u64>, usize, Option<GatherFault>)] = &[
+    (0, None, 2, None),
+    (1, None, 1, None),
+    (2, None, 0, None),
+    (2, Some(2), 0, None),
+    (0, Some(1), 1, Some(GatherFault::ReceiptMissing)),
+    (1, Some(2), 0, Some(GatherFault::ReceiptMissing)),
+];
+
 #[test]
 fn receipts_of_folded_entries_are_not_asked_for(rt: HostRuntime) -> Result<(), Fail> {
-    let rows = [
-        (0, None, 2, None),
-        (1, None, 1, None),
-        (2, None, 0, None),
-        (2, Some(2), 0, None),
-        (0, Some(1), 1, Some(GatherFault::ReceiptMissing)),
-        (1, Some(2), 0, Some(GatherFault::ReceiptMissing)),
-    ];
-    for (folded, forgotten, left, fault) in rows {
-        let forgetting = Forgetting { folded, forgotten };
-        check_forgetting(&rt, forgetting, left, fault)?;
+    for row in FORGETTING {
+        let (folded, forgotten, left, fault) = *row;
+        check_forgetting(&rt, Forgetting { folded, forgotten }, left, fault)?;
     }
     Ok(())
 }
