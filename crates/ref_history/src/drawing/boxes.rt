@@ -49,10 +49,10 @@ fn append_lane(
     name: &str,
     out: &mut Vec<u8>,
 ) -> Result<(), AllocError> {
-    let (y, width) = (frame.middle(lane), frame.width());
+    let (y, left, width) = (frame.middle(lane), frame.left(), frame.width());
     let text_y = y.saturating_add(4);
     let lane = format!(in alloc;
-        "<line class=\"lane\" x1=\"0\" y1=\"{y}\" x2=\"{width}\" y2=\"{y}\"/>\n<text x=\"4\" y=\"{text_y}\">{name}</text>\n"
+        "<line class=\"lane\" x1=\"{left}\" y1=\"{y}\" x2=\"{width}\" y2=\"{y}\"/>\n<text x=\"4\" y=\"{text_y}\">{name}</text>\n"
     )?;
     out.extend_from_slice(lane.as_bytes())
 }

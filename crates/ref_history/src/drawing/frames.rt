@@ -89,6 +89,11 @@ impl Frame {
         LEFT.saturating_add(columns.saturating_mul(COLUMN))
     }
 
+    /// Where lanes begin, from left to right: behind their names.
+    pub(crate) fn left(&self) -> u64 {
+        LEFT
+    }
+
     /// Where a lane's boxes begin, from top to bottom.
     pub(crate) fn y(&self, lane: u64) -> u64 {
         TOP.saturating_add(lane.saturating_mul(LANE))
