@@ -1,9 +1,10 @@
-//! Who waits for an agent is woken: by a send, a release, a restart, an action that is put back, and at the end.
+//! Who waits for an agent is woken: by a send, a release, a restart, an action that is put back, and at the end. `releases` has the
+//! releases that wake several.
 ghost use Rattle.std.specs.Prelude.{◌≡◌};
 ghost use Rattle.ref_world.specs.Shares.{IsBlank};
 
 use crate::flags::Flags;
-use crate::side_by_side::{wait_past, work_and_meet, work_first, work_next};
+use crate::side_by_side::{wait_past, work_first, work_next};
 use crate::waits::wait_for;
 use ref_fun::codes::{MINUS, PLUS};
 use ref_fun::{Action, Core, CoreFunctions, FunTable};
@@ -25,7 +26,7 @@ use tests_shared::jobs::{CLOSED, Work, send_four, two_agents, work};
 use tests_shared::worlds::{STAMP, Stop, action, done, int_at, one_arg, opened, value};
 
 // Wakes one who waits, so that a test ends which has failed.
-fn nudge<R: Wait, C: Ledger, A: Ledger, K: Ledger>(
+pub(crate) fn nudge<R: Wait, C: Ledger, A: Ledger, K: Ledger>(
     rt: &R,
     alloc: Global,
     shared: &Shared<Core, C, A, K>,
@@ -393,122 +394,5 @@ fn closing_wakes_all_who_wait(rt: HostRuntime) -> Result<(), Fail> {
     );
     let ended = try_end::<Brand, Brand, Brand, _>(&rt, alloc, commits, added, taken)?;
     assert_eq!(rt; ended, ((CLOSED, CLOSED), true));
-    Ok(())
-}
-
-// Runs one action, which is held until the other's has begun, and says before that it comes.
-fn come_and_meet<R: AllocGlobal + Wait + Clock, C: Ledger, A: Ledger, K: Ledger>(
-    rt: &R,
-    shared: &Shared<Core, C, A, K>,
-    comes: &AtomicBool,
-    here: &AtomicBool,
-    there: &AtomicBool,
-) -> (bool, bool) {
-    comes.store(true, Ordering::SeqCst);
-    work_and_meet(rt, shared, here, there)
-}
-
-fn two_meet<
-    C: Ledger + Send + Sync,
-    A: Ledger + Send + Sync,
-    K: Ledger + Send + Sync,
-    R: AllocGlobal + Threads + Wait + Clock + Sync,
->(rt: &R, shared: &Shared<Core, C, A, K>, flags: &Flags) -> ((bool, bool), (bool, bool)) {
-    let (one, two) = thread::join(
-        rt,
-        move || come_and_meet(rt, shared, &flags.first, &flags.third, &flags.fourth),
-        move || come_and_meet(rt, shared, &flags.second, &flags.fourth, &flags.third),
-    );
-    (one, two)
-}
-
-// Lets out what a commit sent to g and to h while two wait, and answers whether both were woken.
-fn release_to_two<R: AllocGlobal + Wait + Clock, C: Ledger, A: Ledger, K: Ledger>(
-    rt: &R,
-    shared: &Shared<Core, C, A, K>,
-    point: u64,
-    flags: &Flags,
-) -> bool {
-    let (was_one, was_other) = (wait_past(rt, &flags.first), wait_past(rt, &flags.second));
-    let released = shared.release(rt, point);
-    let (one, other) = (wait_for(rt, &flags.third), wait_for(rt, &flags.fourth));
-    if !one || !other {
-        nudge(rt, rt.alloc(), shared);
-        nudge(rt, rt.alloc(), shared);
-    }
-    was_one && was_other && one && other && released
-}
-
-// What two threads did that a third one woke: of each whether it worked and met the other.
-#[derive(Debug, Drop, PartialEq)]
-struct LetOut {
-    works: ((bool, bool), (bool, bool)),
-    woke: bool,
-    values: (Option<i64>, Option<i64>),
-}
-
-fn two_meet_and_release<
-    C: Ledger + Send + Sync,
-    A: Ledger + Send + Sync,
-    K: Ledger + Send + Sync,
-    R: AllocGlobal + Threads + Wait + Clock + Sync,
->(rt: &R, shared: &Shared<Core, C, A, K>, point: u64) -> (((bool, bool), (bool, bool)), bool) {
-    let flags = Flags::new();
-    let lent = &flags;
-    let (works, woke) = thread::join(
-        rt,
-        move || two_meet(rt, shared, lent),
-        move || release_to_two(rt, shared, point, lent),
-    );
-    (works, woke)
-}
-
-// `send g + 1` and `send h + 4` in a transaction.
-fn send_both(alloc: Global, tx: &mut Tx<Core>) -> Result<(), Stop> {
-    done(tx.send(alloc, &CoreFunctions, 0, action(alloc, PLUS, "1")?))?;
-    send_four(alloc, tx)
-}
-
-fn try_release<
-    C: Ledger + Send + Sync,
-    A: Ledger + Send + Sync,
-    K: Ledger + Send + Sync,
-    R: AllocGlobal + Threads + Wait + Clock + Sync,
->(rt: &R, alloc: Global, commits: Blank, added: Blank, taken: Blank) -> Result<LetOut, Stop>
-    requires commits { IsBlank commits C.name C.parts }
-    requires added { IsBlank added A.name A.parts }
-    requires taken { IsBlank taken K.name K.parts }
-{
-    let (shared, mut share) = opened::<C, A, K>(alloc, two_agents(alloc)?, commits, added, taken)?;
-    let mut tx = shared.begin(rt, alloc)?;
-    send_both(alloc, &mut tx)?;
-    let receipt = done(shared.commit(rt, alloc, &CoreFunctions, &mut share, STAMP, tx))?;
-    let point = receipt.point;
-    let (works, woke) = two_meet_and_release(rt, &shared, point);
-    Ok(LetOut {
-        works,
-        woke,
-        values: (
-            int_at(rt, &shared, Who::Agent(0)),
-            int_at(rt, &shared, Who::Agent(1)),
-        ),
-    })
-}
-
-#[test]
-fn a_release_wakes_all_who_wait(rt: HostRuntime) -> Result<(), Fail> {
-    let alloc = rt.alloc();
-    let (commits, added, taken) = (
-        Blank::new(ALL_PARTS),
-        Blank::new(ALL_PARTS),
-        Blank::new(ALL_PARTS),
-    );
-    let let_out = try_release::<Brand, Brand, Brand, _>(&rt, alloc, commits, added, taken)?;
-    let wanted = LetOut {
-        works: ((true, true), (true, true)),
-        woke: true,
-        values: (Some(1), Some(4)),
-    };
-    assert_eq!(rt; let_out, wanted);
     Ok(())
 }
