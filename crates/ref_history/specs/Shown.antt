@@ -90,8 +90,14 @@ carry_text names c = codes " [" ++ reference_text names (whos.Agent c.g) ++ spac
 abbrev pub plain_send : List ℕ → List ℕ → List ℕ
 plain_send agent call = codes " [:send " ++ agent ++ space ++ call ++ codes "]"
 
+abbrev pub bracketed : List ℕ → List ℕ
+bracketed call = codes " [" ++ call ++ codes "]"
+
+abbrev pub carrying_head : List ℕ → List ℕ → List ℕ
+carrying_head agent call = codes " [:send-carry " ++ agent ++ bracketed call
+
 abbrev pub carrying_send : NamesSeen → List ℕ → List ℕ → List Carry → List ℕ
-carrying_send names agent call carries = codes " [:send-carry " ++ agent ++ codes " [" ++ call ++ codes "]" ++ flat_map (carry_text names) carries ++ codes "]"
+carrying_send names agent call carries = carrying_head agent call ++ flat_map (carry_text names) carries ++ codes "]"
 
 abbrev pub carrying_text : NamesSeen → List ℕ → List ℕ → List Carry → List ℕ
 carrying_text names agent call [] = plain_send agent call

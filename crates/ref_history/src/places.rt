@@ -1,8 +1,9 @@
 //! Where an entry stands in a log, and which entries are chosen.
-ghost use Rattle.std.specs.Prelude.{◌≡◌, ◌+◌, IfOk};
+ghost use Rattle.std.specs.Prelude.{◌≡◌, ◌==◌, ◌+◌, IfOk};
+ghost use Rattle.std.specs.List.{list_any};
 ghost use Rattle.ref_history.specs.Places.{first_place, is_about_atom, is_about_ref, is_by, is_chosen, meets, place_after};
 
-use ref_log::{Base, Entry};
+use ref_log::{Base, Done, Entry};
 use std::alloc::AllocError;
 
 /// Where an entry stands: its point, and how many refs and atoms there are before it.
@@ -81,10 +82,22 @@ fn is_about_ref(place: Place, entry: &Entry, r: u32) -> bool
     ensures { result ≡ is_about_ref place entry.now r }
 {
     match entry {
-        Entry::Trans(transaction) => transaction.dones.as_slice().iter().any(|d| d.r == r),
+        Entry::Trans(transaction) => has_ref(transaction.dones.as_slice(), r),
         Entry::Atom(_, _, _) | Entry::MadeAtom(_) => false,
         Entry::MadeRef(_) => place.refs == r,
     }
+}
+
+// Whether one of these operations is on the ref.
+fn has_ref(dones: &[Done], r: u32) -> bool
+    ensures { result ≡ list_any (λ d. d.r == r) dones.now }
+{
+    for done in dones {
+        if done.r == r {
+            return true;
+        }
+    }
+    false
 }
 
 fn is_about_atom(place: Place, entry: &Entry, n: u32) -> bool

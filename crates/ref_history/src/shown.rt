@@ -2,7 +2,7 @@
 ghost use Rattle.std.specs.Prelude.{◌≡◌, ◌++◌, [], OnOk, decimal, slice_get, unwrap_or};
 ghost use Rattle.std.specs.List.{flat_map};
 ghost use Rattle.ref_fun.specs.Names.{core_names, name_in};
-ghost use Rattle.ref_history.specs.Shown.{answered_text, atom_word, call_text, carry_text, carrying_send, done_text, name_or, operation_text, plain_send, ref_word, reference_text, rest_text, send_text, spaced};
+ghost use Rattle.ref_history.specs.Shown.{answered_text, atom_word, bracketed, call_text, carry_text, carrying_head, carrying_send, done_text, name_or, operation_text, plain_send, ref_word, reference_text, rest_text, send_text, spaced};
 
 use itoa::Buffer;
 use ref_edn::print;
@@ -261,6 +261,37 @@ fn append_plain_send(
     out.extend_from_slice(b"]")
 }
 
+// ` [CALL]`
+fn append_bracketed(
+    alloc: Global,
+    code: u32,
+    args: &[Value],
+    out: &mut Vec<u8>,
+) -> Result<(), AllocError>
+    ensures { OnOk result (out.new.items ≡ out.old.items ++ bracketed (call_text code args.now)) }
+{
+    out.extend_from_slice(b" [")?;
+    append_call(alloc, code, args, out)?;
+    out.extend_from_slice(b"]")
+}
+
+// ` [:send-carry AGENT [CALL]`
+fn append_carrying_head(
+    alloc: Global,
+    names: &Names,
+    sent: &Sent,
+    out: &mut Vec<u8>,
+) -> Result<(), AllocError>
+    ensures { OnOk result (out.new.items ≡ out.old.items
+        ++ carrying_head (reference_text names.now (Who.Agent sent.now.agent))
+        (call_text sent.now.action.code sent.now.action.args)) }
+{
+    out.extend_from_slice(b" [:send-carry ")?;
+    append_reference(names, Who::Agent(sent.agent), out)?;
+    append_bracketed(alloc, sent.action.code, sent.action.args.as_slice(), out)?;
+    Ok(())
+}
+
 // A send of an action that carries some, with these.
 fn append_carrying_send(
     alloc: Global,
@@ -272,11 +303,7 @@ fn append_carrying_send(
         ++ carrying_send names.now (reference_text names.now (Who.Agent sent.now.agent))
         (call_text sent.now.action.code sent.now.action.args) sent.now.action.carries) }
 {
-    out.extend_from_slice(b" [:send-carry ")?;
-    append_reference(names, Who::Agent(sent.agent), out)?;
-    out.extend_from_slice(b" [")?;
-    append_call(alloc, sent.action.code, sent.action.args.as_slice(), out)?;
-    out.extend_from_slice(b"]")?;
+    append_carrying_head(alloc, names, sent, out)?;
     append_carries(alloc, names, sent.action.carries.as_slice(), out)?;
     out.extend_from_slice(b"]")
 }
