@@ -14,12 +14,17 @@ pub struct Part {
     pub to: u64,
 }
 
-// In pixels: the space for the names of lanes and for points, a column of a point, a lane, and a box in it.
+// In pixels: the space for the names of lanes and for points, a column of a point, a lane, and a box in it. A column has room for the
+// label of a ref with up to four digits, and a wide one for each.
 const LEFT: u64 = 124;
 
 const TOP: u64 = 30;
 
 const COLUMN: u64 = 48;
+
+const WIDE_COLUMN: u64 = 84;
+
+const MOST_NARROW: usize = 10_000;
 
 const LANE: u64 = 40;
 
@@ -33,6 +38,8 @@ pub(crate) struct Frame {
     pub end: u64,
     /// Their numbers, in order.
     pub workers: Vec<u32>,
+    /// How wide a column is.
+    column: u64,
 }
 
 impl Frame {
@@ -52,6 +59,7 @@ impl Frame {
             first,
             end,
             workers,
+            column: column_of(dump),
         })
     }
 
@@ -86,7 +94,7 @@ impl Frame {
     /// Where a point is, from left to right. What was before the first point that is drawn is at the left edge.
     pub(crate) fn x(&self, point: u64) -> u64 {
         let columns = point.saturating_add(1).saturating_sub(self.first);
-        LEFT.saturating_add(columns.saturating_mul(COLUMN))
+        LEFT.saturating_add(columns.saturating_mul(self.column))
     }
 
     /// Where lanes begin, from left to right: behind their names.
@@ -110,11 +118,20 @@ impl Frame {
     }
 
     pub(crate) fn width(&self) -> u64 {
-        self.x(self.end).saturating_add(COLUMN)
+        self.x(self.end).saturating_add(self.column)
     }
 
     pub(crate) fn height(&self) -> u64 {
         self.y(self.last_lane().saturating_add(1))
+    }
+}
+
+fn column_of(dump: &Dump) -> u64 {
+    let (refs, atoms) = (dump.refs.as_slice().len(), dump.atoms.as_slice().len());
+    if refs.max(atoms) <= MOST_NARROW {
+        COLUMN
+    } else {
+        WIDE_COLUMN
     }
 }
 
