@@ -32,11 +32,11 @@ pub(crate) fn wait_past<R: Clock>(rt: &R, flag: &AtomicBool) -> bool {
 
 // A gate that holds an action until another thread has come so far, and some time more.
 #[derive(Drop)]
-struct Meet<'a, 'b, 'c, R: Clock> {
-    rt: &'a R,
-    here: &'b AtomicBool,
-    there: &'c AtomicBool,
-    met: bool,
+pub(crate) struct Meet<'a, 'b, 'c, R: Clock> {
+    pub(crate) rt: &'a R,
+    pub(crate) here: &'b AtomicBool,
+    pub(crate) there: &'c AtomicBool,
+    pub(crate) met: bool,
 }
 
 impl<'a, 'b, 'c, R: Clock> Gate for Meet<'a, 'b, 'c, R> {
@@ -176,7 +176,7 @@ struct InTurn {
 }
 
 // Two threads that run two actions of one agent.
-fn take_turns<
+pub(crate) fn take_turns<
     C: Ledger + Send + Sync,
     A: Ledger + Send + Sync,
     K: Ledger + Send + Sync,
