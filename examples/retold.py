@@ -22,12 +22,11 @@ def parts_of(text):
 
 def called(op, number, rest, answer):
     """An operation as an entry has it."""
-    if op in (word(":set"), word(":reset")):
-        [new] = rest
-        assert new == answer
-        return (op, number, new, answer) if op == word(":set") else (op, number, new)
-    if op == word(":ensure"):
+    if op == word(":reset"):
+        assert [answer] == rest
         return op, number, answer
+    if op in (word(":set"), word(":ensure")):
+        return op, number, *rest, answer
     function, *args = rest
     return op, number, function, vector(*args), answer
 
