@@ -278,13 +278,18 @@ def audit(dump):
         raise No("count")
 
 
-def line(text):
-    """What is said of the text of a dump."""
+def verdict(dump):
+    """What is said of a dump."""
     try:
-        audit(read(text))
+        audit(dump)
     except No as why:
         return f"audit no {why}"
     return "audit ok"
+
+
+def line(text):
+    """What is said of the text of a dump."""
+    return verdict(read(text))
 
 
 if __name__ == "__main__":

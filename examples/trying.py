@@ -92,8 +92,21 @@ def joined(lines):
 def rows_of(file):
     """The rows of a table: each is a text, and what is wanted of it."""
     for text, wanted in lines_of_rows(file):
-        fault = re.fullmatch(r"!! (\d) (.*)", wanted[0]) if len(wanted) == 1 else None
-        yield text, refused(int(fault[1]), fault[2]) if fault else printed(joined(wanted))
+        yield text, wanted_of(wanted)
+
+
+def wanted_of(lines):
+    """What is wanted where these lines stand."""
+    fault = re.fullmatch(r"!! (\d) (.*)", lines[0]) if len(lines) == 1 else None
+    return refused(int(fault[1]), fault[2]) if fault else printed(joined(lines))
+
+
+def shown_rows(file):
+    """The rows of examples/shown.rows: each is a text, a command, and what is wanted of it."""
+    for text, lines in lines_of_rows(file):
+        starts = [at for at, line in enumerate(lines) if line.startswith("$ ")]
+        for at, end in zip(starts, [*starts[1:], len(lines)]):
+            yield text, lines[at][2:].replace("EXAMPLES", str(HERE)), wanted_of(lines[at + 1 : end])
 
 
 def explained_rows(file):

@@ -32,15 +32,18 @@ not_edn : (text : List ℕ) (f : ReadFault) → (f ≢ reads.Memory → (v : Edn
 not_edn text reads.Memory none is = tt
 not_edn text f none is = (λ e. cc, none (λ e. cc), is)
 
-not_dump : (text : List ℕ) (v : Edn) (f : DumpFault) → IsText text v → (f ≢ dumps.Memory → verdict_on (dump_of v) ≡ Err f) → IsAtFault text (dump_fault_of f)
+not_dump : (text : List ℕ) (v : Edn) (f : DumpFault) → IsText text v → (f ≢ dumps.Memory → dump_of v ≡ Err f) → IsAtFault text (dump_fault_of f)
 not_dump text v dumps.Memory is none = tt
-not_dump text v f is none = (λ e. cc, (v, is, no_dump (dump_of v) f (none (λ e. cc))))
+not_dump text v f is none = (λ e. cc, (v, is, none (λ e. cc)))
 
 -- what a call that hands on such a fault answers
 pub edn_told : {T : Type 0} (r : Result T AuditRunFault) (text : List ℕ) (f : ReadFault) → IsErrAnd r (λ g. g ≡ edn_fault_of f) → (f ≢ reads.Memory → (v : Edn) → IsText text v → ⊥) → IsFaultOfOne text f → IfErr r (λ g. IsAtFault text g)
 edn_told (Ok x) text f told none is = tt
 edn_told (Err g) text f told none is = rw told (not_edn text f none is)
 
+pub unread_told : {T : Type 0} (r : Result T AuditRunFault) (text : List ℕ) (v : Edn) (f : DumpFault) → IsErrAnd r (λ g. g ≡ dump_fault_of f) → IsText text v → (f ≢ dumps.Memory → dump_of v ≡ Err f) → IfErr r (λ g. IsAtFault text g)
+unread_told (Ok x) text v f told is none = tt
+unread_told (Err g) text v f told is none = rw told (not_dump text v f is none)
+
 pub dump_told : {T : Type 0} (r : Result T AuditRunFault) (text : List ℕ) (v : Edn) (f : DumpFault) → IsErrAnd r (λ g. g ≡ dump_fault_of f) → IsText text v → (f ≢ dumps.Memory → verdict_on (dump_of v) ≡ Err f) → IfErr r (λ g. IsAtFault text g)
-dump_told (Ok x) text v f told is none = tt
-dump_told (Err g) text v f told is none = rw told (not_dump text v f is none)
+dump_told r text v f told is none = unread_told r text v f told is (λ other. no_dump (dump_of v) f (none other))

@@ -1,5 +1,5 @@
 -- What the audit of a dump's text reads, writes and answers.
-use Rattle.std.specs.Prelude.{◌≡◌, ◌≢◌, ◌<◌, ℕ, List, length, Result, Ok, Err}
+use Rattle.std.specs.Prelude.{◌≡◌, ◌≢◌, ◌<◌, ℕ, false, List, length, Result, Ok, Err}
 use Rattle.ref_value.specs.Edn.{Edn}
 use Rattle.ref_edn.specs.Grammar.{IsText}
 use Rattle.ref_edn.specs.Streams.{counted}
@@ -12,6 +12,7 @@ use Rattle.ref_verdict.specs.declared.reading.dumps.Dump.{Dump}
 use Rattle.ref_verdict.specs.declared.reading.faults.DumpFault.{DumpFault}
 use Rattle.ref_verdict.specs.declared.reading.faults.DumpFault.TheVariants as dumps
 use Rattle.ref_verdict.specs.declared.reports.Verdict.{Verdict}
+use Rattle.ref_history.specs.Values.{has_point}
 use Rattle.ref_workload.specs.Streams.{IsFaultOfOne, IsNotEdn}
 use Rattle.refrun.specs.declared.faults.AuditRunFault.{AuditRunFault}
 use Rattle.refrun.specs.declared.faults.AuditRunFault.TheVariants as faults
@@ -34,9 +35,10 @@ abbrev pub IsAtFault : List ℕ → AuditRunFault → Type 0
 IsAtFault text faults.InputTooLong = 16777216 < length text
 IsAtFault text (faults.NotEdn fault) = IsNotEdn IsText IsFaultOfOne text fault
 IsAtFault text (faults.Dump fault) = (fault ≢ dumps.Memory) × ((value : Edn) × IsText text value × (dump_of value ≡ Err fault))
+IsAtFault text (faults.NoPoint point) = (value : Edn) × (dump : Dump) × IsText text value × (dump_of value ≡ Ok dump) × (has_point dump point ≡ false)
 IsAtFault text fault = Unit {0}
 
--- faults that come from the input before anything is asked of its text, and those of a text
+-- Faults that come from the input before anything is asked of its text, those of a text, and those of a text that is shown.
 abbrev pub IsOfInput : AuditRunFault → Type 0
 IsOfInput faults.Read = Unit {0}
 IsOfInput faults.InputTooLong = Unit {0}
@@ -48,6 +50,10 @@ IsOfText (faults.NotEdn fault) = Unit {0}
 IsOfText (faults.Dump fault) = Unit {0}
 IsOfText faults.Memory = Unit {0}
 IsOfText fault = ⊥
+
+abbrev pub IsOfShown : AuditRunFault → Type 0
+IsOfShown (faults.NoPoint point) = Unit {0}
+IsOfShown fault = IsOfText fault
 
 -- the fault of the command for a fault of its text, and of its value
 abbrev pub edn_fault_of : ReadFault → AuditRunFault

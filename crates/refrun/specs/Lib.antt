@@ -1,5 +1,7 @@
 -- To be read and believed: all of them.
 pub mod Auditing
+pub mod Looking
+pub mod Naming
 pub mod Checking
 pub mod Printing
 pub mod Lines

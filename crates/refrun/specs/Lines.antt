@@ -23,8 +23,9 @@ audit_run_number_of audits.Read = 1
 audit_run_number_of audits.InputTooLong = 2
 audit_run_number_of (audits.NotEdn fault) = 3
 audit_run_number_of (audits.Dump fault) = 4
-audit_run_number_of audits.Write = 5
-audit_run_number_of audits.Memory = 6
+audit_run_number_of (audits.NoPoint point) = 5
+audit_run_number_of audits.Write = 6
+audit_run_number_of audits.Memory = 7
 
 -- The status that the program ends with: 3 where the input is refused, 4 where reading or writing failed, 5 where the audit of a run
 -- says no, and 6 for out of memory.
@@ -41,6 +42,7 @@ abbrev pub audit_status_of : AuditRunFault → ℕ
 audit_status_of audits.InputTooLong = 3
 audit_status_of (audits.NotEdn fault) = 3
 audit_status_of (audits.Dump fault) = 3
+audit_status_of (audits.NoPoint point) = 3
 audit_status_of audits.Read = 4
 audit_status_of audits.Write = 4
 audit_status_of audits.Memory = 6
@@ -104,6 +106,7 @@ audit_line_of audits.Read = codes "read fault"
 audit_line_of audits.InputTooLong = codes "InputTooLong"
 audit_line_of (audits.NotEdn fault) = read_line_of fault
 audit_line_of (audits.Dump fault) = dump_line_of fault
+audit_line_of (audits.NoPoint point) = codes "NoPoint " ++ decimal point
 audit_line_of audits.Write = codes "write fault"
 audit_line_of audits.Memory = codes "out of memory"
 

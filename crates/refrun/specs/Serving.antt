@@ -8,6 +8,7 @@ use Rattle.clap.specs.declared.error.kind.ErrorKind.TheVariants as kinds
 use Rattle.ref_edn.specs.Grammar.{AreTexts}
 use Rattle.ref_verdict.specs.declared.reports.Verdict.{Verdict}
 use Rattle.ref_verdict.specs.declared.reports.Verdict.TheVariants as verdicts
+use Rattle.ref_start.specs.Names.{NamesSeen}
 use Rattle.ref_workload.specs.Run as runs
 use Rattle.ref_workload.specs.Streams as streams
 use Rattle.ref_workload.specs.declared.faults.RunFault.TheVariants as run_faults
@@ -22,10 +23,10 @@ use Rattle.refrun.specs.declared.faults.Fault.{Fault}
 use Rattle.refrun.specs.declared.faults.Fault.TheVariants.{Run}
 
 -- The whole output of an act was written. What was left to read and what was written are named before and after.
-abbrev pub IsActDone : Act → Verdict → Option (List ℕ) → Option (List ℕ) → Option (List ℕ) → Option (List ℕ) → Type 0
-IsActDone (ByCore task) verdict before after old new = IsDone task verdict before after old new
-IsActDone Check verdict before after old new = (verdict ≡ verdicts.Ok) × streams.HasWritten checks.IsCheckOf before after old new
-IsActDone Print verdict before after old new = (verdict ≡ verdicts.Ok) × streams.HasWritten prints.IsPrintOf before after old new
+abbrev pub IsActDone : NamesSeen → Act → Verdict → Option (List ℕ) → Option (List ℕ) → Option (List ℕ) → Option (List ℕ) → Type 0
+IsActDone names (ByCore task) verdict before after old new = IsDone names task verdict before after old new
+IsActDone names Check verdict before after old new = (verdict ≡ verdicts.Ok) × streams.HasWritten checks.IsCheckOf before after old new
+IsActDone names Print verdict before after old new = (verdict ≡ verdicts.Ok) × streams.HasWritten prints.IsPrintOf before after old new
 
 -- The fault is one of this act, and the text that was there to read is at fault if it says so.
 abbrev pub IsFaultOfAct : Act → Option (List ℕ) → Fault → Type 0
@@ -36,13 +37,13 @@ IsFaultOfAct Print before (Run fault) = prints.IsOfPrinting fault
 IsFaultOfAct act before fault = ⊥
 
 -- If the writer failed, a part of the output was written, from its start on, and before any other fault nothing.
-abbrev pub IsLeftByAct : Act → Fault → Option (List ℕ) → Option (List ℕ) → Option (List ℕ) → Option (List ℕ) → Type 0
-IsLeftByAct (ByCore task) fault before after old new = IsLeft task fault before after old new
-IsLeftByAct Check (Run fault) before after old new =
+abbrev pub IsLeftByAct : NamesSeen → Act → Fault → Option (List ℕ) → Option (List ℕ) → Option (List ℕ) → Option (List ℕ) → Type 0
+IsLeftByAct names (ByCore task) fault before after old new = IsLeft names task fault before after old new
+IsLeftByAct names Check (Run fault) before after old new =
     (fault ≡ run_faults.Write → streams.HasBrokenOff checks.IsCheckOf before after old new) × (fault ≢ run_faults.Write → new ≡ old)
-IsLeftByAct Print (Run fault) before after old new =
+IsLeftByAct names Print (Run fault) before after old new =
     (fault ≡ run_faults.Write → streams.HasBrokenOff prints.IsPrintOf before after old new) × (fault ≢ run_faults.Write → new ≡ old)
-IsLeftByAct act fault before after old new = ⊥
+IsLeftByAct names act fault before after old new = ⊥
 
 -- the status after a verdict: 7 if a step that was refused is to show, and 5 for an audit that says no
 abbrev pub verdict_status : Bool → Verdict → ℕ
@@ -54,19 +55,19 @@ status_after shows (Ok verdict) = verdict_status shows verdict
 status_after shows (Err fault) = status_of fault
 
 -- The program did what was wanted, or met a fault, and ends with the status of that.
-pub record Ends (wanted : Wanted) (before after old new : Option (List ℕ)) (status : ℕ) : Type 0 where
+pub record Ends (names : NamesSeen) (wanted : Wanted) (before after old new : Option (List ℕ)) (status : ℕ) : Type 0 where
   pub done : Result Verdict Fault
-  pub ok : IfOk done (λ verdict. IsActDone wanted.act verdict before after old new)
+  pub ok : IfOk done (λ verdict. IsActDone names wanted.act verdict before after old new)
   pub fault : IfErr done (λ fault. IsFaultOfAct wanted.act before fault)
-  pub left : IfErr done (λ fault. IsLeftByAct wanted.act fault before after old new)
+  pub left : IfErr done (λ fault. IsLeftByAct names wanted.act fault before after old new)
   -- Whether a step that was refused is to show. Only a strict run shows it.
   pub shows : Bool
   pub strict : shows ≡ true → wanted.is_strict ≡ true
   pub status_is : status ≡ status_after shows done
 
--- The same of some reader and writer.
+-- The same of some names, reader and writer.
 abbrev pub CanEnd : Wanted → ℕ → Type 0
-CanEnd wanted status = (before after old new : Option (List ℕ)) × Ends wanted before after old new status
+CanEnd wanted status = (names : NamesSeen) × (before after old new : Option (List ℕ)) × Ends names wanted before after old new status
 
 -- The status if the arguments can't be had: one of them isn't UTF-8, or there is no memory for them.
 abbrev pub EndsAtArguments : IoErrorKind → ℕ → Type 0
@@ -81,8 +82,8 @@ EndsAtWords kinds.DisplayVersion status = (status ≡ 0) ⊎ (status ≡ 4)
 EndsAtWords kind status = status ≡ 2
 
 abbrev pub is_early : ℕ → Bool
-is_early status = list_any (λ n. n == status) (0 ∷ 2 ∷ 4 ∷ 6 ∷ [])
+is_early status = list_any (λ n. n == status) (0 ∷ 2 ∷ 3 ∷ 4 ∷ 6 ∷ [])
 
--- The program ends before a command is carried out, or by one.
+-- The program ends before a command is carried out, or by one. It does so with status 3 if the names that are given are in no workload.
 abbrev pub IsEnd : ℕ → Type 0
 IsEnd status = (is_early status ≡ true) ⊎ ((wanted : Wanted) × CanEnd wanted status)

@@ -38,7 +38,7 @@ pub fn audit_text<F: Functions<Core>, R: Source, W: Sink>(
 {
     let input = read_dump(alloc, reader)?;
     let (line, verdict) = audit_of(alloc, funs, &input)?;
-    write_line(writer, &line)?;
+    write_text(writer, &line)?;
     Ok(verdict)
 }
 
@@ -61,8 +61,8 @@ fn audit_of<F: Functions<Core>>(
     }
 }
 
-// Reads a dump to its end, or to one byte more than it may have.
-fn read_dump<R: Source>(alloc: Global, reader: &mut R) -> Result<Vec<u8>, AuditRunFault>
+/// Reads a dump to its end, or to one byte more than it may have.
+pub(crate) fn read_dump<R: Source>(alloc: Global, reader: &mut R) -> Result<Vec<u8>, AuditRunFault>
     ensures all { IfOk result (λ text. IfSome (R.left reader.old) (λ all. text.items ≡ all)) }
     ensures end { OnOk result (IsAtEnd (R.left reader.new)) }
     ensures short { IfOk result (λ text. vec_len text ≤ 16777216) }
@@ -80,14 +80,14 @@ fn read_dump<R: Source>(alloc: Global, reader: &mut R) -> Result<Vec<u8>, AuditR
     }
 }
 
-// Writes all of a line, and stops at the first write that fails.
-fn write_line<W: Sink>(writer: &mut W, line: &[u8]) -> Result<(), AuditRunFault>
-    ensures ok { OnOk result (Appends (W.written writer.old) (W.written writer.new) line.now) }
-    ensures err { OnErr result (AppendsPart (W.written writer.old) (W.written writer.new) line.now) }
+/// Writes all of a text, and stops at the first write that fails.
+pub(crate) fn write_text<W: Sink>(writer: &mut W, text: &[u8]) -> Result<(), AuditRunFault>
+    ensures ok { OnOk result (Appends (W.written writer.old) (W.written writer.new) text.now) }
+    ensures err { OnErr result (AppendsPart (W.written writer.old) (W.written writer.new) text.now) }
     ensures fault { IfErr result (λ f. f ≡ AuditRunFault.Write) }
     ensures writes { Counts (W.failures writer.old) (W.failures writer.new) result }
 {
-    match write_all(writer, line) {
+    match write_all(writer, text) {
         Ok(()) => Ok(()),
         Err(Failed) => Err(AuditRunFault::Write),
     }

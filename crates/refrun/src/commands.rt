@@ -3,11 +3,12 @@ ghost use Rattle.std.specs.Prelude.{◌≡◌, ◌≢◌, IfSome, IsNone, false,
 ghost use Rattle.clap.specs.Simple.{subcommand_rows_of};
 ghost use Rattle.clap.specs.Matches.{found_of};
 ghost use Rattle.clap.specs.Walk.{one_of, rows_of};
-ghost use Rattle.refrun.specs.Commands.{IsAct, IsFlag, IsRunOf, IsTries, IsWanted, is_command};
+ghost use Rattle.refrun.specs.Commands.{IsAct, IsChoice, IsFlag, IsHistoryOf, IsNumber, IsPart, IsPoint, IsRunOf, IsTries, IsWanted, is_command};
 
 use crate::tasks::Task;
 use clap::{Arg, ArgAction, ArgMatches, Command, Error, value_parser};
 use ref_explain::FORMAT_VERSION;
+use ref_history::{Choice, Look, Part};
 use ref_workload::Options;
 use std::alloc::{AllocError, Global};
 use std::env::Env;
@@ -84,6 +85,35 @@ prints
   commits 1
   audit ok";
 
+const HISTORY: &str = "Reads a dump from standard input, and prints a line for each of its entries";
+
+const HISTORY_MORE: &str = "Example:
+  refrun run --dump < workload.edn | refrun history --names workload.edn
+prints, of the workload in the help of run,
+  1 0 0 read 0 [:alter a + 5] -> 5
+  entries 1 chosen 1";
+
+const AT: &str =
+    "Reads a dump from standard input, and prints the values of refs and atoms at a point";
+
+const AT_MORE: &str =
+    "The status is 5 where the replay of the dump comes to a fault before that point.
+
+Example:
+  refrun run --dump < workload.edn | refrun at 0 --names workload.edn
+prints, of the workload in the help of run,
+  ref a 0";
+
+const DRAW: &str =
+    "Reads a dump from standard input, and prints a page in HTML: a picture of its entries, and a table of its refs";
+
+const DRAW_MORE: &str = "At most 2,000 entries are drawn; --from and --to choose them.
+
+Example:
+  refrun run --dump < workload.edn | refrun draw --names workload.edn > page.html";
+
+const NAMES: &str = "Takes the names of references from the workload in this file, which was run";
+
 const PRINT: &str = "Reads EDN from standard input, and prints each element on a line";
 
 const EXPLAIN: &str = "Explains on standard error what is wrong";
@@ -127,6 +157,9 @@ fn command<'a>(alloc: Global, version: &'a str) -> Result<Command<'a>, AllocErro
         .about(PLAY)
         .after_help(PLAY_MORE)
         .arg(explain(alloc, EXPLAIN))?;
+    let history = history(alloc)?;
+    let at = at(alloc)?;
+    let draw = draw(alloc)?;
     let print = Command::new(alloc, "print")
         .about(PRINT)
         .after_help(PRINT_MORE)
@@ -138,6 +171,9 @@ fn command<'a>(alloc: Global, version: &'a str) -> Result<Command<'a>, AllocErro
         .subcommand(run(alloc)?)?
         .subcommand(check)?
         .subcommand(audit)?
+        .subcommand(history)?
+        .subcommand(at)?
+        .subcommand(draw)?
         .subcommand(play)?
         .subcommand(print)
 }
@@ -147,6 +183,77 @@ fn explain<'a>(alloc: Global, help: &'a str) -> Arg<'a> {
         .long("explain")
         .action(ArgAction::SetTrue)
         .help(help)
+}
+
+fn names<'a>(alloc: Global) -> Arg<'a> {
+    Arg::new(alloc, "names")
+        .long("names")
+        .value_name("FILE")
+        .action(ArgAction::Set)
+        .help(NAMES)
+}
+
+// An option that takes a number of 32 bits.
+fn number<'a>(alloc: Global, name: &'a str, help: &'a str) -> Arg<'a> {
+    Arg::new(alloc, name)
+        .long(name)
+        .value_name("N")
+        .action(ArgAction::Set)
+        .value_parser(value_parser!(u32))
+        .help(help)
+}
+
+// An option that takes a point.
+fn point<'a>(alloc: Global, name: &'a str, help: &'a str) -> Arg<'a> {
+    Arg::new(alloc, name)
+        .long(name)
+        .value_name("P")
+        .action(ArgAction::Set)
+        .value_parser(value_parser!(u64))
+        .help(help)
+}
+
+fn history<'a>(alloc: Global) -> Result<Command<'a>, AllocError> {
+    let changes = Arg::new(alloc, "changes")
+        .long("changes")
+        .action(ArgAction::SetTrue)
+        .help("Prints what changed, old and new value, in place of the operations");
+    Command::new(alloc, "history")
+        .about(HISTORY)
+        .after_help(HISTORY_MORE)
+        .arg(names(alloc))?
+        .arg(number(alloc, "ref", "Only entries that are about this ref"))?
+        .arg(number(alloc, "atom", "Only entries that are about this atom"))?
+        .arg(number(alloc, "worker", "Only transactions of this worker"))?
+        .arg(point(alloc, "from", "Only entries from this point on"))?
+        .arg(point(alloc, "to", "Only entries up to this point"))?
+        .arg(changes)?
+        .arg(explain(alloc, EXPLAIN))
+}
+
+fn at<'a>(alloc: Global) -> Result<Command<'a>, AllocError> {
+    let point = Arg::new(alloc, "point")
+        .required(true)
+        .value_name("P")
+        .action(ArgAction::Set)
+        .value_parser(value_parser!(u64))
+        .help("The point: that of the base or of an entry");
+    Command::new(alloc, "at")
+        .about(AT)
+        .after_help(AT_MORE)
+        .arg(point)?
+        .arg(names(alloc))?
+        .arg(explain(alloc, EXPLAIN))
+}
+
+fn draw<'a>(alloc: Global) -> Result<Command<'a>, AllocError> {
+    Command::new(alloc, "draw")
+        .about(DRAW)
+        .after_help(DRAW_MORE)
+        .arg(names(alloc))?
+        .arg(point(alloc, "from", "Only entries from this point on"))?
+        .arg(point(alloc, "to", "Only entries up to this point"))?
+        .arg(explain(alloc, EXPLAIN))
 }
 
 fn run<'a>(alloc: Global) -> Result<Command<'a>, AllocError> {
@@ -184,6 +291,14 @@ fn run<'a>(alloc: Global) -> Result<Command<'a>, AllocError> {
         ))
 }
 
+/// The file with the names of references, if one is given. No contract speaks of it.
+pub(crate) fn names_file_of<'a>(matches: &ArgMatches<'a>) -> Option<&'a str> {
+    match matches.subcommand() {
+        Some(("history" | "at" | "draw", inner)) => inner.get_str("names"),
+        _ => None,
+    }
+}
+
 /// What the command says.
 pub(crate) fn wanted_of(matches: &ArgMatches) -> Option<Wanted>
     ensures { IsWanted (subcommand_rows_of matches.now) result }
@@ -217,6 +332,9 @@ fn act_of(name: &str, inner: &ArgMatches) -> Option<Act>
         "check" => Some(Act::Check),
         "audit" => Some(Act::ByCore(Task::Audit)),
         "play" => Some(Act::ByCore(Task::Play)),
+        "history" => Some(Act::ByCore(Task::Look(history_of(inner)))),
+        "at" => Some(Act::ByCore(Task::Look(Look::At(point_of(inner, "point", 0))))),
+        "draw" => Some(Act::ByCore(Task::Draw(part_of(inner)))),
         "print" => Some(Act::Print),
         _ => None,
     }
@@ -228,6 +346,55 @@ fn is_strict(name: &str, inner: &ArgMatches) -> bool
     ensures other { name.now ≢ codes "run" → result ≡ false }
 {
     name == "run" && has_flag(inner, "strict")
+}
+
+// A history with the options that stand in the command.
+fn history_of(matches: &ArgMatches) -> Look
+    ensures { IsHistoryOf (rows_of (found_of matches.now)) result }
+{
+    let choice = choice_of(matches);
+    if has_flag(matches, "changes") {
+        Look::Changes(choice)
+    } else {
+        Look::History(choice)
+    }
+}
+
+// Which entries are drawn.
+fn part_of(matches: &ArgMatches) -> Part
+    ensures { IsPart (rows_of (found_of matches.now)) result }
+{
+    Part {
+        from: point_of(matches, "from", 0),
+        to: point_of(matches, "to", u64::MAX),
+    }
+}
+
+// Which entries are chosen.
+fn choice_of(matches: &ArgMatches) -> Choice
+    ensures { IsChoice (rows_of (found_of matches.now)) result }
+{
+    Choice {
+        about_ref: number_of(matches, "ref"),
+        about_atom: number_of(matches, "atom"),
+        by_worker: number_of(matches, "worker"),
+        from: point_of(matches, "from", 0),
+        to: point_of(matches, "to", u64::MAX),
+    }
+}
+
+// The number under a name, if one is given.
+fn number_of(matches: &ArgMatches, name: &str) -> Option<u32>
+    ensures { IsNumber (one_of name.now (rows_of (found_of matches.now))) result }
+{
+    matches.get_one::<u32>(name)
+}
+
+// The point under a name, or another one where none is given.
+fn point_of(matches: &ArgMatches, name: &str, other: u64) -> u64
+    ensures { IsPoint other (one_of name.now (rows_of (found_of matches.now))) result }
+{
+    matches.get_one::<u64>(name).unwrap_or(other)
 }
 
 // A run with the options that stand in the command.

@@ -18,7 +18,10 @@ fn mistake_in_audit(fault: AuditRunFault) -> Option<Mistake> {
         AuditRunFault::InputTooLong => Some(Mistake::TooLong),
         AuditRunFault::NotEdn(fault) => Some(Mistake::Edn(fault)),
         AuditRunFault::Dump(fault) => Some(Mistake::Dump(fault)),
-        AuditRunFault::Read | AuditRunFault::Write | AuditRunFault::Memory => None,
+        AuditRunFault::Read
+        | AuditRunFault::NoPoint(_)
+        | AuditRunFault::Write
+        | AuditRunFault::Memory => None,
     }
 }
 

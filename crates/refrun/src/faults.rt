@@ -8,7 +8,7 @@ use ref_edn::ReadFault;
 use ref_events::ScriptFault;
 use ref_workload::RunFault;
 
-/// Why a dump wasn't audited.
+/// Why a dump wasn't audited or shown.
 #[derive(Clone, Copy, Debug, Drop, PartialEq, Eq)]
 pub enum AuditRunFault {
     /// The reader failed.
@@ -17,13 +17,15 @@ pub enum AuditRunFault {
     InputTooLong,
     NotEdn(ReadFault),
     Dump(DumpFault),
+    /// Neither the base of the dump nor an entry has this point.
+    NoPoint(u64),
     /// The writer failed, or took nothing. A part of the output may be written.
     Write,
     Memory,
 }
 
 impl AuditRunFault {
-    /// The number of the fault, from 1 to 6 in the order of the variants.
+    /// The number of the fault, from 1 to 7 in the order of the variants.
     pub fn number(&self) -> u8
         ensures { result ≡ audit_run_number_of self.now }
     {
@@ -32,8 +34,9 @@ impl AuditRunFault {
             AuditRunFault::InputTooLong => 2,
             AuditRunFault::NotEdn(_) => 3,
             AuditRunFault::Dump(_) => 4,
-            AuditRunFault::Write => 5,
-            AuditRunFault::Memory => 6,
+            AuditRunFault::NoPoint(_) => 5,
+            AuditRunFault::Write => 6,
+            AuditRunFault::Memory => 7,
         }
     }
 }
@@ -60,7 +63,7 @@ impl From<DumpFault> for AuditRunFault {
     }
 }
 
-/// Why a command ended early: one that reads a workload, events or EDN, or one that audits.
+/// Why a command ended early: one that reads a workload, events or EDN, or one that reads a dump.
 #[derive(Clone, Copy, Debug, Drop, PartialEq, Eq)]
 pub enum Fault {
     Run(RunFault),

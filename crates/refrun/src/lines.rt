@@ -56,6 +56,7 @@ fn write_audit_fault<W: fmt::Write>(fault: AuditRunFault, f: &mut fmt::Formatter
         AuditRunFault::InputTooLong => f.write_str("InputTooLong"),
         AuditRunFault::NotEdn(fault) => write_read_fault(fault, f),
         AuditRunFault::Dump(fault) => write_dump_fault(fault, f),
+        AuditRunFault::NoPoint(point) => write!(f, "NoPoint {point}"),
         AuditRunFault::Write => f.write_str("write fault"),
         AuditRunFault::Memory => f.write_str("out of memory"),
     }
@@ -170,7 +171,10 @@ fn audit_status(fault: AuditRunFault) -> u8
     ensures { result ≡ audit_status_of fault }
 {
     match fault {
-        AuditRunFault::InputTooLong | AuditRunFault::NotEdn(_) | AuditRunFault::Dump(_) => 3,
+        AuditRunFault::InputTooLong
+        | AuditRunFault::NotEdn(_)
+        | AuditRunFault::Dump(_)
+        | AuditRunFault::NoPoint(_) => 3,
         AuditRunFault::Read | AuditRunFault::Write => 4,
         AuditRunFault::Memory => 6,
     }

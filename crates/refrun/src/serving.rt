@@ -12,7 +12,7 @@ use crate::faults::Fault;
 use crate::lines::say;
 use crate::printing::print_text;
 use crate::tasks::{Task, carry_out};
-use ref_audit::Verdict;
+use ref_audit::{Names, Verdict};
 use ref_edn::{Sink, Source};
 use ref_explain::{RefusedSteps, Remembering, Watching};
 use ref_fun::{Core, Functions};
@@ -26,10 +26,12 @@ const AUDIT_SAYS_NO: u8 = 5;
 // The status of a strict run where a step was refused.
 const STEP_REFUSED: u8 = 7;
 
-/// Does what the command says, from a reader to a writer, says on standard error what went wrong, and returns the status.
+/// Does what the command says, from a reader to a writer, says on standard error what went wrong, and returns the status. The names are
+/// those of the references of a dump that is shown.
 pub(crate) fn serve<F, R, I, O>(
     rt: &R,
     funs: &F,
+    names: &Names,
     wanted: Wanted,
     reader: &mut Remembering<I>,
     writer: &mut Watching<O>,
@@ -43,11 +45,11 @@ where
     // It reads no further than one byte past what an input may have.
     ensures taken { ConsumesUpTo (⟦<Remembering<I> as Source>⟧.left reader.old)
         (⟦<Remembering<I> as Source>⟧.left reader.new) 16777217 }
-    ensures ends { Ends wanted (⟦<Remembering<I> as Source>⟧.left reader.old)
+    ensures ends { Ends names.now wanted (⟦<Remembering<I> as Source>⟧.left reader.old)
         (⟦<Remembering<I> as Source>⟧.left reader.new)
         (⟦<Watching<O> as Sink>⟧.written writer.old) (⟦<Watching<O> as Sink>⟧.written writer.new) result }
 {
-    let done = do_act(rt, funs, wanted.act, reader, writer);
+    let done = do_act(rt, funs, names, wanted.act, reader, writer);
     let shows = wanted.is_strict && writer.steps().count() > 0;
     let status = say_end(rt, done, shows);
     if let (true, Some(text)) = (wanted.explains, reader.bytes()) {
@@ -60,6 +62,7 @@ where
 fn do_act<F, R, I, O>(
     rt: &R,
     funs: &F,
+    names: &Names,
     act: Act,
     reader: &mut I,
     writer: &mut O,
@@ -71,10 +74,10 @@ where
     O: Sink,
     requires { HasCore (F.knows funs.now) }
     ensures taken { ConsumesUpTo (I.left reader.old) (I.left reader.new) 16777217 }
-    ensures ok { IfOk result (λ verdict. IsActDone act verdict (I.left reader.old) (I.left reader.new)
+    ensures ok { IfOk result (λ verdict. IsActDone names.now act verdict (I.left reader.old) (I.left reader.new)
         (O.written writer.old) (O.written writer.new)) }
     ensures fault { IfErr result (λ f. IsFaultOfAct act (I.left reader.old) f) }
-    ensures left { IfErr result (λ f. IsLeftByAct act f (I.left reader.old) (I.left reader.new)
+    ensures left { IfErr result (λ f. IsLeftByAct names.now act f (I.left reader.old) (I.left reader.new)
         (O.written writer.old) (O.written writer.new)) }
     ensures reads { CountsReads (I.failures reader.old) (I.failures reader.new) result }
     ensures writes { CountsWrites (O.failures writer.old) (O.failures writer.new) result }
@@ -88,7 +91,7 @@ where
             Ok(()) => Ok(Verdict::Ok),
             Err(fault) => Err(Fault::Run(fault)),
         },
-        Act::ByCore(task) => carry_out(rt, rt.alloc(), funs, task, reader, writer),
+        Act::ByCore(task) => carry_out(rt, rt.alloc(), funs, names, task, reader, writer),
     }
 }
 

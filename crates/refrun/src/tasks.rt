@@ -6,10 +6,12 @@ ghost use Rattle.refrun.specs.Tasks.{CountsReads, CountsWrites, IsDone, IsFaultO
 
 use crate::auditing::audit_text;
 use crate::faults::Fault;
+use crate::looking::{draw_text, look_text};
 use crate::telling::run_and_tell;
-use ref_audit::Verdict;
+use ref_audit::{Names, Verdict};
 use ref_edn::{Sink, Source};
 use ref_fun::{Core, Functions};
+use ref_history::{Look, Part};
 use ref_player::{PlayFault, play_events};
 use ref_workload::{Options, run_workload};
 use std::alloc::Global;
@@ -27,6 +29,8 @@ pub(crate) enum Task {
     },
     Audit,
     Play,
+    Look(Look),
+    Draw(Part),
 }
 
 // The fault of the program for one of a play.
@@ -39,11 +43,13 @@ fn fault_of(fault: PlayFault) -> Fault
     }
 }
 
-/// Runs a workload, audits a dump or plays events by the table, as [`run_workload`], [`audit_text`] and [`play_events`] say.
+/// Runs a workload, audits a dump, plays events or shows a dump by the table, as [`run_workload`], [`audit_text`], [`play_events`] and
+/// [`look_text`] say. The names are those of the references of a dump that is shown.
 pub(crate) fn carry_out<F, R, I, O>(
     rt: &R,
     alloc: Global,
     funs: &F,
+    names: &Names,
     task: Task,
     reader: &mut I,
     writer: &mut O,
@@ -56,10 +62,10 @@ where
     requires { HasCore (F.knows funs.now) }
     // It reads no further than one byte past what an input may have.
     ensures taken { ConsumesUpTo (I.left reader.old) (I.left reader.new) 16777217 }
-    ensures ok { IfOk result (λ verdict. IsDone task verdict (I.left reader.old) (I.left reader.new)
+    ensures ok { IfOk result (λ verdict. IsDone names.now task verdict (I.left reader.old) (I.left reader.new)
         (O.written writer.old) (O.written writer.new)) }
     ensures fault { IfErr result (λ f. IsFaultOf task (I.left reader.old) f) }
-    ensures left { IfErr result (λ f. IsLeft task f (I.left reader.old) (I.left reader.new)
+    ensures left { IfErr result (λ f. IsLeft names.now task f (I.left reader.old) (I.left reader.new)
         (O.written writer.old) (O.written writer.new)) }
     ensures reads { CountsReads (I.failures reader.old) (I.failures reader.new) result }
     ensures writes { CountsWrites (O.failures writer.old) (O.failures writer.new) result }
@@ -81,6 +87,14 @@ where
         },
         Task::Audit => match audit_text(alloc, funs, reader, writer) {
             Ok(verdict) => Ok(verdict),
+            Err(fault) => Err(Fault::Audit(fault)),
+        },
+        Task::Look(look) => match look_text(alloc, funs, names, look, reader, writer) {
+            Ok(verdict) => Ok(verdict),
+            Err(fault) => Err(Fault::Audit(fault)),
+        },
+        Task::Draw(part) => match draw_text(alloc, names, part, reader, writer) {
+            Ok(()) => Ok(Verdict::Ok),
             Err(fault) => Err(Fault::Audit(fault)),
         },
         Task::Play => match play_events(alloc, funs, reader, writer) {

@@ -4,8 +4,9 @@ ghost use Rattle.std.specs.Prelude.{◌<◌};
 use crate::same::same;
 use crate::scenarios::{AllCommits, Scenario, run_to_end};
 use crate::steps::commit_set;
+use crate::tables::Poor;
 use crate::worlds::{STAMP, Stop, at_least, done, int_at, one_arg, plain_start};
-use ref_fun::codes::{MINUS, PLUS};
+use ref_fun::codes::{AT_LEAST, MINUS, PLUS};
 use ref_fun::{Core, CoreFunctions};
 use ref_log::{Stamp, Who};
 use ref_refs::{CommitFault, Conflict};
@@ -23,13 +24,14 @@ fn other(step: u32) -> Stamp {
     Stamp { worker: 1, step }
 }
 
-// A gate that lets another caller set a to 10 after the first bodies, and counts the bodies.
+// A gate that lets another caller set a to 10 at the first bodies, before or after them, and counts the bodies.
 #[derive(Drop)]
 struct Between<'a, 'b, R: Wait, C: Ledger, A: Ledger, K: Ledger> {
     rt: &'a R,
     shared: &'b Shared<Core, C, A, K>,
     alloc: Global,
     share: Share<C, A, K>,
+    at: Spot,
     left: u32,
     step: u32,
     bodies: u32,
@@ -37,17 +39,14 @@ struct Between<'a, 'b, R: Wait, C: Ledger, A: Ledger, K: Ledger> {
 
 impl<'a, 'b, R: Wait, C: Ledger, A: Ledger, K: Ledger> Gate for Between<'a, 'b, R, C, A, K> {
     fn pass(&mut self, spot: Spot) {
-        match spot {
-            Spot::BeforeBody => self.bodies = self.bodies.saturating_add(1),
-            Spot::AfterBody => {
-                if self.left > 0 {
-                    self.left -= 1;
-                    let stamp = other(self.step);
-                    let _ = set_ten(self.rt, self.alloc, self.shared, &mut self.share, stamp);
-                    self.step = self.step.saturating_add(1);
-                }
-            }
-            _ => {}
+        if spot == Spot::BeforeBody {
+            self.bodies = self.bodies.saturating_add(1);
+        }
+        if spot == self.at && self.left > 0 {
+            self.left -= 1;
+            let stamp = other(self.step);
+            let _ = set_ten(self.rt, self.alloc, self.shared, &mut self.share, stamp);
+            self.step = self.step.saturating_add(1);
         }
     }
 }
@@ -71,9 +70,26 @@ struct Case {
     // Whether the body answers a fault then.
     refuses: bool,
     tries: u32,
-    // How many times another caller comes between.
+    // How many times another caller comes between, and when.
     between: u32,
+    at: Spot,
+    // Whether the table that commits has the predicates of Core.
+    has_predicates: bool,
     ghost some: { 0 < tries },
+}
+
+// One in which the other caller comes after the body, and the table has all of Core.
+fn case_of(code: u32, refuses: bool, tries: u32, between: u32) -> Case
+    requires { 0 < tries }
+{
+    Case {
+        code,
+        refuses,
+        tries,
+        between,
+        at: Spot::AfterBody,
+        has_predicates: true,
+    }
 }
 
 // What came of its tries.
@@ -106,10 +122,14 @@ fn transact<C: Ledger, A: Ledger, K: Ledger, R: Wait, G: Gate>(
     gate: &mut G,
 ) -> (Result<(), TransactFault<Stop>>, u32) {
     let mut calls = 0u32;
+    let funs = Poor {
+        has_memory: true,
+        has_predicates: case.has_predicates,
+    };
     let answer = shared.transact(
         rt,
         alloc,
-        &CoreFunctions,
+        &funs,
         share,
         STAMP,
         case.tries,
@@ -140,6 +160,7 @@ fn try_between<C: Ledger, A: Ledger, K: Ledger, R: Wait>(
         shared,
         alloc,
         share: other,
+        at: case.at,
         left: case.between,
         step: 0,
         bodies: 0,
@@ -211,12 +232,7 @@ fn check<R: AllocGlobal + Wait + Abort>(
 
 #[test]
 fn a_caller_gives_up_after_the_last_conflict(rt: HostRuntime) -> Result<(), Fail> {
-    let case = Case {
-        code: PLUS,
-        refuses: false,
-        tries: 1,
-        between: 1,
-    };
+    let case = case_of(PLUS, false, 1, 1);
     let conflict = Conflict {
         r: 0,
         read_point: 0,
@@ -234,12 +250,7 @@ fn a_caller_gives_up_after_the_last_conflict(rt: HostRuntime) -> Result<(), Fail
 // The conflict that is returned is the last one.
 #[test]
 fn a_caller_gives_up_after_as_many_tries_as_it_said(rt: HostRuntime) -> Result<(), Fail> {
-    let case = Case {
-        code: PLUS,
-        refuses: false,
-        tries: 3,
-        between: 3,
-    };
+    let case = case_of(PLUS, false, 3, 3);
     let conflict = Conflict {
         r: 0,
         read_point: 2,
@@ -257,12 +268,7 @@ fn a_caller_gives_up_after_as_many_tries_as_it_said(rt: HostRuntime) -> Result<(
 
 #[test]
 fn after_a_conflict_the_body_reads_the_new_value(rt: HostRuntime) -> Result<(), Fail> {
-    let case = Case {
-        code: PLUS,
-        refuses: false,
-        tries: 2,
-        between: 1,
-    };
+    let case = case_of(PLUS, false, 2, 1);
     let wanted = Tried {
         answer: Ok(()),
         bodies: (2, 2),
@@ -274,12 +280,7 @@ fn after_a_conflict_the_body_reads_the_new_value(rt: HostRuntime) -> Result<(), 
 
 #[test]
 fn a_fault_of_the_body_ends_it(rt: HostRuntime) -> Result<(), Fail> {
-    let case = Case {
-        code: PLUS,
-        refuses: true,
-        tries: 3,
-        between: 0,
-    };
+    let case = case_of(PLUS, true, 3, 0);
     let wanted = Tried {
         answer: Err(TransactFault::Body(Stop::Late)),
         bodies: (1, 1),
@@ -291,14 +292,53 @@ fn a_fault_of_the_body_ends_it(rt: HostRuntime) -> Result<(), Fail> {
 
 #[test]
 fn a_value_that_the_rule_refuses_is_tried_once(rt: HostRuntime) -> Result<(), Fail> {
+    let case = case_of(MINUS, false, 3, 0);
+    let wanted = Tried {
+        answer: Err(TransactFault::Commit(CommitFault::Invalid(0))),
+        bodies: (1, 1),
+        receipts: 0,
+        value: Some(0),
+    };
+    check(&rt, &case, wanted, &[])
+}
+
+// The transaction is there before the gate is passed.
+#[test]
+fn what_is_committed_before_the_body_is_a_conflict(rt: HostRuntime) -> Result<(), Fail> {
     let case = Case {
-        code: MINUS,
+        code: PLUS,
+        refuses: false,
+        tries: 1,
+        between: 1,
+        at: Spot::BeforeBody,
+        has_predicates: true,
+    };
+    let conflict = Conflict {
+        r: 0,
+        read_point: 0,
+        changed_at: 1,
+    };
+    let wanted = Tried {
+        answer: Err(TransactFault::GaveUp { tries: 1, conflict }),
+        bodies: (1, 1),
+        receipts: 0,
+        value: Some(10),
+    };
+    check(&rt, &case, wanted, &[(other(0), 0)])
+}
+
+#[test]
+fn a_predicate_that_is_lacking_ends_it(rt: HostRuntime) -> Result<(), Fail> {
+    let case = Case {
+        code: PLUS,
         refuses: false,
         tries: 3,
         between: 0,
+        at: Spot::AfterBody,
+        has_predicates: false,
     };
     let wanted = Tried {
-        answer: Err(TransactFault::Commit(CommitFault::Invalid(0))),
+        answer: Err(TransactFault::Commit(CommitFault::NoSuchFun(AT_LEAST))),
         bodies: (1, 1),
         receipts: 0,
         value: Some(0),

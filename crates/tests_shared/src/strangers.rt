@@ -6,7 +6,7 @@ use crate::worlds::{STAMP, Stop, int_at, plain_start};
 use ref_fun::{Core, CoreFunctions};
 use ref_log::Who;
 use ref_refs::{Alien, CommitFault};
-use ref_shared::Shared;
+use ref_shared::{Open, Quiet, Shared, TransactFault};
 use ref_tx::Tx;
 use ref_world::{Share, Start};
 use std::alloc::{AllocError, Global};
@@ -124,6 +124,62 @@ impl<R: Wait> Scenario<R> for Case {
     }
 }
 
+// The same, where the body of a `transact` leaves that transaction in the place of its own.
+#[derive(Clone, Copy, Drop)]
+struct Replaced(Case);
+
+// What a body returns that may be called once.
+fn replace(tx: &mut Tx<Core>, stranger: &mut Option<Tx<Core>>) -> Result<(), Stop> {
+    *tx = stranger.take().ok_or(Stop::Late)?;
+    Ok(())
+}
+
+// Why a `transact` with that body ends.
+fn fault_of<C: Ledger, A: Ledger, K: Ledger, R: Wait>(
+    rt: &R,
+    alloc: Global,
+    shared: &Shared<Core, C, A, K>,
+    share: &mut Share<C, A, K>,
+    tx: Tx<Core>,
+) -> Option<TransactFault<Stop>> {
+    let mut stranger = Some(tx);
+    let committed = shared.transact(
+        rt,
+        alloc,
+        &CoreFunctions,
+        share,
+        STAMP,
+        3,
+        &mut Open,
+        &mut Quiet,
+        |tx: &mut Tx<Core>| replace(tx, &mut stranger),
+    );
+    committed.err()
+}
+
+impl<R: Wait> Scenario<R> for Replaced {
+    type Outcome = (Option<TransactFault<Stop>>, usize, Option<i64>);
+
+    fn run<C: Ledger, A: Ledger, K: Ledger>(
+        &self,
+        rt: &R,
+        alloc: Global,
+        shared: &Shared<Core, C, A, K>,
+        share: &mut Share<C, A, K>,
+    ) -> Result<(Option<TransactFault<Stop>>, usize, Option<i64>), Stop> {
+        let begun = Begun {
+            commits: self.0.commits,
+        };
+        let tx = run_shared(rt, alloc, plain_start(alloc, "0", "")?, &begun)?;
+        let fault = fault_of(rt, alloc, shared, share, tx);
+        Ok((
+            fault,
+            share.receipts().len(),
+            int_at(rt, shared, Who::Ref(0)),
+        ))
+    }
+}
+
 fn start_of(alloc: Global, case: Case) -> Result<Start, AllocError> {
     let mut start = plain_start(alloc, case.refs, "")?;
     if let Some(first) = start.refs.get_mut(0) {
@@ -154,6 +210,17 @@ fn what_is_foreign_is_refused(rt: HostRuntime) -> Result<(), Fail> {
             value: value_of(*case),
         };
         same(&rt, tried, wanted);
+    }
+    Ok(())
+}
+
+#[test]
+fn what_a_body_leaves_that_is_foreign_is_refused(rt: HostRuntime) -> Result<(), Fail> {
+    let alloc = rt.alloc();
+    for case in CASES {
+        let tried = run_shared(&rt, alloc, start_of(alloc, *case)?, &Replaced(*case))?;
+        let fault = TransactFault::Commit(CommitFault::Foreign(case.wanted));
+        same(&rt, tried, (Some(fault), 0, value_of(*case)));
     }
     Ok(())
 }

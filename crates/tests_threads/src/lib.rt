@@ -9,7 +9,7 @@
 //! | `chains` | by five: 64 agents whose actions send on |
 //! | `checkpoints` | views and checkpoints, a view read by another thread |
 //! | `looks` | by two: at each step between, the lock is free |
-//! | `waking`, `releases` | by two or three: who waits for an agent is woken |
+//! | `waking`, `releases`, `next_actions` | by two or three: who waits for an agent is woken |
 //! | `waits` | waiting for another thread |
 //! | [`flags`] | how far threads have come. It stands outside of the tests: the proof of what crosses threads names it |
 #![tactic(auto)]
@@ -21,6 +21,8 @@ mod checkpoints;
 pub mod flags;
 #[cfg(test)]
 mod looks;
+#[cfg(test)]
+mod next_actions;
 #[cfg(test)]
 mod releases;
 #[cfg(test)]

@@ -9,9 +9,9 @@ use crate::waking::nudge;
 use ref_agents::Job;
 use ref_fun::codes::PLUS;
 use ref_fun::{Action, Carries, Carry, Core, CoreFunctions};
-use ref_shared::Shared;
+use ref_shared::{Open, Quiet, Shared};
 use ref_tx::Tx;
-use ref_world::{ALL_PARTS, World};
+use ref_world::{ALL_PARTS, Share, World};
 use std::alloc::{AllocError, Global};
 use std::marker::Brand;
 use std::sync::Wait;
@@ -62,6 +62,26 @@ fn release<R: Wait, C: Ledger, A: Ledger, K: Ledger>(
     }
 }
 
+// Waits until both are about to wait.
+fn both_wait<R: Clock>(rt: &R, flags: &Flags) -> bool {
+    let (was_one, was_other) = (wait_past(rt, &flags.first), wait_past(rt, &flags.second));
+    was_one && was_other
+}
+
+// Waits until each has begun an action, and returns whether they were woken to do so.
+fn both_begin<R: AllocGlobal + Wait + Clock, C: Ledger, A: Ledger, K: Ledger>(
+    rt: &R,
+    shared: &Shared<Core, C, A, K>,
+    flags: &Flags,
+) -> bool {
+    let (one, other) = (wait_for(rt, &flags.third), wait_for(rt, &flags.fourth));
+    if !one || !other {
+        nudge(rt, rt.alloc(), shared);
+        nudge(rt, rt.alloc(), shared);
+    }
+    one && other
+}
+
 // Releases what was sent to g and to h while two wait, and returns whether both were woken.
 fn release_to_two<R: AllocGlobal + Wait + Clock, C: Ledger, A: Ledger, K: Ledger>(
     rt: &R,
@@ -69,14 +89,10 @@ fn release_to_two<R: AllocGlobal + Wait + Clock, C: Ledger, A: Ledger, K: Ledger
     point: Option<u64>,
     flags: &Flags,
 ) -> bool {
-    let (was_one, was_other) = (wait_past(rt, &flags.first), wait_past(rt, &flags.second));
+    let were_there = both_wait(rt, flags);
     let released = release(rt, shared, point);
-    let (one, other) = (wait_for(rt, &flags.third), wait_for(rt, &flags.fourth));
-    if !one || !other {
-        nudge(rt, rt.alloc(), shared);
-        nudge(rt, rt.alloc(), shared);
-    }
-    was_one && was_other && one && other && released
+    let began = both_begin(rt, shared, flags);
+    were_there && began && released
 }
 
 // What two threads did that a third one woke: of each whether it worked and met the other.
@@ -163,6 +179,84 @@ fn the_release_of_a_commit_wakes_all_who_wait(rt: HostRuntime) -> Result<(), Fai
         Blank::new(ALL_PARTS),
     );
     let released = try_commit::<Brand, Brand, Brand, _>(&rt, alloc, commits, added, taken)?;
+    assert_eq!(rt; released, BOTH);
+    Ok(())
+}
+
+// ---- By a `transact`, which releases what it sent
+
+// Sends both in a `transact` while two wait, and returns whether both were woken.
+fn transact_for_two<R: AllocGlobal + Wait + Clock, C: Ledger, A: Ledger, K: Ledger>(
+    rt: &R,
+    shared: &Shared<Core, C, A, K>,
+    mut share: Share<C, A, K>,
+    flags: &Flags,
+) -> bool {
+    let alloc = rt.alloc();
+    let were_there = both_wait(rt, flags);
+    let committed = shared.transact(
+        rt,
+        alloc,
+        &CoreFunctions,
+        &mut share,
+        STAMP,
+        1,
+        &mut Open,
+        &mut Quiet,
+        |tx: &mut Tx<Core>| send_both(alloc, tx),
+    );
+    let began = both_begin(rt, shared, flags);
+    were_there && began && committed.is_ok()
+}
+
+fn two_meet_and_transact<
+    C: Ledger + Send + Sync,
+    A: Ledger + Send + Sync,
+    K: Ledger + Send + Sync,
+    R: AllocGlobal + Threads + Wait + Clock + Sync,
+>(
+    rt: &R,
+    shared: &Shared<Core, C, A, K>,
+    share: Share<C, A, K>,
+) -> (((bool, bool), (bool, bool)), bool) {
+    let flags = Flags::new();
+    let lent = &flags;
+    let (works, woke) = thread::join(
+        rt,
+        move || two_meet(rt, shared, lent),
+        move || transact_for_two(rt, shared, share, lent),
+    );
+    (works, woke)
+}
+
+fn try_transact<
+    C: Ledger + Send + Sync,
+    A: Ledger + Send + Sync,
+    K: Ledger + Send + Sync,
+    R: AllocGlobal + Threads + Wait + Clock + Sync,
+>(rt: &R, alloc: Global, commits: Blank, added: Blank, taken: Blank) -> Result<Released, Stop>
+    requires commits { IsBlank commits C.name C.parts }
+    requires added { IsBlank added A.name A.parts }
+    requires taken { IsBlank taken K.name K.parts }
+{
+    let (shared, share) = opened::<C, A, K>(alloc, two_agents(alloc)?, commits, added, taken)?;
+    let (works, woke) = two_meet_and_transact(rt, &shared, share);
+    Ok(Released {
+        works,
+        woke,
+        values: agents_at(rt, &shared),
+    })
+}
+
+#[test]
+fn a_transact_wakes_all_who_wait(rt: HostRuntime) -> Result<(), Fail> {
+    let alloc = rt.alloc();
+    let (commits, added, taken) = (
+        Blank::new(ALL_PARTS),
+        Blank::new(ALL_PARTS),
+        Blank::new(ALL_PARTS),
+    );
+    let released = try_transact::<Brand, Brand, Brand, _>(&rt, alloc, commits, added, taken)?;
     assert_eq!(rt; released, BOTH);
     Ok(())
 }

@@ -5,7 +5,8 @@ ghost use Rattle.ref_world.specs.Shares.{IsBlank};
 
 use crate::flags::Flags;
 use crate::waits::wait_for;
-use ref_fun::codes::PLUS;
+use ref_agents::ErrorMode;
+use ref_fun::codes::{MINUS, PLUS};
 use ref_fun::{Core, CoreFunctions, Functions};
 use ref_log::Who;
 use ref_shared::{Gate, Quiet, Shared, Spot, Worked};
@@ -31,11 +32,11 @@ pub(crate) fn wait_past<R: Clock>(rt: &R, flag: &AtomicBool) -> bool {
 
 // A gate that holds an action until another thread has come so far, and some time more.
 #[derive(Drop)]
-struct Meet<'a, 'b, 'c, R: Clock> {
-    rt: &'a R,
-    here: &'b AtomicBool,
-    there: &'c AtomicBool,
-    met: bool,
+pub(crate) struct Meet<'a, 'b, 'c, R: Clock> {
+    pub(crate) rt: &'a R,
+    pub(crate) here: &'b AtomicBool,
+    pub(crate) there: &'c AtomicBool,
+    pub(crate) met: bool,
 }
 
 impl<'a, 'b, 'c, R: Clock> Gate for Meet<'a, 'b, 'c, R> {
@@ -175,7 +176,7 @@ struct InTurn {
 }
 
 // Two threads that run two actions of one agent.
-fn take_turns<
+pub(crate) fn take_turns<
     C: Ledger + Send + Sync,
     A: Ledger + Send + Sync,
     K: Ledger + Send + Sync,
@@ -191,18 +192,27 @@ fn take_turns<
     (next, first)
 }
 
+// The first action calls the function of this code with 1. If the agent's rule doesn't accept its value, the agent goes on.
 fn try_turns<
     C: Ledger + Send + Sync,
     A: Ledger + Send + Sync,
     K: Ledger + Send + Sync,
     R: Threads + Wait + Clock + Sync,
->(rt: &R, alloc: Global, commits: Blank, added: Blank, taken: Blank) -> Result<InTurn, Stop>
+>(
+    rt: &R,
+    alloc: Global,
+    code: u32,
+    commits: Blank,
+    added: Blank,
+    taken: Blank,
+) -> Result<InTurn, Stop>
     requires commits { IsBlank commits C.name C.parts }
     requires added { IsBlank added A.name A.parts }
     requires taken { IsBlank taken K.name K.parts }
 {
     let (shared, _share) = opened::<C, A, K>(alloc, two_agents(alloc)?, commits, added, taken)?;
-    done(shared.send(rt, alloc, 0, action(alloc, PLUS, "1")?))?;
+    done(shared.set_error_mode(rt, 0, ErrorMode::Continue))?;
+    done(shared.send(rt, alloc, 0, action(alloc, code, "1")?))?;
     done(shared.send(rt, alloc, 0, action(alloc, PLUS, "2")?))?;
     let (next, first) = take_turns(rt, alloc, &shared);
     Ok(InTurn {
@@ -220,11 +230,29 @@ fn an_agents_next_action_waits_for_the_first(rt: HostRuntime) -> Result<(), Fail
         Blank::new(ALL_PARTS),
         Blank::new(ALL_PARTS),
     );
-    let turns = try_turns::<Brand, Brand, Brand, _>(&rt, alloc, commits, added, taken)?;
+    let turns = try_turns::<Brand, Brand, Brand, _>(&rt, alloc, PLUS, commits, added, taken)?;
     let wanted = InTurn {
         first: (Ok(Worked::Did(0)), true),
         next: (Ok(Worked::Did(0)), true),
         value: Some(3),
+    };
+    assert_eq!(rt; turns, wanted);
+    Ok(())
+}
+
+#[test]
+fn an_action_that_is_passed_over_wakes_who_waits(rt: HostRuntime) -> Result<(), Fail> {
+    let alloc = rt.alloc();
+    let (commits, added, taken) = (
+        Blank::new(ALL_PARTS),
+        Blank::new(ALL_PARTS),
+        Blank::new(ALL_PARTS),
+    );
+    let turns = try_turns::<Brand, Brand, Brand, _>(&rt, alloc, MINUS, commits, added, taken)?;
+    let wanted = InTurn {
+        first: (Ok(Worked::Did(0)), true),
+        next: (Ok(Worked::Did(0)), true),
+        value: Some(2),
     };
     assert_eq!(rt; turns, wanted);
     Ok(())

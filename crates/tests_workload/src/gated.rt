@@ -209,30 +209,71 @@ fn a_pool_runs_actions_side_by_side(rt: HostRuntime) -> Result<(), Fail> {
     check(&rt, &row, MEETING)
 }
 
-// A function or a predicate that a table lacks, by its code, and a workload that names it.
-const LACKING_ROWS: &[(u32, &str)] = &[
+// The code of a function or a predicate that a table lacks, that of a function which is refused memory, a workload that names them, and
+// the fault that ends its run.
+const ENDING_ROWS: &[(u32, u32, &str, RunFault)] = &[
     (
         2,
+        0,
         "{:version 1 :refs [[a 0]] :workers [[[:tx [:alter a + 1]]] [[:tx [:alter a - 1]] [:tx [:alter a + 1]]]]}",
+        RunFault::Internal,
     ),
     (
         2,
+        0,
         "{:version 1 :agents [[g 0] [h 0]] :workers [[[:send h + 1] [:send g - 1] [:send h + 1]]]}",
+        RunFault::Internal,
     ),
-    (101, "{:version 1 :refs [[a 0 [>= 0]]] :workers [[[:tx]]]}"),
+    (
+        101,
+        0,
+        "{:version 1 :refs [[a 0 [>= 0]]] :workers [[[:tx]]]}",
+        RunFault::Internal,
+    ),
+    (
+        0,
+        1,
+        "{:version 1 :refs [[a 0]] :workers [[[:tx [:alter a + 1]]]]}",
+        RunFault::Memory,
+    ),
+    (
+        0,
+        1,
+        "{:version 1 :agents [[g 0]] :workers [[[:send g + 1]]]}",
+        RunFault::Memory,
+    ),
+    // Of two workers the first one's fault is returned.
+    (
+        2,
+        1,
+        "{:version 1 :refs [[a 0]] :workers [[[:tx [:alter a - 1]]] [[:tx [:alter a + 1]]]]}",
+        RunFault::Internal,
+    ),
+    (
+        2,
+        1,
+        "{:version 1 :refs [[a 0]] :workers [[[:tx [:alter a + 1]]] [[:tx [:alter a - 1]]]]}",
+        RunFault::Memory,
+    ),
 ];
 
 #[test]
-fn a_table_that_lacks_a_function_ends_the_run(rt: HostRuntime) -> Result<(), Fail> {
+fn a_function_that_is_lacking_or_has_no_memory_ends_the_run(rt: HostRuntime) -> Result<(), Fail> {
     let alloc = rt.alloc();
-    for (code, text) in LACKING_ROWS {
+    for (code, starved, text, fault) in ENDING_ROWS {
         let how = How {
-            funs: CoreWithout { code: *code },
+            funs: CoreWithout {
+                code: *code,
+                starved: *starved,
+            },
             tries: 1000,
             roles: &[],
         };
         let seen = run(&rt, alloc, text, how)?;
-        assert!(rt; seen == Err(RunFault::Internal), "without {code}");
+        assert!(rt;
+            seen == Err(*fault),
+            "without {code}, and {starved} without memory"
+        );
     }
     Ok(())
 }

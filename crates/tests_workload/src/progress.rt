@@ -87,7 +87,7 @@ where
         return Err(Fail::new("too many threads"));
     };
     let gates = vec![in alloc; Open; count]?;
-    let funs = CoreWithout { code };
+    let funs = CoreWithout { code, starved: 0 };
     let ran = run_plan_with::<CoreWithout, C, A, K, R, Open>(
         rt, alloc, &funs, plan, 1, gates, progress, commits, added, taken,
     );

@@ -1,4 +1,4 @@
-//! A table of Core's functions and predicates that may lack one.
+//! A table of Core's functions and predicates that may lack one, and in which one may be refused memory.
 ghost use Rattle.ref_fun.specs.Names.{is_function, is_predicate};
 ghost use Rattle.std.specs.Prelude.{◌&&◌, ◌==◌, not};
 
@@ -6,14 +6,18 @@ use ref_edn::Value;
 use ref_fun::{CallFault, Core, CoreFunctions, Functions};
 use std::alloc::Global;
 
-/// All functions and predicates of Core but that of one code.
+/// All functions and predicates of Core but that of one code. Each call of the function of another code is out of memory.
 #[derive(Clone, Copy, Drop)]
 pub struct CoreWithout {
     pub code: u32,
+    pub starved: u32,
 }
 
 /// All of them: Core has nothing under this code.
-pub const ALL_OF_CORE: CoreWithout = CoreWithout { code: 0 };
+pub const ALL_OF_CORE: CoreWithout = CoreWithout {
+    code: 0,
+    starved: 0,
+};
 
 impl Functions<Core> for CoreWithout {
     ghost knows = { λ table. record {
@@ -38,6 +42,9 @@ impl Functions<Core> for CoreWithout {
     ) -> Result<Value, CallFault> {
         if code == self.code {
             return Err(CallFault::NoSuchFun(code));
+        }
+        if code == self.starved && CoreFunctions.has_fun(code) {
+            return Err(CallFault::Memory);
         }
         CoreFunctions.call(alloc, code, state, args)
     }

@@ -1,0 +1,20 @@
+-- What is shown of a dump, or the fault of its replay as far as that is needed.
+use Rattle.std.specs.Prelude.{ℕ, List, Result, Ok, Err}
+use Rattle.ref_log.specs.declared.faults.AuditFault.{AuditFault}
+use Rattle.ref_log.specs.declared.states.PlainState.{PlainState}
+use Rattle.ref_start.specs.Names.{NamesSeen}
+use Rattle.ref_verdict.specs.declared.reading.dumps.Dump.{Dump}
+use Rattle.ref_history.specs.Changes.{changes_text}
+use Rattle.ref_history.specs.History.{history_text}
+use Rattle.ref_history.specs.Values.{values_at, values_text}
+use Rattle.ref_history.specs.declared.looks.Look.{Look}
+use Rattle.ref_history.specs.declared.looks.Look.TheVariants.{History, Changes, At}
+
+abbrev pub values_said : NamesSeen → Result PlainState AuditFault → Result (List ℕ) AuditFault
+values_said names (Ok state) = Ok (values_text names state)
+values_said names (Err fault) = Err fault
+
+abbrev pub looked : NamesSeen → Look → Dump → Result (List ℕ) AuditFault
+looked names (History choice) dump = Ok (history_text names choice dump)
+looked names (Changes choice) dump = changes_text names choice dump
+looked names (At point) dump = values_said names (values_at dump point)

@@ -1,0 +1,34 @@
+-- The values of refs and atoms at a point: the replay of the entries up to it, written as in a report.
+--
+--   ref NAME VALUE      for each ref, then
+--   atom NAME VALUE     for each atom, by number; the number stands for a name where it has none
+use Rattle.std.specs.Prelude.{ℕ, ◌+◌, ◌-◌, nat_le, Bool, ◌&&◌, List, [], ◌∷◌, ◌++◌, take, unwrap_or, slice_get, Result, codes, decimal}
+use Rattle.ref_value.specs.Edn.{Edn}
+use Rattle.ref_edn.specs.Printed.{printed}
+use Rattle.ref_fun.specs.Core.{core_means}
+use Rattle.ref_log.specs.Replay.{point_after, replay}
+use Rattle.ref_log.specs.declared.faults.AuditFault.{AuditFault}
+use Rattle.ref_log.specs.declared.states.PlainState.{PlainState}
+use Rattle.ref_start.specs.Names.{NamesSeen}
+use Rattle.ref_verdict.specs.declared.reading.dumps.Dump.{Dump}
+use Rattle.ref_history.specs.Shown.{newline, space}
+
+-- whether the base or an entry has this point
+abbrev pub has_point : Dump → ℕ → Bool
+has_point dump point = nat_le dump.base.point point && nat_le point (point_after dump.base dump.entries)
+
+-- The values after the entries up to this point, or the first fault on the way.
+abbrev pub values_at : Dump → ℕ → Result PlainState AuditFault
+values_at dump point = replay core_means dump.base (take (point - dump.base.point) dump.entries)
+
+-- a line of a report
+abbrev pub value_line : List ℕ → List (List ℕ) → ℕ → Edn → List ℕ
+value_line kind names n v = kind ++ space ++ unwrap_or (slice_get names n) (decimal n) ++ space ++ printed v ++ newline
+
+-- those of all values of a kind, the first of which has this number
+abbrev pub value_lines : List ℕ → List (List ℕ) → ℕ → List Edn → List ℕ
+value_lines kind names n [] = []
+value_lines kind names n (v ∷ vs) = value_line kind names n v ++ value_lines kind names (n + 1) vs
+
+abbrev pub values_text : NamesSeen → PlainState → List ℕ
+values_text names state = value_lines (codes "ref") names.refs 0 state.refs ++ value_lines (codes "atom") names.atoms 0 state.atoms

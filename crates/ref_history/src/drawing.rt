@@ -1,0 +1,141 @@
+//! The page of a dump: a picture of its entries, and a table of its refs.
+pub(crate) mod boxes;
+pub mod escaping;
+pub mod frames;
+pub mod tallies;
+
+use crate::drawing::boxes::{append_picture, colour};
+use crate::drawing::escaping::append_escaped;
+use crate::drawing::frames::{Frame, MOST_DRAWN, Part};
+use crate::drawing::tallies::{Tally, tallies_of};
+use ref_start::Names;
+use ref_verdict::reading::dumps::Dump;
+use std::alloc::{AllocError, Global};
+
+const HEAD: &str = "<!DOCTYPE html>
+<html lang=\"en\">
+<head>
+<meta charset=\"utf-8\">
+<title>Entries of a dump</title>
+<style>
+body { font: 14px sans-serif; color: #000; background: #fff; }
+.picture { overflow-x: auto; }
+text { font: 11px monospace; }
+text.point { text-anchor: middle; fill: #444; }
+text.box { text-anchor: end; }
+rect { stroke: #000; stroke-width: 1; }
+line.lane { stroke: #bbb; }
+line.point { stroke: #eee; }
+line.over { stroke: #a00; stroke-dasharray: 3 2; }
+table { border-collapse: collapse; margin-top: 1em; }
+th, td { border: 1px solid #888; padding: 2px 8px; text-align: right; }
+td.name { text-align: left; }
+.none { fill: #fff; background: #fff; }
+.c0 { fill: #8ecae6; background: #8ecae6; }
+.c1 { fill: #f4c95d; background: #f4c95d; }
+.c2 { fill: #95d5b2; background: #95d5b2; }
+.c3 { fill: #f2a3a3; background: #f2a3a3; }
+.c4 { fill: #cdb4db; background: #cdb4db; }
+.c5 { fill: #dddf9a; background: #dddf9a; }
+.c6 { fill: #ffd6a5; background: #ffd6a5; }
+.c7 { fill: #d0d0d0; background: #d0d0d0; }
+</style>
+</head>
+<body>
+<h1>Entries of a dump</h1>
+";
+
+const LEGEND: &str =
+    "<p>Each box is an entry. That of a transaction is in the lane of its worker, from its read point to its own point, \
+and shows the first ref that it touched: r0 is ref 0. Atoms are a0, a1 and so on; what was made has a +. \
+A dashed line leads from where a transaction began to one that was committed meanwhile, which isn't in conflict with it. \
+What an entry did stands in its tooltip.</p>
+";
+
+/// The page of a dump, in HTML with a picture in SVG: the entries of a part, at most [`MOST_DRAWN`], and a table of the first refs, as
+/// many. It has no script and needs no other file. What a page says of a dump's values and names is escaped, so that nothing in them is
+/// markup. Linear in the dump and in what is drawn.
+pub fn page(alloc: Global, names: &Names, part: Part, dump: &Dump) -> Result<Vec<u8>, AllocError> {
+    let frame = Frame::of(alloc, dump, part)?;
+    let mut out = Vec::new(alloc);
+    out.extend_from_slice(HEAD.as_bytes())?;
+    append_extent(alloc, &frame, dump, &mut out)?;
+    out.extend_from_slice(LEGEND.as_bytes())?;
+    out.extend_from_slice(b"<div class=\"picture\">\n")?;
+    append_picture(alloc, names, &frame, dump, &mut out)?;
+    out.extend_from_slice(b"</div>\n")?;
+    append_table(alloc, names, dump, &mut out)?;
+    out.extend_from_slice(b"</body>\n</html>\n")?;
+    Ok(out)
+}
+
+// How many entries there are, and which of them are drawn.
+fn append_extent(
+    alloc: Global,
+    frame: &Frame,
+    dump: &Dump,
+    out: &mut Vec<u8>,
+) -> Result<(), AllocError> {
+    let (drawn, all) = (frame.count(), dump.entries.len() as u64);
+    let text = if drawn == 0 {
+        format!(in alloc; "<p>{all} entries, of which none is drawn.</p>\n")?
+    } else if drawn == all {
+        format!(in alloc; "<p>{all} entries, all of which are drawn.</p>\n")?
+    } else {
+        let (first, last) = (frame.first, frame.end.saturating_sub(1));
+        format!(in alloc;
+            "<p>{all} entries, of which {drawn} are drawn, those of the points {first} to {last}. \
+             --from and --to choose others, at most {MOST_DRAWN} on a page.</p>\n"
+        )?
+    };
+    out.extend_from_slice(text.as_bytes())
+}
+
+// The table of refs.
+fn append_table(
+    alloc: Global,
+    names: &Names,
+    dump: &Dump,
+    out: &mut Vec<u8>,
+) -> Result<(), AllocError> {
+    out.extend_from_slice(
+        b"<table>\n<tr><th>ref</th><th>name</th><th>changes</th><th>last point</th></tr>\n",
+    )?;
+    let all = tallies_of(alloc, dump)?;
+    for (r, tally) in all.iter().enumerate() {
+        if r as u64 >= MOST_DRAWN {
+            break;
+        }
+        append_row(alloc, names, r as u64, *tally, out)?;
+    }
+    out.extend_from_slice(b"</table>\n")?;
+    append_left_out(alloc, all.len() as u64, out)
+}
+
+// How many refs have no row.
+fn append_left_out(alloc: Global, refs: u64, out: &mut Vec<u8>) -> Result<(), AllocError> {
+    let left_out = refs.saturating_sub(MOST_DRAWN);
+    if left_out == 0 {
+        return Ok(());
+    }
+    let text = format!(in alloc; "<p>{left_out} more refs have no row.</p>\n")?;
+    out.extend_from_slice(text.as_bytes())
+}
+
+fn append_row(
+    alloc: Global,
+    names: &Names,
+    r: u64,
+    tally: Tally,
+    out: &mut Vec<u8>,
+) -> Result<(), AllocError> {
+    let class = colour((r % 8) as u32);
+    let begin = format!(in alloc; "<tr><td class=\"{class}\">r{r}</td><td class=\"name\">")?;
+    out.extend_from_slice(begin.as_bytes())?;
+    if let Some(name) = names.refs().get(r as usize) {
+        append_escaped(name.as_bytes(), out)?;
+    }
+    let Tally { changes, last } = tally;
+    let end = format!(in alloc; "</td><td>{changes}</td><td>{last}</td></tr>\n")?;
+    out.extend_from_slice(end.as_bytes())
+}

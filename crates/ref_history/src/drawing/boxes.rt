@@ -1,0 +1,265 @@
+//! The picture: lanes, points, boxes, and lines to what overtook them.
+use crate::drawing::escaping::append_escaped;
+use crate::drawing::frames::Frame;
+use crate::entry_lines::append_line;
+use crate::places::{Place, first_place, place_after};
+use ref_log::{Entry, Transaction};
+use ref_start::Names;
+use ref_verdict::reading::dumps::Dump;
+use std::alloc::{AllocError, Global};
+
+// Each point of this many has its number.
+const NUMBERED: usize = 5;
+
+// How many lines to others a box has at most: to those that overtook it last.
+const MOST_LINES: u64 = 16;
+
+/// Appends the picture.
+pub(crate) fn append_picture(
+    alloc: Global,
+    names: &Names,
+    frame: &Frame,
+    dump: &Dump,
+    out: &mut Vec<u8>,
+) -> Result<(), AllocError> {
+    let (width, height) = (frame.width(), frame.height());
+    let head = format!(in alloc;
+        "<svg xmlns=\"http://www.w3.org/2000/svg\" role=\"img\" width=\"{width}\" height=\"{height}\" viewBox=\"0 0 {width} {height}\">\n"
+    )?;
+    out.extend_from_slice(head.as_bytes())?;
+    append_lanes(alloc, frame, out)?;
+    append_points(alloc, frame, out)?;
+    append_entries(alloc, names, frame, dump, true, out)?;
+    append_entries(alloc, names, frame, dump, false, out)?;
+    out.extend_from_slice(b"</svg>\n")
+}
+
+fn append_lanes(alloc: Global, frame: &Frame, out: &mut Vec<u8>) -> Result<(), AllocError> {
+    for (lane, worker) in frame.workers.iter().enumerate() {
+        let name = format!(in alloc; "worker {worker}")?;
+        append_lane(alloc, frame, lane as u64, name.as_str(), out)?;
+    }
+    append_lane(alloc, frame, frame.last_lane(), "atoms, made", out)
+}
+
+fn append_lane(
+    alloc: Global,
+    frame: &Frame,
+    lane: u64,
+    name: &str,
+    out: &mut Vec<u8>,
+) -> Result<(), AllocError> {
+    let (y, left, width) = (frame.middle(lane), frame.left(), frame.width());
+    let text_y = y.saturating_add(4);
+    let lane = format!(in alloc;
+        "<line class=\"lane\" x1=\"{left}\" y1=\"{y}\" x2=\"{width}\" y2=\"{y}\"/>\n<text x=\"4\" y=\"{text_y}\">{name}</text>\n"
+    )?;
+    out.extend_from_slice(lane.as_bytes())
+}
+
+fn append_points(alloc: Global, frame: &Frame, out: &mut Vec<u8>) -> Result<(), AllocError> {
+    for column in 0..frame.count() as usize {
+        if column % NUMBERED == 0 {
+            append_point(alloc, frame, frame.first.saturating_add(column as u64), out)?;
+        }
+    }
+    Ok(())
+}
+
+fn append_point(
+    alloc: Global,
+    frame: &Frame,
+    point: u64,
+    out: &mut Vec<u8>,
+) -> Result<(), AllocError> {
+    let (x, height) = (frame.x(point), frame.height());
+    let mark = format!(in alloc;
+        "<line class=\"point\" x1=\"{x}\" y1=\"18\" x2=\"{x}\" y2=\"{height}\"/>\n<text class=\"point\" x=\"{x}\" y=\"14\">{point}</text>\n"
+    )?;
+    out.extend_from_slice(mark.as_bytes())
+}
+
+// What is drawn of each entry: first the lines to what overtook it, which lie below, then the boxes.
+fn append_entries(
+    alloc: Global,
+    names: &Names,
+    frame: &Frame,
+    dump: &Dump,
+    are_lines: bool,
+    out: &mut Vec<u8>,
+) -> Result<(), AllocError> {
+    let mut place = first_place(&dump.base)?;
+    for entry in &dump.entries {
+        if frame.has(place.point) {
+            if are_lines {
+                append_overtakers(alloc, frame, dump, place.point, entry, out)?;
+            } else {
+                append_box(alloc, names, frame, place, entry, out)?;
+            }
+        }
+        place = place_after(entry, place)?;
+    }
+    Ok(())
+}
+
+// The lines of a transaction to those that committed between its read point and its commit.
+fn append_overtakers(
+    alloc: Global,
+    frame: &Frame,
+    dump: &Dump,
+    point: u64,
+    entry: &Entry,
+    out: &mut Vec<u8>,
+) -> Result<(), AllocError> {
+    let Entry::Trans(transaction) = entry else {
+        return Ok(());
+    };
+    let from = transaction
+        .read_point
+        .saturating_add(1)
+        .max(frame.first)
+        .max(point.saturating_sub(MOST_LINES));
+    let skipped = from.saturating_sub(dump.base.point).saturating_sub(1);
+    for index in skipped as usize..point
+        .saturating_sub(dump.base.point)
+        .saturating_sub(1) as usize
+    {
+        if let Some(Entry::Trans(other)) = dump.entries.get(index) {
+            let at = dump
+                .base
+                .point
+                .saturating_add(1)
+                .saturating_add(index as u64);
+            append_line_to(alloc, frame, transaction, other, at, out)?;
+        }
+    }
+    Ok(())
+}
+
+fn append_line_to(
+    alloc: Global,
+    frame: &Frame,
+    transaction: &Transaction,
+    other: &Transaction,
+    at: u64,
+    out: &mut Vec<u8>,
+) -> Result<(), AllocError> {
+    let worker = transaction.stamp.worker;
+    if other.stamp.worker == worker {
+        return Ok(());
+    }
+    let (x1, x2) = (frame.x(transaction.read_point), frame.x(at));
+    let y1 = frame.middle(lane_of_worker(frame, worker));
+    let y2 = frame.middle(lane_of_worker(frame, other.stamp.worker));
+    let line = format!(in alloc;
+        "<line class=\"over\" x1=\"{x1}\" y1=\"{y1}\" x2=\"{x2}\" y2=\"{y2}\"/>\n"
+    )?;
+    out.extend_from_slice(line.as_bytes())
+}
+
+fn lane_of_worker(frame: &Frame, worker: u32) -> u64 {
+    match frame.workers.binary_search(&worker) {
+        Ok(lane) => lane as u64,
+        Err(lane) => lane as u64,
+    }
+}
+
+// A box from the point at which an entry began to its own.
+fn append_box(
+    alloc: Global,
+    names: &Names,
+    frame: &Frame,
+    place: Place,
+    entry: &Entry,
+    out: &mut Vec<u8>,
+) -> Result<(), AllocError> {
+    let begun = begun_of(entry, place.point);
+    let (left, right) = (frame.x(begun), frame.x(place.point));
+    let (x, width) = (
+        left.saturating_add(1),
+        right.saturating_sub(left).saturating_sub(2),
+    );
+    let lane = frame.lane_of(entry);
+    let (y, height) = (frame.y(lane), frame.box_height());
+    let (text_x, text_y) = (right.saturating_sub(4), y.saturating_add(16));
+    out.extend_from_slice(b"<g><title>")?;
+    append_title(alloc, names, place, entry, out)?;
+    let label = label_of(alloc, place, entry)?;
+    let colour = colour_of(entry);
+    let drawn = format!(in alloc;
+        "</title><rect class=\"{colour}\" x=\"{x}\" y=\"{y}\" width=\"{width}\" height=\"{height}\"/><text class=\"box\" x=\"{text_x}\" y=\"{text_y}\">{label}</text></g>\n"
+    )?;
+    out.extend_from_slice(drawn.as_bytes())
+}
+
+// The point at which an entry began: of a transaction its read point, of others the one before.
+fn begun_of(entry: &Entry, point: u64) -> u64 {
+    let before = point.saturating_sub(1);
+    match entry {
+        Entry::Trans(transaction) => transaction.read_point.min(before),
+        Entry::Atom(_, _, _) | Entry::MadeRef(_) | Entry::MadeAtom(_) => before,
+    }
+}
+
+// The line of a history, escaped.
+fn append_title(
+    alloc: Global,
+    names: &Names,
+    place: Place,
+    entry: &Entry,
+    out: &mut Vec<u8>,
+) -> Result<(), AllocError> {
+    let mut line = Vec::new(alloc);
+    append_line(alloc, names, place, entry, &mut line)?;
+    append_escaped(line.as_slice(), out)
+}
+
+// What stands in a box: the first ref that was touched, or the atom, or what was made.
+fn label_of(alloc: Global, place: Place, entry: &Entry) -> Result<String, AllocError> {
+    match entry {
+        Entry::Trans(transaction) => match first_ref(transaction) {
+            Some(r) => format!(in alloc; "r{r}"),
+            None => String::from_str(alloc, "-"),
+        },
+        Entry::Atom(a, _, _) => format!(in alloc; "a{a}"),
+        Entry::MadeRef(_) => format!(in alloc; "+r{}", place.refs),
+        Entry::MadeAtom(_) => format!(in alloc; "+a{}", place.atoms),
+    }
+}
+
+// The first ref that a transaction touched, or else the first that it ensured.
+fn first_ref(transaction: &Transaction) -> Option<u32> {
+    for done in transaction.dones.as_slice() {
+        if !done.op.is_ensure() {
+            return Some(done.r);
+        }
+    }
+    match transaction.dones.as_slice().first() {
+        Some(done) => Some(done.r),
+        None => None,
+    }
+}
+
+fn colour_of(entry: &Entry) -> &'static str {
+    match entry {
+        Entry::Trans(transaction) => match first_ref(transaction) {
+            Some(r) => colour(r),
+            None => "none",
+        },
+        Entry::Atom(_, _, _) | Entry::MadeRef(_) | Entry::MadeAtom(_) => "none",
+    }
+}
+
+/// The class of a ref's colour. There are eight, so the label says which ref it is.
+pub(crate) fn colour(r: u32) -> &'static str {
+    match r % 8 {
+        0 => "c0",
+        1 => "c1",
+        2 => "c2",
+        3 => "c3",
+        4 => "c4",
+        5 => "c5",
+        6 => "c6",
+        _ => "c7",
+    }
+}

@@ -1,0 +1,36 @@
+//! What a dump says of a run, for people: its history, its values at a point, and a page with a picture of it.
+//!
+//! `ref_verdict` reads a dump and judges it; this crate prints what it says. It depends on no world, and runs nothing but the replay of
+//! `ref_log`.
+//!
+//! | Call | Returns |
+//! |---|---|
+//! | [`history`] | a line for each entry that a [`Choice`] chooses: who made it, when it began, what it did, what it sent |
+//! | [`changes`] | the same lines, with the values before and after of what an entry touched |
+//! | [`values_at`] | the values of refs and atoms at a point, by the replay up to there |
+//! | [`values_text`] | their lines, as a report has them |
+//! | [`page`] | a page in HTML: a picture of the entries of a [`Part`], and a table of the refs |
+//! | [`text_of`] | each of these but a page, by a [`Look`] |
+//!
+//! References are printed by the [`Names`](ref_start::Names) that a caller has, or as `ref 3`. All are linear in the dump and in what is
+//! printed, but for the functions that a replay calls.
+#![tactic(auto)]
+
+mod befores;
+pub mod change_lines;
+pub mod drawing;
+pub mod entry_lines;
+pub mod looks;
+pub mod places;
+mod shown;
+mod steps;
+pub mod values;
+
+pub use change_lines::changes;
+pub use drawing::escaping::escaped_is_plain;
+pub use drawing::frames::{MOST_DRAWN, Part};
+pub use drawing::page;
+pub use entry_lines::history;
+pub use looks::{Look, text_of};
+pub use places::{Choice, Place};
+pub use values::{has_point, values_at, values_text};

@@ -1,0 +1,110 @@
+//! The values at a point.
+ghost use Rattle.std.specs.Prelude.{◌≡◌, ◌≢◌, ◌<◌, ◌^◌, ◌++◌, Ok, Err, IfOk, IfErr, OnOk, decimal, slice_get, unwrap_or};
+ghost use Rattle.ref_fun.specs.Calls.{HasCore};
+ghost use Rattle.ref_log.specs.Replay.{point_after};
+ghost use Rattle.ref_verdict.specs.OfCore.{IsOfCore};
+ghost use Rattle.ref_history.specs.Values.{has_point, value_line, value_lines, values_at, values_text};
+
+use crate::shown::append_number;
+use ref_edn::print;
+use ref_fun::{Core, Functions};
+use ref_log::{AuditFault, PlainState, replay_plain};
+use ref_start::Names;
+use ref_value::{Text, Value};
+use ref_verdict::reading::dumps::Dump;
+use std::alloc::{AllocError, Global};
+
+/// Whether the base of a dump, or an entry after it, has this point.
+pub fn has_point(dump: &Dump, point: u64) -> bool
+    requires { point_after dump.now.base dump.now.entries < 2 ^ 64 }
+    ensures { result ≡ has_point dump.now point }
+{
+    let last = dump.base.point + dump.entries.len() as u64;
+    dump.base.point <= point && point <= last
+}
+
+/// The values of refs and atoms at a point, by the replay of the entries up to it: those of the base at its point, and those at the end
+/// from the last point on. Where the replay comes to a fault on the way, it is returned. Linear in the base and in the operations up to
+/// there, but for the functions that they call.
+#[tactic(auto, using(crate::proofs::Needed::nothing_missing_up_to))]
+pub fn values_at<F: Functions<Core>>(
+    alloc: Global,
+    funs: &F,
+    dump: &Dump,
+    point: u64,
+) -> Result<PlainState, AuditFault>
+    requires core { HasCore (F.knows funs.now) }
+    requires dump { IsOfCore dump.now }
+    requires points { point_after dump.now.base dump.now.entries < 2 ^ 64 }
+    ensures ok { IfOk result (λ state. values_at dump.now point ≡ Ok state) }
+    ensures err { IfErr result (λ fault. fault ≢ AuditFault.Memory → values_at dump.now point ≡ Err fault) }
+{
+    let count = point.saturating_sub(dump.base.point) as usize;
+    let first = dump.entries.first(alloc, count)?;
+    match replay_plain(alloc, funs, &dump.base, &first) {
+        // The table has all functions of Core, and the entries call no others.
+        Err(AuditFault::NoSuchFun(_)) => unreachable!(),
+        replayed => replayed,
+    }
+}
+
+/// The lines of values, as a report has them: each with a name, or with its number where there is none. Linear in the text.
+pub fn values_text(alloc: Global, names: &Names, state: &PlainState) -> Result<Vec<u8>, AllocError>
+    ensures { IfOk result (λ text. text.items ≡ values_text names.now state.now) }
+{
+    let mut text = Vec::new(alloc);
+    append_values(alloc, "ref", names.refs(), state.refs.as_slice(), &mut text)?;
+    append_values(
+        alloc,
+        "atom",
+        names.atoms(),
+        state.atoms.as_slice(),
+        &mut text,
+    )?;
+    Ok(text)
+}
+
+// The lines of all values of a kind.
+#[tactic(auto, using(crate::proofs::Lines::value_lines_at))]
+fn append_values(
+    alloc: Global,
+    kind: &str,
+    names: &[Text],
+    values: &[Value],
+    out: &mut Vec<u8>,
+) -> Result<(), AllocError>
+    ensures { OnOk result (out.new.items ≡ out.old.items ++ value_lines kind.now names.now 0 values.now) }
+{
+    for (n, value) in values.iter().enumerate() {
+        append_value(alloc, kind, names, n, value, out)?;
+    }
+    Ok(())
+}
+
+fn append_value(
+    alloc: Global,
+    kind: &str,
+    names: &[Text],
+    n: usize,
+    value: &Value,
+    out: &mut Vec<u8>,
+) -> Result<(), AllocError>
+    ensures { OnOk result (out.new.items ≡ out.old.items ++ value_line kind.now names.now n value.now) }
+{
+    out.extend_from_slice(kind.as_bytes())?;
+    out.extend_from_slice(b" ")?;
+    append_name(names, n, out)?;
+    out.extend_from_slice(b" ")?;
+    print(alloc, value, out)?;
+    out.extend_from_slice(b"\n")
+}
+
+// A name, or the number where there is none.
+fn append_name(names: &[Text], n: usize, out: &mut Vec<u8>) -> Result<(), AllocError>
+    ensures { OnOk result (out.new.items ≡ out.old.items ++ unwrap_or (slice_get names.now n) (decimal n)) }
+{
+    match names.get(n) {
+        Some(name) => out.extend_from_slice(name.as_bytes()),
+        None => append_number(n as u64, out),
+    }
+}
