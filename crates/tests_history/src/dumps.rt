@@ -1,4 +1,8 @@
 //! Dumps that are printed, and names.
+ghost use Rattle.std.specs.Prelude.{◌<◌, ◌^◌, IfOk};
+ghost use Rattle.ref_log.specs.Replay.{point_after};
+ghost use Rattle.ref_verdict.specs.OfCore.{IsOfCore};
+
 use ref_edn::read_one;
 use ref_start::Names;
 use ref_value::{Node, Text, Value};
@@ -32,8 +36,14 @@ pub(crate) const BROKEN: &str =
  :entries [[:tx 0 0 0 [[:alter 0 + [1] 1]] []] [:tx 0 1 1 [[:alter 0 + [1] 5]] []] [:tx 0 2 2 [[:alter 0 + [1] 6]] []]] \
  :refs [[6 nil]] :atoms [] :agents [] :commits 3 :added 0}";
 
-pub(crate) fn dump_of(alloc: Global, text: &str) -> Result<Dump, Fail> {
-    Ok(read_dump(alloc, &read_one(alloc, text.as_bytes())?)?)
+/// The dump that a text says.
+pub(crate) fn dump_of(alloc: Global, text: &str) -> Result<Dump, Fail>
+    ensures core { IfOk result IsOfCore }
+    ensures points { IfOk result (λ dump. point_after dump.base dump.entries < 2 ^ 64) }
+{
+    let value = read_one(alloc, text.as_bytes())?;
+    let dump = read_dump(alloc, &value)?;
+    Ok(dump)
 }
 
 // The symbols in a text.
