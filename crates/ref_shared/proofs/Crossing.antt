@@ -11,9 +11,9 @@ use Rattle.ref_shared.specs.contracts.shared.Shared as Shared
 
 module _ (M C A K : RattleType) (gM : Meaning.Ghosts M.Denot) (gC : Ledger.Ghosts C.Denot) (gA : Ledger.Ghosts A.Denot) (gK : Ledger.Ghosts K.Denot) where
   held_send : IsSend (Held.the_row M C A K gM gC gA gK)
-  held_send = declared_send (Held.the_type M C A K gM gC gA gK) (world_send C A K gC gA gK M gM, (search (std_crosses, sendable) depth 60, tt))
+  held_send = declared_send (Held.the_type M C A K gM gC gA gK) (world_send C A K gC gA gK M gM, (search (std_crosses, sendable) depth 60, (search (std_crosses, sendable) depth 60, tt)))
 
   pub shared_sync : IsSync (Shared.the_row M C A K gM gC gA gK)
-  shared_sync = declared_sync (Shared.the_type M C A K gM gC gA gK) (search (held_send, std_crosses, sendable) depth 60, (search (std_crosses, sendable) depth 60, tt))
+  shared_sync = declared_sync (Shared.the_type M C A K gM gC gA gK) (search (held_send, std_crosses, sendable) depth 60, (search (std_crosses, sendable) depth 60, (search (std_crosses, sendable) depth 60, tt)))
 
 pub ruleset crosses = (share_send, seen_send, world_send, shared_sync)

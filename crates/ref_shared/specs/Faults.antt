@@ -2,6 +2,8 @@
 use Rattle.std.specs.Prelude.{ℕ}
 use Rattle.ref_agents.specs.declared.faults.JobFault.{JobFault}
 use Rattle.ref_agents.specs.declared.faults.JobFault.TheVariants as jobs
+use Rattle.ref_shared.specs.declared.faults.AwaitFault.{AwaitFault}
+use Rattle.ref_shared.specs.declared.faults.AwaitFault.TheVariants as awaits
 use Rattle.ref_shared.specs.declared.faults.GatherFault.{GatherFault}
 use Rattle.ref_shared.specs.declared.faults.GatherFault.TheVariants as gathers
 use Rattle.ref_shared.specs.declared.faults.TransactFault.{TransactFault}
@@ -14,6 +16,12 @@ transact_fault_number (transacts.GaveUp tries conflict) = 1
 transact_fault_number (transacts.Body e) = 2
 transact_fault_number (transacts.Commit fault) = 3
 transact_fault_number transacts.Memory = 4
+
+abbrev pub await_fault_number : AwaitFault → ℕ
+await_fault_number (awaits.NoSuchAgent g) = 1
+await_fault_number (awaits.Failed g) = 2
+await_fault_number awaits.Closed = 3
+await_fault_number awaits.Memory = 4
 
 abbrev pub work_fault_number : WorkFault → ℕ
 work_fault_number (works.NoSuchFun code) = 1

@@ -1,6 +1,6 @@
 //! Why a call on a shared world is refused.
 ghost use Rattle.std.specs.Prelude.{◌≡◌};
-ghost use Rattle.ref_shared.specs.Faults.{gather_fault_number, transact_fault_number, work_fault_number};
+ghost use Rattle.ref_shared.specs.Faults.{await_fault_number, gather_fault_number, transact_fault_number, work_fault_number};
 ghost use Rattle.ref_shared.specs.declared.faults.GatherFault.TheVariants as gathers;
 
 use ref_agents::JobFault;
@@ -36,6 +36,48 @@ impl<E> TransactFault<E> {
             TransactFault::Body(_) => 2,
             TransactFault::Commit(_) => 3,
             TransactFault::Memory => 4,
+        }
+    }
+}
+
+/// Why a transaction that waits came to no commit. World and share are as they were. E is what the body may return.
+#[derive(Clone, Copy, Debug, Drop, PartialEq, Eq, Error)]
+#[error_bound(E: Display)]
+pub enum WaitFault<E> {
+    /// The shared world was closed while the body wasn't ready, and no entry had come since the transaction began.
+    #[error("closed before it was ready")]
+    Closed,
+    /// As of a transaction that doesn't wait.
+    #[error("{0}")]
+    Transact(TransactFault<E>),
+}
+
+/// Why a call that waits for agents returned before all was gone that it waited for. Nothing was changed.
+#[derive(Clone, Copy, Debug, Drop, PartialEq, Eq, Error)]
+pub enum AwaitFault {
+    /// There is no such agent.
+    #[error("there is no agent {0}")]
+    NoSuchAgent(u32),
+    /// An action that was waited for stands behind the failure of this agent. It waits there until a restart.
+    #[error("agent {0} is failed")]
+    Failed(u32),
+    /// The shared world was closed, and not all was gone: nobody need be there who runs it.
+    #[error("closed before all was done")]
+    Closed,
+    #[error("out of memory")]
+    Memory,
+}
+
+impl AwaitFault {
+    /// The number of the fault.
+    pub fn number(&self) -> u8
+        ensures { result ≡ await_fault_number self.now }
+    {
+        match self {
+            AwaitFault::NoSuchAgent(_) => 1,
+            AwaitFault::Failed(_) => 2,
+            AwaitFault::Closed => 3,
+            AwaitFault::Memory => 4,
         }
     }
 }

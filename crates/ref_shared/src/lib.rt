@@ -35,15 +35,18 @@
 #![tactic(auto)]
 
 pub mod faults;
+mod folding;
 mod gates;
 mod gathering;
 mod matching;
 mod order;
 mod shared;
 mod transacting;
+mod waiters;
+mod waiting;
 mod working;
 
-pub use faults::{GatherFault, TransactFault, WorkFault};
+pub use faults::{AwaitFault, GatherFault, TransactFault, WaitFault, WorkFault};
 pub use gates::{Gate, Open, Quiet, Spot, WatchSink};
 pub use gathering::{folded_receipts_say_nothing, match_receipts};
 pub use shared::Shared;

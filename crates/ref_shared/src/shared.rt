@@ -5,13 +5,14 @@ ghost use Rattle.ref_log.specs.declared.entries.Entry.TheVariants as entries;
 ghost use Rattle.ref_log.specs.declared.notices.Who.TheVariants as who;
 ghost use Rattle.ref_log.specs.declared.operations.Op.TheVariants.{Alter, Set};
 ghost use Rattle.ref_refs.specs.Conflicts.{ConflictFits};
-ghost use Rattle.ref_world.specs.Shares.{all_parts, forgotten};
+ghost use Rattle.ref_world.specs.Shares.{all_parts};
 ghost use Rattle.ref_shared.specs.Bodies.{IsFresh};
 ghost use Rattle.ref_shared.specs.Commits.{AreCommitted, AreNotices, HasCommitted, HasReceipt};
 ghost use Rattle.ref_shared.specs.Gather.{GatherFails, InOrder, ReceiptsMatch};
 
 use crate::faults::GatherFault;
 use crate::gathering::match_receipts;
+use crate::waiters::Waiters;
 use ref_agents::{AgentError, ErrorMode, ModeFault, RestartFault, SendFault};
 use ref_atoms::{AtomFault, Cas, Swapped};
 use ref_fun::{Action, Args, Functions, Meaning, Rule};
@@ -19,7 +20,7 @@ use ref_log::{MakeFault, RuleFault, Stamp, WatchFault, Who};
 use ref_refs::CommitFault;
 use ref_tx::Tx;
 use ref_value::Value;
-use ref_world::{CheckpointFault, Receipt, Share, Totals, View, World};
+use ref_world::{Receipt, Share, Totals, View, World};
 use std::alloc::{AllocError, Global};
 use std::hint::spin_loop;
 use std::sync::ledger::Ledger;
@@ -30,11 +31,12 @@ use std::sync::{Condvar, Mutex, MutexGuard, Wait};
 // apart. So far apart, they leave the lock for a while to a thread that has the world in its processor's cache.
 const PAUSES: &[u32] = &[1_024, 4_096, 16_384, 16_384, 16_384, 16_384];
 
-// What the lock is round: the world, and whether the shared world was closed.
+// What the lock is round: the world, whether the shared world was closed, and who waits for what.
 #[derive(Drop)]
 pub(crate) struct Held<M: Meaning, C: Ledger, A: Ledger, K: Ledger> {
     pub(crate) world: World<M, C, A, K>,
     pub(crate) is_closed: bool,
+    pub(crate) waiters: Waiters,
 }
 
 /// A world that threads share.
@@ -50,8 +52,11 @@ pub(crate) struct Held<M: Meaning, C: Ledger, A: Ledger, K: Ledger> {
 #[derive(Drop)]
 pub struct Shared<M: Meaning, C: Ledger, A: Ledger, K: Ledger> {
     held: Mutex<Held<M, C, A, K>>,
-    // Woken where an agent may have become ready, and at the end.
+    // Woken where an agent may have become ready, and at the end: threads that run actions wait for it.
     pub(crate) ready: Condvar,
+    // Woken where an entry has come, or enough actions of an agent are gone, and somebody waits for it; and at the end. All who wait are
+    // woken each time, for they don't wait for the same.
+    pub(crate) moved: Condvar,
 }
 
 impl<M: Meaning, C: Ledger, A: Ledger, K: Ledger> Shared<M, C, A, K> {
@@ -60,10 +65,12 @@ impl<M: Meaning, C: Ledger, A: Ledger, K: Ledger> Shared<M, C, A, K> {
         let held = Held {
             world,
             is_closed: false,
+            waiters: Waiters::none(),
         };
         Shared {
             held: Mutex::new(held),
             ready: Condvar::new(),
+            moved: Condvar::new(),
         }
     }
 
@@ -108,10 +115,9 @@ impl<M: Meaning, C: Ledger, A: Ledger, K: Ledger> Shared<M, C, A, K> {
     {
         // One owner more, so that the refs before the commit are dropped when the lock is free again.
         let began = tx.began().share();
-        let committed = self
-            .lock(rt)
-            .world
-            .commit_with(alloc, funs, share, stamp, tx);
+        let mut held = self.lock(rt);
+        let committed = held.world.commit_with(alloc, funs, share, stamp, tx);
+        self.free_with_entry(held, committed.is_ok());
         drop(began);
         committed
     }
@@ -181,9 +187,10 @@ impl<M: Meaning, C: Ledger, A: Ledger, K: Ledger> Shared<M, C, A, K> {
         rule: Option<Rule>,
         tally: bool,
     ) -> Result<u32, MakeFault> {
-        self.lock(rt)
-            .world
-            .make_ref(alloc, funs, value, rule, tally)
+        let mut held = self.lock(rt);
+        let made = held.world.make_ref(alloc, funs, value, rule, tally);
+        self.free_with_entry(held, made.is_ok());
+        made
     }
 
     /// Makes an atom: see [`World::make_atom`].
@@ -195,7 +202,10 @@ impl<M: Meaning, C: Ledger, A: Ledger, K: Ledger> Shared<M, C, A, K> {
         value: Value,
         rule: Option<Rule>,
     ) -> Result<u32, MakeFault> {
-        self.lock(rt).world.make_atom(alloc, funs, value, rule)
+        let mut held = self.lock(rt);
+        let made = held.world.make_atom(alloc, funs, value, rule);
+        self.free_with_entry(held, made.is_ok());
+        made
     }
 
     /// Makes an agent: see [`World::make_agent`].
@@ -230,7 +240,10 @@ impl<M: Meaning, C: Ledger, A: Ledger, K: Ledger> Shared<M, C, A, K> {
         ensures share { IfOk result (λ s. HasReceipt (entries.Atom a (Alter code args) s.new) share.old share.new) }
         ensures same { OnErr result (share.new ≡ share.old) }
     {
-        self.lock(rt).world.swap(alloc, funs, share, a, code, args)
+        let mut held = self.lock(rt);
+        let swapped = held.world.swap(alloc, funs, share, a, code, args);
+        self.free_with_entry(held, swapped.is_ok());
+        swapped
     }
 
     /// Sets an atom to a value regardless of the one that it has: see [`World::reset`]. The caller delivers the
@@ -249,7 +262,10 @@ impl<M: Meaning, C: Ledger, A: Ledger, K: Ledger> Shared<M, C, A, K> {
         ensures share { OnOk result (HasReceipt (entries.Atom a (Set value) value) share.old share.new) }
         ensures same { OnErr result (share.new ≡ share.old) }
     {
-        self.lock(rt).world.reset(alloc, funs, share, a, value)
+        let mut held = self.lock(rt);
+        let swapped = held.world.reset(alloc, funs, share, a, value);
+        self.free_with_entry(held, swapped.is_ok());
+        swapped
     }
 
     /// Sets an atom to a new value where it has the old one that is given: see [`World::compare_and_set`]. The caller
@@ -271,9 +287,10 @@ impl<M: Meaning, C: Ledger, A: Ledger, K: Ledger> Shared<M, C, A, K> {
         ensures notices { IfOk result (λ c. c.done ≡ true → AreNotices (who.Atom a) old.now new c.notices.items) }
         ensures same { OnErr result (share.new ≡ share.old) }
     {
-        self.lock(rt)
-            .world
-            .compare_and_set(alloc, funs, share, a, old, new)
+        let mut held = self.lock(rt);
+        let compared = held.world.compare_and_set(alloc, funs, share, a, old, new);
+        self.free_with_entry(held, matches!(&compared, Ok(Cas { done: true, .. })));
+        compared
     }
 
     /// Sends an action to an agent, and wakes one who waits for an agent: see [`World::send`].
@@ -291,7 +308,8 @@ impl<M: Meaning, C: Ledger, A: Ledger, K: Ledger> Shared<M, C, A, K> {
         sent
     }
 
-    /// Restarts a failed agent, and wakes one who waits for an agent: see [`World::restart`].
+    /// Restarts a failed agent, and wakes one who waits for an action to run, and those who wait for what it drops: see
+    /// [`World::restart`].
     pub fn restart<R: Wait, F: Functions<M>>(
         &self,
         rt: &R,
@@ -301,7 +319,15 @@ impl<M: Meaning, C: Ledger, A: Ledger, K: Ledger> Shared<M, C, A, K> {
         state: Value,
         clear: bool,
     ) -> Result<(), RestartFault> {
-        let restarted = self.lock(rt).world.restart(alloc, funs, g, state, clear);
+        let mut held = self.lock(rt);
+        let queued = if clear {
+            held.queued(g).unwrap_or(0)
+        } else {
+            0
+        };
+        let restarted = held.world.restart(alloc, funs, g, state, clear);
+        let wakes = restarted.is_ok() && held.waiters.end(g, queued, false);
+        self.free_and_wake(held, wakes);
         if restarted.is_ok() {
             self.ready.notify_one();
         }
@@ -329,35 +355,6 @@ impl<M: Meaning, C: Ledger, A: Ledger, K: Ledger> Shared<M, C, A, K> {
         self.lock(rt).world.view()
     }
 
-    /// Folds the entries up to this point into the base, and answers how many these were: see [`World::checkpoint`]. The lock is held
-    /// while these entries are replayed, for a step for each ref and atom, and for a logarithm of the entries that are left: so
-    /// not for longer than the entries since the last checkpoint take. Whoever calls it often holds it for a short time each.
-    pub fn checkpoint<R: Wait, F: Functions<M>>(
-        &self,
-        rt: &R,
-        alloc: Global,
-        funs: &F,
-        point: u64,
-    ) -> Result<u64, CheckpointFault> {
-        self.lock(rt).world.checkpoint(alloc, funs, point)
-    }
-
-    /// Drops the receipts of a share whose entries are folded into the base: see [`World::forget`]. The lock is held for a look at the
-    /// base, and the receipts are dropped with the lock free. A receipt holds its entry whole, so a checkpoint frees entries only once
-    /// the shares have forgotten them.
-    pub fn forget<R: Wait>(&self, rt: &R, share: &mut Share<C, A, K>)
-        ensures { (point : ℕ) × (share.new ≡ forgotten share.old point) }
-    {
-        let point = self.lock(rt).world.base().point;
-        share.forget(point);
-    }
-
-    /// Folds the account of an agent, and returns whether it did so: see [`World::fold_agent`]. The lock is held for a step for each action
-    /// that ended since the last fold or restart. Actions may be queued, on their way, and end meanwhile.
-    pub fn fold_agent<R: Wait>(&self, rt: &R, g: u32) -> Result<bool, AllocError> {
-        self.lock(rt).world.fold_agent(g)
-    }
-
     /// Takes the world out, with the totals of all its shares, which have to be joined again. It takes no lock and waits for
     /// nobody: it takes the whole shared world. The receipts are compared with the log by
     /// [`match_receipts`]; where they don't fit, or there is no memory to compare them, world and share come back. Of entries that a
@@ -378,10 +375,15 @@ impl<M: Meaning, C: Ledger, A: Ledger, K: Ledger> Shared<M, C, A, K> {
         ensures fault { IfErr result (λ e. GatherFails e.0.base.point e.0.log share.receipts e.2) }
         ensures back { IfErr result (λ e. e.1 ≡ share) }
     {
-        let Shared { held, ready: _ } = self;
+        let Shared {
+            held,
+            ready: _,
+            moved: _,
+        } = self;
         let Held {
             mut world,
             is_closed: _,
+            waiters: _,
         } = held.into_inner();
         // A world's points end at 2^62.
         let _ = world.point();

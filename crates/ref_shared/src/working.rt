@@ -54,8 +54,10 @@ impl<M: Meaning, C: Ledger, A: Ledger, K: Ledger> Shared<M, C, A, K> {
             Err((job, fault)) => return Err(self.give_up(rt, job, WorkFault::from(fault))),
         };
         gate.pass(Spot::AfterAction);
-        // The guard is dropped before the match.
-        let finished = self.lock(rt).world.finish(alloc, funs, ran);
+        let mut held = self.lock(rt);
+        let finished = held.world.finish(alloc, funs, ran);
+        let wakes = held.note_end(agent, &finished);
+        self.free_and_wake(held, wakes);
         match finished {
             Ok(finished) => {
                 let is_carrying = carries && matches!(&finished, Finished::Changed(_));
@@ -85,19 +87,28 @@ impl<M: Meaning, C: Ledger, A: Ledger, K: Ledger> Shared<M, C, A, K> {
         }
     }
 
-    /// Ends the waiting: from now on [`Shared::work_once`] answers [`Worked::Closed`] where no agent is ready. All who wait are
-    /// woken. Sends are still taken, and a commit's sends are still let out.
+    /// Ends the waiting: from now on [`Shared::work_once`] returns [`Worked::Closed`] where no agent is ready,
+    /// [`Shared::await_agents`] fails unless all is gone that it waits for, and [`Shared::transact_when`] unless its body is ready. All
+    /// who wait are woken. Sends are still taken, and a commit's sends are still released.
     pub fn close<R: Wait>(&self, rt: &R) {
         self.lock(rt).is_closed = true;
         self.ready.notify_all();
+        self.moved.notify_all();
     }
 
     // A job of a ready agent, waited for; none where all is closed and no agent is ready.
     fn next_job<R: Wait>(&self, rt: &R) -> Result<Option<Job>, AllocError> {
         let mut held = self.lock(rt);
         for _ in rt.forever() {
-            if let Some(job) = held.world.take()? {
-                return Ok(Some(job));
+            match held.world.take() {
+                Ok(Some(job)) => return Ok(Some(job)),
+                Ok(None) => {}
+                Err(e) => {
+                    // Somebody else may take it.
+                    drop(held);
+                    self.ready.notify_one();
+                    return Err(e);
+                }
             }
             if held.is_closed {
                 return Ok(None);

@@ -1,0 +1,129 @@
+-- Those who wait: for actions of agents to be gone, and for a transaction that isn't ready.
+use Rattle.std.specs.Prelude.{◌≡◌, ◌+◌, ◌<◌, ◌≤◌, ◌==◌, ℕ, Bool, true, false, not, ◌&&◌, ◌||◌, if◌then◌else◌, nat_le, min, List, [], ◌∷◌, filter, length, Option, None, Some, Result, Ok, Err}
+use Rattle.std.specs.List.{All, IsAmong}
+use Rattle.std.specs.Option.{is_some}
+use Rattle.std.specs.BTreeMap.{BTreeMap, get}
+use Rattle.std.specs.Ordering.{nat_cmp}
+use Rattle.std.proofs.Common.{◌⊎◌}
+use Rattle.ref_agents.specs.Agents.{error_at}
+use Rattle.ref_agents.specs.declared.agents.Agent.{Agent}
+use Rattle.ref_log.specs.declared.entries.Stamp.{Stamp}
+use Rattle.ref_refs.specs.Conflicts.{IsConflictOf}
+use Rattle.ref_refs.specs.declared.faults.Conflict.{Conflict}
+use Rattle.ref_world.specs.Seen.{ShareSeen}
+use Rattle.ref_shared.specs.Bodies.{BodyOf, Call, Called, IsFinal, earlier_of}
+use Rattle.ref_shared.specs.Commits.{HasCommitted}
+use Rattle.ref_shared.specs.declared.faults.AwaitFault.{AwaitFault}
+use Rattle.ref_shared.specs.declared.faults.AwaitFault.TheVariants as awaits
+use Rattle.ref_shared.specs.declared.faults.TransactFault.{TransactFault}
+use Rattle.ref_shared.specs.declared.faults.TransactFault.TheVariants as transacts
+use Rattle.ref_shared.specs.declared.faults.WaitFault.{WaitFault}
+use Rattle.ref_shared.specs.declared.faults.WaitFault.TheVariants as waits
+use Rattle.ref_shared.specs.declared.waiters.Awaited.{Awaited}
+use Rattle.ref_shared.specs.declared.waiters.Look.{Look}
+use Rattle.ref_shared.specs.declared.waiters.Look.TheVariants as looks
+use Rattle.ref_shared.specs.declared.waiters.Target.{Target}
+
+-- ---- agents
+
+-- what is stored of an agent, if somebody waits for it
+abbrev pub awaited_at : Option (BTreeMap ℕ Awaited) → ℕ → Option Awaited
+awaited_at None g = None
+awaited_at (Some agents) g = get nat_cmp agents g
+
+-- how many actions of an agent are gone since the first of those who wait for it came
+abbrev pub gone_in : Option Awaited → ℕ
+gone_in None = 0
+gone_in (Some awaited) = awaited.gone
+
+abbrev pub gone_at : Option (BTreeMap ℕ Awaited) → ℕ → ℕ
+gone_at agents g = gone_in (awaited_at agents g)
+
+-- Of this agent x is stored from now on, of each other what was.
+abbrev pub Stores : Option (BTreeMap ℕ Awaited) → Option (BTreeMap ℕ Awaited) → ℕ → Option Awaited → Type 0
+Stores old new g x = (awaited_at new g ≡ x) × ((h : ℕ) → (h == g) ≡ false → awaited_at new h ≡ awaited_at old h)
+
+-- so many more are gone
+abbrev pub and_gone : ℕ → Option Awaited → ℕ
+and_gone many None = 0
+and_gone many (Some awaited) = min (awaited.gone + many) (2 ^ 64 - 1)
+
+-- All is gone that is waited for.
+abbrev pub is_through : Option (BTreeMap ℕ Awaited) → Target → Bool
+is_through awaited target = nat_le target.count (gone_at awaited target.g)
+
+-- A look from an agent that isn't through at the others: one of them may be failed.
+abbrev pub left_of : Look → Look
+left_of looks.Through = looks.Left
+left_of looks.Left = looks.Left
+left_of (looks.Failed g) = looks.Failed g
+
+-- A look at what is waited for: the first agent that isn't through and is failed; else whether all are through.
+abbrev pub look_of : Option (BTreeMap ℕ Awaited) → List Agent → List Target → Look
+look_of awaited agents [] = looks.Through
+look_of awaited agents (target ∷ targets) =
+    if is_through awaited target then look_of awaited agents targets
+    else if is_some (error_at agents target.g) then looks.Failed target.g
+    else left_of (look_of awaited agents targets)
+
+-- The agent that a fault names is one of those that were waited for.
+abbrev pub NamesOneOf : List ℕ → AwaitFault → Type 0
+NamesOneOf agents (awaits.NoSuchAgent g) = IsAmong agents g
+NamesOneOf agents (awaits.Failed g) = IsAmong agents g
+NamesOneOf agents awaits.Closed = Unit {0}
+NamesOneOf agents awaits.Memory = Unit {0}
+
+-- ---- transactions
+
+-- whether a body returned a value, so that a commit was tried
+abbrev pub is_value : {T E : Type 0} → Result (Option T) E → Bool
+is_value (Ok None) = false
+is_value (Ok (Some answer)) = true
+is_value (Err e) = false
+
+-- the calls after which a commit was tried
+abbrev pub tried : {T E : Type 0} → List (Call (Result (Option T) E)) → List (Call (Result (Option T) E))
+tried calls = filter (λ call. is_value call.answer) calls
+
+-- A call after which the commit of what it left was in conflict.
+pub record IsInConflict {T E : Type 0} (call : Call (Result (Option T) E)) : Type 0 where
+  pub answered : is_value call.answer ≡ true
+  pub conflict : Conflict
+  pub fits : IsConflictOf call.left conflict
+
+-- A call after which the body is called again: it wasn't ready, or the commit of what it left was in conflict.
+abbrev pub IsCalledAgain : {T E : Type 0} → Call (Result (Option T) E) → Type 0
+IsCalledAgain call = (call.answer ≡ Ok None) ⊎ IsInConflict call
+
+-- These are all calls of the body that there were, and after at most so many of them a commit was tried. Each but the last wasn't ready
+-- or ended in a conflict.
+pub record AllWaits {B T E : Type 0} (g : BodyOf B (Result (Option T) E)) (body last : B) (calls : List (Call (Result (Option T) E))) (tries : ℕ) : Type 0 where
+  pub called : Called g body calls last
+  pub few : length (tried calls) ≤ tries
+  pub again : All IsCalledAgain (earlier_of calls)
+
+-- The last call of the body returned this value, and what it left was committed.
+pub record Landed {B T E : Type 0} (g : BodyOf B (Result (Option T) E)) (body last : B) (tries : ℕ) (answer : T) (stamp : Stamp) (point : ℕ) (old new : ShareSeen) : Type 0 where
+  pub call : Call (Result (Option T) E)
+  pub earlier : List (Call (Result (Option T) E))
+  pub calls : AllWaits g body last (call ∷ earlier) tries
+  pub answered : call.answer ≡ Ok (Some answer)
+  pub landed : HasCommitted stamp call.left point old new
+
+-- When a transaction that waits fails: closed behind a last call that wasn't ready; giving up after all tries, with a conflict of what
+-- the last call left; with a body's fault as the last call returned it; with a commit's fault behind a last call that returned a value.
+abbrev pub WaitFails : {B T E : Type 0} → BodyOf B (Result (Option T) E) → B → B → ℕ → WaitFault E → Type 0
+WaitFails {B} {T} {E} g body last tries waits.Closed =
+    (call : Call (Result (Option T) E)) × (earlier : List (Call (Result (Option T) E))) × AllWaits g body last (call ∷ earlier) tries
+    × (call.answer ≡ Ok None)
+WaitFails {B} {T} {E} g body last tries (waits.Transact (transacts.GaveUp n conflict)) =
+    (call : Call (Result (Option T) E)) × (earlier : List (Call (Result (Option T) E))) × AllWaits g body last (call ∷ earlier) tries
+    × (is_value call.answer ≡ true) × (n ≡ tries) × (length (tried (call ∷ earlier)) ≡ tries) × IsConflictOf call.left conflict
+WaitFails {B} {T} {E} g body last tries (waits.Transact (transacts.Body e)) =
+    (call : Call (Result (Option T) E)) × (earlier : List (Call (Result (Option T) E))) × AllWaits g body last (call ∷ earlier) tries
+    × (call.answer ≡ Err e)
+WaitFails {B} {T} {E} g body last tries (waits.Transact (transacts.Commit fault)) =
+    (call : Call (Result (Option T) E)) × (earlier : List (Call (Result (Option T) E))) × AllWaits g body last (call ∷ earlier) tries
+    × (is_value call.answer ≡ true) × IsFinal fault
+WaitFails {B} {T} {E} g body last tries (waits.Transact transacts.Memory) =
+    (calls : List (Call (Result (Option T) E))) × AllWaits g body last calls tries

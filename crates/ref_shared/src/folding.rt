@@ -1,0 +1,95 @@
+//! What a program that stays up folds: the log, the receipts of shares, and the accounts of agents.
+ghost use Rattle.std.specs.Prelude.{◌≡◌, ◌<◌, ℕ};
+ghost use Rattle.ref_world.specs.Shares.{forgotten};
+
+use crate::shared::Shared;
+use ref_fun::{Functions, Meaning};
+use ref_world::{CheckpointFault, Share};
+use std::alloc::{AllocError, Global};
+use std::sync::Wait;
+use std::sync::ledger::Ledger;
+
+impl<M: Meaning, C: Ledger, A: Ledger, K: Ledger> Shared<M, C, A, K> {
+    /// Folds the entries up to this point into the base, and answers how many these were: see [`World::checkpoint`]. The lock is held
+    /// while these entries are replayed, for a step for each ref and atom, and for a logarithm of the entries that are left: so
+    /// not for longer than the entries since the last checkpoint take. Whoever calls it often holds it for a short time each.
+    pub fn checkpoint<R: Wait, F: Functions<M>>(
+        &self,
+        rt: &R,
+        alloc: Global,
+        funs: &F,
+        point: u64,
+    ) -> Result<u64, CheckpointFault> {
+        self.lock(rt).world.checkpoint(alloc, funs, point)
+    }
+
+    /// Folds the entries up to this point into the base, so many at a time, and returns how many it folded: the lock is free between two
+    /// bites, and held for one bite at a time. Entries that are folded already, also by others meanwhile, aren't counted, so for a point
+    /// that isn't past the base's it returns 0.
+    ///
+    /// It fails as [`Shared::checkpoint`]: for a point past the present with nothing changed; if memory or a function is lacking, what
+    /// was folded before stays folded. Each bite copies the base, which takes a step for each ref and atom: with many of them take large
+    /// bites.
+    pub fn checkpoint_in_bites<R: Wait, F: Functions<M>>(
+        &self,
+        rt: &R,
+        alloc: Global,
+        funs: &F,
+        point: u64,
+        bite: u32,
+    ) -> Result<u64, CheckpointFault>
+        requires { 0 < bite }
+    {
+        let mut folded = 0u64;
+        for _ in rt.forever() {
+            match self.fold_bite(rt, alloc, funs, point, bite)? {
+                0 => return Ok(folded),
+                count => folded = folded.saturating_add(count),
+            }
+        }
+        unreachable!()
+    }
+
+    // Folds at most so many entries up to this point, and returns how many. 0 only where all up to it are folded.
+    fn fold_bite<R: Wait, F: Functions<M>>(
+        &self,
+        rt: &R,
+        alloc: Global,
+        funs: &F,
+        point: u64,
+        bite: u32,
+    ) -> Result<u64, CheckpointFault>
+        requires { 0 < bite }
+    {
+        let mut held = self.lock(rt);
+        if point > held.world.point() {
+            return Err(CheckpointFault::NoSuchPoint);
+        }
+        let base = held.world.base().point;
+        if point <= base {
+            return Ok(0);
+        }
+        let to = if point - base < bite as u64 {
+            point
+        } else {
+            base + bite as u64
+        };
+        held.world.checkpoint(alloc, funs, to)
+    }
+
+    /// Drops the receipts of a share whose entries are folded into the base: see [`World::forget`]. The lock is held for a look at the
+    /// base, and the receipts are dropped with the lock free. A receipt holds its entry whole, so a checkpoint frees entries only once
+    /// the shares have forgotten them.
+    pub fn forget<R: Wait>(&self, rt: &R, share: &mut Share<C, A, K>)
+        ensures { (point : ℕ) × (share.new ≡ forgotten share.old point) }
+    {
+        let point = self.lock(rt).world.base().point;
+        share.forget(point);
+    }
+
+    /// Folds the account of an agent, and returns whether it did so: see [`World::fold_agent`]. The lock is held for a step for each action
+    /// that ended since the last fold or restart. Actions may be queued, on their way, and end meanwhile.
+    pub fn fold_agent<R: Wait>(&self, rt: &R, g: u32) -> Result<bool, AllocError> {
+        self.lock(rt).world.fold_agent(g)
+    }
+}

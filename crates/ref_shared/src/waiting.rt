@@ -1,0 +1,174 @@
+//! Waiting: for the actions that were sent to agents, and for an entry after which a transaction may be ready.
+ghost use Rattle.std.specs.Prelude.{◌≡◌, ◌<◌, IfOk, IfErr, OnErr};
+ghost use Rattle.ref_shared.specs.Sinks.{TakesAll};
+ghost use Rattle.ref_shared.specs.Waits.{Landed, NamesOneOf, WaitFails};
+
+use crate::faults::{AwaitFault, TransactFault, WaitFault};
+use crate::gates::{Gate, Spot, WatchSink, tell};
+use crate::shared::{Held, Shared};
+use crate::waiters::Look;
+use ref_fun::{Core, Functions, Meaning};
+use ref_log::Stamp;
+use ref_refs::CommitFault;
+use ref_tx::Tx;
+use ref_world::{Receipt, Share};
+use std::alloc::Global;
+use std::sync::ledger::Ledger;
+use std::sync::{MutexGuard, Wait};
+
+impl<M: Meaning, C: Ledger, A: Ledger, K: Ledger> Shared<M, C, A, K> {
+    /// Waits until each action that these agents had in their queues when it was called is gone: it ended, or was dropped by a
+    /// restart. That is Clojure's `await`, for all actions and not for the caller's alone. For no agents it returns at once.
+    ///
+    /// It fails at once if one of these agents isn't there, or there is no memory. It fails as soon as one of them is failed while
+    /// an action waits behind the failure, and then names it; and once the shared world is closed, unless all is gone. Sends of a
+    /// commit that isn't released are in the queue, so they are waited for, too.
+    ///
+    /// It takes memory for each agent that nobody waits for yet, and costs a logarithm of the number of agents that are waited for,
+    /// for each agent and each time when it is woken. Whoever calls it from an action, a gate or a sink of `work_once` waits for
+    /// ever if the action that it waits for is its own.
+    pub fn await_agents<R: Wait>(
+        &self,
+        rt: &R,
+        alloc: Global,
+        agents: &[u32],
+    ) -> Result<(), AwaitFault>
+        ensures fault { IfErr result (λ f. NamesOneOf agents.now f) }
+    {
+        let mut held = self.lock(rt);
+        let targets = held.enter_all(alloc, agents)?;
+        for _ in rt.forever() {
+            let ended = match held.look(targets.as_slice()) {
+                Look::Through => Some(Ok(())),
+                Look::Failed(g) => Some(Err(AwaitFault::Failed(g))),
+                Look::Left if held.is_closed => Some(Err(AwaitFault::Closed)),
+                Look::Left => None,
+            };
+            if let Some(ended) = ended {
+                held.leave_all(targets.as_slice());
+                return ended;
+            }
+            held.wake_all(targets.as_slice());
+            held = self.moved.wait(rt, held);
+        }
+        unreachable!()
+    }
+
+    // Waits for an entry past this point. False where the shared world is closed and there is none.
+    fn wait_past<R: Wait>(&self, rt: &R, point: u64) -> bool {
+        let mut held = self.lock(rt);
+        for _ in rt.forever() {
+            if held.world.point() > point {
+                return true;
+            }
+            if held.is_closed {
+                return false;
+            }
+            held.waiters.for_entries = held.waiters.for_entries.saturating_add(1);
+            held = self.moved.wait(rt, held);
+            held.waiters.for_entries = held.waiters.for_entries.saturating_sub(1);
+        }
+        unreachable!()
+    }
+
+    // Frees the lock, and wakes those who wait for an entry if one has come.
+    pub(crate) fn free_with_entry(&self, held: MutexGuard<'_, Held<M, C, A, K>>, has_come: bool) {
+        let wakes = has_come && held.waiters.for_entries > 0;
+        self.free_and_wake(held, wakes);
+    }
+
+    // Frees the lock, and wakes those who wait for an entry or for an agent, if asked.
+    pub(crate) fn free_and_wake(&self, held: MutexGuard<'_, Held<M, C, A, K>>, wakes: bool) {
+        drop(held);
+        if wakes {
+            self.moved.notify_all();
+        }
+    }
+}
+
+impl<C: Ledger, A: Ledger, K: Ledger> Shared<Core, C, A, K> {
+    /// As [`Shared::transact_by`], but the body may also return None, which says that it isn't ready. Then the transaction is dropped,
+    /// the thread sleeps until an entry has come since the transaction began, and all begins anew. That is `retry` of Haskell's
+    /// STM, by the world's point alone: each commit, each change of an atom and each making of a ref or atom wakes each transaction
+    /// that waits. `tries` counts the commits that were tried, so it doesn't limit how often the body is called.
+    ///
+    /// It fails with [`WaitFault::Closed`] if the shared world is closed, the body isn't ready, and no entry has come since the
+    /// transaction began; with [`WaitFault::Transact`] as `transact_by`.
+    pub fn transact_when<
+        R: Wait,
+        F: Functions<Core>,
+        T: Drop,
+        E,
+        G: Gate,
+        S: WatchSink,
+        B: FnMut(&mut Tx<Core>) -> Result<Option<T>, E>,
+    >(
+        &self,
+        rt: &R,
+        alloc: Global,
+        funs: &F,
+        share: &mut Share<C, A, K>,
+        stamp: Stamp,
+        tries: u32,
+        gate: &mut G,
+        sink: &mut S,
+        body: &mut B,
+    ) -> Result<(T, Receipt), WaitFault<E>>
+        requires body { B.IsAlwaysCallable body.old }
+        requires tries { 0 < tries }
+        ensures ok { IfOk result (λ r. Landed B.FnMut body.old body.new tries
+            r.0 stamp r.1.point share.old share.new) }
+        ensures stamp { IfOk result (λ r. r.1.stamp ≡ stamp) }
+        ensures fault { IfErr result (λ f. WaitFails B.FnMut body.old body.new tries f) }
+        ensures same { OnErr result (share.new ≡ share.old) }
+        ensures told { IfOk result (λ r. TakesAll S.takes sink.old r.1.notices.items sink.new) }
+        ensures untold { OnErr result (sink.new ≡ sink.old) }
+    {
+        let mut conflicts = 0u32;
+        for _ in rt.forever() {
+            let Ok(mut tx) = self.begin(rt, alloc) else {
+                return Err(WaitFault::Transact(TransactFault::Memory));
+            };
+            gate.pass(Spot::BeforeBody);
+            let answer = match body(&mut tx) {
+                Ok(answer) => answer,
+                Err(e) => return Err(WaitFault::Transact(TransactFault::Body(e))),
+            };
+            gate.pass(Spot::AfterBody);
+            let Some(answer) = answer else {
+                // What the transaction began with is dropped before the thread sleeps.
+                let point = tx.read_point();
+                drop(tx);
+                if !self.wait_past(rt, point) {
+                    return Err(WaitFault::Closed);
+                }
+                continue;
+            };
+            let has_sends = !tx.sends().is_empty();
+            match self.commit(rt, alloc, funs, share, stamp, tx) {
+                Ok(receipt) => {
+                    gate.pass(Spot::AfterCommit);
+                    tell(sink, receipt.notices.as_slice());
+                    if has_sends {
+                        self.release(rt, receipt.point);
+                    }
+                    return Ok((answer, receipt));
+                }
+                Err((_, fault)) => match fault {
+                    CommitFault::Conflict(conflict) => {
+                        conflicts += 1;
+                        if conflicts == tries {
+                            return Err(WaitFault::Transact(TransactFault::GaveUp {
+                                tries,
+                                conflict,
+                            }));
+                        }
+                    }
+                    CommitFault::Memory => return Err(WaitFault::Transact(TransactFault::Memory)),
+                    fault => return Err(WaitFault::Transact(TransactFault::Commit(fault))),
+                },
+            }
+        }
+        unreachable!()
+    }
+}
