@@ -222,7 +222,7 @@ impl<M: Meaning, C: Ledger, A: Ledger, K: Ledger> Held<M, C, A, K> {
     ) -> Result<Vec<Target>, AwaitFault>
         ensures targets { IfOk result (λ targets. targets.items
             ≡ map (target_of self.old.waiters.agents self.old.world.agents.agents) agents.now) }
-        ensures counts { (h : ℕ) → gone_at self.new.waiters.agents h ≡ gone_at self.old.waiters.agents h }
+        ensures counts { OnOk result ((h : ℕ) → gone_at self.new.waiters.agents h ≡ gone_at self.old.waiters.agents h) }
         ensures fault { IfErr result (λ f. NamesOneOf agents.now f) }
     {
         let mut targets = Vec::new(alloc);
