@@ -15,7 +15,6 @@ use Rattle.ref_shared.specs.Bodies.{BodyOf, Call, Called, IsFinal, earlier_of}
 use Rattle.ref_shared.specs.Commits.{HasCommitted}
 use Rattle.ref_shared.specs.declared.faults.AwaitFault.{AwaitFault}
 use Rattle.ref_shared.specs.declared.faults.AwaitFault.TheVariants as awaits
-use Rattle.ref_shared.specs.declared.faults.TransactFault.{TransactFault}
 use Rattle.ref_shared.specs.declared.faults.TransactFault.TheVariants as transacts
 use Rattle.ref_shared.specs.declared.faults.WaitFault.{WaitFault}
 use Rattle.ref_shared.specs.declared.faults.WaitFault.TheVariants as waits

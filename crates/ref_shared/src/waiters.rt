@@ -226,20 +226,18 @@ impl<M: Meaning, C: Ledger, A: Ledger, K: Ledger> Held<M, C, A, K> {
         ensures fault { IfErr result (λ f. NamesOneOf agents.now f) }
     {
         let mut targets = Vec::new(alloc);
-        if targets.reserve(agents.len()).is_err() {
-            return Err(AwaitFault::Memory);
-        }
         for g in agents {
-            match self.enter(alloc, *g) {
-                Ok(target) => {
-                    if targets.push(target).is_err() {
-                        unreachable!()
-                    }
-                }
+            let target = match self.enter(alloc, *g) {
+                Ok(target) => target,
                 Err(fault) => {
                     self.leave_all(targets.as_slice());
                     return Err(fault);
                 }
+            };
+            if targets.push(target).is_err() {
+                self.waiters.leave(*g);
+                self.leave_all(targets.as_slice());
+                return Err(AwaitFault::Memory);
             }
         }
         Ok(targets)
