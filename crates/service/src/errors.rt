@@ -1,4 +1,7 @@
 //! The errors of actions, which no agent stores if it goes on.
+ghost use Rattle.std.specs.Prelude.{◌≡◌, ◌+◌, ◌-◌, ◌^◌, min};
+ghost use Rattle.service.specs.Errors.{errors_in};
+
 use ref_agents::Finished;
 use ref_log::Notice;
 use ref_shared::WatchSink;
@@ -15,16 +18,22 @@ impl WatchSink for Errors {
     fn told(&mut self, _notice: &Notice) {}
 
     fn ended(&mut self, _agent: u32, finished: &Finished) {
-        match finished {
-            Finished::Changed(_) => {}
-            Finished::Failed(_) | Finished::Continued(_) => {
-                self.count = self.count.saturating_add(1);
-            }
-        }
+        self.hear(finished);
     }
 }
 
 impl Errors {
+    // Counts an error if the action ended with one.
+    fn hear(&mut self, finished: &Finished)
+        ensures { self.new.count ≡ min (self.old.count + errors_in finished.now) (2 ^ 64 - 1) }
+    {
+        let errors = match finished {
+            Finished::Changed(_) => 0,
+            Finished::Failed(_) | Finished::Continued(_) => 1,
+        };
+        self.count = self.count.saturating_add(errors);
+    }
+
     /// The errors of two sinks, added up.
     pub(crate) fn with(self, other: Errors) -> Errors {
         Errors {
