@@ -13,10 +13,10 @@ use std::sync::Wait;
 use std::sync::ledger::Ledger;
 
 // How much is taken between two folds: what some thousand sales bring.
-const TAKINGS_TO_A_FOLD: i64 = 2_500;
+pub(crate) const TAKINGS_TO_A_FOLD: i64 = 2_500;
 
 // How many entries are folded while the lock is held.
-const BITE: u32 = 1_000;
+pub(crate) const BITE: u32 = 1_000;
 
 /// Folds until the shop is closed, and returns its share.
 pub(crate) fn keep_folding<C: Ledger, A: Ledger, K: Ledger, R: Wait, F: Functions<Core>>(
@@ -57,7 +57,7 @@ fn fold_each<C: Ledger, A: Ledger, K: Ledger, R: Wait, F: Functions<Core>>(
 }
 
 // Waits until so much was taken, and notes it in the world, at the point that is returned. None where the shop is closed before.
-fn wait_for<C: Ledger, A: Ledger, K: Ledger, R: Wait, F: Functions<Core>>(
+pub(crate) fn wait_for<C: Ledger, A: Ledger, K: Ledger, R: Wait, F: Functions<Core>>(
     rt: &R,
     shop: &Shop<F, C, A, K>,
     share: &mut Share<C, A, K>,

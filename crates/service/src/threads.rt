@@ -68,7 +68,7 @@ fn sell_and_fold<
 }
 
 // Sells, and closes the shop, also where selling failed.
-fn sell_until_close<
+pub(crate) fn sell_until_close<
     C: Ledger + Send + Sync,
     A: Ledger + Send + Sync,
     K: Ledger + Send + Sync,
@@ -88,7 +88,7 @@ fn sell_until_close<
 }
 
 // What came of two, as one.
-fn both<C: Ledger, A: Ledger, K: Ledger>(
+pub(crate) fn both<C: Ledger, A: Ledger, K: Ledger>(
     one: Result<Done<C, A, K>, Trouble>,
     other: Result<Done<C, A, K>, Trouble>,
 ) -> Result<Done<C, A, K>, Trouble> {
