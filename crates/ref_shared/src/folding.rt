@@ -78,9 +78,9 @@ impl<M: Meaning, C: Ledger, A: Ledger, K: Ledger> Shared<M, C, A, K> {
         fold_and_free(held, alloc, funs, to)
     }
 
-    /// Drops the receipts of a share whose entries are folded into the base: see [`ref_world::World::forget`]. The lock is held for a
-    /// look at the base, and the receipts are dropped with the lock free. A receipt holds its entry whole, so a checkpoint frees entries only once
-    /// the shares have forgotten them.
+    /// Drops the receipts of a share whose entries are folded into the base: see [`ref_world::World::forget`]. The lock is held for a look at
+    /// the base, and the receipts are dropped with the lock free. A receipt holds its entry whole, so a checkpoint frees entries only once the
+    /// shares have forgotten them.
     pub fn forget<R: Wait>(&self, rt: &R, share: &mut Share<C, A, K>)
         ensures { (point : ℕ) × (share.new ≡ forgotten share.old point) }
     {
@@ -88,8 +88,9 @@ impl<M: Meaning, C: Ledger, A: Ledger, K: Ledger> Shared<M, C, A, K> {
         share.forget(point);
     }
 
-    /// Folds the account of an agent, and returns whether it did so: see [`ref_world::World::fold_agent`]. The lock is held for a step
-    /// for each action that ended since the last fold or restart: what is dropped is dropped under it. Actions may be queued, on their way, and end meanwhile.
+    /// Folds the account of an agent, and returns whether it did so: see [`ref_world::World::fold_agent`]. The lock is held for a step for each
+    /// action that ended since the last fold or restart: what is dropped is dropped under it. Actions may be queued, on their way, and end
+    /// meanwhile.
     pub fn fold_agent<R: Wait>(&self, rt: &R, g: u32) -> Result<bool, AllocError> {
         self.lock(rt).world.fold_agent(g)
     }

@@ -41,11 +41,12 @@ pub(crate) struct Held<M: Meaning, C: Ledger, A: Ledger, K: Ledger> {
 
 /// A world that threads share.
 ///
-/// It stands under one lock. Each call but [`Shared::new`] and [`Shared::finish`] takes that lock, makes one step on the world, or none
-/// as [`Shared::close`], and then releases it; [`Shared::transact`], [`Shared::transact_when`], [`Shared::work_once`],
-/// [`Shared::await_agents`] and [`Shared::checkpoint_in_bites`] take it for each of their steps. The lock is never held while a transaction's body, an action, a gate or a sink runs, and whenever it is free, the world is as the type
-/// [`World`] guarantees. What was found at one lock need not hold at the next. Where a commit commutes, where an atom is
-/// changed and where a rule is asked, the table's functions are called under the lock: they are to be quick.
+/// It stands under one lock. Each call but [`Shared::new`] and [`Shared::finish`] takes that lock, makes one step on the world, or none as
+/// [`Shared::close`], and then releases it; [`Shared::transact`], [`Shared::transact_when`], [`Shared::work_once`],
+/// [`Shared::await_agents`] and [`Shared::checkpoint_in_bites`] take it for each of their steps. The lock is never held while a
+/// transaction's body, an action, a gate or a sink runs, and whenever it is free, the world is as the type [`World`] guarantees. What was
+/// found at one lock need not hold at the next. Where a commit commutes, where an atom is changed and where a rule is asked, the table's
+/// functions are called under the lock: they are to be quick.
 ///
 /// The calls may wait for the lock, and promise what they say where they return. A thread that never lets its body, its gate or
 /// its sink return holds up nobody who waits for the lock.
