@@ -13,7 +13,10 @@ pub(crate) struct Errors {
 }
 
 impl WatchSink for Errors {
-    ghost ends = { λ _ _ _ _. Unit {0} };
+    ghost use Rattle.std.specs.Prelude.{◌≡◌, ◌+◌, ◌-◌, ◌^◌, min};
+    ghost use Rattle.service.specs.Errors.{errors_in};
+
+    ghost ends = { λ before _ finished after. after.count ≡ min (before.count + errors_in finished) (2 ^ 64 - 1) };
 
     fn told(&mut self, _notice: &Notice) {}
 

@@ -19,7 +19,9 @@ pub(crate) struct Stamps {
 
 impl Stamps {
     /// The stamps of a thread, from its first worker on.
-    pub(crate) fn of(worker: u32) -> Stamps {
+    pub(crate) fn of(worker: u32) -> Stamps
+        ensures { result.next.worker ≡ worker }
+    {
         Stamps {
             next: Stamp {
                 worker,
