@@ -5,15 +5,20 @@
 //! |---|---|
 //! | `calls`, `makings`, `conflicts`, `finishing` | each call, what is made, transactions that are tried again, the end |
 //! | `work`, `ends`, `kept` | agents, how a sink hears of their actions, and what a world has when it comes out again |
-//! | `folds` | what is dropped: receipts of folded entries, and actions that ended |
+//! | `folds`, `bites` | what is dropped: receipts of folded entries, and actions that ended; a log that is folded in bites |
+//! | `awaits`, `whens` | waiting for agents, and transactions that wait, where neither has to sleep |
 //! | `strangers` | transactions that were begun in another world |
 //! | `faults` | what faults say |
-//! | `tables`, `same` | a table that may want memory or predicates; an assertion |
+//! | `same` | an assertion |
 //! | [`worlds`], [`jobs`] | making worlds and values, and what is read of them; two agents, and what runs their actions |
 //! | [`scenarios`], [`steps`] | running a scenario on a new shared world; single steps on one |
-//! | [`numbers`] | the number that a value is |
+//! | [`numbers`], [`tables`] | the number that a value is; a table that may want memory or predicates |
 #![tactic(auto)]
 
+#[cfg(test)]
+mod awaits;
+#[cfg(test)]
+mod bites;
 #[cfg(test)]
 mod calls;
 #[cfg(test)]
@@ -38,8 +43,9 @@ pub mod scenarios;
 pub mod steps;
 #[cfg(test)]
 mod strangers;
+pub mod tables;
 #[cfg(test)]
-mod tables;
+mod whens;
 #[cfg(test)]
 mod work;
 pub mod worlds;
