@@ -123,6 +123,42 @@ fn most_forms(rt: HostRuntime) -> Result<(), Fail> {
     Ok(())
 }
 
+// The start of a folded account is the state, and of what was handled only the action that failed the agent is left.
+#[test]
+fn two_folds(rt: HostRuntime) -> Result<(), Fail> {
+    let declared = Declared {
+        refs: &[],
+        tally: NO_TALLY,
+        atoms: &[],
+        agents: &[
+            Given {
+                name: "g",
+                value: "0",
+                rule: Some((101, "[0]")),
+            },
+            G,
+        ],
+    };
+    let steps = [
+        Step::Send(0, 1, "[1]"),
+        Step::Act,
+        Step::Send(0, 2, "[5]"),
+        Step::Act,
+        Step::Send(1, 1, "[10]"),
+        Step::Act,
+        Step::Fold(0),
+        Step::Fold(1),
+        Step::Send(1, 1, "[2]"),
+        Step::Act,
+    ];
+    let seen = seen(rt.alloc(), &declared, &steps)?;
+    assert_eq!(rt;
+        seen.dumped?.as_slice(),
+        b"{:added 0, :agents [[1 [[- [5] [] :failed]] [] 1 :failed [>= 0]] [10 [[+ [2] [] :done]] [] 12 :ready nil]], :atoms [], :base-atoms [], :base-refs [], :commits 0, :dump 3, :entries [], :folded [0 0 0], :point 0, :refs [], :taken 0, :tally nil}".as_slice()
+    );
+    Ok(())
+}
+
 #[test]
 fn an_action_without_a_name(rt: HostRuntime) -> Result<(), Fail> {
     let declared = Declared {

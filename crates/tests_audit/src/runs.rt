@@ -67,6 +67,8 @@ pub(crate) enum Step<'a> {
     ReleaseCarried(u32),
     /// The action of some agent is taken, run and finished.
     Act,
+    /// The account of this agent is folded.
+    Fold(u32),
     /// The entries up to this point are folded.
     Checkpoint(u64),
 }
@@ -233,6 +235,13 @@ fn take_step<C: Ledger, A: Ledger, K: Ledger>(
             }
         }
         Step::Act => act(alloc, funs, world),
+        Step::Fold(g) => {
+            if world.fold_agent(*g)? {
+                Ok(())
+            } else {
+                Err(Fail::new("no account is folded"))
+            }
+        }
         Step::Checkpoint(point) => {
             let _folded = world.checkpoint(alloc, funs, *point)?;
             Ok(())
