@@ -20,21 +20,21 @@ use std::sync::ledger::Ledger;
 use std::test::Fail;
 
 // The stamp of another caller's commit.
-fn other(step: u32) -> Stamp {
+pub(crate) fn other(step: u32) -> Stamp {
     Stamp { worker: 1, step }
 }
 
 // A gate that lets another caller set a to 10 at the first bodies, before or after them, and counts the bodies.
 #[derive(Drop)]
-struct Between<'a, 'b, R: Wait, C: Ledger, A: Ledger, K: Ledger> {
-    rt: &'a R,
-    shared: &'b Shared<Core, C, A, K>,
-    alloc: Global,
-    share: Share<C, A, K>,
-    at: Spot,
-    left: u32,
-    step: u32,
-    bodies: u32,
+pub(crate) struct Between<'a, 'b, R: Wait, C: Ledger, A: Ledger, K: Ledger> {
+    pub(crate) rt: &'a R,
+    pub(crate) shared: &'b Shared<Core, C, A, K>,
+    pub(crate) alloc: Global,
+    pub(crate) share: Share<C, A, K>,
+    pub(crate) at: Spot,
+    pub(crate) left: u32,
+    pub(crate) step: u32,
+    pub(crate) bodies: u32,
 }
 
 impl<'a, 'b, R: Wait, C: Ledger, A: Ledger, K: Ledger> Gate for Between<'a, 'b, R, C, A, K> {
@@ -190,7 +190,7 @@ fn try_beside<C: Ledger, A: Ledger, K: Ledger, R: Wait>(
     Ok(tried)
 }
 
-fn give_rule<C: Ledger, A: Ledger, K: Ledger, R: Wait>(
+pub(crate) fn give_rule<C: Ledger, A: Ledger, K: Ledger, R: Wait>(
     rt: &R,
     alloc: Global,
     shared: &Shared<Core, C, A, K>,

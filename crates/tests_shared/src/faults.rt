@@ -1,7 +1,7 @@
 //! What the faults of shared worlds say.
 use crate::same::same;
 use ref_refs::{CommitFault, Conflict};
-use ref_shared::{GatherFault, TransactFault, WorkFault};
+use ref_shared::{AwaitFault, GatherFault, TransactFault, WaitFault, WorkFault};
 use ref_tx::TxFault;
 use ref_world::CheckpointFault;
 use std::fmt::Display;
@@ -76,6 +76,30 @@ const CHECKPOINT_FAULTS: &[(CheckpointFault, u8, &str)] = &[
     (CheckpointFault::NoSuchFun(7), 9, "no function has code 7"),
 ];
 
+const AWAIT_FAULTS: &[(AwaitFault, u8, &str)] = &[
+    (AwaitFault::NoSuchAgent(7), 1, "there is no agent 7"),
+    (AwaitFault::Failed(7), 2, "agent 7 is failed"),
+    (AwaitFault::Closed, 3, "closed before all was done"),
+    (AwaitFault::Memory, 4, "out of memory"),
+];
+
+// They have no number of their own.
+const WAIT_FAULTS: &[(WaitFault<TxFault>, &str)] = &[
+    (WaitFault::Closed, "closed before it was ready"),
+    (
+        WaitFault::Transact(TransactFault::GaveUp {
+            tries: 3,
+            conflict: CONFLICT,
+        }),
+        "given up after 3 tries: ref 4 has changed",
+    ),
+    (
+        WaitFault::Transact(TransactFault::Body(TxFault::NoSuchRef)),
+        "the body ended it: no such ref",
+    ),
+    (WaitFault::Transact(TransactFault::Memory), "out of memory"),
+];
+
 #[test]
 fn faults_of_shared_worlds_say_what_they_are(rt: HostRuntime) -> Result<(), Fail> {
     for (fault, number, words) in TRANSACT_FAULTS {
@@ -89,6 +113,17 @@ fn faults_of_shared_worlds_say_what_they_are(rt: HostRuntime) -> Result<(), Fail
     }
     for (fault, number, words) in CHECKPOINT_FAULTS {
         check(&rt, fault, fault.number(), *number, words)?;
+    }
+    Ok(())
+}
+
+#[test]
+fn faults_of_waiting_say_what_they_are(rt: HostRuntime) -> Result<(), Fail> {
+    for (fault, number, words) in AWAIT_FAULTS {
+        check(&rt, fault, fault.number(), *number, words)?;
+    }
+    for (fault, words) in WAIT_FAULTS {
+        check(&rt, fault, 0, 0, words)?;
     }
     Ok(())
 }

@@ -5,7 +5,8 @@
 //! |---|---|
 //! | `calls`, `makings`, `conflicts`, `finishing` | each call, what is made, transactions that are tried again, the end |
 //! | `work`, `ends`, `kept` | agents, how a sink hears of their actions, and what a world has when it comes out again |
-//! | `folds` | what is dropped: receipts of folded entries, and actions that ended |
+//! | `folds`, `bites` | what is dropped: receipts of folded entries, and actions that ended; a log that is folded in bites |
+//! | `awaits`, `whens` | waiting for agents, and transactions that wait, where neither has to sleep |
 //! | `strangers` | transactions that were begun in another world |
 //! | `faults` | what faults say |
 //! | `tables`, `same` | a table that may want memory or predicates; an assertion |
@@ -14,6 +15,10 @@
 //! | [`numbers`] | the number that a value is |
 #![tactic(auto)]
 
+#[cfg(test)]
+mod awaits;
+#[cfg(test)]
+mod bites;
 #[cfg(test)]
 mod calls;
 #[cfg(test)]
@@ -40,6 +45,8 @@ pub mod steps;
 mod strangers;
 #[cfg(test)]
 mod tables;
+#[cfg(test)]
+mod whens;
 #[cfg(test)]
 mod work;
 pub mod worlds;

@@ -39,7 +39,7 @@ pub(crate) fn nudge<R: Wait, C: Ledger, A: Ledger, K: Ledger>(
 // ---- By a send, by a release, and at the end
 
 // Works three times, and says before each that it comes, and when it has ended.
-fn work_thrice<R: Wait, C: Ledger, A: Ledger, K: Ledger>(
+pub(crate) fn work_thrice<R: Wait, C: Ledger, A: Ledger, K: Ledger>(
     rt: &R,
     alloc: Global,
     shared: &Shared<Core, C, A, K>,

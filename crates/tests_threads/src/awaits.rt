@@ -1,0 +1,572 @@
+//! Who waits for agents returns once all is gone that was there when it came, and not before.
+ghost use Rattle.std.specs.Prelude.{◌≡◌};
+ghost use Rattle.ref_world.specs.Shares.{IsBlank};
+
+use crate::flags::Flags;
+use crate::side_by_side::{Meet, wait_past};
+use crate::waits::wait_for;
+use ref_fun::codes::PLUS;
+use ref_fun::{Core, CoreFunctions, FunTable};
+use ref_shared::{AwaitFault, Gate, Open, Quiet, Shared, Spot};
+use ref_world::ALL_PARTS;
+use std::alloc::Global;
+use std::marker::Brand;
+use std::process::Abort;
+use std::sync::Wait;
+use std::sync::atomic::Ordering;
+use std::sync::ledger::{Blank, Ledger};
+use std::test::Fail;
+use std::thread;
+use std::thread::Threads;
+use std::time::Clock;
+use tests_shared::jobs::{two_agents, work};
+use tests_shared::steps::send;
+use tests_shared::worlds::{Stop, opened, value};
+
+// Waits for these agents once the other is there, and says before that it comes, and when the call has returned.
+pub(crate) fn await_when_told<R: AllocGlobal + Wait + Clock, C: Ledger, A: Ledger, K: Ledger>(
+    rt: &R,
+    shared: &Shared<Core, C, A, K>,
+    agents: &[u32],
+    flags: &Flags,
+) -> Result<(), AwaitFault> {
+    let _ = wait_for(rt, &flags.first);
+    flags.second.store(true, Ordering::SeqCst);
+    let awaited = shared.await_agents(rt, rt.alloc(), agents);
+    flags.third.store(true, Ordering::SeqCst);
+    awaited
+}
+
+// Lets the other begin, and answers whether it came, and some time later, when it waits.
+pub(crate) fn meet<R: Clock>(rt: &R, flags: &Flags) -> bool {
+    flags.first.store(true, Ordering::SeqCst);
+    wait_past(rt, &flags.second)
+}
+
+// Sends `+ 1` to g so many times, and answers whether all were taken.
+fn send_more<R: AllocGlobal + Wait, C: Ledger, A: Ledger, K: Ledger>(
+    rt: &R,
+    shared: &Shared<Core, C, A, K>,
+    count: u32,
+) -> bool {
+    let mut sent = true;
+    for _ in 0..count {
+        sent = sent && send(rt, rt.alloc(), shared, 0, PLUS, "1").is_ok();
+    }
+    sent
+}
+
+// A gate that holds an action until the other waits, sends more to g, and sees whether the other has returned before the action ends.
+#[derive(Drop)]
+struct Hold<'a, 'b, 'c, R: AllocGlobal + Wait + Clock, C: Ledger, A: Ledger, K: Ledger> {
+    rt: &'a R,
+    shared: &'b Shared<Core, C, A, K>,
+    flags: &'c Flags,
+    sends: u32,
+    met: bool,
+    early: bool,
+}
+
+impl<'a, 'b, 'c, R: AllocGlobal + Wait + Clock, C: Ledger, A: Ledger, K: Ledger> Gate
+    for Hold<'a, 'b, 'c, R, C, A, K> {
+    fn pass(&mut self, spot: Spot) {
+        if spot == Spot::BeforeAction {
+            self.met = meet(self.rt, self.flags) && send_more(self.rt, self.shared, self.sends);
+        }
+        if spot == Spot::AfterAction {
+            self.early = self.flags.third.load(Ordering::SeqCst);
+        }
+    }
+}
+
+// What the other thread does, step by step. Each returns whether it went as planned, and whether the call has returned too early.
+#[derive(Clone, Copy, Drop)]
+enum Step {
+    // Waits until the other waits.
+    Come,
+    // Runs an action that is held until the other waits, and then until so many more were sent.
+    Hold(u32),
+    // Runs an action that is held until the call has returned.
+    HoldBehind,
+    // Takes an action and puts it back.
+    PutBack,
+    Fold,
+    // Restarts g, without its queue if asked.
+    Restart(bool),
+    Close,
+}
+
+fn hold<R: AllocGlobal + Wait + Clock, C: Ledger, A: Ledger, K: Ledger>(
+    rt: &R,
+    shared: &Shared<Core, C, A, K>,
+    sends: u32,
+    flags: &Flags,
+) -> (bool, bool) {
+    let mut gate = Hold {
+        rt,
+        shared,
+        flags,
+        sends,
+        met: false,
+        early: false,
+    };
+    let worked = shared.work_once(rt, rt.alloc(), &CoreFunctions, &mut gate, &mut Quiet);
+    (gate.met && worked.is_ok(), gate.early)
+}
+
+fn hold_behind<R: AllocGlobal + Wait + Clock, C: Ledger, A: Ledger, K: Ledger>(
+    rt: &R,
+    shared: &Shared<Core, C, A, K>,
+    flags: &Flags,
+) -> bool {
+    let mut gate = Meet {
+        rt,
+        here: &flags.fourth,
+        there: &flags.third,
+        met: false,
+    };
+    let worked = shared.work_once(rt, rt.alloc(), &CoreFunctions, &mut gate, &mut Quiet);
+    gate.met && worked.is_ok()
+}
+
+fn put_back<R: AllocGlobal + Wait, C: Ledger, A: Ledger, K: Ledger>(
+    rt: &R,
+    shared: &Shared<Core, C, A, K>,
+) -> bool {
+    let alloc = rt.alloc();
+    let funs = FunTable::empty(alloc);
+    let worked = shared.work_once(rt, alloc, &funs, &mut Open, &mut Quiet);
+    worked.is_err()
+}
+
+fn restart<R: AllocGlobal + Wait, C: Ledger, A: Ledger, K: Ledger>(
+    rt: &R,
+    shared: &Shared<Core, C, A, K>,
+    clear: bool,
+) -> bool {
+    let alloc = rt.alloc();
+    match value(alloc, "0") {
+        Ok(zero) => shared
+            .restart(rt, alloc, &CoreFunctions, 0, zero, clear)
+            .is_ok(),
+        Err(_) => false,
+    }
+}
+
+fn make<R: AllocGlobal + Wait + Clock, C: Ledger, A: Ledger, K: Ledger>(
+    rt: &R,
+    shared: &Shared<Core, C, A, K>,
+    step: Step,
+    flags: &Flags,
+) -> (bool, bool) {
+    match step {
+        Step::Come => (meet(rt, flags), flags.third.load(Ordering::SeqCst)),
+        Step::Hold(sends) => hold(rt, shared, sends, flags),
+        Step::HoldBehind => (hold_behind(rt, shared, flags), false),
+        Step::PutBack => (put_back(rt, shared), false),
+        Step::Fold => (shared.fold_agent(rt, 0) == Ok(true), false),
+        Step::Restart(clear) => (restart(rt, shared, clear), false),
+        Step::Close => {
+            shared.close(rt);
+            (true, false)
+        }
+    }
+}
+
+// What is sent to g as `+ x`, the agents that are waited for, and what the other thread does.
+#[derive(Clone, Copy, Drop)]
+struct Case {
+    queue: &'static [&'static str],
+    agents: &'static [u32],
+    steps: &'static [Step],
+}
+
+// What the other thread found: whether all went as planned, whether the call returned too early, and whether it returned before
+// the shared world was closed, or soon after the last step.
+#[derive(Clone, Copy, Debug, Drop, PartialEq)]
+struct Other {
+    went: bool,
+    early: bool,
+    in_time: bool,
+}
+
+// Runs what is left in a closed world, so that a test ends which has failed.
+fn run_rest<R: AllocGlobal + Wait, C: Ledger, A: Ledger, K: Ledger>(
+    rt: &R,
+    shared: &Shared<Core, C, A, K>,
+) {
+    for _ in 0..8u32 {
+        let _ = work(rt, rt.alloc(), shared);
+    }
+}
+
+fn act<R: AllocGlobal + Wait + Clock, C: Ledger, A: Ledger, K: Ledger>(
+    rt: &R,
+    shared: &Shared<Core, C, A, K>,
+    steps: &[Step],
+    flags: &Flags,
+) -> Other {
+    let mut went = true;
+    let mut early = false;
+    for step in steps {
+        let (made, is_early) = make(rt, shared, *step, flags);
+        went = went && made;
+        early = early || is_early;
+    }
+    let in_time = wait_for(rt, &flags.third);
+    shared.close(rt);
+    if !in_time {
+        run_rest(rt, shared);
+    }
+    Other {
+        went,
+        early,
+        in_time,
+    }
+}
+
+fn await_and_act<
+    C: Ledger + Send + Sync,
+    A: Ledger + Send + Sync,
+    K: Ledger + Send + Sync,
+    R: AllocGlobal + Threads + Wait + Clock + Sync,
+>(rt: &R, shared: &Shared<Core, C, A, K>, case: Case) -> (Result<(), AwaitFault>, Other) {
+    let flags = Flags::new();
+    let lent = &flags;
+    let agents = case.agents;
+    let (awaited, other) = thread::join(
+        rt,
+        move || await_when_told(rt, shared, agents, lent),
+        move || act(rt, shared, case.steps, lent),
+    );
+    (awaited, other)
+}
+
+fn try_waiting<
+    C: Ledger + Send + Sync,
+    A: Ledger + Send + Sync,
+    K: Ledger + Send + Sync,
+    R: AllocGlobal + Threads + Wait + Clock + Sync,
+>(
+    rt: &R,
+    alloc: Global,
+    case: Case,
+    commits: Blank,
+    added: Blank,
+    taken: Blank,
+) -> Result<(Result<(), AwaitFault>, Other), Stop>
+    requires commits { IsBlank commits C.name C.parts }
+    requires added { IsBlank added A.name A.parts }
+    requires taken { IsBlank taken K.name K.parts }
+{
+    let (shared, _share) = opened::<C, A, K>(alloc, two_agents(alloc)?, commits, added, taken)?;
+    for text in case.queue {
+        send(rt, alloc, &shared, 0, PLUS, text)?;
+    }
+    Ok(await_and_act(rt, &shared, case))
+}
+
+// What the call of a case returned, and what the other thread found.
+fn awaited_and_found<R: AllocGlobal + Threads + Wait + Clock + Sync>(
+    rt: &R,
+    case: Case,
+) -> Result<(Result<(), AwaitFault>, Other), Stop> {
+    let (commits, added, taken) = (
+        Blank::new(ALL_PARTS),
+        Blank::new(ALL_PARTS),
+        Blank::new(ALL_PARTS),
+    );
+    try_waiting::<Brand, Brand, Brand, R>(rt, rt.alloc(), case, commits, added, taken)
+}
+
+const AS_PLANNED: Other = Other {
+    went: true,
+    early: false,
+    in_time: true,
+};
+
+// Where the call returns this, and all goes as planned.
+fn check<R: AllocGlobal + Threads + Wait + Clock + Abort + Sync>(
+    rt: &R,
+    case: Case,
+    wanted: Result<(), AwaitFault>,
+) -> Result<(), Fail> {
+    let found = awaited_and_found(rt, case)?;
+    assert_eq!(rt; found, (wanted, AS_PLANNED));
+    Ok(())
+}
+
+// The queue of g, the agents that are waited for, and what the other thread does until all is gone.
+type Row = (&'static [&'static str], &'static [u32], &'static [Step]);
+
+const UNTIL_THE_END: &[Row] = &[
+    (&["1"], &[0], &[Step::Hold(0)]),
+    (&["1", "2"], &[0], &[Step::Hold(0), Step::Hold(0)]),
+    (
+        &["1", "2"],
+        &[0],
+        &[Step::Come, Step::Hold(0), Step::Hold(0)],
+    ),
+    (&["1"], &[0, 1], &[Step::Hold(0)]),
+    (&["1"], &[1, 0], &[Step::Hold(0)]),
+    (&["1"], &[0, 0], &[Step::Hold(0)]),
+    (&["1"], &[0], &[Step::Come, Step::PutBack, Step::Hold(0)]),
+    (
+        &["1", "2"],
+        &[0],
+        &[Step::Hold(0), Step::Fold, Step::Hold(0)],
+    ),
+    (&[":k"], &[0], &[Step::Hold(0)]),
+    (&["1", ":k"], &[0], &[Step::Hold(0), Step::Hold(0)]),
+];
+
+// An action that fails the agent has ended too.
+#[test]
+fn who_waits_for_an_agent_returns_when_all_has_ended(rt: HostRuntime) -> Result<(), Fail> {
+    for row in UNTIL_THE_END {
+        let (queue, agents, steps) = *row;
+        let case = Case {
+            queue,
+            agents,
+            steps,
+        };
+        check(&rt, case, Ok(()))?;
+    }
+    Ok(())
+}
+
+// One that is sent later is on its way, and another one waits, when the call returns.
+#[test]
+fn what_is_sent_later_is_not_waited_for(rt: HostRuntime) -> Result<(), Fail> {
+    let case = Case {
+        queue: &["1"],
+        agents: &[0],
+        steps: &[Step::Hold(2), Step::HoldBehind],
+    };
+    check(&rt, case, Ok(()))
+}
+
+#[test]
+fn a_failure_wakes_who_waits_for_what_is_behind_it(rt: HostRuntime) -> Result<(), Fail> {
+    let one = Case {
+        queue: &[":k", "1"],
+        agents: &[0],
+        steps: &[Step::Hold(0)],
+    };
+    check(&rt, one, Err(AwaitFault::Failed(0)))?;
+    let two = Case {
+        queue: &["1", ":k", "2"],
+        agents: &[1, 0],
+        steps: &[Step::Hold(0), Step::Hold(0)],
+    };
+    check(&rt, two, Err(AwaitFault::Failed(0)))
+}
+
+#[test]
+fn closing_wakes_who_waits_for_an_agent(rt: HostRuntime) -> Result<(), Fail> {
+    let case = Case {
+        queue: &["1"],
+        agents: &[0],
+        steps: &[Step::Come, Step::Close],
+    };
+    check(&rt, case, Err(AwaitFault::Closed))
+}
+
+// ---- A failure and a restart at once
+
+// Whoever waits may see the failure before the restart, and returns then. Else it goes on, and returns when all is gone.
+fn check_restarted<R: AllocGlobal + Threads + Wait + Clock + Abort + Sync>(
+    rt: &R,
+    steps: &'static [Step],
+) -> Result<(), Fail> {
+    let case = Case {
+        queue: &[":k", "1"],
+        agents: &[0],
+        steps,
+    };
+    let (awaited, other) = awaited_and_found(rt, case)?;
+    if awaited == Err(AwaitFault::Failed(0)) {
+        assert_eq!(rt; (other.went, other.in_time), (true, true));
+    } else {
+        assert_eq!(rt; (awaited, other), (Ok(()), AS_PLANNED));
+    }
+    Ok(())
+}
+
+#[test]
+fn who_misses_a_failure_waits_for_what_was_behind_it(rt: HostRuntime) -> Result<(), Fail> {
+    let steps = &[Step::Hold(0), Step::Restart(false), Step::Hold(0)];
+    check_restarted(&rt, steps)
+}
+
+#[test]
+fn who_misses_a_failure_waits_for_nothing_that_was_dropped(rt: HostRuntime) -> Result<(), Fail> {
+    check_restarted(&rt, &[Step::Hold(0), Step::Restart(true)])
+}
+
+// ---- Several who wait
+
+// A gate that holds the first of some actions until all wait, each for one action more than the one before; and each later one
+// until the next of them has returned. No other may have returned when the action ends.
+#[derive(Drop)]
+struct Turn<'a, 'b, 'c, R: AllocGlobal + Wait + Clock, C: Ledger, A: Ledger, K: Ledger> {
+    rt: &'a R,
+    shared: &'b Shared<Core, C, A, K>,
+    waiters: &'c [&'c Flags],
+    turn: usize,
+    went: bool,
+}
+
+// Lets all begin, one after the other, and sends one more after each.
+fn meet_all<R: AllocGlobal + Wait + Clock, C: Ledger, A: Ledger, K: Ledger>(
+    rt: &R,
+    shared: &Shared<Core, C, A, K>,
+    waiters: &[&Flags],
+) -> bool {
+    let mut went = true;
+    for flags in waiters {
+        went = went && meet(rt, flags) && send_more(rt, shared, 1);
+    }
+    went
+}
+
+// Whether the one who is before this turn has returned, some time ago.
+fn has_returned<R: Clock>(rt: &R, waiters: &[&Flags], turn: usize) -> bool {
+    match waiters.get(turn.saturating_sub(1)) {
+        Some(flags) => wait_past(rt, &flags.third),
+        None => false,
+    }
+}
+
+// Whether none of these has returned.
+fn none_has_returned(waiters: &[&Flags], turn: usize) -> bool {
+    waiters
+        .iter()
+        .skip(turn)
+        .all(|flags| !flags.third.load(Ordering::SeqCst))
+}
+
+impl<'a, 'b, 'c, R: AllocGlobal + Wait + Clock, C: Ledger, A: Ledger, K: Ledger> Gate
+    for Turn<'a, 'b, 'c, R, C, A, K> {
+    fn pass(&mut self, spot: Spot) {
+        if spot == Spot::BeforeAction {
+            self.went = if self.turn == 0 {
+                meet_all(self.rt, self.shared, self.waiters)
+            } else {
+                has_returned(self.rt, self.waiters, self.turn)
+            };
+        }
+        if spot == Spot::AfterAction {
+            self.went = self.went && none_has_returned(self.waiters, self.turn);
+        }
+    }
+}
+
+// Runs an action for each who waits, and answers whether each returned in its turn.
+fn act_in_turn<R: AllocGlobal + Wait + Clock, C: Ledger, A: Ledger, K: Ledger>(
+    rt: &R,
+    shared: &Shared<Core, C, A, K>,
+    waiters: &[&Flags],
+) -> bool {
+    let mut went = true;
+    for turn in 0..waiters.len() {
+        let mut gate = Turn {
+            rt,
+            shared,
+            waiters,
+            turn,
+            went: false,
+        };
+        let worked = shared.work_once(rt, rt.alloc(), &CoreFunctions, &mut gate, &mut Quiet);
+        went = went && gate.went && worked.is_ok();
+    }
+    let last = has_returned(rt, waiters, waiters.len());
+    shared.close(rt);
+    if !last {
+        run_rest(rt, shared);
+    }
+    went && last
+}
+
+type Three = (
+    Result<(), AwaitFault>,
+    Result<(), AwaitFault>,
+    Result<(), AwaitFault>,
+);
+
+fn two_await<
+    C: Ledger + Send + Sync,
+    A: Ledger + Send + Sync,
+    K: Ledger + Send + Sync,
+    R: AllocGlobal + Threads + Wait + Clock + Sync,
+>(
+    rt: &R,
+    shared: &Shared<Core, C, A, K>,
+    one: &Flags,
+    two: &Flags,
+) -> (Result<(), AwaitFault>, Result<(), AwaitFault>) {
+    let (first, second) = thread::join(
+        rt,
+        move || await_when_told(rt, shared, &[0], one),
+        move || await_when_told(rt, shared, &[0], two),
+    );
+    (first, second)
+}
+
+fn three_await<
+    C: Ledger + Send + Sync,
+    A: Ledger + Send + Sync,
+    K: Ledger + Send + Sync,
+    R: AllocGlobal + Threads + Wait + Clock + Sync,
+>(rt: &R, shared: &Shared<Core, C, A, K>, one: &Flags, two: &Flags, three: &Flags) -> Three {
+    let (both, third) = thread::join(
+        rt,
+        move || two_await(rt, shared, one, two),
+        move || await_when_told(rt, shared, &[0], three),
+    );
+    (both.0, both.1, third)
+}
+
+fn three_await_in_turn<
+    C: Ledger + Send + Sync,
+    A: Ledger + Send + Sync,
+    K: Ledger + Send + Sync,
+    R: AllocGlobal + Threads + Wait + Clock + Sync,
+>(rt: &R, shared: &Shared<Core, C, A, K>) -> (Three, bool) {
+    let (one, two, three) = (Flags::new(), Flags::new(), Flags::new());
+    let (one, two, three) = (&one, &two, &three);
+    let (awaited, went) = thread::join(
+        rt,
+        move || three_await(rt, shared, one, two, three),
+        move || act_in_turn(rt, shared, &[one, two, three]),
+    );
+    (awaited, went)
+}
+
+fn try_turns<
+    C: Ledger + Send + Sync,
+    A: Ledger + Send + Sync,
+    K: Ledger + Send + Sync,
+    R: AllocGlobal + Threads + Wait + Clock + Sync,
+>(rt: &R, alloc: Global, commits: Blank, added: Blank, taken: Blank) -> Result<(Three, bool), Stop>
+    requires commits { IsBlank commits C.name C.parts }
+    requires added { IsBlank added A.name A.parts }
+    requires taken { IsBlank taken K.name K.parts }
+{
+    let (shared, _share) = opened::<C, A, K>(alloc, two_agents(alloc)?, commits, added, taken)?;
+    send(rt, alloc, &shared, 0, PLUS, "1")?;
+    Ok(three_await_in_turn(rt, &shared))
+}
+
+#[test]
+fn each_who_waits_for_an_agent_returns_in_its_turn(rt: HostRuntime) -> Result<(), Fail> {
+    let alloc = rt.alloc();
+    let (commits, added, taken) = (
+        Blank::new(ALL_PARTS),
+        Blank::new(ALL_PARTS),
+        Blank::new(ALL_PARTS),
+    );
+    let found = try_turns::<Brand, Brand, Brand, _>(&rt, alloc, commits, added, taken)?;
+    assert_eq!(rt; found, ((Ok(()), Ok(()), Ok(())), true));
+    Ok(())
+}
