@@ -9,10 +9,10 @@
 //! | `awaits`, `whens` | waiting for agents, and transactions that wait, where neither has to sleep |
 //! | `strangers` | transactions that were begun in another world |
 //! | `faults` | what faults say |
-//! | `tables`, `same` | a table that may want memory or predicates; an assertion |
+//! | `same` | an assertion |
 //! | [`worlds`], [`jobs`] | making worlds and values, and what is read of them; two agents, and what runs their actions |
 //! | [`scenarios`], [`steps`] | running a scenario on a new shared world; single steps on one |
-//! | [`numbers`] | the number that a value is |
+//! | [`numbers`], [`tables`] | the number that a value is; a table that may want memory or predicates |
 #![tactic(auto)]
 
 #[cfg(test)]
@@ -43,8 +43,7 @@ pub mod scenarios;
 pub mod steps;
 #[cfg(test)]
 mod strangers;
-#[cfg(test)]
-mod tables;
+pub mod tables;
 #[cfg(test)]
 mod whens;
 #[cfg(test)]

@@ -8,9 +8,9 @@ use std::alloc::Global;
 
 /// All functions of Core, which answer that there is no memory where it has none, and all predicates or none.
 #[derive(Clone, Copy, Drop)]
-pub(crate) struct Poor {
-    pub(crate) has_memory: bool,
-    pub(crate) has_predicates: bool,
+pub struct Poor {
+    pub has_memory: bool,
+    pub has_predicates: bool,
 }
 
 impl Functions<Core> for Poor {

@@ -6,7 +6,7 @@ use crate::flags::Flags;
 use crate::side_by_side::{Meet, wait_past};
 use crate::waits::wait_for;
 use ref_fun::codes::PLUS;
-use ref_fun::{Core, CoreFunctions, FunTable};
+use ref_fun::{Core, CoreFunctions};
 use ref_shared::{AwaitFault, Gate, Open, Quiet, Shared, Spot};
 use ref_world::ALL_PARTS;
 use std::alloc::Global;
@@ -21,6 +21,7 @@ use std::thread::Threads;
 use std::time::Clock;
 use tests_shared::jobs::{two_agents, work};
 use tests_shared::steps::send;
+use tests_shared::tables::Poor;
 use tests_shared::worlds::{Stop, opened, value};
 
 // Waits for these agents once the other is there, and says before that it comes, and when the call has returned.
@@ -37,13 +38,13 @@ pub(crate) fn await_when_told<R: AllocGlobal + Wait + Clock, C: Ledger, A: Ledge
     awaited
 }
 
-// Lets the other begin, and answers whether it came, and some time later, when it waits.
+// Lets the other begin, and returns whether it came, and some time later, when it waits.
 pub(crate) fn meet<R: Clock>(rt: &R, flags: &Flags) -> bool {
     flags.first.store(true, Ordering::SeqCst);
     wait_past(rt, &flags.second)
 }
 
-// Sends `+ 1` to g so many times, and answers whether all were taken.
+// Sends `+ 1` to g so many times, and returns whether all were taken.
 fn send_more<R: AllocGlobal + Wait, C: Ledger, A: Ledger, K: Ledger>(
     rt: &R,
     shared: &Shared<Core, C, A, K>,
@@ -88,15 +89,15 @@ enum Step {
     Hold(u32),
     // Runs an action that is held until the call has returned.
     HoldBehind,
-    // Takes an action and puts it back.
-    PutBack,
+    // Takes an action and puts it back: by a table without memory for it, or without the predicate for its end.
+    PutBack(Poor),
     Fold,
     // Restarts g, without its queue if asked.
     Restart(bool),
     Close,
 }
 
-fn hold<R: AllocGlobal + Wait + Clock, C: Ledger, A: Ledger, K: Ledger>(
+fn run_held<R: AllocGlobal + Wait + Clock, C: Ledger, A: Ledger, K: Ledger>(
     rt: &R,
     shared: &Shared<Core, C, A, K>,
     sends: u32,
@@ -114,7 +115,7 @@ fn hold<R: AllocGlobal + Wait + Clock, C: Ledger, A: Ledger, K: Ledger>(
     (gate.met && worked.is_ok(), gate.early)
 }
 
-fn hold_behind<R: AllocGlobal + Wait + Clock, C: Ledger, A: Ledger, K: Ledger>(
+fn run_behind<R: AllocGlobal + Wait + Clock, C: Ledger, A: Ledger, K: Ledger>(
     rt: &R,
     shared: &Shared<Core, C, A, K>,
     flags: &Flags,
@@ -132,11 +133,11 @@ fn hold_behind<R: AllocGlobal + Wait + Clock, C: Ledger, A: Ledger, K: Ledger>(
 fn put_back<R: AllocGlobal + Wait, C: Ledger, A: Ledger, K: Ledger>(
     rt: &R,
     shared: &Shared<Core, C, A, K>,
+    funs: Poor,
 ) -> bool {
-    let alloc = rt.alloc();
-    let funs = FunTable::empty(alloc);
-    let worked = shared.work_once(rt, alloc, &funs, &mut Open, &mut Quiet);
-    worked.is_err()
+    shared
+        .work_once(rt, rt.alloc(), &funs, &mut Open, &mut Quiet)
+        .is_err()
 }
 
 fn restart<R: AllocGlobal + Wait, C: Ledger, A: Ledger, K: Ledger>(
@@ -161,9 +162,9 @@ fn make<R: AllocGlobal + Wait + Clock, C: Ledger, A: Ledger, K: Ledger>(
 ) -> (bool, bool) {
     match step {
         Step::Come => (meet(rt, flags), flags.third.load(Ordering::SeqCst)),
-        Step::Hold(sends) => hold(rt, shared, sends, flags),
-        Step::HoldBehind => (hold_behind(rt, shared, flags), false),
-        Step::PutBack => (put_back(rt, shared), false),
+        Step::Hold(sends) => run_held(rt, shared, sends, flags),
+        Step::HoldBehind => (run_behind(rt, shared, flags), false),
+        Step::PutBack(funs) => (put_back(rt, shared, funs), false),
         Step::Fold => (shared.fold_agent(rt, 0) == Ok(true), false),
         Step::Restart(clear) => (restart(rt, shared, clear), false),
         Step::Close => {
@@ -212,8 +213,11 @@ fn act<R: AllocGlobal + Wait + Clock, C: Ledger, A: Ledger, K: Ledger>(
         let (made, is_early) = make(rt, shared, *step, flags);
         went = went && made;
         early = early || is_early;
+        if !went {
+            break;
+        }
     }
-    let in_time = wait_for(rt, &flags.third);
+    let in_time = went && wait_for(rt, &flags.third);
     shared.close(rt);
     if !in_time {
         run_rest(rt, shared);
@@ -299,6 +303,16 @@ fn check<R: AllocGlobal + Threads + Wait + Clock + Abort + Sync>(
 // The queue of g, the agents that are waited for, and what the other thread does until all is gone.
 type Row = (&'static [&'static str], &'static [u32], &'static [Step]);
 
+const NO_MEMORY: Poor = Poor {
+    has_memory: false,
+    has_predicates: true,
+};
+
+const NO_PREDICATES: Poor = Poor {
+    has_memory: true,
+    has_predicates: false,
+};
+
 const UNTIL_THE_END: &[Row] = &[
     (&["1"], &[0], &[Step::Hold(0)]),
     (&["1", "2"], &[0], &[Step::Hold(0), Step::Hold(0)]),
@@ -310,7 +324,16 @@ const UNTIL_THE_END: &[Row] = &[
     (&["1"], &[0, 1], &[Step::Hold(0)]),
     (&["1"], &[1, 0], &[Step::Hold(0)]),
     (&["1"], &[0, 0], &[Step::Hold(0)]),
-    (&["1"], &[0], &[Step::Come, Step::PutBack, Step::Hold(0)]),
+    (
+        &["1"],
+        &[0],
+        &[Step::Come, Step::PutBack(NO_MEMORY), Step::Hold(0)],
+    ),
+    (
+        &["1"],
+        &[0],
+        &[Step::Come, Step::PutBack(NO_PREDICATES), Step::Hold(0)],
+    ),
     (
         &["1", "2"],
         &[0],
@@ -374,11 +397,13 @@ fn closing_wakes_who_waits_for_an_agent(rt: HostRuntime) -> Result<(), Fail> {
 
 // ---- A failure and a restart at once
 
-// Whoever waits may see the failure before the restart, and returns then. Else it goes on, and returns when all is gone.
-fn check_restarted<R: AllocGlobal + Threads + Wait + Clock + Abort + Sync>(
+// Runs an action that fails g, with another one behind it, and then these steps, of which the first restarts g at once. Whoever waits may
+// see the failure before the restart, and returns then. If not, all has to go as planned, until all is gone. Returns whether it missed the
+// failure.
+fn misses_failure<R: AllocGlobal + Threads + Wait + Clock + Abort + Sync>(
     rt: &R,
     steps: &'static [Step],
-) -> Result<(), Fail> {
+) -> Result<bool, Stop> {
     let case = Case {
         queue: &[":k", "1"],
         agents: &[0],
@@ -387,8 +412,21 @@ fn check_restarted<R: AllocGlobal + Threads + Wait + Clock + Abort + Sync>(
     let (awaited, other) = awaited_and_found(rt, case)?;
     if awaited == Err(AwaitFault::Failed(0)) {
         assert_eq!(rt; (other.went, other.in_time), (true, true));
-    } else {
-        assert_eq!(rt; (awaited, other), (Ok(()), AS_PLANNED));
+        return Ok(false);
+    }
+    assert_eq!(rt; (awaited, other), (Ok(()), AS_PLANNED));
+    Ok(true)
+}
+
+// Tries it until it misses the failure once, if it does so within some tries.
+fn check_missed<R: AllocGlobal + Threads + Wait + Clock + Abort + Sync>(
+    rt: &R,
+    steps: &'static [Step],
+) -> Result<(), Fail> {
+    for _ in 0..20u32 {
+        if misses_failure(rt, steps)? {
+            return Ok(());
+        }
     }
     Ok(())
 }
@@ -396,18 +434,19 @@ fn check_restarted<R: AllocGlobal + Threads + Wait + Clock + Abort + Sync>(
 #[test]
 fn who_misses_a_failure_waits_for_what_was_behind_it(rt: HostRuntime) -> Result<(), Fail> {
     let steps = &[Step::Hold(0), Step::Restart(false), Step::Hold(0)];
-    check_restarted(&rt, steps)
+    check_missed(&rt, steps)
 }
 
 #[test]
 fn who_misses_a_failure_waits_for_nothing_that_was_dropped(rt: HostRuntime) -> Result<(), Fail> {
-    check_restarted(&rt, &[Step::Hold(0), Step::Restart(true)])
+    check_missed(&rt, &[Step::Hold(0), Step::Restart(true)])
 }
 
 // ---- Several who wait
 
-// A gate that holds the first of some actions until all wait, each for one action more than the one before; and each later one
-// until the next of them has returned. No other may have returned when the action ends.
+// A gate for one of the actions that come in turn. It holds the action until the one who came two turns before has returned, and
+// then until the one of this turn waits, for two actions, of which this is the first; and sends one more. When the action ends, neither
+// that one nor the one before may have returned.
 #[derive(Drop)]
 struct Turn<'a, 'b, 'c, R: AllocGlobal + Wait + Clock, C: Ledger, A: Ledger, K: Ledger> {
     rt: &'a R,
@@ -417,44 +456,46 @@ struct Turn<'a, 'b, 'c, R: AllocGlobal + Wait + Clock, C: Ledger, A: Ledger, K: 
     went: bool,
 }
 
-// Lets all begin, one after the other, and sends one more after each.
-fn meet_all<R: AllocGlobal + Wait + Clock, C: Ledger, A: Ledger, K: Ledger>(
-    rt: &R,
-    shared: &Shared<Core, C, A, K>,
-    waiters: &[&Flags],
-) -> bool {
-    let mut went = true;
-    for flags in waiters {
-        went = went && meet(rt, flags) && send_more(rt, shared, 1);
-    }
-    went
-}
-
-// Whether the one who is before this turn has returned, some time ago.
+// Whether the one who came two turns before has returned, some time ago, if there is one.
 fn has_returned<R: Clock>(rt: &R, waiters: &[&Flags], turn: usize) -> bool {
-    match waiters.get(turn.saturating_sub(1)) {
+    if turn < 2 {
+        return true;
+    }
+    match waiters.get(turn - 2) {
         Some(flags) => wait_past(rt, &flags.third),
         None => false,
     }
 }
 
-// Whether none of these has returned.
+// Lets the one of this turn begin, if there is one, and sends one more.
+fn meet_next<R: AllocGlobal + Wait + Clock, C: Ledger, A: Ledger, K: Ledger>(
+    rt: &R,
+    shared: &Shared<Core, C, A, K>,
+    waiters: &[&Flags],
+    turn: usize,
+) -> bool {
+    match waiters.get(turn) {
+        Some(flags) => meet(rt, flags) && send_more(rt, shared, 1),
+        None => true,
+    }
+}
+
+// Whether none has returned who came in the turn before, or later.
 fn none_has_returned(waiters: &[&Flags], turn: usize) -> bool {
-    waiters
-        .iter()
-        .skip(turn)
-        .all(|flags| !flags.third.load(Ordering::SeqCst))
+    for flags in waiters.iter().skip(turn.saturating_sub(1)) {
+        if flags.third.load(Ordering::SeqCst) {
+            return false;
+        }
+    }
+    true
 }
 
 impl<'a, 'b, 'c, R: AllocGlobal + Wait + Clock, C: Ledger, A: Ledger, K: Ledger> Gate
     for Turn<'a, 'b, 'c, R, C, A, K> {
     fn pass(&mut self, spot: Spot) {
         if spot == Spot::BeforeAction {
-            self.went = if self.turn == 0 {
-                meet_all(self.rt, self.shared, self.waiters)
-            } else {
-                has_returned(self.rt, self.waiters, self.turn)
-            };
+            self.went = has_returned(self.rt, self.waiters, self.turn)
+                && meet_next(self.rt, self.shared, self.waiters, self.turn);
         }
         if spot == Spot::AfterAction {
             self.went = self.went && none_has_returned(self.waiters, self.turn);
@@ -462,30 +503,48 @@ impl<'a, 'b, 'c, R: AllocGlobal + Wait + Clock, C: Ledger, A: Ledger, K: Ledger>
     }
 }
 
-// Runs an action for each who waits, and answers whether each returned in its turn.
+// Runs an action by that gate, and returns whether all went as planned.
 fn act_in_turn<R: AllocGlobal + Wait + Clock, C: Ledger, A: Ledger, K: Ledger>(
+    rt: &R,
+    shared: &Shared<Core, C, A, K>,
+    waiters: &[&Flags],
+    turn: usize,
+) -> bool {
+    let mut gate = Turn {
+        rt,
+        shared,
+        waiters,
+        turn,
+        went: false,
+    };
+    let worked = shared.work_once(rt, rt.alloc(), &CoreFunctions, &mut gate, &mut Quiet);
+    gate.went && worked.is_ok()
+}
+
+// Lets all begin, so that a test ends which has failed.
+fn release_all(waiters: &[&Flags]) {
+    for flags in waiters {
+        flags.first.store(true, Ordering::SeqCst);
+    }
+}
+
+// Runs the actions of four turns, and returns whether each of three returned when its two had ended, and not before.
+fn act_in_turns<R: AllocGlobal + Wait + Clock, C: Ledger, A: Ledger, K: Ledger>(
     rt: &R,
     shared: &Shared<Core, C, A, K>,
     waiters: &[&Flags],
 ) -> bool {
     let mut went = true;
-    for turn in 0..waiters.len() {
-        let mut gate = Turn {
-            rt,
-            shared,
-            waiters,
-            turn,
-            went: false,
-        };
-        let worked = shared.work_once(rt, rt.alloc(), &CoreFunctions, &mut gate, &mut Quiet);
-        went = went && gate.went && worked.is_ok();
+    for turn in 0..4usize {
+        went = went && act_in_turn(rt, shared, waiters, turn);
     }
-    let last = has_returned(rt, waiters, waiters.len());
+    went = went && has_returned(rt, waiters, 4);
     shared.close(rt);
-    if !last {
+    if !went {
+        release_all(waiters);
         run_rest(rt, shared);
     }
-    went && last
+    went
 }
 
 type Three = (
@@ -538,7 +597,7 @@ fn three_await_in_turn<
     let (awaited, went) = thread::join(
         rt,
         move || three_await(rt, shared, one, two, three),
-        move || act_in_turn(rt, shared, &[one, two, three]),
+        move || act_in_turns(rt, shared, &[one, two, three]),
     );
     (awaited, went)
 }
@@ -554,6 +613,7 @@ fn try_turns<
     requires taken { IsBlank taken K.name K.parts }
 {
     let (shared, _share) = opened::<C, A, K>(alloc, two_agents(alloc)?, commits, added, taken)?;
+    send(rt, alloc, &shared, 0, PLUS, "1")?;
     send(rt, alloc, &shared, 0, PLUS, "1")?;
     Ok(three_await_in_turn(rt, &shared))
 }

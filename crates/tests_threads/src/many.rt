@@ -29,7 +29,7 @@ use tests_shared::worlds::{Stop, add, done, int_at, one_arg, opened, plain_start
 /// How many times each thread waits.
 const ROUNDS: u32 = 25;
 
-// Waits until both have ended, and then closes. It answers whether they ended in time.
+// Waits until both have ended, and then closes. It returns whether they ended in time.
 fn close_behind<R: Wait + Clock, C: Ledger, A: Ledger, K: Ledger>(
     rt: &R,
     shared: &Shared<Core, C, A, K>,
@@ -206,41 +206,68 @@ fn each_that_waits_for_a_value_takes_it_once(rt: HostRuntime) -> Result<(), Fail
 
 // ---- Two send and wait, and two run the actions
 
-// Whether an agent has at least this.
+// What one of the two sends, which adds so much to a sum. The other one's part of a sum is apart from it.
+#[derive(Clone, Copy, Drop)]
+enum Unit {
+    One,
+    Thousand,
+}
+
+impl Unit {
+    fn text(&self) -> &'static str {
+        match self {
+            Unit::One => "1",
+            Unit::Thousand => "1000",
+        }
+    }
+
+    // How often it is in a sum.
+    fn count_in(&self, sum: i64) -> i64 {
+        match self {
+            Unit::One => sum % 1000,
+            Unit::Thousand => sum / 1000,
+        }
+    }
+}
+
+// Whether at least so many of what one sent to an agent have ended.
 fn is_at_least<R: Wait, C: Ledger, A: Ledger, K: Ledger>(
     rt: &R,
     shared: &Shared<Core, C, A, K>,
     g: u32,
+    unit: Unit,
     least: u32,
 ) -> bool {
     match int_at(rt, shared, Who::Agent(g)) {
-        Some(n) => n >= i64::from(least),
+        Some(sum) => unit.count_in(sum) >= i64::from(least),
         None => false,
     }
 }
 
-// Sends `+ 1` to both agents, and waits for both. It answers whether what was sent so far has ended then.
+// Sends to both agents, and waits for both. It returns whether all that it sent so far has ended then.
 fn send_and_await<R: AllocGlobal + Wait, C: Ledger, A: Ledger, K: Ledger>(
     rt: &R,
     shared: &Shared<Core, C, A, K>,
+    unit: Unit,
     sent: u32,
 ) -> Result<bool, Stop> {
     let alloc = rt.alloc();
-    send(rt, alloc, shared, 0, PLUS, "1")?;
-    send(rt, alloc, shared, 1, PLUS, "1")?;
+    send(rt, alloc, shared, 0, PLUS, unit.text())?;
+    send(rt, alloc, shared, 1, PLUS, unit.text())?;
     done(shared.await_agents(rt, alloc, &[0, 1]))?;
-    Ok(is_at_least(rt, shared, 0, sent) && is_at_least(rt, shared, 1, sent))
+    Ok(is_at_least(rt, shared, 0, unit, sent) && is_at_least(rt, shared, 1, unit, sent))
 }
 
-// Does that in each round, and says when it has ended. It answers in how many rounds all was well.
+// Does that in each round, and says when it has ended. It returns in how many rounds all was well.
 fn await_in_rounds<R: AllocGlobal + Wait, C: Ledger, A: Ledger, K: Ledger>(
     rt: &R,
     shared: &Shared<Core, C, A, K>,
+    unit: Unit,
     ended: &AtomicBool,
 ) -> u32 {
     let mut count = 0u32;
     for round in 0..ROUNDS {
-        if send_and_await(rt, shared, round.saturating_add(1)) == Ok(true) {
+        if send_and_await(rt, shared, unit, round.saturating_add(1)) == Ok(true) {
             count = count.saturating_add(1);
         }
     }
@@ -256,8 +283,8 @@ fn two_await<
 >(rt: &R, shared: &Shared<Core, C, A, K>, flags: &Flags) -> (u32, u32) {
     let (one, two) = thread::join(
         rt,
-        move || await_in_rounds(rt, shared, &flags.first),
-        move || await_in_rounds(rt, shared, &flags.second),
+        move || await_in_rounds(rt, shared, Unit::One, &flags.first),
+        move || await_in_rounds(rt, shared, Unit::Thousand, &flags.second),
     );
     (one, two)
 }
@@ -326,6 +353,6 @@ fn each_that_waits_for_agents_finds_what_it_sent(rt: HostRuntime) -> Result<(), 
     );
     let found = try_awaiting::<Brand, Brand, Brand, _>(&rt, alloc, commits, added, taken)?;
     let awaited = ((25, 25), (Ok(100), true));
-    assert_eq!(rt; found, (awaited, (Some(50), Some(50))));
+    assert_eq!(rt; found, (awaited, (Some(25_025), Some(25_025))));
     Ok(())
 }

@@ -15,6 +15,7 @@ use ref_world::{ALL_PARTS, Share};
 use std::alloc::Global;
 use std::marker::Brand;
 use std::sync::Wait;
+use std::sync::atomic::Ordering;
 use std::sync::ledger::{Blank, Ledger};
 use std::test::Fail;
 use std::thread;
@@ -43,7 +44,7 @@ fn send_to_g<R: AllocGlobal + Wait, C: Ledger, A: Ledger, K: Ledger>(
 }
 
 // One waits for h, one for an entry, and then one to run an action. Sends to g twice, and then releases what is held of h, each while
-// that one waits; and answers whether it ran each in time, and the first returned then.
+// that one waits; and returns whether it ran each in time, and the first returned then, and not before.
 fn wake_worker<R: AllocGlobal + Wait + Clock, C: Ledger, A: Ledger, K: Ledger>(
     rt: &R,
     shared: &Shared<Core, C, A, K>,
@@ -59,12 +60,13 @@ fn wake_worker<R: AllocGlobal + Wait + Clock, C: Ledger, A: Ledger, K: Ledger>(
         && wait_past(rt, &work.second)
         && send_to_g(rt, shared)
         && wait_past(rt, &work.third)
+        && !agent.third.load(Ordering::SeqCst)
         && shared.release(rt, point)
         && wait_for(rt, &work.fourth)
         && wait_for(rt, &agent.third)
 }
 
-// Wakes the worker as planned, and then closes; and answers whether all went as planned, and the one who waits for an entry returned last.
+// Wakes the worker as planned, and then closes; and returns whether all went as planned, and the one who waits for an entry returned last.
 fn wake_and_close<R: AllocGlobal + Wait + Clock, C: Ledger, A: Ledger, K: Ledger>(
     rt: &R,
     shared: &Shared<Core, C, A, K>,
@@ -82,8 +84,9 @@ fn wake_and_close<R: AllocGlobal + Wait + Clock, C: Ledger, A: Ledger, K: Ledger
     woke && ended
 }
 
-// What the three returned: whether the first had all that it waited for, whether the second was closed, and what the third did.
-type Three = (bool, bool, (Work, Work, Work));
+// What the three returned: whether the first had all that it waited for, how many times the second's body was called, if it was closed,
+// and what the third did.
+type Three = (bool, Option<u32>, (Work, Work, Work));
 
 fn two_wait<
     C: Ledger + Send + Sync,
@@ -96,13 +99,13 @@ fn two_wait<
     share: Share<C, A, K>,
     agent: &Flags,
     when: &Flags,
-) -> (bool, bool) {
-    let (is_through, is_closed) = thread::join(
+) -> (bool, Option<u32>) {
+    let (is_through, bodies) = thread::join(
         rt,
         move || await_when_told(rt, shared, &[1], agent).is_ok(),
         move || wait_in_vain(rt, shared, share, when),
     );
-    (is_through, is_closed)
+    (is_through, bodies)
 }
 
 fn three_wait<
@@ -171,7 +174,7 @@ fn a_send_wakes_a_worker_beside_others_who_wait(rt: HostRuntime) -> Result<(), F
     );
     let woken = try_sleepers::<Brand, Brand, Brand, _>(&rt, alloc, commits, added, taken)?;
     let (g, h) = (Ok(Worked::Did(0)), Ok(Worked::Did(1)));
-    let three = (true, true, (g, g, h));
+    let three = (true, Some(1), (g, g, h));
     assert_eq!(rt; woken, (three, true, (Some(2), Some(4))));
     Ok(())
 }

@@ -293,15 +293,16 @@ fn each_entry_wakes_a_transaction_that_waits(rt: HostRuntime) -> Result<(), Fail
 
 // ---- At the end
 
-// Waits in a transaction that is never ready, once it is told. It says before that it comes, and when it has returned; and answers
-// whether the shared world was closed.
+// Waits in a transaction that is never ready, once the other is there. It says before that it comes, and when it has returned; and
+// returns how many times the body was called, if it ended since the shared world was closed.
 pub(crate) fn wait_in_vain<R: AllocGlobal + Wait + Clock, C: Ledger, A: Ledger, K: Ledger>(
     rt: &R,
     shared: &Shared<Core, C, A, K>,
     mut share: Share<C, A, K>,
     flags: &Flags,
-) -> bool {
+) -> Option<u32> {
     let _ = wait_for(rt, &flags.first);
+    let mut bodies = 0u32;
     let waited = shared.transact_when(
         rt,
         rt.alloc(),
@@ -312,15 +313,19 @@ pub(crate) fn wait_in_vain<R: AllocGlobal + Wait + Clock, C: Ledger, A: Ledger, 
         &mut Open,
         &mut Quiet,
         &mut |_tx: &mut Tx<Core>| -> Result<Option<()>, Stop> {
+            bodies = bodies.saturating_add(1);
             flags.second.store(true, Ordering::SeqCst);
             Ok(None)
         },
     );
     flags.third.store(true, Ordering::SeqCst);
-    matches!(waited, Err(WaitFault::Closed))
+    match waited {
+        Err(WaitFault::Closed) => Some(bodies),
+        _ => None,
+    }
 }
 
-// Closes while the other waits, and answers whether that one returned then, and not before.
+// Closes while the other waits, and returns whether that one returned then, and not before.
 fn close_on<R: AllocGlobal + Wait + Clock, C: Ledger, A: Ledger, K: Ledger>(
     rt: &R,
     shared: &Shared<Core, C, A, K>,
@@ -342,15 +347,15 @@ fn wait_and_close<
     A: Ledger + Send + Sync,
     K: Ledger + Send + Sync,
     R: AllocGlobal + Threads + Wait + Clock + Sync,
->(rt: &R, shared: &Shared<Core, C, A, K>, share: Share<C, A, K>) -> (bool, bool) {
+>(rt: &R, shared: &Shared<Core, C, A, K>, share: Share<C, A, K>) -> (Option<u32>, bool) {
     let flags = Flags::new();
     let lent = &flags;
-    let (is_closed, woke) = thread::join(
+    let (bodies, woke) = thread::join(
         rt,
         move || wait_in_vain(rt, shared, share, lent),
         move || close_on(rt, shared, lent),
     );
-    (is_closed, woke)
+    (bodies, woke)
 }
 
 fn try_end<
@@ -358,7 +363,13 @@ fn try_end<
     A: Ledger + Send + Sync,
     K: Ledger + Send + Sync,
     R: AllocGlobal + Threads + Wait + Clock + Sync,
->(rt: &R, alloc: Global, commits: Blank, added: Blank, taken: Blank) -> Result<(bool, bool), Stop>
+>(
+    rt: &R,
+    alloc: Global,
+    commits: Blank,
+    added: Blank,
+    taken: Blank,
+) -> Result<(Option<u32>, bool), Stop>
     requires commits { IsBlank commits C.name C.parts }
     requires added { IsBlank added A.name A.parts }
     requires taken { IsBlank taken K.name K.parts }
@@ -377,6 +388,6 @@ fn closing_wakes_a_transaction_that_waits(rt: HostRuntime) -> Result<(), Fail> {
         Blank::new(ALL_PARTS),
     );
     let ended = try_end::<Brand, Brand, Brand, _>(&rt, alloc, commits, added, taken)?;
-    assert_eq!(rt; ended, (true, true));
+    assert_eq!(rt; ended, (Some(1), true));
     Ok(())
 }

@@ -1,4 +1,4 @@
-use Rattle.tests_threads.proofs.looks.the_lock_is_free_at_each_step_of_a_transaction.Given as goal
+use Rattle.tests_threads.proofs.looks.check_transactions.Given as goal
 
 abbrev pub ghosts-try_transaction-C-Ledger : goal.ghosts-try_transaction-C-Ledger
 ghosts-try_transaction-C-Ledger g a = record { name = a.commits.name; parts = a.commits.parts }
