@@ -3,15 +3,24 @@ use denote.RattleType.{RattleType}
 use denote.Param.Send.{IsSend, IsSync, sendable}
 use denote.Param.SendFields.{declared_send, declared_sync}
 use Rattle.std.proofs.Crossing.{crosses as std_crosses}
+use Rattle.std.proofs.MapsCrossing.{crosses as map_crosses}
 use Rattle.std.specs.declared.sync.ledger.Ledger as Ledger
 use Rattle.ref_fun.specs.declared.meanings.Meaning as Meaning
 use Rattle.ref_world.proofs.Crossing.{seen_send, share_send, world_send}
 use Rattle.ref_shared.specs.contracts.shared.Held as Held
 use Rattle.ref_shared.specs.contracts.shared.Shared as Shared
+use Rattle.ref_shared.specs.contracts.waiters.Awaited as Awaited
+use Rattle.ref_shared.specs.contracts.waiters.Waiters as Waiters
+
+awaited_send : IsSend Awaited.the_row
+awaited_send = declared_send Awaited.the_type (search (std_crosses, sendable) depth 60, (search (std_crosses, sendable) depth 60, (search (std_crosses, sendable) depth 60, tt)))
+
+waiters_send : IsSend Waiters.the_row
+waiters_send = declared_send Waiters.the_type (search (std_crosses, sendable) depth 60, (search (awaited_send, map_crosses, std_crosses, sendable) depth 60, tt))
 
 module _ (M C A K : RattleType) (gM : Meaning.Ghosts M.Denot) (gC : Ledger.Ghosts C.Denot) (gA : Ledger.Ghosts A.Denot) (gK : Ledger.Ghosts K.Denot) where
   held_send : IsSend (Held.the_row M C A K gM gC gA gK)
-  held_send = declared_send (Held.the_type M C A K gM gC gA gK) (world_send C A K gC gA gK M gM, (search (std_crosses, sendable) depth 60, (search (std_crosses, sendable) depth 60, tt)))
+  held_send = declared_send (Held.the_type M C A K gM gC gA gK) (world_send C A K gC gA gK M gM, (search (std_crosses, sendable) depth 60, (waiters_send, tt)))
 
   pub shared_sync : IsSync (Shared.the_row M C A K gM gC gA gK)
   shared_sync = declared_sync (Shared.the_type M C A K gM gC gA gK) (search (held_send, std_crosses, sendable) depth 60, (search (std_crosses, sendable) depth 60, (search (std_crosses, sendable) depth 60, tt)))

@@ -1,8 +1,8 @@
 -- Receipts up to a point that isn't past the base's say nothing of the log.
-use Rattle.std.proofs.Common.{◌≡◌, ◌∙◌, ℕ, ◌+◌, ◌<◌, ◌≤◌, Bool, true, false, nat_lt, List, [], ◌∷◌, filter, ap, arith, inl, inr, refl, sym}
+use Rattle.std.proofs.Common.{◌≡◌, ◌∙◌, ℕ, ◌+◌, ◌<◌, ◌≤◌, Bool, true, false, nat_lt, List, [], ◌∷◌, ap, arith, inl, inr, refl, sym}
 use Rattle.std.proofs.lemmas.Bool.{cases_eq}
 use Rattle.ref_log.specs.declared.entries.Entry.{Entry}
-use Rattle.ref_shared.specs.Gather.{GatherFails, InOrder, ReceiptsMatch, told_at}
+use Rattle.ref_shared.specs.Gather.{GatherFails, ReceiptsMatch, told_at}
 use Rattle.ref_shared.specs.declared.faults.GatherFault.{GatherFault}
 use Rattle.ref_shared.specs.declared.faults.GatherFault.TheVariants.{ReceiptMissing, OutOfOrder, Memory}
 use Rattle.ref_shared.proofs.Marking.{told_here, told_other}

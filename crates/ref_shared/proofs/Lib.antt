@@ -1,6 +1,9 @@
 pub mod Chains
+pub mod Again
 pub mod Fitting
 pub mod Marking
 pub mod Turns
 pub mod Crossing
 pub mod Forgotten
+pub mod Looks
+pub mod Ended

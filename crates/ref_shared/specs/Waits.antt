@@ -1,11 +1,11 @@
 -- Those who wait: for actions of agents to be gone, and for a transaction that isn't ready.
-use Rattle.std.specs.Prelude.{◌≡◌, ◌+◌, ◌<◌, ◌≤◌, ◌==◌, ℕ, Bool, true, false, not, ◌&&◌, ◌||◌, if◌then◌else◌, nat_le, min, List, [], ◌∷◌, filter, length, Option, None, Some, Result, Ok, Err}
+use Rattle.std.specs.Prelude.{◌≡◌, ◌+◌, ◌-◌, ◌^◌, ◌≤◌, ◌==◌, ℕ, Bool, true, false, if◌then◌else◌, is_some, nat_le, min, unwrap_or, List, [], ◌∷◌, filter, length, Option, None, Some, Result, Ok, Err}
 use Rattle.std.specs.List.{All, IsAmong}
-use Rattle.std.specs.Option.{is_some}
 use Rattle.std.specs.BTreeMap.{BTreeMap, get}
 use Rattle.std.specs.Ordering.{nat_cmp}
 use Rattle.std.proofs.Common.{◌⊎◌}
-use Rattle.ref_agents.specs.Agents.{error_at}
+use Rattle.ref_agents.specs.Account.{AccountSeen}
+use Rattle.ref_agents.specs.Agents.{account_at, error_at}
 use Rattle.ref_agents.specs.declared.agents.Agent.{Agent}
 use Rattle.ref_log.specs.declared.entries.Stamp.{Stamp}
 use Rattle.ref_refs.specs.Conflicts.{IsConflictOf}
@@ -15,7 +15,6 @@ use Rattle.ref_shared.specs.Bodies.{BodyOf, Call, Called, IsFinal, earlier_of}
 use Rattle.ref_shared.specs.Commits.{HasCommitted}
 use Rattle.ref_shared.specs.declared.faults.AwaitFault.{AwaitFault}
 use Rattle.ref_shared.specs.declared.faults.AwaitFault.TheVariants as awaits
-use Rattle.ref_shared.specs.declared.faults.TransactFault.{TransactFault}
 use Rattle.ref_shared.specs.declared.faults.TransactFault.TheVariants as transacts
 use Rattle.ref_shared.specs.declared.faults.WaitFault.{WaitFault}
 use Rattle.ref_shared.specs.declared.faults.WaitFault.TheVariants as waits
@@ -52,6 +51,18 @@ and_gone many (Some awaited) = min (awaited.gone + many) (2 ^ 64 - 1)
 abbrev pub is_through : Option (BTreeMap ℕ Awaited) → Target → Bool
 is_through awaited target = nat_le target.count (gone_at awaited target.g)
 
+-- how many actions wait for an agent, if it is there
+abbrev pub queued_in : Option AccountSeen → Option ℕ
+queued_in None = None
+queued_in (Some account) = Some (length account.queue)
+
+abbrev pub queued_at : List Agent → ℕ → Option ℕ
+queued_at agents g = queued_in (account_at agents g)
+
+-- Who begins to wait for an agent waits for all that is in its queue.
+abbrev pub target_of : Option (BTreeMap ℕ Awaited) → List Agent → ℕ → Target
+target_of awaited agents g = record { g = g; count = min (gone_at awaited g + unwrap_or (queued_at agents g) 0) (2 ^ 64 - 1) }
+
 -- A look from an agent that isn't through at the others: one of them may be failed.
 abbrev pub left_of : Look → Look
 left_of looks.Through = looks.Left
@@ -65,6 +76,13 @@ look_of awaited agents (target ∷ targets) =
     if is_through awaited target then look_of awaited agents targets
     else if is_some (error_at agents target.g) then looks.Failed target.g
     else left_of (look_of awaited agents targets)
+
+-- If a fault names an agent, then this.
+abbrev pub NamesNoOther : ℕ → AwaitFault → Type 0
+NamesNoOther g (awaits.NoSuchAgent h) = h ≡ g
+NamesNoOther g (awaits.Failed h) = ⊥
+NamesNoOther g awaits.Closed = ⊥
+NamesNoOther g awaits.Memory = Unit {0}
 
 -- The agent that a fault names is one of those that were waited for.
 abbrev pub NamesOneOf : List ℕ → AwaitFault → Type 0

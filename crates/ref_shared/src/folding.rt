@@ -2,17 +2,18 @@
 ghost use Rattle.std.specs.Prelude.{◌≡◌, ◌<◌, ℕ};
 ghost use Rattle.ref_world.specs.Shares.{forgotten};
 
-use crate::shared::Shared;
+use crate::shared::{Held, Shared};
 use ref_fun::{Functions, Meaning};
 use ref_world::{CheckpointFault, Share};
 use std::alloc::{AllocError, Global};
-use std::sync::Wait;
 use std::sync::ledger::Ledger;
+use std::sync::{MutexGuard, Wait};
 
 impl<M: Meaning, C: Ledger, A: Ledger, K: Ledger> Shared<M, C, A, K> {
     /// Folds the entries up to this point into the base, and answers how many these were: see [`World::checkpoint`]. The lock is held
     /// while these entries are replayed, for a step for each ref and atom, and for a logarithm of the entries that are left: so
-    /// not for longer than the entries since the last checkpoint take. Whoever calls it often holds it for a short time each.
+    /// not for longer than the entries since the last checkpoint take. Whoever calls it often holds it for a short time each. What is
+    /// dropped of base and log is dropped with the lock free.
     pub fn checkpoint<R: Wait, F: Functions<M>>(
         &self,
         rt: &R,
@@ -20,7 +21,7 @@ impl<M: Meaning, C: Ledger, A: Ledger, K: Ledger> Shared<M, C, A, K> {
         funs: &F,
         point: u64,
     ) -> Result<u64, CheckpointFault> {
-        self.lock(rt).world.checkpoint(alloc, funs, point)
+        fold_and_free(self.lock(rt), alloc, funs, point)
     }
 
     /// Folds the entries up to this point into the base, so many at a time, and returns how many it folded: the lock is free between two
@@ -61,7 +62,7 @@ impl<M: Meaning, C: Ledger, A: Ledger, K: Ledger> Shared<M, C, A, K> {
     ) -> Result<u64, CheckpointFault>
         requires { 0 < bite }
     {
-        let mut held = self.lock(rt);
+        let held = self.lock(rt);
         if point > held.world.point() {
             return Err(CheckpointFault::NoSuchPoint);
         }
@@ -74,7 +75,7 @@ impl<M: Meaning, C: Ledger, A: Ledger, K: Ledger> Shared<M, C, A, K> {
         } else {
             base + bite as u64
         };
-        held.world.checkpoint(alloc, funs, to)
+        fold_and_free(held, alloc, funs, to)
     }
 
     /// Drops the receipts of a share whose entries are folded into the base: see [`World::forget`]. The lock is held for a look at the
@@ -92,4 +93,21 @@ impl<M: Meaning, C: Ledger, A: Ledger, K: Ledger> Shared<M, C, A, K> {
     pub fn fold_agent<R: Wait>(&self, rt: &R, g: u32) -> Result<bool, AllocError> {
         self.lock(rt).world.fold_agent(g)
     }
+}
+
+// Folds the entries up to this point, frees the lock, and returns how many these were.
+fn fold_and_free<M: Meaning, C: Ledger, A: Ledger, K: Ledger, F: Functions<M>>(
+    held: MutexGuard<'_, Held<M, C, A, K>>,
+    alloc: Global,
+    funs: &F,
+    point: u64,
+) -> Result<u64, CheckpointFault> {
+    let mut held = held;
+    // One owner more, so that the base and the log before are dropped when the lock is free again. Where it is refused they are dropped
+    // under it.
+    let before = held.world.view();
+    let folded = held.world.checkpoint(alloc, funs, point);
+    drop(held);
+    drop(before);
+    folded
 }

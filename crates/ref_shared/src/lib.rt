@@ -2,7 +2,8 @@
 //!
 //! [`Shared`] holds a `ref_world::World` under one lock: [`Shared::transact`] runs a body on a transaction and commits it, as Clojure's
 //! `dosync`, again and again where it is in conflict; the calls on atoms and agents are one step each; a thread that calls
-//! [`Shared::work_once`] in a loop runs the actions of agents, until [`Shared::close`]. Each thread that changes refs or atoms has a share
+//! [`Shared::work_once`] in a loop runs the actions of agents, until [`Shared::close`]. [`Shared::await_agents`] waits until what agents were
+//! sent is done, and [`Shared::transact_when`] until a transaction's body is ready. Each thread that changes refs or atoms has a share
 //! of the world, which it got by [`ref_world::Share::split`]; at the end the shares are joined, and [`Shared::finish`] takes the world
 //! out, with its totals, after it has compared the log with the receipts of all shares.
 //!
@@ -13,6 +14,7 @@
 //! | [`WatchSink`], [`Quiet`] | who gets the notices of a commit or an action, and how an action ended; and a sink that drops both |
 //! | [`Worked`], [`WorkFault`] | what a call of `work_once` did, and why it didn't run an action to its end |
 //! | [`TransactFault`] | why a transaction came to no commit: it gave up, its body ended it, or its commit or memory was refused |
+//! | [`WaitFault`], [`AwaitFault`] | why a transaction that waits came to no commit, and why not all was done that was waited for |
 //! | [`match_receipts`], [`GatherFault`] | the comparison of a log with receipts, which `finish` makes, and why they don't fit |
 //! | [`folded_receipts_say_nothing`] | a law of it: [`Shared::forget`] changes nothing that it says |
 //!
@@ -21,7 +23,9 @@
 //!
 //! **Costs.** Each call takes the lock once, and costs what its call of the world costs; `transact` takes it twice for each try, and once
 //! more where what was committed sent something; `work_once` takes it for the job and for its end, and once more where its action sends
-//! something on; `new` and `finish` don't. A body, an action, a gate and a sink run with the lock free. Functions of the table run under it
+//! something on; `checkpoint_in_bites` takes it for each bite; `new` and `finish` don't. Each entry wakes all transactions that wait, and
+//! with them those who wait for agents; an end of an action wakes them only where somebody waits for that one. Who doesn't wait pays a
+//! comparison for it. A body, an action, a gate and a sink run with the lock free. Functions of the table run under it
 //! where a commit commutes, an atom is swapped or a rule is asked, so they are to be quick; a checkpoint holds it for a replay of the
 //! entries that it folds, and `fold_agent` for a step for each action that it drops. `finish` is linear in the sizes of log and receipts,
 //! but for logarithms of the workers and of the entries, and takes a byte for each entry and some for each worker.
@@ -29,7 +33,8 @@
 //! **Not promised.** Which thread comes first, how often a transaction is tried within its limit and whether it gets through, that a waiter
 //! ever wakes or an action is ever run, and how long anything takes; a call that locks or waits holds its promise where it returns. That
 //! what was found at one lock holds at the next, and in which order two threads deliver their notices. Of the calls on a `Shared` only
-//! `begin`, `commit`, `transact`, `transact_by`, `work_once`, those on atoms, `forget` and `finish` have clauses: what the others do, that
+//! `begin`, `commit`, `transact`, `transact_by`, `transact_when`, `work_once`, those on atoms, `forget` and `finish` have clauses, and
+//! `await_agents` one that says which agent a fault names: what the others do, that a wait ends when it should and not before, that
 //! `transact` delivers the notices and then releases the sends, and that no lock is held over a body, an action, a gate or a sink, is only
 //! tested.
 #![tactic(auto)]

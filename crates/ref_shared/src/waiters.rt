@@ -1,6 +1,6 @@
 //! Who waits, and for what: the part of what the lock holds that isn't the world.
-ghost use Rattle.std.specs.Prelude.{◌≡◌, ◌==◌, ℕ, false, None, Some, IfOk, IfErr, IsSome, OnErr, OnOk, map};
-ghost use Rattle.ref_shared.specs.Waits.{NamesOneOf, Stores, and_gone, awaited_at, gone_at, is_through, look_of};
+ghost use Rattle.std.specs.Prelude.{◌≡◌, ◌==◌, ◌<◌, ℕ, false, None, Some, IfOk, IfErr, IfSome, IsSome, OnErr, OnOk, map};
+ghost use Rattle.ref_shared.specs.Waits.{NamesNoOther, NamesOneOf, Stores, and_gone, awaited_at, gone_at, is_through, look_of, queued_at, target_of};
 
 use crate::faults::AwaitFault;
 use crate::shared::Held;
@@ -125,7 +125,9 @@ impl Waiters {
 
     // One less waits for this agent. The last to leave takes its count away.
     fn leave(&mut self, g: u32)
-        ensures { (h : ℕ) → (h == g) ≡ false → awaited_at self.new.agents h ≡ awaited_at self.old.agents h }
+        ensures others { (h : ℕ) → (h == g) ≡ false → awaited_at self.new.agents h ≡ awaited_at self.old.agents h }
+        ensures more { IfSome (awaited_at self.old.agents g) (λ a. 1 < a.waiters
+            → gone_at self.new.agents g ≡ gone_at self.old.agents g) }
     {
         let Some(awaited) = self.at(g) else {
             return;
@@ -203,8 +205,13 @@ impl Waiters {
 
 impl<M: Meaning, C: Ledger, A: Ledger, K: Ledger> Held<M, C, A, K> {
     // How many actions wait for an agent, if it is there; the one that is on its way counts.
-    pub(crate) fn queued(&self, g: u32) -> Option<u64> {
-        Some(self.world.account(g)?.waiting() as u64)
+    pub(crate) fn queued(&self, g: u32) -> Option<u64>
+        ensures { result ≡ queued_at self.now.world.agents.agents g }
+    {
+        match self.world.account(g) {
+            Some(account) => Some(account.waiting() as u64),
+            None => None,
+        }
     }
 
     // One more waits for these agents. Where it is refused none does.
@@ -213,24 +220,24 @@ impl<M: Meaning, C: Ledger, A: Ledger, K: Ledger> Held<M, C, A, K> {
         alloc: Global,
         agents: &[u32],
     ) -> Result<Vec<Target>, AwaitFault>
-        ensures targets { IfOk result (λ targets. map (λ t. t.g) targets.items ≡ agents.now) }
+        ensures targets { IfOk result (λ targets. targets.items
+            ≡ map (target_of self.old.waiters.agents self.old.world.agents.agents) agents.now) }
+        ensures counts { OnOk result ((h : ℕ) → gone_at self.new.waiters.agents h ≡ gone_at self.old.waiters.agents h) }
         ensures fault { IfErr result (λ f. NamesOneOf agents.now f) }
     {
         let mut targets = Vec::new(alloc);
-        if targets.reserve(agents.len()).is_err() {
-            return Err(AwaitFault::Memory);
-        }
         for g in agents {
-            match self.enter(alloc, *g) {
-                Ok(target) => {
-                    if targets.push(target).is_err() {
-                        unreachable!()
-                    }
-                }
+            let target = match self.enter(alloc, *g) {
+                Ok(target) => target,
                 Err(fault) => {
                     self.leave_all(targets.as_slice());
                     return Err(fault);
                 }
+            };
+            if targets.push(target).is_err() {
+                self.waiters.leave(*g);
+                self.leave_all(targets.as_slice());
+                return Err(AwaitFault::Memory);
             }
         }
         Ok(targets)
@@ -238,7 +245,10 @@ impl<M: Meaning, C: Ledger, A: Ledger, K: Ledger> Held<M, C, A, K> {
 
     // One more waits for this agent.
     fn enter(&mut self, alloc: Global, g: u32) -> Result<Target, AwaitFault>
-        ensures target { IfOk result (λ t. t.g ≡ g) }
+        ensures target { IfOk result (λ t. t ≡ target_of self.old.waiters.agents self.old.world.agents.agents g) }
+        ensures fault { IfErr result (NamesNoOther g) }
+        ensures counts { (h : ℕ) → gone_at self.new.waiters.agents h ≡ gone_at self.old.waiters.agents h }
+        ensures world { self.new.world ≡ self.old.world }
     {
         let Some(queued) = self.queued(g) else {
             return Err(AwaitFault::NoSuchAgent(g));
@@ -285,7 +295,11 @@ impl<M: Meaning, C: Ledger, A: Ledger, K: Ledger> Held<M, C, A, K> {
     }
 
     // An action of this agent ended so, or it is on its way still. Returns whether those who wait for the agent are to be woken.
-    pub(crate) fn note_end<E>(&mut self, g: u32, finished: &Result<Finished, E>) -> bool {
+    pub(crate) fn note_end<E>(&mut self, g: u32, finished: &Result<Finished, E>) -> bool
+        ensures ended { OnOk finished.now (gone_at self.new.waiters.agents g ≡ and_gone 1 (awaited_at self.old.waiters.agents g)) }
+        ensures others { (h : ℕ) → (h == g) ≡ false
+            → awaited_at self.new.waiters.agents h ≡ awaited_at self.old.waiters.agents h }
+    {
         match finished {
             Ok(finished) => self
                 .waiters

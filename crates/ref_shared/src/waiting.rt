@@ -38,15 +38,20 @@ impl<M: Meaning, C: Ledger, A: Ledger, K: Ledger> Shared<M, C, A, K> {
         let mut held = self.lock(rt);
         let targets = held.enter_all(alloc, agents)?;
         for _ in rt.forever() {
-            let ended = match held.look(targets.as_slice()) {
-                Look::Through => Some(Ok(())),
-                Look::Failed(g) => Some(Err(AwaitFault::Failed(g))),
-                Look::Left if held.is_closed => Some(Err(AwaitFault::Closed)),
-                Look::Left => None,
-            };
-            if let Some(ended) = ended {
+            match held.look(targets.as_slice()) {
+                Look::Through => {
+                    held.leave_all(targets.as_slice());
+                    return Ok(());
+                }
+                Look::Failed(g) => {
+                    held.leave_all(targets.as_slice());
+                    return Err(AwaitFault::Failed(g));
+                }
+                Look::Left => {}
+            }
+            if held.is_closed {
                 held.leave_all(targets.as_slice());
-                return ended;
+                return Err(AwaitFault::Closed);
             }
             held.wake_all(targets.as_slice());
             held = self.moved.wait(rt, held);
