@@ -86,6 +86,7 @@ CLOJURE = {
     "agent-error": "ref_world::World::error_of ref_shared::Shared::error_of",
     "alter": "ref_tx::Tx::alter",
     "atom": "ref_start::AtomStart ref_world::World::make_atom ref_shared::Shared::make_atom",
+    "await": "ref_shared::Shared::await_agents",
     "clojure.edn/read-string": "ref_edn::read_one ref_edn::read_all",
     "commute": "ref_tx::Tx::commute",
     "compare-and-set!": "ref_world::World::compare_and_set ref_shared::Shared::compare_and_set",

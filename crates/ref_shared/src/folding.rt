@@ -10,7 +10,7 @@ use std::sync::ledger::Ledger;
 use std::sync::{MutexGuard, Wait};
 
 impl<M: Meaning, C: Ledger, A: Ledger, K: Ledger> Shared<M, C, A, K> {
-    /// Folds the entries up to this point into the base, and answers how many these were: see [`World::checkpoint`]. The lock is held
+    /// Folds the entries up to this point into the base, and answers how many these were: see [`ref_world::World::checkpoint`]. The lock is held
     /// while these entries are replayed, for a step for each ref and atom, and for a logarithm of the entries that are left: so
     /// not for longer than the entries since the last checkpoint take. Whoever calls it often holds it for a short time each. What is
     /// dropped of base and log is dropped with the lock free.
@@ -78,7 +78,7 @@ impl<M: Meaning, C: Ledger, A: Ledger, K: Ledger> Shared<M, C, A, K> {
         fold_and_free(held, alloc, funs, to)
     }
 
-    /// Drops the receipts of a share whose entries are folded into the base: see [`World::forget`]. The lock is held for a look at the
+    /// Drops the receipts of a share whose entries are folded into the base: see [`ref_world::World::forget`]. The lock is held for a look at the
     /// base, and the receipts are dropped with the lock free. A receipt holds its entry whole, so a checkpoint frees entries only once
     /// the shares have forgotten them.
     pub fn forget<R: Wait>(&self, rt: &R, share: &mut Share<C, A, K>)
@@ -88,7 +88,7 @@ impl<M: Meaning, C: Ledger, A: Ledger, K: Ledger> Shared<M, C, A, K> {
         share.forget(point);
     }
 
-    /// Folds the account of an agent, and returns whether it did so: see [`World::fold_agent`]. The lock is held for a step for each action
+    /// Folds the account of an agent, and returns whether it did so: see [`ref_world::World::fold_agent`]. The lock is held for a step for each action
     /// that ended since the last fold or restart. Actions may be queued, on their way, and end meanwhile.
     pub fn fold_agent<R: Wait>(&self, rt: &R, g: u32) -> Result<bool, AllocError> {
         self.lock(rt).world.fold_agent(g)
