@@ -1,6 +1,6 @@
-# Builds a program of this folder in a folder of its own. Read by threads.sh, stress.sh and begins.sh, which set `here`, the
-# program's `name`, the highest `library` that it stands on, or several, and what it is told for a short `try`; it sets `room`, the folder,
-# and `program`.
+# Builds a program of this folder in a folder of its own. Read by threads.sh, stress.sh, begins.sh, equality.sh and steady.sh, which set
+# `here`, the program's `name`, the highest `library` that it stands on, or several, what it is told for a short `try`, and `over`, if its
+# files stand over those of a crate; it sets `room`, the folder, and `program`.
 top=$(dirname "$here")
 room=${REF_BENCH:-${TMPDIR:-/tmp}/ref-bench}/$name
 tree=$room/tree
@@ -37,8 +37,15 @@ for below in $libraries; do
   fi
 done
 
-# The program's files have names that end in .txt, since an .rt or .antt file has to belong to a crate of the repository.
-rm -rf "$tree/crates/$name/src" "$tree/crates/$name/proofs"
+# The program's files have names that end in .txt, since an .rt or .antt file has to belong to a crate of the repository. Those of the crate
+# that they stand over come first, under the program's name.
+rm -rf "$tree/crates/$name/src" "$tree/crates/$name/specs" "$tree/crates/$name/proofs"
+if [ -n "${over:-}" ]; then
+  mkdir -p "$tree/crates/$name"
+  cp -a "$top/crates/$over/src" "$top/crates/$over/specs" "$top/crates/$over/proofs" "$tree/crates/$name/"
+  find "$tree/crates/$name/src" "$tree/crates/$name/specs" "$tree/crates/$name/proofs" -type f \
+    -exec sed -i "s/Rattle\.$over\./Rattle.$name./" {} +
+fi
 for file in $(cd "$here/$name" && find src proofs -name '*.txt'); do
   mkdir -p "$tree/crates/$name/$(dirname "$file")"
   cp "$here/$name/$file" "$tree/crates/$name/${file%.txt}"

@@ -371,20 +371,52 @@
     [(failure g) (fault (send g inc))])
   => ["boom" "Agent is failed, needs restart"])
 
+(row ":error-handler"
+  (let [seen (promise), g (agent 0 :error-handler (fn [g e] (deliver seen [@g (.getMessage ^Throwable e)])))]
+    (send g boom)
+    [(deref seen limit :none) @g (agent-error g)])
+  => [[0 "boom"] 0 nil])
+
 (defn missing [& names] (remove #(ns-resolve 'clojure.core %) names))
 
-(row "*agent*, await, await-for, await1"
-  (missing '*agent* 'await 'await-for 'await1) => []
-  (let [g (agent 0)] (send g (fn [_] (= *agent* g))) (await g) [@g *agent*]) => [true nil]
+(row "(await a b ..)"
   ;; It waits for what this thread sent before, and not in an action or a transaction.
   (let [g (agent 0)]
     (send g (fn [v] (Thread/sleep 50) (inc v)))
     (await g)
     @g)
   => 1
+  ;; It waits for what others sent before, too: it sends an action of its own, which comes behind those.
+  (let [g (agent 0), go (promise)]
+    (send g (fn [v] @go (inc v)))
+    @(future (send g inc))
+    (deliver go true)
+    (await g)
+    @g)
+  => 2
+  ;; The watches have run.
+  (let [g (agent 0), seen (atom [])]
+    (add-watch g :k (fn [_ _ old new] (swap! seen conj [old new])))
+    (send g inc)
+    (await g)
+    (first @seen))
+  => [0 1]
   (let [g (agent nil)] (send g (fn [_] (fault (await (agent 0))))) (await g) @g) => "Can't await in agent action"
   (fault (dosync (await (agent 0)))) => "await in transaction"
   (fault (await (failed-agent 0))) => "Agent is failed, needs restart"
+  ;; If the agent fails meanwhile, it waits until a restart.
+  (let [g (agent 0), go (promise)]
+    (send g (fn [_] @go (boom)))
+    (let [waits (future (await g) :done)]
+      (Thread/sleep 50)
+      (deliver go true)
+      (until #(agent-error g))
+      [(deref waits 50 :waits) (do (restart-agent g 7) (deref waits limit :waits)) @g]))
+  => [:waits :done 7])
+
+(row "*agent*, await-for, await1"
+  (missing '*agent* 'await-for 'await1) => []
+  (let [g (agent 0)] (send g (fn [_] (= *agent* g))) (await g) [@g *agent*]) => [true nil]
   (let [g (agent 0), go (promise)]
     (send g (fn [v] @go (inc v)))
     [(await-for 20 g) (do (deliver go true) (await-for limit g))])

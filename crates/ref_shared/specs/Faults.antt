@@ -8,6 +8,8 @@ use Rattle.ref_shared.specs.declared.faults.GatherFault.{GatherFault}
 use Rattle.ref_shared.specs.declared.faults.GatherFault.TheVariants as gathers
 use Rattle.ref_shared.specs.declared.faults.TransactFault.{TransactFault}
 use Rattle.ref_shared.specs.declared.faults.TransactFault.TheVariants as transacts
+use Rattle.ref_shared.specs.declared.faults.WaitFault.{WaitFault}
+use Rattle.ref_shared.specs.declared.faults.WaitFault.TheVariants as waits
 use Rattle.ref_shared.specs.declared.faults.WorkFault.{WorkFault}
 use Rattle.ref_shared.specs.declared.faults.WorkFault.TheVariants as works
 
@@ -22,6 +24,10 @@ await_fault_number (awaits.NoSuchAgent g) = 1
 await_fault_number (awaits.Failed g) = 2
 await_fault_number awaits.Closed = 3
 await_fault_number awaits.Memory = 4
+
+abbrev pub wait_fault_number : {E : Type 0} → WaitFault E → ℕ
+wait_fault_number waits.Closed = 1
+wait_fault_number (waits.Transact fault) = 2
 
 abbrev pub work_fault_number : WorkFault → ℕ
 work_fault_number (works.NoSuchFun code) = 1

@@ -1,5 +1,5 @@
 -- Those who wait: for actions of agents to be gone, and for a transaction that isn't ready.
-use Rattle.std.specs.Prelude.{◌≡◌, ◌+◌, ◌-◌, ◌^◌, ◌≤◌, ◌==◌, ℕ, Bool, true, false, if◌then◌else◌, is_some, nat_le, min, unwrap_or, List, [], ◌∷◌, filter, length, Option, None, Some, Result, Ok, Err}
+use Rattle.std.specs.Prelude.{◌≡◌, ◌+◌, ◌-◌, ◌^◌, ◌≤◌, ◌==◌, ◌||◌, ℕ, Bool, true, false, if◌then◌else◌, is_some, nat_le, nat_lt, min, unwrap_or, List, [], ◌∷◌, filter, length, Option, None, Some, Result, Ok, Err}
 use Rattle.std.specs.List.{All, IsAmong}
 use Rattle.std.specs.BTreeMap.{BTreeMap, get}
 use Rattle.std.specs.Ordering.{nat_cmp}
@@ -7,6 +7,8 @@ use Rattle.std.proofs.Common.{◌⊎◌}
 use Rattle.ref_agents.specs.Account.{AccountSeen}
 use Rattle.ref_agents.specs.Agents.{account_at, error_at}
 use Rattle.ref_agents.specs.declared.agents.Agent.{Agent}
+use Rattle.ref_agents.specs.declared.ends.Finished.{Finished}
+use Rattle.ref_agents.specs.declared.ends.Finished.TheVariants.{Changed, Failed, Continued}
 use Rattle.ref_log.specs.declared.entries.Stamp.{Stamp}
 use Rattle.ref_refs.specs.Conflicts.{IsConflictOf}
 use Rattle.ref_refs.specs.declared.faults.Conflict.{Conflict}
@@ -42,10 +44,50 @@ gone_at agents g = gone_in (awaited_at agents g)
 abbrev pub Stores : Option (BTreeMap ℕ Awaited) → Option (BTreeMap ℕ Awaited) → ℕ → Option Awaited → Type 0
 Stores old new g x = (awaited_at new g ≡ x) × ((h : ℕ) → (h == g) ≡ false → awaited_at new h ≡ awaited_at old h)
 
--- so many more are gone
-abbrev pub and_gone : ℕ → Option Awaited → ℕ
-and_gone many None = 0
-and_gone many (Some awaited) = min (awaited.gone + many) (2 ^ 64 - 1)
+-- the greatest number of 64 bits, at which counts stay
+abbrev pub most : ℕ
+most = 2 ^ 64 - 1
+
+-- what is stored once one more waits for an agent
+abbrev pub with_waiter : Option Awaited → Awaited
+with_waiter None = record { gone = 0; waiters = 1; next = most }
+with_waiter (Some a) = record a { waiters = min (a.waiters + 1) most }
+
+-- what is stored once one fewer does: nothing if it was the last
+abbrev pub less_waiter : Awaited → Option Awaited
+less_waiter a = if nat_lt 0 (a.waiters - 1) then Some (record a { waiters = a.waiters - 1 }) else None
+
+abbrev pub without_waiter : Option Awaited → Option Awaited
+without_waiter None = None
+without_waiter (Some a) = less_waiter a
+
+-- Whether those who wait for an agent are to be woken, once so many of its actions are gone: it is enough for one of them, or all are.
+abbrev pub wakes_at : Bool → ℕ → Awaited → Bool
+wakes_at all gone a = all || nat_le a.next gone
+
+abbrev pub ended_by : Bool → ℕ → Awaited → Awaited
+ended_by all gone a = record { gone = gone; waiters = a.waiters; next = if wakes_at all gone a then most else a.next }
+
+-- what is stored once so many more of its actions are gone: who is woken says anew what it waits for
+abbrev pub after_end : ℕ → Bool → Option Awaited → Option Awaited
+after_end many all None = None
+after_end many all (Some a) = Some (ended_by all (min (a.gone + many) most) a)
+
+-- whether those who wait for it are to be woken then
+abbrev pub wakes : ℕ → Bool → Option Awaited → Bool
+wakes many all None = false
+wakes many all (Some a) = wakes_at all (min (a.gone + many) most) a
+
+-- what is stored once somebody is to be woken when so many are gone
+abbrev pub woken_at : ℕ → Option Awaited → Option Awaited
+woken_at count None = None
+woken_at count (Some a) = Some (if nat_lt count a.next then record a { next = count } else a)
+
+-- whether an action that ended so failed its agent
+abbrev pub fails : Finished → Bool
+fails (Changed notices) = false
+fails (Failed error) = true
+fails (Continued error) = false
 
 -- All is gone that is waited for.
 abbrev pub is_through : Option (BTreeMap ℕ Awaited) → Target → Bool
@@ -61,7 +103,7 @@ queued_at agents g = queued_in (account_at agents g)
 
 -- Who begins to wait for an agent waits for all that is in its queue.
 abbrev pub target_of : Option (BTreeMap ℕ Awaited) → List Agent → ℕ → Target
-target_of awaited agents g = record { g = g; count = min (gone_at awaited g + unwrap_or (queued_at agents g) 0) (2 ^ 64 - 1) }
+target_of awaited agents g = record { g = g; count = min (gone_at awaited g + unwrap_or (queued_at agents g) 0) most }
 
 -- A look from an agent that isn't through at the others: one of them may be failed.
 abbrev pub left_of : Look → Look
@@ -77,7 +119,7 @@ look_of awaited agents (target ∷ targets) =
     else if is_some (error_at agents target.g) then looks.Failed target.g
     else left_of (look_of awaited agents targets)
 
--- If a fault names an agent, then this.
+-- The faults of beginning to wait for an agent: it isn't there, or there is no memory.
 abbrev pub NamesNoOther : ℕ → AwaitFault → Type 0
 NamesNoOther g (awaits.NoSuchAgent h) = h ≡ g
 NamesNoOther g (awaits.Failed h) = ⊥

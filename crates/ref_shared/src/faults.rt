@@ -1,6 +1,6 @@
 //! Why a call on a shared world is refused.
 ghost use Rattle.std.specs.Prelude.{◌≡◌};
-ghost use Rattle.ref_shared.specs.Faults.{await_fault_number, gather_fault_number, transact_fault_number, work_fault_number};
+ghost use Rattle.ref_shared.specs.Faults.{await_fault_number, gather_fault_number, transact_fault_number, wait_fault_number, work_fault_number};
 ghost use Rattle.ref_shared.specs.declared.faults.GatherFault.TheVariants as gathers;
 
 use ref_agents::JobFault;
@@ -50,6 +50,18 @@ pub enum WaitFault<E> {
     /// As of a transaction that doesn't wait.
     #[error("{0}")]
     Transact(TransactFault<E>),
+}
+
+impl<E> WaitFault<E> {
+    /// The number of the fault.
+    pub fn number(&self) -> u8
+        ensures { result ≡ wait_fault_number self.now }
+    {
+        match self {
+            WaitFault::Closed => 1,
+            WaitFault::Transact(_) => 2,
+        }
+    }
 }
 
 /// Why a call that waits for agents returned before all was gone that it waited for. Nothing was changed.

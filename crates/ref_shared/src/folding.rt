@@ -10,8 +10,8 @@ use std::sync::ledger::Ledger;
 use std::sync::{MutexGuard, Wait};
 
 impl<M: Meaning, C: Ledger, A: Ledger, K: Ledger> Shared<M, C, A, K> {
-    /// Folds the entries up to this point into the base, and answers how many these were: see [`ref_world::World::checkpoint`]. The lock is held
-    /// while these entries are replayed, for a step for each ref and atom, and for a logarithm of the entries that are left: so
+    /// Folds the entries up to this point into the base, and returns how many these were: see [`ref_world::World::checkpoint`]. The
+    /// lock is held while these entries are replayed, for a step for each ref and atom, and for a logarithm of the entries that are left: so
     /// not for longer than the entries since the last checkpoint take. Whoever calls it often holds it for a short time each. What is
     /// dropped of base and log is dropped with the lock free.
     pub fn checkpoint<R: Wait, F: Functions<M>>(
@@ -25,8 +25,8 @@ impl<M: Meaning, C: Ledger, A: Ledger, K: Ledger> Shared<M, C, A, K> {
     }
 
     /// Folds the entries up to this point into the base, so many at a time, and returns how many it folded: the lock is free between two
-    /// bites, and held for one bite at a time. Entries that are folded already, also by others meanwhile, aren't counted, so for a point
-    /// that isn't past the base's it returns 0.
+    /// bites, and held for one bite at a time. Nothing says that a thread which waits for the lock gets it between two bites. Entries
+    /// that are folded already, also by others meanwhile, aren't counted, so for a point that isn't past the base's it returns 0.
     ///
     /// It fails as [`Shared::checkpoint`]: for a point past the present with nothing changed; if memory or a function is lacking, what
     /// was folded before stays folded. Each bite copies the base, which takes a step for each ref and atom: with many of them take large
@@ -78,9 +78,9 @@ impl<M: Meaning, C: Ledger, A: Ledger, K: Ledger> Shared<M, C, A, K> {
         fold_and_free(held, alloc, funs, to)
     }
 
-    /// Drops the receipts of a share whose entries are folded into the base: see [`ref_world::World::forget`]. The lock is held for a look at the
-    /// base, and the receipts are dropped with the lock free. A receipt holds its entry whole, so a checkpoint frees entries only once
-    /// the shares have forgotten them.
+    /// Drops the receipts of a share whose entries are folded into the base: see [`ref_world::World::forget`]. The lock is held for a look at
+    /// the base, and the receipts are dropped with the lock free. A receipt holds its entry whole, so a checkpoint frees entries only once the
+    /// shares have forgotten them.
     pub fn forget<R: Wait>(&self, rt: &R, share: &mut Share<C, A, K>)
         ensures { (point : ℕ) × (share.new ≡ forgotten share.old point) }
     {
@@ -88,8 +88,9 @@ impl<M: Meaning, C: Ledger, A: Ledger, K: Ledger> Shared<M, C, A, K> {
         share.forget(point);
     }
 
-    /// Folds the account of an agent, and returns whether it did so: see [`ref_world::World::fold_agent`]. The lock is held for a step for each action
-    /// that ended since the last fold or restart. Actions may be queued, on their way, and end meanwhile.
+    /// Folds the account of an agent, and returns whether it did so: see [`ref_world::World::fold_agent`]. The lock is held for a step for each
+    /// action that ended since the last fold or restart: what is dropped is dropped under it. Actions may be queued, on their way, and end
+    /// meanwhile.
     pub fn fold_agent<R: Wait>(&self, rt: &R, g: u32) -> Result<bool, AllocError> {
         self.lock(rt).world.fold_agent(g)
     }

@@ -22,13 +22,15 @@
 //! functions that mean what Core's mean; with another meaning call [`Shared::begin`], [`Shared::commit`] and [`Shared::release`].
 //!
 //! **Costs.** Each call takes the lock once, and costs what its call of the world costs; `transact` takes it twice for each try, and once
-//! more where what was committed sent something; `work_once` takes it for the job and for its end, and once more where its action sends
-//! something on; `checkpoint_in_bites` takes it for each bite; `new` and `finish` don't. Each entry wakes all transactions that wait, and
-//! with them those who wait for agents; an end of an action wakes them only where somebody waits for that one. Who doesn't wait pays a
-//! comparison for it. A body, an action, a gate and a sink run with the lock free. Functions of the table run under it
-//! where a commit commutes, an atom is swapped or a rule is asked, so they are to be quick; a checkpoint holds it for a replay of the
-//! entries that it folds, and `fold_agent` for a step for each action that it drops. `finish` is linear in the sizes of log and receipts,
-//! but for logarithms of the workers and of the entries, and takes a byte for each entry and some for each worker.
+//! more where what was committed sent something; `transact_when` does so too, and takes it once more for each call of a body that isn't
+//! ready, and each time when it is woken, as `await_agents` does; `work_once` takes it for the job and for its end, and once more where its
+//! action sends something on; `checkpoint_in_bites` takes it for each bite; `new` and `finish` don't. Each entry wakes all transactions
+//! that wait, and with them those who wait for agents; an end of an action wakes them only where somebody waits for that one. An entry that
+//! nobody waits for costs a comparison, and the end of an action a look-up while somebody waits for an agent. A body, an action, a gate and
+//! a sink run with the lock free. Functions of the table run under it where a commit commutes, an atom is swapped or a rule is asked, so
+//! they are to be quick; a checkpoint holds it for a replay of the entries that it folds, and `fold_agent` for a step for each action that
+//! it drops. `finish` is linear in the sizes of log and receipts, but for logarithms of the workers and of the entries, and takes a byte
+//! for each entry and some for each worker.
 //!
 //! **Not promised.** Which thread comes first, how often a transaction is tried within its limit and whether it gets through, that a waiter
 //! ever wakes or an action is ever run, and how long anything takes; a call that locks or waits holds its promise where it returns. That

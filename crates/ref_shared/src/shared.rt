@@ -41,11 +41,12 @@ pub(crate) struct Held<M: Meaning, C: Ledger, A: Ledger, K: Ledger> {
 
 /// A world that threads share.
 ///
-/// It stands under one lock. Each call but [`Shared::new`] and [`Shared::finish`] takes that lock, makes one call of the world, or none
-/// as [`Shared::close`], and then releases it; [`Shared::transact`] and [`Shared::work_once`] take it for each of their steps. The lock
-/// is never held while a transaction's body, an action, a gate or a sink runs, and whenever it is free, the world is as the type
-/// [`World`] guarantees. What was found at one lock need not hold at the next. Where a commit commutes, where an atom is
-/// changed and where a rule is asked, the table's functions are called under the lock: they are to be quick.
+/// It stands under one lock. Each call but [`Shared::new`] and [`Shared::finish`] takes that lock, makes one step on the world, or none as
+/// [`Shared::close`], and then releases it; [`Shared::transact`], [`Shared::transact_when`], [`Shared::work_once`],
+/// [`Shared::await_agents`] and [`Shared::checkpoint_in_bites`] take it for each of their steps. The lock is never held while a
+/// transaction's body, an action, a gate or a sink runs, and whenever it is free, the world is as the type [`World`] guarantees. What was
+/// found at one lock need not hold at the next. Where a commit commutes, where an atom is changed and where a rule is asked, the table's
+/// functions are called under the lock: they are to be quick.
 ///
 /// The calls may wait for the lock, and promise what they say where they return. A thread that never lets its body, its gate or
 /// its sink return holds up nobody who waits for the lock.
@@ -122,7 +123,7 @@ impl<M: Meaning, C: Ledger, A: Ledger, K: Ledger> Shared<M, C, A, K> {
         committed
     }
 
-    /// Lets out what the commit at this point sent, and wakes those who wait for an agent: see [`World::release`].
+    /// Releases what the commit at this point sent, and wakes the threads that wait for an action to run: see [`World::release`].
     pub fn release<R: Wait>(&self, rt: &R, point: u64) -> bool {
         let had_sends = self.lock(rt).world.release(point);
         if had_sends {
@@ -131,7 +132,7 @@ impl<M: Meaning, C: Ledger, A: Ledger, K: Ledger> Shared<M, C, A, K> {
         had_sends
     }
 
-    /// Releases what the last handled action of an agent carried, and wakes those who wait for an agent: see
+    /// Releases what the last handled action of an agent carried, and wakes the threads that wait for an action to run: see
     /// [`World::release_carried`]. [`Shared::work_once`] does it.
     pub fn release_carried<R: Wait>(&self, rt: &R, g: u32) -> bool {
         let had_carries = self.lock(rt).world.release_carried(g);
@@ -293,7 +294,7 @@ impl<M: Meaning, C: Ledger, A: Ledger, K: Ledger> Shared<M, C, A, K> {
         compared
     }
 
-    /// Sends an action to an agent, and wakes one who waits for an agent: see [`World::send`].
+    /// Sends an action to an agent, and wakes a thread that waits for an action to run: see [`World::send`].
     pub fn send<R: Wait>(
         &self,
         rt: &R,
@@ -308,8 +309,7 @@ impl<M: Meaning, C: Ledger, A: Ledger, K: Ledger> Shared<M, C, A, K> {
         sent
     }
 
-    /// Restarts a failed agent, and wakes one who waits for an action to run, and those who wait for what it drops: see
-    /// [`World::restart`].
+    /// Restarts a failed agent, and wakes a thread that waits for an action to run: see [`World::restart`].
     pub fn restart<R: Wait, F: Functions<M>>(
         &self,
         rt: &R,
@@ -326,8 +326,8 @@ impl<M: Meaning, C: Ledger, A: Ledger, K: Ledger> Shared<M, C, A, K> {
             0
         };
         let restarted = held.world.restart(alloc, funs, g, state, clear);
-        let wakes = restarted.is_ok() && held.waiters.end(g, queued, false);
-        self.free_and_wake(held, wakes);
+        held.note_restart(g, queued, &restarted);
+        drop(held);
         if restarted.is_ok() {
             self.ready.notify_one();
         }

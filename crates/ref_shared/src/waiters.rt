@@ -1,6 +1,6 @@
 //! Who waits, and for what: the part of what the lock holds that isn't the world.
-ghost use Rattle.std.specs.Prelude.{◌≡◌, ◌==◌, ◌<◌, ℕ, false, None, Some, IfOk, IfErr, IfSome, IsSome, OnErr, OnOk, map};
-ghost use Rattle.ref_shared.specs.Waits.{NamesNoOther, NamesOneOf, Stores, and_gone, awaited_at, gone_at, is_through, look_of, queued_at, target_of};
+ghost use Rattle.std.specs.Prelude.{◌≡◌, ◌==◌, ℕ, false, None, Some, IfOk, IfErr, IsSome, OnErr, OnOk, map};
+ghost use Rattle.ref_shared.specs.Waits.{NamesNoOther, NamesOneOf, Stores, after_end, awaited_at, fails, gone_at, is_through, look_of, queued_at, target_of, wakes, with_waiter, without_waiter, woken_at};
 
 use crate::faults::AwaitFault;
 use crate::shared::Held;
@@ -82,7 +82,10 @@ impl Waiters {
     // One more waits for this agent. Returns how many of its actions are gone so far.
     fn enter(&mut self, alloc: Global, g: u32) -> Result<u64, AllocError>
         ensures gone { IfOk result (λ gone. gone ≡ gone_at self.old.agents g) }
+        ensures stored { OnOk result (Stores self.old.agents self.new.agents g
+            (Some (with_waiter (awaited_at self.old.agents g)))) }
         ensures counts { (h : ℕ) → gone_at self.new.agents h ≡ gone_at self.old.agents h }
+        ensures err { OnErr result ((h : ℕ) → awaited_at self.new.agents h ≡ awaited_at self.old.agents h) }
     {
         let found = self.at(g);
         if let Some(awaited) = found {
@@ -123,11 +126,9 @@ impl Waiters {
         }
     }
 
-    // One less waits for this agent. The last to leave takes its count away.
+    // One fewer waits for this agent. The last to leave takes its count away.
     fn leave(&mut self, g: u32)
-        ensures others { (h : ℕ) → (h == g) ≡ false → awaited_at self.new.agents h ≡ awaited_at self.old.agents h }
-        ensures more { IfSome (awaited_at self.old.agents g) (λ a. 1 < a.waiters
-            → gone_at self.new.agents g ≡ gone_at self.old.agents g) }
+        ensures { Stores self.old.agents self.new.agents g (without_waiter (awaited_at self.old.agents g)) }
     {
         let Some(awaited) = self.at(g) else {
             return;
@@ -152,8 +153,8 @@ impl Waiters {
     // So many more actions of this agent are gone. Returns whether those who wait are to be woken: those for whom it was enough, or all of
     // its own if asked.
     pub(crate) fn end(&mut self, g: u32, many: u64, all: bool) -> bool
-        ensures gone { gone_at self.new.agents g ≡ and_gone many (awaited_at self.old.agents g) }
-        ensures others { (h : ℕ) → (h == g) ≡ false → awaited_at self.new.agents h ≡ awaited_at self.old.agents h }
+        ensures result { result ≡ wakes many all (awaited_at self.old.agents g) }
+        ensures stored { Stores self.old.agents self.new.agents g (after_end many all (awaited_at self.old.agents g)) }
     {
         let Some(awaited) = self.at(g) else {
             return false;
@@ -174,6 +175,8 @@ impl Waiters {
 
     // Who waits for this target is to be woken once it is through.
     fn wake_at(&mut self, target: &Target)
+        ensures stored { Stores self.old.agents self.new.agents target.now.g
+            (woken_at target.now.count (awaited_at self.old.agents target.now.g)) }
         ensures counts { (h : ℕ) → gone_at self.new.agents h ≡ gone_at self.old.agents h }
     {
         let Some(awaited) = self.at(target.g) else {
@@ -262,15 +265,18 @@ impl<M: Meaning, C: Ledger, A: Ledger, K: Ledger> Held<M, C, A, K> {
         }
     }
 
-    // One less waits for the agents of these targets.
+    // One fewer waits for the agents of these targets.
     pub(crate) fn leave_all(&mut self, targets: &[Target]) {
         for target in targets {
             self.waiters.leave(target.g);
         }
     }
 
-    // Who waits for these targets is to be woken once one of them that isn't through is.
-    pub(crate) fn wake_all(&mut self, targets: &[Target]) {
+    // Asks to be woken as soon as one of these targets that isn't through yet is.
+    pub(crate) fn wake_all(&mut self, targets: &[Target])
+        ensures counts { (h : ℕ) → gone_at self.new.waiters.agents h ≡ gone_at self.old.waiters.agents h }
+        ensures world { self.new.world ≡ self.old.world }
+    {
         for target in targets {
             if !self.waiters.is_through(target) {
                 self.waiters.wake_at(target);
@@ -294,17 +300,30 @@ impl<M: Meaning, C: Ledger, A: Ledger, K: Ledger> Held<M, C, A, K> {
         if is_left { Look::Left } else { Look::Through }
     }
 
-    // An action of this agent ended so, or it is on its way still. Returns whether those who wait for the agent are to be woken.
+    // An action of this agent ended so, or it is on its way still. Returns whether those who wait for the agent are to be woken: those for
+    // whom it is enough, and all of them if it failed the agent.
     pub(crate) fn note_end<E>(&mut self, g: u32, finished: &Result<Finished, E>) -> bool
-        ensures ended { OnOk finished.now (gone_at self.new.waiters.agents g ≡ and_gone 1 (awaited_at self.old.waiters.agents g)) }
-        ensures others { (h : ℕ) → (h == g) ≡ false
-            → awaited_at self.new.waiters.agents h ≡ awaited_at self.old.waiters.agents h }
+        ensures ended { IfOk finished.now (λ f. Stores self.old.waiters.agents self.new.waiters.agents g
+            (after_end 1 (fails f) (awaited_at self.old.waiters.agents g))) }
+        ensures wakes { IfOk finished.now (λ f. result ≡ wakes 1 (fails f) (awaited_at self.old.waiters.agents g)) }
+        ensures stays { OnErr finished.now (self.new ≡ self.old) }
     {
         match finished {
             Ok(finished) => self
                 .waiters
                 .end(g, 1, matches!(finished, Finished::Failed(_))),
             Err(_) => false,
+        }
+    }
+    // A restart of this agent, in whose queue so many actions were. If it was made and dropped them, they are gone. It wakes nobody: who
+    // waited for a failed agent was woken when it failed.
+    pub(crate) fn note_restart<E>(&mut self, g: u32, dropped: u64, restarted: &Result<(), E>)
+        ensures dropped { OnOk restarted.now (Stores self.old.waiters.agents self.new.waiters.agents g
+            (after_end dropped false (awaited_at self.old.waiters.agents g))) }
+        ensures stays { OnErr restarted.now (self.new ≡ self.old) }
+    {
+        if restarted.is_ok() {
+            let _ = self.waiters.end(g, dropped, false);
         }
     }
 }

@@ -20,13 +20,17 @@ impl<M: Meaning, C: Ledger, A: Ledger, K: Ledger> Shared<M, C, A, K> {
     /// Waits until each action that these agents had in their queues when it was called is gone: it ended, or was dropped by a
     /// restart. That is Clojure's `await`, for all actions and not for the caller's alone. For no agents it returns at once.
     ///
-    /// It fails at once if one of these agents isn't there, or there is no memory. It fails as soon as one of them is failed while
-    /// an action waits behind the failure, and then names it; and once the shared world is closed, unless all is gone. Sends of a
-    /// commit that isn't released are in the queue, so they are waited for, too.
+    /// An action is gone as soon as it has ended: the sink of the thread that ran it may still be taking its notices, and what it
+    /// carried may still be held.
     ///
-    /// It takes memory for each agent that nobody waits for yet, and costs a logarithm of the number of agents that are waited for,
-    /// for each agent and each time when it is woken. Whoever calls it from an action, a gate or a sink of `work_once` waits for
-    /// ever if the action that it waits for is its own.
+    /// It fails at once if one of these agents isn't there, or there is no memory. It fails when it finds that an action which it
+    /// waits for stands behind the failure of its agent, and then names that agent: a restart that comes before it looks leaves
+    /// nothing to find. Once the shared world is closed it fails unless all is gone. Sends of a commit that isn't released are in the
+    /// queue, so it waits for them, too.
+    ///
+    /// It takes memory for each agent of the list, and costs a logarithm of the number of agents that are waited for, for each agent
+    /// and each time when it is woken. It isn't for gates and sinks: a thread that waits there for what only it can run or release
+    /// waits until `close`.
     pub fn await_agents<R: Wait>(
         &self,
         rt: &R,

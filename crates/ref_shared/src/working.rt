@@ -118,7 +118,7 @@ impl<M: Meaning, C: Ledger, A: Ledger, K: Ledger> Shared<M, C, A, K> {
         unreachable!()
     }
 
-    // Puts a job back, and answers the fault for which it is; where it isn't taken back it is forsaken.
+    // Puts a job back, and returns the fault for which it is; where it isn't taken back it is forsaken.
     fn give_up<R: Wait>(&self, rt: &R, job: Job, fault: WorkFault) -> WorkFault {
         let put_back = self.lock(rt).world.put_back(job);
         match put_back {

@@ -1,0 +1,241 @@
+//! A shop that stays open: what a program that stays up does, so that it needs no more memory as time goes on.
+//!
+//! Four threads sell, each at a counter of its own, and now and then at one that they share. A sale is a transaction: it counts the
+//! piece at the counter, adds the price to the takings, and sends a line to one of two logs, which are agents. One line in sixteen is
+//! damaged: the log refuses it and goes on, and the helper who ran it counts an error. Now and then a thread that sells forgets the
+//! receipts that are folded, and waits until its log has taken what was sent. Two helpers run what was sent. One more thread folds: it
+//! waits until so much was taken, and then folds the entries up to there, and what the logs have handled.
+//!
+//! `service SALES` has each thread make so many sales, and 2,000 without an argument. What is printed is the same in whatever order
+//! the threads get on.
+#![tactic(auto)]
+
+ghost use Rattle.std.specs.Prelude.{◌≡◌};
+ghost use Rattle.ref_world.specs.Shares.{IsBlank};
+
+mod counts;
+mod errors;
+mod folding;
+mod helpers;
+mod selling;
+mod shop;
+mod stamps;
+mod threads;
+mod values;
+
+use counts::{Counts, Done};
+use errors::Errors;
+use ref_fun::{Core, CoreFunctions, Functions};
+use ref_log::Who;
+use ref_world::{ALL_PARTS, Share, Totals, World};
+use shop::{COUNTERS, LOGS, SHARED_COUNTER, Shop, TAKINGS, start};
+use std::alloc::{AllocError, AllocFailed, Global};
+use std::env;
+use std::marker::Brand;
+use std::process::ExitCode;
+use std::rt::Env;
+use std::sync::Wait;
+use std::sync::ledger::{Blank, Ledger};
+use std::thread::Threads;
+use threads::open_hours;
+use values::integer;
+
+// How many sales a thread makes, where the command line doesn't say.
+const SALES: u64 = 2_000;
+
+/// What ends the program early: there is no memory, the argument is no number, or standard output can't be written.
+#[derive(Debug, Drop)]
+struct Trouble;
+
+impl From<AllocError> for Trouble {
+    fn from(_e: AllocError) -> Trouble {
+        Trouble
+    }
+}
+
+impl<T: Drop> From<AllocFailed<T>> for Trouble {
+    fn from(_e: AllocFailed<T>) -> Trouble {
+        Trouble
+    }
+}
+
+fn main(rt: HostRuntime) -> ExitCode {
+    let done = match sales_asked_for(&rt) {
+        Ok(sales) => run_day(&rt, sales),
+        Err(Trouble) => Err(Trouble),
+    };
+    match done {
+        Ok(()) => ExitCode::SUCCESS,
+        Err(Trouble) => ExitCode::FAILURE,
+    }
+}
+
+// How many sales each thread is to make, by the first argument.
+fn sales_asked_for<R: Env + Alloc>(rt: &R) -> Result<u64, Trouble> {
+    let mut words = env::args(rt).ok().ok_or(Trouble)?;
+    match words.nth(1) {
+        None => Ok(SALES),
+        Some(word) => word.parse::<u64>().ok().ok_or(Trouble),
+    }
+}
+
+// A day, by the functions of Core.
+fn run_day<R: AllocGlobal + Print + Threads + Wait + Sync>(
+    rt: &R,
+    sales: u64,
+) -> Result<(), Trouble> {
+    // The books of a world begin as blanks, each of which is named as it is made.
+    day::<Brand, Brand, Brand, R>(
+        rt,
+        &CoreFunctions,
+        sales,
+        Blank::new(ALL_PARTS),
+        Blank::new(ALL_PARTS),
+        Blank::new(ALL_PARTS),
+    )
+}
+
+// The day in a world. C, A and K name the books of its world, which only their types distinguish from those of another world.
+fn day<
+    C: Ledger + Send + Sync,
+    A: Ledger + Send + Sync,
+    K: Ledger + Send + Sync,
+    R: AllocGlobal + Print + Threads + Wait + Sync,
+>(
+    rt: &R,
+    funs: &CoreFunctions,
+    sales: u64,
+    commits: Blank,
+    added: Blank,
+    taken: Blank,
+) -> Result<(), Trouble>
+    requires commits { IsBlank commits C.name C.parts }
+    requires added { IsBlank added A.name A.parts }
+    requires taken { IsBlank taken K.name K.parts }
+{
+    let (world, share) = begin::<C, A, K>(rt.alloc(), funs, commits, added, taken)?;
+    let shop = Shop::of(rt.alloc(), funs, sales, world);
+    match open_hours(rt, &shop, share) {
+        Ok((done, errors)) => close_up(rt, shop, done, errors),
+        Err(Trouble) => {
+            drop(shop);
+            Err(Trouble)
+        }
+    }
+}
+
+// The world of the shop, and the share with all its parts.
+fn begin<C: Ledger, A: Ledger, K: Ledger>(
+    alloc: Global,
+    funs: &CoreFunctions,
+    commits: Blank,
+    added: Blank,
+    taken: Blank,
+) -> Result<(World<Core, C, A, K>, Share<C, A, K>), Trouble>
+    requires commits { IsBlank commits C.name C.parts }
+    requires added { IsBlank added A.name A.parts }
+    requires taken { IsBlank taken K.name K.parts }
+{
+    match World::<Core, C, A, K>::new(alloc, funs, start(alloc)?, commits, added, taken) {
+        Ok(begun) => Ok(begun),
+        Err(_) => Err(Trouble),
+    }
+}
+
+// Takes the world out, and says what is in it.
+fn close_up<C: Ledger, A: Ledger, K: Ledger, R: AllocGlobal + Print, F: Functions<Core>>(
+    rt: &R,
+    shop: Shop<F, C, A, K>,
+    done: Done<C, A, K>,
+    errors: Errors,
+) -> Result<(), Trouble> {
+    let Done { share, counts } = done;
+    let (world, totals) = take_out(shop, share)?;
+    let said = say_world(rt, &world, totals);
+    drop(world);
+    said?;
+    say_counts(rt, counts, errors)
+}
+
+// Takes the world out, with its totals.
+fn take_out<C: Ledger, A: Ledger, K: Ledger, F: Functions<Core>>(
+    shop: Shop<F, C, A, K>,
+    share: Share<C, A, K>,
+) -> Result<(World<Core, C, A, K>, Totals), Trouble> {
+    let Shop { alloc, shared, .. } = shop;
+    if share.is_whole() {
+        shared.finish(alloc, share).ok().ok_or(Trouble)
+    } else {
+        drop((shared, share));
+        Err(Trouble)
+    }
+}
+
+// What is in the world.
+fn say_world<C: Ledger, A: Ledger, K: Ledger, R: Print>(
+    rt: &R,
+    world: &World<Core, C, A, K>,
+    totals: Totals,
+) -> Result<(), Trouble> {
+    let own = sum(world, COUNTERS, Who::Ref)?;
+    let shared = held(world, Who::Ref(SHARED_COUNTER))?;
+    println!(rt; "sold at counters of one thread {own}, at the shared one {shared}")
+        .ok()
+        .ok_or(Trouble)?;
+    let lines = sum(world, LOGS, Who::Agent)?;
+    println!(rt; "lines in the logs {lines}")
+        .ok()
+        .ok_or(Trouble)?;
+    let takings = held(world, Who::Ref(TAKINGS))?;
+    println!(rt;
+        "takings {takings}, commits {}, which added {}",
+        totals.commits, totals.added
+    )
+    .ok()
+    .ok_or(Trouble)?;
+    let folded = if (world.log().len() as u64) < totals.commits {
+        "yes"
+    } else {
+        "no"
+    };
+    println!(rt; "folded: {folded}").ok().ok_or(Trouble)
+}
+
+// What the threads counted.
+fn say_counts<R: Print>(rt: &R, counts: Counts, errors: Errors) -> Result<(), Trouble> {
+    let Counts {
+        sales,
+        taken,
+        damaged,
+        folds,
+    } = counts;
+    println!(rt; "counted: sales {sales}, taken {taken}, folds {folds}")
+        .ok()
+        .ok_or(Trouble)?;
+    println!(rt; "damaged lines {damaged}, errors {}", errors.count)
+        .ok()
+        .ok_or(Trouble)
+}
+
+// The sum of so many references of a kind.
+fn sum<C: Ledger, A: Ledger, K: Ledger, W: Fn(u32) -> Who>(
+    world: &World<Core, C, A, K>,
+    many: u32,
+    who: W,
+) -> Result<i64, Trouble>
+    requires { W.IsAlwaysCallable who }
+{
+    let mut sum = 0i64;
+    for n in 0..many {
+        sum = sum.saturating_add(held(world, who(n))?);
+    }
+    Ok(sum)
+}
+
+// The integer that a reference holds.
+fn held<C: Ledger, A: Ledger, K: Ledger>(
+    world: &World<Core, C, A, K>,
+    who: Who,
+) -> Result<i64, Trouble> {
+    integer(world.value_of(who).ok_or(Trouble)?).ok_or(Trouble)
+}

@@ -1,0 +1,164 @@
+//! The shop: its world, and one sale.
+use crate::Trouble;
+use crate::values::value;
+use ref_agents::ErrorMode;
+use ref_fun::codes::PLUS;
+use ref_fun::{Action, Args, Core, Functions};
+use ref_log::Stamp;
+use ref_shared::{Open, Quiet, Shared};
+use ref_tx::{Tx, TxFault};
+use ref_world::{AgentStart, RefStart, Share, Start, World};
+use std::alloc::{AllocError, Global};
+use std::sync::Wait;
+use std::sync::atomic::{AtomicBool, Ordering};
+use std::sync::ledger::Ledger;
+
+/// How many threads sell. The refs 0 to 3 are their counters: how many pieces were sold there.
+pub(crate) const COUNTERS: u32 = 4;
+
+/// The counter that they share.
+pub(crate) const SHARED_COUNTER: u32 = 4;
+
+/// The tally.
+pub(crate) const TAKINGS: u32 = 5;
+
+/// The takings up to which all was folded.
+pub(crate) const FOLDED: u32 = 6;
+
+/// The agents 0 and 1 are logs: how many lines they took.
+pub(crate) const LOGS: u32 = 2;
+
+/// How often a transaction is tried: as often as it takes.
+pub(crate) const TRIES: u32 = u32::MAX;
+
+/// What all threads share: the world, the table of the functions that it names, and how many sales each thread is to make. C, A and K
+/// name the world's books.
+#[derive(Drop)]
+pub(crate) struct Shop<'a, F: Functions<Core>, C: Ledger, A: Ledger, K: Ledger> {
+    pub(crate) alloc: Global,
+    pub(crate) funs: &'a F,
+    pub(crate) sales: u64,
+    pub(crate) shared: Shared<Core, C, A, K>,
+    // Whether a helper is there, so that it makes sense to wait for what was sent.
+    has_helper: AtomicBool,
+    // Whether nobody is to sell any more.
+    is_over: AtomicBool,
+}
+
+/// What is sold: where, for how much, and the line for the log.
+#[derive(Clone, Copy)]
+pub(crate) struct Sale<'a> {
+    pub(crate) counter: u32,
+    pub(crate) log: u32,
+    pub(crate) one: &'a Args,
+    pub(crate) price: &'a Args,
+    pub(crate) line: &'a Args,
+}
+
+fn at_zero(alloc: Global, tally: bool) -> Result<RefStart, AllocError> {
+    Ok(RefStart {
+        value: value(alloc, "0")?,
+        rule: None,
+        tally,
+    })
+}
+
+// The counters, the takings, and up to where all was folded.
+fn refs(alloc: Global) -> Result<Vec<RefStart>, AllocError> {
+    let mut refs = Vec::new(alloc);
+    for r in 0..=FOLDED {
+        refs.push(at_zero(alloc, r == TAKINGS)?)?;
+    }
+    Ok(refs)
+}
+
+// A log that passes over a line that it can't take, and goes on.
+fn log(alloc: Global) -> Result<AgentStart, AllocError> {
+    Ok(AgentStart {
+        value: value(alloc, "0")?,
+        rule: None,
+        mode: ErrorMode::Continue,
+    })
+}
+
+/// What the world begins with.
+pub(crate) fn start(alloc: Global) -> Result<Start, AllocError> {
+    Ok(Start {
+        refs: refs(alloc)?,
+        atoms: Vec::new(alloc),
+        agents: vec![in alloc; log(alloc)?, log(alloc)?]?,
+    })
+}
+
+impl<'a, F: Functions<Core>, C: Ledger, A: Ledger, K: Ledger> Shop<'a, F, C, A, K> {
+    /// Shares a world.
+    pub(crate) fn of(
+        alloc: Global,
+        funs: &'a F,
+        sales: u64,
+        world: World<Core, C, A, K>,
+    ) -> Shop<'a, F, C, A, K> {
+        Shop {
+            alloc,
+            funs,
+            sales,
+            shared: Shared::new(world),
+            has_helper: AtomicBool::new(false),
+            is_over: AtomicBool::new(false),
+        }
+    }
+
+    /// Makes a sale. Where another one at the same counter came between, it is tried again.
+    pub(crate) fn sell<R: Wait>(
+        &self,
+        rt: &R,
+        share: &mut Share<C, A, K>,
+        stamp: Stamp,
+        sale: Sale,
+    ) -> Result<(), Trouble> {
+        let (alloc, funs) = (self.alloc, self.funs);
+        let (gate, sink) = (&mut Open, &mut Quiet);
+        let body = |tx: &mut Tx<Core>| self.body(tx, sale);
+        let sold = self
+            .shared
+            .transact(rt, alloc, funs, share, stamp, TRIES, gate, sink, body);
+        sold.ok().map(drop).ok_or(Trouble)
+    }
+
+    fn body(&self, tx: &mut Tx<Core>, sale: Sale) -> Result<(), TxFault> {
+        let (alloc, funs) = (self.alloc, self.funs);
+        tx.alter(alloc, funs, sale.counter, PLUS, sale.one.share()?)?;
+        tx.commute(alloc, funs, TAKINGS, PLUS, sale.price.share()?)?;
+        tx.send(alloc, funs, sale.log, Action::new(PLUS, sale.line.share()?))
+    }
+
+    /// Rests between two sales: forgets the receipts that are folded, and waits until a log has taken all lines that were sent to it by
+    /// now. So no queue grows for long.
+    pub(crate) fn rest<R: Wait>(
+        &self,
+        rt: &R,
+        share: &mut Share<C, A, K>,
+        log: u32,
+    ) -> Result<(), Trouble> {
+        self.shared.forget(rt, share);
+        if self.has_helper.load(Ordering::SeqCst) {
+            let awaited = self.shared.await_agents(rt, self.alloc, &[log]);
+            return awaited.ok().ok_or(Trouble);
+        }
+        Ok(())
+    }
+
+    /// A helper is there from now on.
+    pub(crate) fn note_helper(&self) {
+        self.has_helper.store(true, Ordering::SeqCst);
+    }
+
+    /// Nobody is to sell any more.
+    pub(crate) fn end_early(&self) {
+        self.is_over.store(true, Ordering::SeqCst);
+    }
+
+    pub(crate) fn is_over(&self) -> bool {
+        self.is_over.load(Ordering::SeqCst)
+    }
+}
