@@ -83,21 +83,26 @@ const AWAIT_FAULTS: &[(AwaitFault, u8, &str)] = &[
     (AwaitFault::Memory, 4, "out of memory"),
 ];
 
-// They have no number of their own.
-const WAIT_FAULTS: &[(WaitFault<TxFault>, &str)] = &[
-    (WaitFault::Closed, "closed before it was ready"),
+const WAIT_FAULTS: &[(WaitFault<TxFault>, u8, &str)] = &[
+    (WaitFault::Closed, 1, "closed before it was ready"),
     (
         WaitFault::Transact(TransactFault::GaveUp {
             tries: 3,
             conflict: CONFLICT,
         }),
+        2,
         "given up after 3 tries: ref 4 has changed",
     ),
     (
         WaitFault::Transact(TransactFault::Body(TxFault::NoSuchRef)),
+        2,
         "the body ended it: no such ref",
     ),
-    (WaitFault::Transact(TransactFault::Memory), "out of memory"),
+    (
+        WaitFault::Transact(TransactFault::Memory),
+        2,
+        "out of memory",
+    ),
 ];
 
 #[test]
@@ -122,8 +127,8 @@ fn faults_of_waiting_say_what_they_are(rt: HostRuntime) -> Result<(), Fail> {
     for (fault, number, words) in AWAIT_FAULTS {
         check(&rt, fault, fault.number(), *number, words)?;
     }
-    for (fault, words) in WAIT_FAULTS {
-        check(&rt, fault, 0, 0, words)?;
+    for (fault, number, words) in WAIT_FAULTS {
+        check(&rt, fault, fault.number(), *number, words)?;
     }
     Ok(())
 }

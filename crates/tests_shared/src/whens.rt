@@ -11,7 +11,7 @@ use ref_fun::codes::{MINUS, PLUS};
 use ref_fun::{Core, CoreFunctions};
 use ref_log::{Stamp, Who};
 use ref_refs::{CommitFault, Conflict};
-use ref_shared::{Gate, Shared, Spot, TransactFault, WaitFault, Worked};
+use ref_shared::{Shared, Spot, TransactFault, WaitFault, Worked};
 use ref_tx::Tx;
 use ref_world::Share;
 use std::alloc::Global;
@@ -83,13 +83,13 @@ fn alter(alloc: Global, case: Case, calls: u32, tx: &mut Tx<Core>) -> Result<Opt
 }
 
 // The tries of a case next to a gate. It returns what came of them and how many times the body was called.
-fn transact<C: Ledger, A: Ledger, K: Ledger, R: Wait, G: Gate>(
+fn transact<C: Ledger, A: Ledger, K: Ledger, R: Wait>(
     rt: &R,
     alloc: Global,
     case: Case,
     shared: &Shared<Core, C, A, K>,
     share: &mut Share<C, A, K>,
-    gate: &mut G,
+    gate: &mut Between<'_, '_, R, C, A, K>,
     sink: &mut Listener,
 ) -> (Tried, u32) {
     let mut calls = 0u32;
