@@ -40,6 +40,8 @@ pub(crate) enum SharedCall {
     Run,
     /// A `work_once`, of which what follows the action is counted.
     End,
+    /// An `await_agents` of all three agents. The shared world is closed, so it waits for nobody.
+    Await,
     Finish,
 }
 
@@ -295,6 +297,11 @@ pub(crate) const CASES: &[Case] = &[
         name: "Shared::work_once, end of what carries",
         before: CARRYING_READY,
         call: Call::Shared(SharedCall::End, "[act]"),
+    },
+    Case {
+        name: "Shared::await_agents",
+        before: "[finish]",
+        call: Call::Shared(SharedCall::Await, "[reset y 5]"),
     },
     Case {
         name: "Shared::finish",

@@ -186,4 +186,8 @@ impl<'a, R: Input, C: Ledger, A: Ledger, K: Ledger> Subject for Refusing<'a, R, 
     fn set_error_mode(&mut self, g: u32, mode: ErrorMode) -> Result<(), ModeFault> {
         self.whole.set_error_mode(g, mode)
     }
+
+    fn fold(&mut self, g: u32) -> Result<bool, AllocError> {
+        self.whole.fold(g)
+    }
 }

@@ -192,6 +192,27 @@ fn work<R: Input + Wait, C: Ledger, A: Ledger, K: Ledger>(
     Ok((said, gate.refuser.was_refused()))
 }
 
+// `await_agents` of all three agents. It waits for nobody.
+fn wait<R: Input + Wait, C: Ledger, A: Ledger, K: Ledger>(
+    rt: &R,
+    by: By,
+    shared: &Shared<Core, C, A, K>,
+    request: usize,
+) -> Answer {
+    let alloc = by.alloc;
+    let mut refuser = Refuser::new(rt);
+    shared.close(rt);
+    refuser.arm(request);
+    refuser.begin();
+    let answer = shared.await_agents(rt, alloc, &[2, 0, 1]);
+    refuser.end();
+    let said = match answer {
+        Ok(()) => form(alloc, ":ok")?,
+        Err(fault) => variant_form(alloc, &fault)?,
+    };
+    Ok((said, refuser.was_refused()))
+}
+
 fn called<R: Input + Wait, C: Ledger, A: Ledger, K: Ledger>(
     rt: &R,
     by: By,
@@ -205,6 +226,7 @@ fn called<R: Input + Wait, C: Ledger, A: Ledger, K: Ledger>(
     match call {
         SharedCall::Transact => transact(rt, by, shared, share, stamp, request),
         SharedCall::Commit => commit(rt, by, shared, share, stamp, opens, request),
+        SharedCall::Await => wait(rt, by, shared, request),
         SharedCall::Run => work(rt, by, shared, Spot::BeforeAction, request),
         _ => work(rt, by, shared, Spot::AfterAction, request),
     }

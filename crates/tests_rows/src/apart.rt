@@ -387,4 +387,8 @@ impl Subject for Apart {
     fn set_error_mode(&mut self, g: u32, mode: ErrorMode) -> Result<(), ModeFault> {
         self.agents.set_error_mode(g, mode)
     }
+
+    fn fold(&mut self, g: u32) -> Result<bool, AllocError> {
+        self.agents.fold(g)
+    }
 }

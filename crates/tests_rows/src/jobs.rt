@@ -113,6 +113,15 @@ fn set_mode<S: Subject>(alloc: Global, subject: &mut S, call: &[Value]) -> Answe
     settled(alloc, subject.set_error_mode(agent_at(call, 1), mode))
 }
 
+// Where it isn't folded nothing changes.
+fn fold<S: Subject>(subject: &mut S, g: u32) -> Answer {
+    if subject.fold(g)? {
+        made(truth(true)?)
+    } else {
+        left(truth(false)?)
+    }
+}
+
 fn send<S: Subject>(alloc: Global, subject: &mut S, g: u32, action: Action) -> Answer {
     settled(alloc, subject.send(alloc, g, action))
 }
@@ -139,6 +148,7 @@ pub fn is_of_agents(called: &str) -> bool {
             | "lose"
             | "stranger"
             | "restart"
+            | "fold"
             | "mode"
     )
 }
@@ -176,6 +186,7 @@ pub fn agents_answer<S: Subject>(by: By, subject: &mut S, called: &str, call: &[
             carrying_from(by.alloc, call, 2)?,
         ),
         "restart" => restart(by, subject, call),
+        "fold" => fold(subject, agent_at(call, 1)),
         _ => set_mode(by.alloc, subject, call),
     }
 }

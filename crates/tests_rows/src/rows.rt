@@ -24,6 +24,7 @@
 //! | `[act :changed]`, `[next [g 0]]`, `[lose g]` | a job is taken; it is run and finished, put back, or never comes back |
 //! | `[stranger g + 1 :foreign]` | a job of another subject's agent g, which is 0, has run and is finished here |
 //! | `[restart g 5 :ok]`, `[restart g 5 clear :ok]`, `[mode g continue :ok]` | a failed agent begins anew, its queue cleared; an error mode |
+//! | `[fold g true]` | its account is folded: its state is its start |
 //! | `[now a 5]`, `[rule a [>= 0]]`, `[changed a 1]` | a value, a rule, the point of a ref's last change |
 //! | `[error g :invalid]`, `[account g [5 :done 2]]` | why it is failed; start, actions that ended, how many wait |
 //! | `[refs 1]`, `[atoms 1]`, `[agents 1]`, `[tally a]` | how many there are, which ref is the tally |

@@ -225,4 +225,6 @@ pub trait Subject: Drop + Sized {
     fn restart(&mut self, by: By, g: u32, state: Value, clear: bool) -> Result<(), RestartFault>;
 
     fn set_error_mode(&mut self, g: u32, mode: ErrorMode) -> Result<(), ModeFault>;
+
+    fn fold(&mut self, g: u32) -> Result<bool, AllocError>;
 }

@@ -303,4 +303,8 @@ impl<C: Ledger, A: Ledger, K: Ledger> Subject for Whole<C, A, K> {
     fn set_error_mode(&mut self, g: u32, mode: ErrorMode) -> Result<(), ModeFault> {
         self.world.set_error_mode(g, mode)
     }
+
+    fn fold(&mut self, g: u32) -> Result<bool, AllocError> {
+        self.world.fold_agent(g)
+    }
 }

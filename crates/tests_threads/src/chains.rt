@@ -2,7 +2,7 @@
 ghost use Rattle.std.specs.Prelude.{◌≡◌};
 ghost use Rattle.ref_world.specs.Shares.{IsBlank};
 
-use crate::stress::two_pools;
+use crate::pools::two_pools;
 use ref_fun::codes::CONJ;
 use ref_fun::{Action, Args, Carries, Carry, Core};
 use ref_log::Who;

@@ -1,4 +1,4 @@
-//! Tests of shared worlds by several threads. There is nothing else here.
+//! Tests of shared worlds by several threads; and what these tests and those in `tests_waiting` wait with and run actions with.
 //!
 //! No clause says what another thread does between two calls, so this is tested. Where the order of two threads matters, gates
 //! and sinks hold one until the other has come so far. Each wait of a test ends by itself.
@@ -10,8 +10,8 @@
 //! | `checkpoints` | views and checkpoints, a view read by another thread |
 //! | `looks` | by two: at each step between, the lock is free |
 //! | `waking`, `releases`, `next_actions` | by two or three: who waits for an agent is woken |
-//! | `waits` | waiting for another thread |
-//! | [`flags`] | how far threads have come. It stands outside of the tests: the proof of what crosses threads names it |
+//! | [`flags`], [`waits`] | how far threads have come; waiting for another thread |
+//! | [`pools`] | running actions |
 #![tactic(auto)]
 
 #[cfg(test)]
@@ -23,6 +23,7 @@ pub mod flags;
 mod looks;
 #[cfg(test)]
 mod next_actions;
+pub mod pools;
 #[cfg(test)]
 mod releases;
 #[cfg(test)]
@@ -31,7 +32,6 @@ mod side_by_side;
 mod stress;
 #[cfg(test)]
 mod threads;
-#[cfg(test)]
-mod waits;
+pub mod waits;
 #[cfg(test)]
 mod waking;

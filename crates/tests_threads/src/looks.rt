@@ -15,6 +15,7 @@ use ref_value::Value;
 use ref_world::{ALL_PARTS, Share};
 use std::alloc::Global;
 use std::marker::Brand;
+use std::process::Abort;
 use std::sync::Wait;
 use std::sync::atomic::Ordering;
 use std::sync::ledger::{Blank, Ledger};
@@ -113,14 +114,31 @@ struct Looked {
 
 // ---- A transaction
 
-// Adds 1 to a and sends `+ 4` to h. It answers the share, and whether it was committed.
+// Adds 1 to a and sends `+ 4` to h, in a transaction that waits if asked, though it is ready. It returns the share, and whether it was
+// committed.
 fn transact<R: AllocGlobal + Wait + Clock, C: Ledger, A: Ledger, K: Ledger>(
     rt: &R,
     shared: &Shared<Core, C, A, K>,
     mut share: Share<C, A, K>,
     place: Place,
+    waits: bool,
     flags: &Flags,
 ) -> (Share<C, A, K>, bool) {
+    let is_ok = if waits {
+        commit_waiting(rt, shared, &mut share, place, flags)
+    } else {
+        commit(rt, shared, &mut share, place, flags)
+    };
+    (share, is_ok)
+}
+
+fn commit<R: AllocGlobal + Wait + Clock, C: Ledger, A: Ledger, K: Ledger>(
+    rt: &R,
+    shared: &Shared<Core, C, A, K>,
+    share: &mut Share<C, A, K>,
+    place: Place,
+    flags: &Flags,
+) -> bool {
     let alloc = rt.alloc();
     let mut gate = Pause { rt, flags, place };
     let mut sink = Pause { rt, flags, place };
@@ -128,7 +146,7 @@ fn transact<R: AllocGlobal + Wait + Clock, C: Ledger, A: Ledger, K: Ledger>(
         rt,
         alloc,
         &CoreFunctions,
-        &mut share,
+        share,
         STAMP,
         1,
         &mut gate,
@@ -138,8 +156,34 @@ fn transact<R: AllocGlobal + Wait + Clock, C: Ledger, A: Ledger, K: Ledger>(
             add_and_send(alloc, tx)
         },
     );
-    let is_ok = committed.is_ok();
-    (share, is_ok)
+    committed.is_ok()
+}
+
+fn commit_waiting<R: AllocGlobal + Wait + Clock, C: Ledger, A: Ledger, K: Ledger>(
+    rt: &R,
+    shared: &Shared<Core, C, A, K>,
+    share: &mut Share<C, A, K>,
+    place: Place,
+    flags: &Flags,
+) -> bool {
+    let alloc = rt.alloc();
+    let mut gate = Pause { rt, flags, place };
+    let mut sink = Pause { rt, flags, place };
+    let committed = shared.transact_when(
+        rt,
+        alloc,
+        &CoreFunctions,
+        share,
+        STAMP,
+        1,
+        &mut gate,
+        &mut sink,
+        &mut |tx: &mut Tx<Core>| {
+            wait_here(rt, flags, place == Place::Body);
+            add_and_send(alloc, tx).map(Some)
+        },
+    );
+    committed.is_ok()
 }
 
 fn add_and_send(alloc: Global, tx: &mut Tx<Core>) -> Result<(), Stop> {
@@ -157,11 +201,12 @@ fn transact_and_look<
     shared: &Shared<Core, C, A, K>,
     share: Share<C, A, K>,
     place: Place,
+    waits: bool,
     flags: &Flags,
 ) -> ((Share<C, A, K>, bool), Look) {
     let (mine, seen) = thread::join(
         rt,
-        move || transact(rt, shared, share, place, flags),
+        move || transact(rt, shared, share, place, waits, flags),
         move || look(rt, shared, Who::Ref(0), flags),
     );
     (mine, seen)
@@ -177,6 +222,7 @@ fn try_transaction<
     rt: &R,
     alloc: Global,
     place: Place,
+    waits: bool,
     commits: Blank,
     added: Blank,
     taken: Blank,
@@ -189,7 +235,7 @@ fn try_transaction<
     let _ = done(shared.add_watch(rt, alloc, Who::Ref(0), value(alloc, ":k")?))?;
     shared.close(rt);
     let flags = Flags::new();
-    let (mine, seen) = transact_and_look(rt, &shared, share, place, &flags);
+    let (mine, seen) = transact_and_look(rt, &shared, share, place, waits, &flags);
     let (share, is_ok) = mine;
     let then = work(rt, alloc, &shared);
     let _ = closed(alloc, shared, share)?;
@@ -211,8 +257,10 @@ const OF_A_TRANSACTION: &[(Place, i64)] = &[
 ];
 
 // What it sends isn't ready before the watches are called.
-#[test]
-fn the_lock_is_free_at_each_step_of_a_transaction(rt: HostRuntime) -> Result<(), Fail> {
+fn check_transactions<R: AllocGlobal + Threads + Wait + Clock + Abort + Sync>(
+    rt: &R,
+    waits: bool,
+) -> Result<(), Stop> {
     let alloc = rt.alloc();
     for (place, seen) in OF_A_TRANSACTION {
         let (commits, added, taken) = (
@@ -221,7 +269,7 @@ fn the_lock_is_free_at_each_step_of_a_transaction(rt: HostRuntime) -> Result<(),
             Blank::new(ALL_PARTS),
         );
         let looked = try_transaction::<Brand, Brand, Brand, _>(
-            &rt, alloc, *place, commits, added, taken,
+            rt, alloc, *place, waits, commits, added, taken,
         )?;
         let wanted = Looked {
             is_ok: true,
@@ -231,6 +279,18 @@ fn the_lock_is_free_at_each_step_of_a_transaction(rt: HostRuntime) -> Result<(),
         };
         assert_eq!(rt; looked, wanted, "{place:?}");
     }
+    Ok(())
+}
+
+#[test]
+fn the_lock_is_free_at_each_step_of_a_transaction(rt: HostRuntime) -> Result<(), Fail> {
+    check_transactions(&rt, false)?;
+    Ok(())
+}
+
+#[test]
+fn the_lock_is_free_at_each_step_of_one_that_waits(rt: HostRuntime) -> Result<(), Fail> {
+    check_transactions(&rt, true)?;
     Ok(())
 }
 

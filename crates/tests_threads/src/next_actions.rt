@@ -4,8 +4,8 @@ ghost use Rattle.std.specs.Prelude.{◌≡◌};
 ghost use Rattle.ref_world.specs.Shares.{IsBlank};
 
 use crate::flags::Flags;
-use crate::side_by_side::{Meet, take_turns, work_next};
-use crate::waits::wait_for;
+use crate::side_by_side::{take_turns, work_next};
+use crate::waits::{Meet, wait_for};
 use ref_fun::codes::PLUS;
 use ref_fun::{Action, Carries, Carry, Core, CoreFunctions};
 use ref_log::{Notice, Who};

@@ -3,8 +3,8 @@ ghost use Rattle.std.specs.Prelude.{◌≡◌};
 ghost use Rattle.ref_world.specs.Shares.{IsBlank};
 
 use crate::flags::Flags;
-use crate::side_by_side::{wait_past, work_and_meet};
-use crate::waits::wait_for;
+use crate::side_by_side::work_and_meet;
+use crate::waits::{wait_for, wait_past};
 use crate::waking::nudge;
 use ref_agents::Job;
 use ref_fun::codes::PLUS;

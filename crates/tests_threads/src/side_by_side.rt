@@ -4,7 +4,7 @@ ghost use Rattle.std.specs.Prelude.{◌≡◌};
 ghost use Rattle.ref_world.specs.Shares.{IsBlank};
 
 use crate::flags::Flags;
-use crate::waits::wait_for;
+use crate::waits::{Meet, wait_for};
 use ref_agents::ErrorMode;
 use ref_fun::codes::{MINUS, PLUS};
 use ref_fun::{Core, CoreFunctions, Functions};
@@ -19,34 +19,9 @@ use std::sync::ledger::{Blank, Ledger};
 use std::test::Fail;
 use std::thread;
 use std::thread::Threads;
-use std::time::{Clock, Duration};
+use std::time::Clock;
 use tests_shared::jobs::{Work, agents_at, two_agents, work};
 use tests_shared::worlds::{Stop, action, done, int_at, opened};
-
-// Waits for a flag, and then some time more, in which the thread that set it has begun to wait.
-pub(crate) fn wait_past<R: Clock>(rt: &R, flag: &AtomicBool) -> bool {
-    let is_set = wait_for(rt, flag);
-    thread::sleep(rt, Duration::from_millis(20));
-    is_set
-}
-
-// A gate that holds an action until another thread has come so far, and some time more.
-#[derive(Drop)]
-pub(crate) struct Meet<'a, 'b, 'c, R: Clock> {
-    pub(crate) rt: &'a R,
-    pub(crate) here: &'b AtomicBool,
-    pub(crate) there: &'c AtomicBool,
-    pub(crate) met: bool,
-}
-
-impl<'a, 'b, 'c, R: Clock> Gate for Meet<'a, 'b, 'c, R> {
-    fn pass(&mut self, spot: Spot) {
-        if spot == Spot::BeforeAction {
-            self.here.store(true, Ordering::SeqCst);
-            self.met = wait_past(self.rt, self.there);
-        }
-    }
-}
 
 // Runs one action, and answers whether it met the other.
 pub(crate) fn work_and_meet<R: AllocGlobal + Wait + Clock, C: Ledger, A: Ledger, K: Ledger>(

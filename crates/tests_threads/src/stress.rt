@@ -2,10 +2,11 @@
 ghost use Rattle.std.specs.Prelude.{◌≡◌};
 ghost use Rattle.ref_world.specs.Shares.{IsBlank};
 
+use crate::pools::two_pools;
 use ref_fun::codes::{MINUS, PLUS};
 use ref_fun::{Action, Carries, Carry, Core, CoreFunctions};
 use ref_log::{Stamp, Who};
-use ref_shared::{Open, Quiet, Shared, Worked};
+use ref_shared::{Open, Quiet, Shared};
 use ref_tx::Tx;
 use ref_world::{ALL_PARTS, RefStart, Share, Start, World};
 use std::alloc::{AllocError, Global};
@@ -180,36 +181,6 @@ fn four_by_fifty<
     );
     shared.close(rt);
     together(mine, theirs)
-}
-
-// Runs actions until the shared world is closed and no agent is ready, and answers how many.
-fn pool<R: Wait, C: Ledger, A: Ledger, K: Ledger>(
-    rt: &R,
-    alloc: Global,
-    shared: &Shared<Core, C, A, K>,
-) -> Result<u32, Stop> {
-    for did in 0..1_000u32 {
-        match done(shared.work_once(rt, alloc, &CoreFunctions, &mut Open, &mut Quiet))? {
-            Worked::Did(_) => {}
-            Worked::Closed => return Ok(did),
-        }
-    }
-    Err(Stop::Late)
-}
-
-// How many actions two threads ran.
-pub(crate) fn two_pools<
-    C: Ledger + Send + Sync,
-    A: Ledger + Send + Sync,
-    K: Ledger + Send + Sync,
-    R: Threads + Wait + Sync,
->(rt: &R, alloc: Global, shared: &Shared<Core, C, A, K>) -> Result<u32, Stop> {
-    let (one, two) = thread::join(
-        rt,
-        move || pool(rt, alloc, shared),
-        move || pool(rt, alloc, shared),
-    );
-    Ok(one?.saturating_add(two?))
 }
 
 fn held<C: Ledger, A: Ledger, K: Ledger>(world: &World<Core, C, A, K>, who: Who) -> Option<i64> {

@@ -4,8 +4,9 @@ ghost use Rattle.std.specs.Prelude.{◌≡◌};
 ghost use Rattle.ref_world.specs.Shares.{IsBlank};
 
 use crate::flags::Flags;
-use crate::side_by_side::{wait_past, work_first, work_next};
-use crate::waits::wait_for;
+use crate::pools::work_thrice;
+use crate::side_by_side::{work_first, work_next};
+use crate::waits::{wait_for, wait_past};
 use ref_fun::codes::{MINUS, PLUS};
 use ref_fun::{Action, Core, CoreFunctions, FunTable};
 use ref_log::Who;
@@ -37,23 +38,6 @@ pub(crate) fn nudge<R: Wait, C: Ledger, A: Ledger, K: Ledger>(
 }
 
 // ---- By a send, by a release, and at the end
-
-// Works three times, and says before each that it comes, and when it has ended.
-fn work_thrice<R: Wait, C: Ledger, A: Ledger, K: Ledger>(
-    rt: &R,
-    alloc: Global,
-    shared: &Shared<Core, C, A, K>,
-    flags: &Flags,
-) -> (Work, Work, Work) {
-    flags.first.store(true, Ordering::SeqCst);
-    let one = work(rt, alloc, shared);
-    flags.second.store(true, Ordering::SeqCst);
-    let two = work(rt, alloc, shared);
-    flags.third.store(true, Ordering::SeqCst);
-    let three = work(rt, alloc, shared);
-    flags.fourth.store(true, Ordering::SeqCst);
-    (one, two, three)
-}
 
 // Sends to g, lets out what a commit sent to h, and closes, each while the other waits. It answers whether the other was there and
 // woken in time, and nothing was refused.

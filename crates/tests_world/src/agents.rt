@@ -41,6 +41,33 @@ fn carried_sends_by_hand(rt: HostRuntime) -> Result<(), Fail> {
 }
 
 #[test]
+fn folds_by_hand(rt: HostRuntime) -> Result<(), Fail> {
+    check_anywhere(
+        rt.alloc(),
+        "",
+        r##"
+            // The state is the start, and what was done is dropped. The next action has the number that it would have had.
+            [] [] [0] [send g + 1 :ok] [send g + 2 :ok] [act :changed] [act :changed] [send g + 4 :ok] [account g [0 :done :done 1]] [next [g 2]] [fold g true] [now g 3] [account g [3 1]] [next [g 2]] [act :changed] [now g 7] [account g [3 :done 0]] [fold g true] [fold g true] [account g [7 0]] [send g + 1 :ok] [next [g 3]]
+            // Where nothing ended nothing changes.
+            [] [] [5] [fold g true] [account g [5 0]] [send g + 1 :ok] [fold g true] [account g [5 1]] [next [g 0]]
+            // The action that failed the agent stays, and so do its error and what waits.
+            [] [] [[rule 0 [>= 0]]] [send g + 1 :ok] [send g - 5 :ok] [send g + 2 :ok] [act :changed] [act [:failed :invalid]] [fold g true] [account g [1 :failed 1]] [now g 1] [error g :invalid] [act :none] [send g + 1 :failed] [fold g true] [account g [1 :failed 1]] [restart g 10 :ok] [account g [10 1]] [next [g 0]] [act :changed] [now g 12]
+            // One that was passed over doesn't.
+            [] [] [[continue 0 [>= 0]]] [send g - 5 :ok] [send g + 1 :ok] [act [:continued :invalid]] [act :changed] [account g [0 :passed :done 0]] [fold g true] [account g [1 0]] [error g :none]
+            // While an action is on its way: it has its number still, which is no other's.
+            [] [] [0] [send g + 0 :ok] [act :changed] [send g + 2 :ok] [lose g] [fold g true] [account g [0 1]] [act :none] [stranger g + 2 :foreign] [now g 0]
+            [] [] [0] [send g + 2 :ok] [lose g] [fold g true] [stranger g + 2 :changed] [now g 2]
+            // While what it carried is held nothing is folded: a release looks at the action that carried it.
+            [] [] [0 0] [send g + 1 :ok] [act :changed] [send-carry g [+ 1] [h + 10] :ok] [act :changed] [fold g false] [account g [0 :done :done 0]] [fold h true] [account h [0 1]] [act :none] [release-carried g true] [act :changed] [now h 10] [fold g true] [account g [2 0]] [fold h true] [account h [10 0]] [release-carried g false]
+            // What a commit sent is held as before.
+            [] [] [0] [begin 1 0] [1 send g + 1 :ok] [commit 1 1] [fold g true] [act :none] [release 1 true] [act :changed] [now g 1]
+            // Of another agent nothing changes, and of one that isn't here neither.
+            [] [] [0 0] [send g + 1 :ok] [send h + 2 :ok] [act :changed] [act :changed] [fold h true] [account g [0 :done 0]] [account h [2 0]] [fold i false]
+        "##,
+    )
+}
+
+#[test]
 fn agents_by_hand(rt: HostRuntime) -> Result<(), Fail> {
     check_anywhere(
         rt.alloc(),

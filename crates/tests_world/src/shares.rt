@@ -213,3 +213,76 @@ fn shares_are_split_and_joined(rt: HostRuntime) -> Result<(), Fail> {
     assert_eq!(rt; try_shares(alloc)?, Some(wanted));
     Ok(())
 }
+
+// The points of the receipts before and after the share forgot those of folded entries, and what share and world say then.
+#[derive(Debug, Drop, PartialEq)]
+struct Forgotten {
+    before: usize,
+    folded: bool,
+    ended: Ended,
+}
+
+fn forget_two<C: Ledger, A: Ledger, K: Ledger>(
+    alloc: Global,
+    world: &mut World<Core, C, A, K>,
+    share: &mut Share<C, A, K>,
+) -> Result<Forgotten, AllocError> {
+    let done = swaps(alloc, world, share)?
+        && add_seven(alloc, world, share)?
+        && add_seven(alloc, world, share)?;
+    let before = share.receipts().len();
+    let folded = world.checkpoint(alloc, &CoreFunctions, 2).is_ok();
+    world.forget(share);
+    Ok(Forgotten {
+        before,
+        folded: done && folded,
+        ended: end_of(alloc, world, share)?,
+    })
+}
+
+fn tried_forgetting<C: Ledger, A: Ledger, K: Ledger>(
+    alloc: Global,
+    commits: Blank,
+    added: Blank,
+    taken: Blank,
+) -> Result<Option<Forgotten>, AllocError>
+    requires commits { IsBlank commits C.name C.parts }
+    requires added { IsBlank added A.name A.parts }
+    requires taken { IsBlank taken K.name K.parts }
+{
+    match World::<Core, C, A, K>::new(alloc, &CoreFunctions, start(alloc)?, commits, added, taken) {
+        Ok((mut world, mut share)) => Ok(Some(forget_two(alloc, &mut world, &mut share)?)),
+        Err(_) => Ok(None),
+    }
+}
+
+fn try_forgetting(alloc: Global) -> Result<Option<Forgotten>, AllocError> {
+    tried_forgetting::<Brand, Brand, Brand>(
+        alloc,
+        Blank::new(ALL_PARTS),
+        Blank::new(ALL_PARTS),
+        Blank::new(ALL_PARTS),
+    )
+}
+
+#[test]
+fn a_share_forgets_what_is_folded(rt: HostRuntime) -> Result<(), Fail> {
+    let alloc = rt.alloc();
+    let wanted = Forgotten {
+        before: 3,
+        folded: true,
+        ended: Ended {
+            whole: true,
+            points: vec![in alloc; (3, true)]?,
+            totals: Totals {
+                commits: 2,
+                added: 14,
+                taken: 0,
+            },
+            books: (2, 14, 0),
+            tally: true,
+        },
+    };
+    assert_eq!(rt; try_forgetting(alloc)?, Some(wanted));
+    Ok(())
+}

@@ -70,6 +70,9 @@ fn settle<R: Input + Print, C: Ledger, A: Ledger, K: Ledger>(
     free.begin();
     let was_carrying = world.release_carried(0);
     free.end("release_carried", !was_carrying);
+    free.begin();
+    let folded = world.fold_agent(0);
+    free.end("fold_agent", matches!(folded, Ok(true)));
 }
 
 pub(crate) fn call_all<R: Input + Print, C: Ledger, A: Ledger, K: Ledger>(

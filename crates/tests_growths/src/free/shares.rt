@@ -10,7 +10,7 @@ use std::alloc::Global;
 use std::sync::Wait;
 use std::sync::ledger::Ledger;
 
-/// Splits a share and joins it again.
+/// Splits a share, joins it again, and makes it forget.
 pub(crate) fn call_all<R: Input + Print, C: Ledger, A: Ledger, K: Ledger>(
     free: &mut Free<'_, R>,
     share: &mut Share<C, A, K>,
@@ -23,6 +23,9 @@ pub(crate) fn call_all<R: Input + Print, C: Ledger, A: Ledger, K: Ledger>(
         let joined = share.join(part);
         free.end("join of a share without receipts", joined.is_ok());
     }
+    free.begin();
+    share.forget(0);
+    free.end("forget", share.is_whole());
 }
 
 fn read_shared<R: Input + Print + Wait, C: Ledger, A: Ledger, K: Ledger>(

@@ -1,7 +1,7 @@
 use denote.Param.Send.{sendable}
 use Rattle.std.proofs.Crossing as std
 use Rattle.ref_shared.proofs.Crossing.{crosses}
-use Rattle.tests_threads.proofs.stress.two_pools.Goals as goal
+use Rattle.tests_threads.proofs.pools.two_pools.Goals as goal
 
 pub join-one-requires-send-F : goal.join-one-requires-send-F
 join-one-requires-send-F g c κs within = search (crosses, std.crosses, sendable) depth 60

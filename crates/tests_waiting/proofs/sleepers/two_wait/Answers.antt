@@ -1,0 +1,7 @@
+use denote.Param.Send.{sendable}
+use Rattle.std.proofs.Crossing as std
+use Rattle.tests_threads.proofs.Crossing.{crosses}
+use Rattle.tests_waiting.proofs.sleepers.two_wait.Goals as goal
+
+pub join-is_through-requires-send-F : goal.join-is_through-requires-send-F
+join-is_through-requires-send-F g c κs within = search (crosses, std.crosses, sendable) depth 60

@@ -1,0 +1,7 @@
+use denote.Param.Send.{sendable}
+use Rattle.std.proofs.Crossing as std
+use Rattle.tests_threads.proofs.Crossing.{crosses}
+use Rattle.tests_waiting.proofs.whens.wait_and_close.Goals as goal
+
+pub join-bodies-requires-send-F : goal.join-bodies-requires-send-F
+join-bodies-requires-send-F g c κs within = search (crosses, std.crosses, sendable) depth 60

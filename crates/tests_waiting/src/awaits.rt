@@ -1,0 +1,631 @@
+//! Who waits for agents returns once all is gone that was there when it came, and not before.
+ghost use Rattle.std.specs.Prelude.{◌≡◌};
+ghost use Rattle.ref_world.specs.Shares.{IsBlank};
+
+use ref_fun::codes::PLUS;
+use ref_fun::{Core, CoreFunctions};
+use ref_shared::{AwaitFault, Gate, Open, Quiet, Shared, Spot};
+use ref_world::ALL_PARTS;
+use std::alloc::Global;
+use std::marker::Brand;
+use std::process::Abort;
+use std::sync::Wait;
+use std::sync::atomic::Ordering;
+use std::sync::ledger::{Blank, Ledger};
+use std::test::Fail;
+use std::thread;
+use std::thread::Threads;
+use std::time::Clock;
+use tests_shared::jobs::{two_agents, work};
+use tests_shared::steps::send;
+use tests_shared::tables::Poor;
+use tests_shared::worlds::{Stop, opened, value};
+use tests_threads::flags::Flags;
+use tests_threads::waits::{Meet, wait_for, wait_past};
+
+// Waits for these agents once the other is there, and says before that it comes, and when the call has returned.
+pub(crate) fn await_when_told<R: AllocGlobal + Wait + Clock, C: Ledger, A: Ledger, K: Ledger>(
+    rt: &R,
+    shared: &Shared<Core, C, A, K>,
+    agents: &[u32],
+    flags: &Flags,
+) -> Result<(), AwaitFault> {
+    let _ = wait_for(rt, &flags.first);
+    flags.second.store(true, Ordering::SeqCst);
+    let awaited = shared.await_agents(rt, rt.alloc(), agents);
+    flags.third.store(true, Ordering::SeqCst);
+    awaited
+}
+
+// Lets the other begin, and returns whether it came, and some time later, when it waits.
+pub(crate) fn meet<R: Clock>(rt: &R, flags: &Flags) -> bool {
+    flags.first.store(true, Ordering::SeqCst);
+    wait_past(rt, &flags.second)
+}
+
+// Sends `+ 1` to g so many times, and returns whether all were taken.
+fn send_more<R: AllocGlobal + Wait, C: Ledger, A: Ledger, K: Ledger>(
+    rt: &R,
+    shared: &Shared<Core, C, A, K>,
+    count: u32,
+) -> bool {
+    let mut sent = true;
+    for _ in 0..count {
+        sent = sent && send(rt, rt.alloc(), shared, 0, PLUS, "1").is_ok();
+    }
+    sent
+}
+
+// A gate that holds an action until the other waits, sends more to g, and sees whether the other has returned before the action ends.
+#[derive(Drop)]
+struct Hold<'a, 'b, 'c, R: AllocGlobal + Wait + Clock, C: Ledger, A: Ledger, K: Ledger> {
+    rt: &'a R,
+    shared: &'b Shared<Core, C, A, K>,
+    flags: &'c Flags,
+    sends: u32,
+    met: bool,
+    early: bool,
+}
+
+impl<'a, 'b, 'c, R: AllocGlobal + Wait + Clock, C: Ledger, A: Ledger, K: Ledger> Gate
+    for Hold<'a, 'b, 'c, R, C, A, K> {
+    fn pass(&mut self, spot: Spot) {
+        if spot == Spot::BeforeAction {
+            self.met = meet(self.rt, self.flags) && send_more(self.rt, self.shared, self.sends);
+        }
+        if spot == Spot::AfterAction {
+            self.early = self.flags.third.load(Ordering::SeqCst);
+        }
+    }
+}
+
+// What the other thread does, step by step. Each returns whether it went as planned, and whether the call has returned too early.
+#[derive(Clone, Copy, Drop)]
+enum Step {
+    // Waits until the other waits.
+    Come,
+    // Runs an action that is held until the other waits, and then until so many more were sent.
+    Hold(u32),
+    // Runs an action that is held until the call has returned.
+    HoldBehind,
+    // Takes an action and puts it back: by a table without memory for it, or without the predicate for its end.
+    PutBack(Poor),
+    Fold,
+    // Restarts g, without its queue if asked.
+    Restart(bool),
+    Close,
+}
+
+fn run_held<R: AllocGlobal + Wait + Clock, C: Ledger, A: Ledger, K: Ledger>(
+    rt: &R,
+    shared: &Shared<Core, C, A, K>,
+    sends: u32,
+    flags: &Flags,
+) -> (bool, bool) {
+    let mut gate = Hold {
+        rt,
+        shared,
+        flags,
+        sends,
+        met: false,
+        early: false,
+    };
+    let worked = shared.work_once(rt, rt.alloc(), &CoreFunctions, &mut gate, &mut Quiet);
+    (gate.met && worked.is_ok(), gate.early)
+}
+
+fn run_behind<R: AllocGlobal + Wait + Clock, C: Ledger, A: Ledger, K: Ledger>(
+    rt: &R,
+    shared: &Shared<Core, C, A, K>,
+    flags: &Flags,
+) -> bool {
+    let mut gate = Meet {
+        rt,
+        here: &flags.fourth,
+        there: &flags.third,
+        met: false,
+    };
+    let worked = shared.work_once(rt, rt.alloc(), &CoreFunctions, &mut gate, &mut Quiet);
+    gate.met && worked.is_ok()
+}
+
+fn put_back<R: AllocGlobal + Wait, C: Ledger, A: Ledger, K: Ledger>(
+    rt: &R,
+    shared: &Shared<Core, C, A, K>,
+    funs: Poor,
+) -> bool {
+    shared
+        .work_once(rt, rt.alloc(), &funs, &mut Open, &mut Quiet)
+        .is_err()
+}
+
+fn restart<R: AllocGlobal + Wait, C: Ledger, A: Ledger, K: Ledger>(
+    rt: &R,
+    shared: &Shared<Core, C, A, K>,
+    clear: bool,
+) -> bool {
+    let alloc = rt.alloc();
+    match value(alloc, "0") {
+        Ok(zero) => shared
+            .restart(rt, alloc, &CoreFunctions, 0, zero, clear)
+            .is_ok(),
+        Err(_) => false,
+    }
+}
+
+fn make<R: AllocGlobal + Wait + Clock, C: Ledger, A: Ledger, K: Ledger>(
+    rt: &R,
+    shared: &Shared<Core, C, A, K>,
+    step: Step,
+    flags: &Flags,
+) -> (bool, bool) {
+    match step {
+        Step::Come => (meet(rt, flags), flags.third.load(Ordering::SeqCst)),
+        Step::Hold(sends) => run_held(rt, shared, sends, flags),
+        Step::HoldBehind => (run_behind(rt, shared, flags), false),
+        Step::PutBack(funs) => (put_back(rt, shared, funs), false),
+        Step::Fold => (shared.fold_agent(rt, 0) == Ok(true), false),
+        Step::Restart(clear) => (restart(rt, shared, clear), false),
+        Step::Close => {
+            shared.close(rt);
+            (true, false)
+        }
+    }
+}
+
+// What is sent to g as `+ x`, the agents that are waited for, and what the other thread does.
+#[derive(Clone, Copy, Drop)]
+struct Case {
+    queue: &'static [&'static str],
+    agents: &'static [u32],
+    steps: &'static [Step],
+}
+
+// What the other thread found: whether all went as planned, whether the call returned too early, and whether it returned before
+// the shared world was closed, or soon after the last step.
+#[derive(Clone, Copy, Debug, Drop, PartialEq)]
+struct Other {
+    went: bool,
+    early: bool,
+    in_time: bool,
+}
+
+// Runs what is left in a closed world, so that a test ends which has failed.
+fn run_rest<R: AllocGlobal + Wait, C: Ledger, A: Ledger, K: Ledger>(
+    rt: &R,
+    shared: &Shared<Core, C, A, K>,
+) {
+    for _ in 0..8u32 {
+        let _ = work(rt, rt.alloc(), shared);
+    }
+}
+
+fn act<R: AllocGlobal + Wait + Clock, C: Ledger, A: Ledger, K: Ledger>(
+    rt: &R,
+    shared: &Shared<Core, C, A, K>,
+    steps: &[Step],
+    flags: &Flags,
+) -> Other {
+    let mut went = true;
+    let mut early = false;
+    for step in steps {
+        let (made, is_early) = make(rt, shared, *step, flags);
+        went = went && made;
+        early = early || is_early;
+        if !went {
+            break;
+        }
+    }
+    let in_time = went && wait_for(rt, &flags.third);
+    shared.close(rt);
+    if !in_time {
+        run_rest(rt, shared);
+    }
+    Other {
+        went,
+        early,
+        in_time,
+    }
+}
+
+fn await_and_act<
+    C: Ledger + Send + Sync,
+    A: Ledger + Send + Sync,
+    K: Ledger + Send + Sync,
+    R: AllocGlobal + Threads + Wait + Clock + Sync,
+>(rt: &R, shared: &Shared<Core, C, A, K>, case: Case) -> (Result<(), AwaitFault>, Other) {
+    let flags = Flags::new();
+    let lent = &flags;
+    let agents = case.agents;
+    let (awaited, other) = thread::join(
+        rt,
+        move || await_when_told(rt, shared, agents, lent),
+        move || act(rt, shared, case.steps, lent),
+    );
+    (awaited, other)
+}
+
+fn try_waiting<
+    C: Ledger + Send + Sync,
+    A: Ledger + Send + Sync,
+    K: Ledger + Send + Sync,
+    R: AllocGlobal + Threads + Wait + Clock + Sync,
+>(
+    rt: &R,
+    alloc: Global,
+    case: Case,
+    commits: Blank,
+    added: Blank,
+    taken: Blank,
+) -> Result<(Result<(), AwaitFault>, Other), Stop>
+    requires commits { IsBlank commits C.name C.parts }
+    requires added { IsBlank added A.name A.parts }
+    requires taken { IsBlank taken K.name K.parts }
+{
+    let (shared, _share) = opened::<C, A, K>(alloc, two_agents(alloc)?, commits, added, taken)?;
+    for text in case.queue {
+        send(rt, alloc, &shared, 0, PLUS, text)?;
+    }
+    Ok(await_and_act(rt, &shared, case))
+}
+
+// What the call of a case returned, and what the other thread found.
+fn awaited_and_found<R: AllocGlobal + Threads + Wait + Clock + Sync>(
+    rt: &R,
+    case: Case,
+) -> Result<(Result<(), AwaitFault>, Other), Stop> {
+    let (commits, added, taken) = (
+        Blank::new(ALL_PARTS),
+        Blank::new(ALL_PARTS),
+        Blank::new(ALL_PARTS),
+    );
+    try_waiting::<Brand, Brand, Brand, R>(rt, rt.alloc(), case, commits, added, taken)
+}
+
+const AS_PLANNED: Other = Other {
+    went: true,
+    early: false,
+    in_time: true,
+};
+
+// Where the call returns this, and all goes as planned.
+fn check<R: AllocGlobal + Threads + Wait + Clock + Abort + Sync>(
+    rt: &R,
+    case: Case,
+    wanted: Result<(), AwaitFault>,
+) -> Result<(), Fail> {
+    let found = awaited_and_found(rt, case)?;
+    assert_eq!(rt; found, (wanted, AS_PLANNED));
+    Ok(())
+}
+
+// The queue of g, the agents that are waited for, and what the other thread does until all is gone.
+type Row = (&'static [&'static str], &'static [u32], &'static [Step]);
+
+const NO_MEMORY: Poor = Poor {
+    has_memory: false,
+    has_predicates: true,
+};
+
+const NO_PREDICATES: Poor = Poor {
+    has_memory: true,
+    has_predicates: false,
+};
+
+const UNTIL_THE_END: &[Row] = &[
+    (&["1"], &[0], &[Step::Hold(0)]),
+    (&["1", "2"], &[0], &[Step::Hold(0), Step::Hold(0)]),
+    (
+        &["1", "2"],
+        &[0],
+        &[Step::Come, Step::Hold(0), Step::Hold(0)],
+    ),
+    (&["1"], &[0, 1], &[Step::Hold(0)]),
+    (&["1"], &[1, 0], &[Step::Hold(0)]),
+    (&["1"], &[0, 0], &[Step::Hold(0)]),
+    (
+        &["1"],
+        &[0],
+        &[Step::Come, Step::PutBack(NO_MEMORY), Step::Hold(0)],
+    ),
+    (
+        &["1"],
+        &[0],
+        &[Step::Come, Step::PutBack(NO_PREDICATES), Step::Hold(0)],
+    ),
+    (
+        &["1", "2"],
+        &[0],
+        &[Step::Hold(0), Step::Fold, Step::Hold(0)],
+    ),
+    (&[":k"], &[0], &[Step::Hold(0)]),
+    (&["1", ":k"], &[0], &[Step::Hold(0), Step::Hold(0)]),
+];
+
+// An action that fails the agent has ended too.
+#[test]
+fn who_waits_for_an_agent_returns_when_all_has_ended(rt: HostRuntime) -> Result<(), Fail> {
+    for row in UNTIL_THE_END {
+        let (queue, agents, steps) = *row;
+        let case = Case {
+            queue,
+            agents,
+            steps,
+        };
+        check(&rt, case, Ok(()))?;
+    }
+    Ok(())
+}
+
+// One that is sent later is on its way, and another one waits, when the call returns.
+#[test]
+fn what_is_sent_later_is_not_waited_for(rt: HostRuntime) -> Result<(), Fail> {
+    let case = Case {
+        queue: &["1"],
+        agents: &[0],
+        steps: &[Step::Hold(2), Step::HoldBehind],
+    };
+    check(&rt, case, Ok(()))
+}
+
+#[test]
+fn a_failure_wakes_who_waits_for_what_is_behind_it(rt: HostRuntime) -> Result<(), Fail> {
+    let one = Case {
+        queue: &[":k", "1"],
+        agents: &[0],
+        steps: &[Step::Hold(0)],
+    };
+    check(&rt, one, Err(AwaitFault::Failed(0)))?;
+    let two = Case {
+        queue: &["1", ":k", "2"],
+        agents: &[1, 0],
+        steps: &[Step::Hold(0), Step::Hold(0)],
+    };
+    check(&rt, two, Err(AwaitFault::Failed(0)))
+}
+
+#[test]
+fn closing_wakes_who_waits_for_an_agent(rt: HostRuntime) -> Result<(), Fail> {
+    let case = Case {
+        queue: &["1"],
+        agents: &[0],
+        steps: &[Step::Come, Step::Close],
+    };
+    check(&rt, case, Err(AwaitFault::Closed))
+}
+
+// ---- A failure and a restart at once
+
+// Runs an action that fails g, with another one behind it, and then these steps, of which the first restarts g at once. Whoever waits may
+// see the failure before the restart, and returns then. If not, all has to go as planned, until all is gone. Returns whether it missed the
+// failure.
+fn misses_failure<R: AllocGlobal + Threads + Wait + Clock + Abort + Sync>(
+    rt: &R,
+    steps: &'static [Step],
+) -> Result<bool, Stop> {
+    let case = Case {
+        queue: &[":k", "1"],
+        agents: &[0],
+        steps,
+    };
+    let (awaited, other) = awaited_and_found(rt, case)?;
+    if awaited == Err(AwaitFault::Failed(0)) {
+        assert_eq!(rt; (other.went, other.in_time), (true, true));
+        return Ok(false);
+    }
+    assert_eq!(rt; (awaited, other), (Ok(()), AS_PLANNED));
+    Ok(true)
+}
+
+// Tries it until it misses the failure once, if it does so within some tries.
+fn check_missed<R: AllocGlobal + Threads + Wait + Clock + Abort + Sync>(
+    rt: &R,
+    steps: &'static [Step],
+) -> Result<(), Fail> {
+    for _ in 0..20u32 {
+        if misses_failure(rt, steps)? {
+            return Ok(());
+        }
+    }
+    Ok(())
+}
+
+#[test]
+fn who_misses_a_failure_waits_for_what_was_behind_it(rt: HostRuntime) -> Result<(), Fail> {
+    let steps = &[Step::Hold(0), Step::Restart(false), Step::Hold(0)];
+    check_missed(&rt, steps)
+}
+
+#[test]
+fn who_misses_a_failure_waits_for_nothing_that_was_dropped(rt: HostRuntime) -> Result<(), Fail> {
+    check_missed(&rt, &[Step::Hold(0), Step::Restart(true)])
+}
+
+// ---- Several who wait
+
+// A gate for one of the actions that come in turn. It holds the action until the one who came two turns before has returned, and
+// then until the one of this turn waits, for two actions, of which this is the first; and sends one more. When the action ends, neither
+// that one nor the one before may have returned.
+#[derive(Drop)]
+struct Turn<'a, 'b, 'c, R: AllocGlobal + Wait + Clock, C: Ledger, A: Ledger, K: Ledger> {
+    rt: &'a R,
+    shared: &'b Shared<Core, C, A, K>,
+    waiters: &'c [&'c Flags],
+    turn: usize,
+    went: bool,
+}
+
+// Whether the one who came two turns before has returned, some time ago, if there is one.
+fn has_returned<R: Clock>(rt: &R, waiters: &[&Flags], turn: usize) -> bool {
+    if turn < 2 {
+        return true;
+    }
+    match waiters.get(turn - 2) {
+        Some(flags) => wait_past(rt, &flags.third),
+        None => false,
+    }
+}
+
+// Lets the one of this turn begin, if there is one, and sends one more.
+fn meet_next<R: AllocGlobal + Wait + Clock, C: Ledger, A: Ledger, K: Ledger>(
+    rt: &R,
+    shared: &Shared<Core, C, A, K>,
+    waiters: &[&Flags],
+    turn: usize,
+) -> bool {
+    match waiters.get(turn) {
+        Some(flags) => meet(rt, flags) && send_more(rt, shared, 1),
+        None => true,
+    }
+}
+
+// Whether none has returned who came in the turn before, or later.
+fn none_has_returned(waiters: &[&Flags], turn: usize) -> bool {
+    for flags in waiters.iter().skip(turn.saturating_sub(1)) {
+        if flags.third.load(Ordering::SeqCst) {
+            return false;
+        }
+    }
+    true
+}
+
+impl<'a, 'b, 'c, R: AllocGlobal + Wait + Clock, C: Ledger, A: Ledger, K: Ledger> Gate
+    for Turn<'a, 'b, 'c, R, C, A, K> {
+    fn pass(&mut self, spot: Spot) {
+        if spot == Spot::BeforeAction {
+            self.went = has_returned(self.rt, self.waiters, self.turn)
+                && meet_next(self.rt, self.shared, self.waiters, self.turn);
+        }
+        if spot == Spot::AfterAction {
+            self.went = self.went && none_has_returned(self.waiters, self.turn);
+        }
+    }
+}
+
+// Runs an action by that gate, and returns whether all went as planned.
+fn act_in_turn<R: AllocGlobal + Wait + Clock, C: Ledger, A: Ledger, K: Ledger>(
+    rt: &R,
+    shared: &Shared<Core, C, A, K>,
+    waiters: &[&Flags],
+    turn: usize,
+) -> bool {
+    let mut gate = Turn {
+        rt,
+        shared,
+        waiters,
+        turn,
+        went: false,
+    };
+    let worked = shared.work_once(rt, rt.alloc(), &CoreFunctions, &mut gate, &mut Quiet);
+    gate.went && worked.is_ok()
+}
+
+// Lets all begin, so that a test ends which has failed.
+fn release_all(waiters: &[&Flags]) {
+    for flags in waiters {
+        flags.first.store(true, Ordering::SeqCst);
+    }
+}
+
+// Runs the actions of four turns, and returns whether each of three returned when its two had ended, and not before.
+fn act_in_turns<R: AllocGlobal + Wait + Clock, C: Ledger, A: Ledger, K: Ledger>(
+    rt: &R,
+    shared: &Shared<Core, C, A, K>,
+    waiters: &[&Flags],
+) -> bool {
+    let mut went = true;
+    for turn in 0..4usize {
+        went = went && act_in_turn(rt, shared, waiters, turn);
+    }
+    went = went && has_returned(rt, waiters, 4);
+    shared.close(rt);
+    if !went {
+        release_all(waiters);
+        run_rest(rt, shared);
+    }
+    went
+}
+
+type Three = (
+    Result<(), AwaitFault>,
+    Result<(), AwaitFault>,
+    Result<(), AwaitFault>,
+);
+
+fn two_await<
+    C: Ledger + Send + Sync,
+    A: Ledger + Send + Sync,
+    K: Ledger + Send + Sync,
+    R: AllocGlobal + Threads + Wait + Clock + Sync,
+>(
+    rt: &R,
+    shared: &Shared<Core, C, A, K>,
+    one: &Flags,
+    two: &Flags,
+) -> (Result<(), AwaitFault>, Result<(), AwaitFault>) {
+    let (first, second) = thread::join(
+        rt,
+        move || await_when_told(rt, shared, &[0], one),
+        move || await_when_told(rt, shared, &[0], two),
+    );
+    (first, second)
+}
+
+fn three_await<
+    C: Ledger + Send + Sync,
+    A: Ledger + Send + Sync,
+    K: Ledger + Send + Sync,
+    R: AllocGlobal + Threads + Wait + Clock + Sync,
+>(rt: &R, shared: &Shared<Core, C, A, K>, one: &Flags, two: &Flags, three: &Flags) -> Three {
+    let (both, third) = thread::join(
+        rt,
+        move || two_await(rt, shared, one, two),
+        move || await_when_told(rt, shared, &[0], three),
+    );
+    (both.0, both.1, third)
+}
+
+fn three_await_in_turn<
+    C: Ledger + Send + Sync,
+    A: Ledger + Send + Sync,
+    K: Ledger + Send + Sync,
+    R: AllocGlobal + Threads + Wait + Clock + Sync,
+>(rt: &R, shared: &Shared<Core, C, A, K>) -> (Three, bool) {
+    let (one, two, three) = (Flags::new(), Flags::new(), Flags::new());
+    let (one, two, three) = (&one, &two, &three);
+    let (awaited, went) = thread::join(
+        rt,
+        move || three_await(rt, shared, one, two, three),
+        move || act_in_turns(rt, shared, &[one, two, three]),
+    );
+    (awaited, went)
+}
+
+fn try_turns<
+    C: Ledger + Send + Sync,
+    A: Ledger + Send + Sync,
+    K: Ledger + Send + Sync,
+    R: AllocGlobal + Threads + Wait + Clock + Sync,
+>(rt: &R, alloc: Global, commits: Blank, added: Blank, taken: Blank) -> Result<(Three, bool), Stop>
+    requires commits { IsBlank commits C.name C.parts }
+    requires added { IsBlank added A.name A.parts }
+    requires taken { IsBlank taken K.name K.parts }
+{
+    let (shared, _share) = opened::<C, A, K>(alloc, two_agents(alloc)?, commits, added, taken)?;
+    send(rt, alloc, &shared, 0, PLUS, "1")?;
+    send(rt, alloc, &shared, 0, PLUS, "1")?;
+    Ok(three_await_in_turn(rt, &shared))
+}
+
+#[test]
+fn each_who_waits_for_an_agent_returns_in_its_turn(rt: HostRuntime) -> Result<(), Fail> {
+    let alloc = rt.alloc();
+    let (commits, added, taken) = (
+        Blank::new(ALL_PARTS),
+        Blank::new(ALL_PARTS),
+        Blank::new(ALL_PARTS),
+    );
+    let found = try_turns::<Brand, Brand, Brand, _>(&rt, alloc, commits, added, taken)?;
+    assert_eq!(rt; found, ((Ok(()), Ok(()), Ok(())), true));
+    Ok(())
+}

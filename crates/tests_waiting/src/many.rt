@@ -1,0 +1,358 @@
+//! Many waits of several threads: each ends.
+ghost use Rattle.std.specs.Prelude.{◌≡◌};
+ghost use Rattle.ref_world.specs.Shares.{IsBlank};
+
+use ref_fun::codes::{MINUS, PLUS};
+use ref_fun::{Core, CoreFunctions};
+use ref_log::{Stamp, Who};
+use ref_shared::{Open, Quiet, Shared};
+use ref_tx::Tx;
+use ref_world::{ALL_PARTS, Share};
+use std::alloc::Global;
+use std::marker::Brand;
+use std::sync::Wait;
+use std::sync::atomic::{AtomicBool, Ordering};
+use std::sync::ledger::{Blank, Ledger};
+use std::test::Fail;
+use std::thread;
+use std::thread::Threads;
+use std::time::Clock;
+use tests_shared::jobs::{agents_at, two_agents};
+use tests_shared::numbers::int_of;
+use tests_shared::scenarios::{CommitCount, seen_at_end};
+use tests_shared::steps::send;
+use tests_shared::worlds::{Stop, add, done, int_at, one_arg, opened, plain_start};
+use tests_threads::flags::Flags;
+use tests_threads::pools::two_pools;
+use tests_threads::waits::wait_for;
+
+/// How many times each thread waits.
+const ROUNDS: u32 = 25;
+
+// Waits until both have ended, and then closes. It returns whether they ended in time.
+fn close_behind<R: Wait + Clock, C: Ledger, A: Ledger, K: Ledger>(
+    rt: &R,
+    shared: &Shared<Core, C, A, K>,
+    flags: &Flags,
+) -> bool {
+    let in_time = wait_for(rt, &flags.first) && wait_for(rt, &flags.second);
+    shared.close(rt);
+    in_time
+}
+
+// ---- One gives and two take
+
+// Takes 1 from a, if it is there.
+fn take(alloc: Global, tx: &mut Tx<Core>) -> Result<Option<()>, Stop> {
+    if int_of(done(tx.deref(0))?) == Some(0) {
+        return Ok(None);
+    }
+    let one = one_arg(alloc, "1")?;
+    let _ = done(tx.alter(alloc, &CoreFunctions, 0, MINUS, one))?;
+    Ok(Some(()))
+}
+
+// Takes 1 from a in each round, waiting for it, and says when it has ended. It returns the share, and how many it took.
+fn take_in_rounds<R: AllocGlobal + Wait, C: Ledger, A: Ledger, K: Ledger>(
+    rt: &R,
+    shared: &Shared<Core, C, A, K>,
+    mut share: Share<C, A, K>,
+    worker: u32,
+    ended: &AtomicBool,
+) -> (Share<C, A, K>, u32) {
+    let alloc = rt.alloc();
+    let mut count = 0u32;
+    for step in 0..ROUNDS {
+        let took = shared.transact_when(
+            rt,
+            alloc,
+            &CoreFunctions,
+            &mut share,
+            Stamp { worker, step },
+            10_000,
+            &mut Open,
+            &mut Quiet,
+            &mut |tx: &mut Tx<Core>| take(alloc, tx),
+        );
+        if took.is_ok() {
+            count = count.saturating_add(1);
+        }
+    }
+    ended.store(true, Ordering::SeqCst);
+    (share, count)
+}
+
+// Adds 1 to a for each round of two threads, and closes when they have ended. It returns the share, and whether all went well.
+fn give<R: AllocGlobal + Wait + Clock, C: Ledger, A: Ledger, K: Ledger>(
+    rt: &R,
+    shared: &Shared<Core, C, A, K>,
+    mut share: Share<C, A, K>,
+    flags: &Flags,
+) -> (Share<C, A, K>, bool) {
+    let alloc = rt.alloc();
+    let mut went = true;
+    for step in 0..2 * ROUNDS {
+        let gave = shared.transact(
+            rt,
+            alloc,
+            &CoreFunctions,
+            &mut share,
+            Stamp { worker: 2, step },
+            10_000,
+            &mut Open,
+            &mut Quiet,
+            |tx: &mut Tx<Core>| add(alloc, tx, 0, "1"),
+        );
+        went = went && gave.is_ok();
+    }
+    let in_time = close_behind(rt, shared, flags);
+    (share, went && in_time)
+}
+
+fn two_take<
+    C: Ledger + Send + Sync,
+    A: Ledger + Send + Sync,
+    K: Ledger + Send + Sync,
+    R: AllocGlobal + Threads + Wait + Sync,
+>(
+    rt: &R,
+    shared: &Shared<Core, C, A, K>,
+    share: Share<C, A, K>,
+    other: Share<C, A, K>,
+    flags: &Flags,
+) -> ((Share<C, A, K>, u32), (Share<C, A, K>, u32)) {
+    let (mine, theirs) = thread::join(
+        rt,
+        move || take_in_rounds(rt, shared, share, 0, &flags.first),
+        move || take_in_rounds(rt, shared, other, 1, &flags.second),
+    );
+    (mine, theirs)
+}
+
+// The shares of the two joined, and how many each took.
+fn joined<C: Ledger, A: Ledger, K: Ledger>(
+    mine: (Share<C, A, K>, u32),
+    theirs: (Share<C, A, K>, u32),
+) -> (Share<C, A, K>, Option<(u32, u32)>) {
+    let (mut share, one) = mine;
+    let (other, two) = theirs;
+    let counts = match share.join(other) {
+        Ok(()) => Some((one, two)),
+        Err(_) => None,
+    };
+    (share, counts)
+}
+
+fn give_and_take<
+    C: Ledger + Send + Sync,
+    A: Ledger + Send + Sync,
+    K: Ledger + Send + Sync,
+    R: AllocGlobal + Threads + Wait + Clock + Sync,
+>(
+    rt: &R,
+    shared: &Shared<Core, C, A, K>,
+    share: Share<C, A, K>,
+    other: Share<C, A, K>,
+    third: Share<C, A, K>,
+) -> ((Share<C, A, K>, Option<(u32, u32)>), (Share<C, A, K>, bool)) {
+    let flags = Flags::new();
+    let lent = &flags;
+    let (both, gave) = thread::join(
+        rt,
+        move || two_take(rt, shared, share, other, lent),
+        move || give(rt, shared, third, lent),
+    );
+    (joined(both.0, both.1), gave)
+}
+
+// How many each took, whether all went well, what a holds then, and how many commits there are.
+type Taken = (Option<(u32, u32)>, bool, Option<i64>, u64);
+
+fn try_taking<
+    C: Ledger + Send + Sync,
+    A: Ledger + Send + Sync,
+    K: Ledger + Send + Sync,
+    R: AllocGlobal + Threads + Wait + Clock + Sync,
+>(rt: &R, alloc: Global, commits: Blank, added: Blank, taken: Blank) -> Result<Taken, Stop>
+    requires commits { IsBlank commits C.name C.parts }
+    requires added { IsBlank added A.name A.parts }
+    requires taken { IsBlank taken K.name K.parts }
+{
+    let start = plain_start(alloc, "0", "")?;
+    let (shared, mut share) = opened::<C, A, K>(alloc, start, commits, added, taken)?;
+    let other = done(share.split(1).ok_or(Stop::Refused))?;
+    let third = done(share.split(1).ok_or(Stop::Refused))?;
+    let (both, gave) = give_and_take(rt, &shared, share, other, third);
+    let (mut share, counts) = both;
+    let (third, went) = gave;
+    done(share.join(third))?;
+    let value = int_at(rt, &shared, Who::Ref(0));
+    let commits = seen_at_end(alloc, shared, share, &CommitCount)?;
+    Ok((counts, went, value, commits))
+}
+
+#[test]
+fn each_that_waits_for_a_value_takes_it_once(rt: HostRuntime) -> Result<(), Fail> {
+    let alloc = rt.alloc();
+    let (commits, added, taken) = (
+        Blank::new(ALL_PARTS),
+        Blank::new(ALL_PARTS),
+        Blank::new(ALL_PARTS),
+    );
+    let found = try_taking::<Brand, Brand, Brand, _>(&rt, alloc, commits, added, taken)?;
+    assert_eq!(rt; found, (Some((25, 25)), true, Some(0), 100));
+    Ok(())
+}
+
+// ---- Two send and wait, and two run the actions
+
+// What one of the two sends, which adds so much to a sum. The other one's part of a sum is apart from it.
+#[derive(Clone, Copy, Drop)]
+enum Unit {
+    One,
+    Thousand,
+}
+
+impl Unit {
+    fn text(&self) -> &'static str {
+        match self {
+            Unit::One => "1",
+            Unit::Thousand => "1000",
+        }
+    }
+
+    // How often it is in a sum.
+    fn count_in(&self, sum: i64) -> i64 {
+        match self {
+            Unit::One => sum % 1000,
+            Unit::Thousand => sum / 1000,
+        }
+    }
+}
+
+// Whether at least so many of what one sent to an agent have ended.
+fn is_at_least<R: Wait, C: Ledger, A: Ledger, K: Ledger>(
+    rt: &R,
+    shared: &Shared<Core, C, A, K>,
+    g: u32,
+    unit: Unit,
+    least: u32,
+) -> bool {
+    match int_at(rt, shared, Who::Agent(g)) {
+        Some(sum) => unit.count_in(sum) >= i64::from(least),
+        None => false,
+    }
+}
+
+// Sends to both agents, and waits for both. It returns whether all that it sent so far has ended then.
+fn send_and_await<R: AllocGlobal + Wait, C: Ledger, A: Ledger, K: Ledger>(
+    rt: &R,
+    shared: &Shared<Core, C, A, K>,
+    unit: Unit,
+    sent: u32,
+) -> Result<bool, Stop> {
+    let alloc = rt.alloc();
+    send(rt, alloc, shared, 0, PLUS, unit.text())?;
+    send(rt, alloc, shared, 1, PLUS, unit.text())?;
+    done(shared.await_agents(rt, alloc, &[0, 1]))?;
+    Ok(is_at_least(rt, shared, 0, unit, sent) && is_at_least(rt, shared, 1, unit, sent))
+}
+
+// Does that in each round, and says when it has ended. It returns in how many rounds all was well.
+fn await_in_rounds<R: AllocGlobal + Wait, C: Ledger, A: Ledger, K: Ledger>(
+    rt: &R,
+    shared: &Shared<Core, C, A, K>,
+    unit: Unit,
+    ended: &AtomicBool,
+) -> u32 {
+    let mut count = 0u32;
+    for round in 0..ROUNDS {
+        if send_and_await(rt, shared, unit, round.saturating_add(1)) == Ok(true) {
+            count = count.saturating_add(1);
+        }
+    }
+    ended.store(true, Ordering::SeqCst);
+    count
+}
+
+fn two_await<
+    C: Ledger + Send + Sync,
+    A: Ledger + Send + Sync,
+    K: Ledger + Send + Sync,
+    R: AllocGlobal + Threads + Wait + Sync,
+>(rt: &R, shared: &Shared<Core, C, A, K>, flags: &Flags) -> (u32, u32) {
+    let (one, two) = thread::join(
+        rt,
+        move || await_in_rounds(rt, shared, Unit::One, &flags.first),
+        move || await_in_rounds(rt, shared, Unit::Thousand, &flags.second),
+    );
+    (one, two)
+}
+
+fn run_and_close<
+    C: Ledger + Send + Sync,
+    A: Ledger + Send + Sync,
+    K: Ledger + Send + Sync,
+    R: AllocGlobal + Threads + Wait + Clock + Sync,
+>(rt: &R, shared: &Shared<Core, C, A, K>, flags: &Flags) -> (Result<u32, Stop>, bool) {
+    let (ran, in_time) = thread::join(
+        rt,
+        move || two_pools(rt, rt.alloc(), shared),
+        move || close_behind(rt, shared, flags),
+    );
+    (ran, in_time)
+}
+
+// In how many rounds all was well, how many actions were run, and whether all ended in time.
+type Awaited = ((u32, u32), (Result<u32, Stop>, bool));
+
+fn await_and_run<
+    C: Ledger + Send + Sync,
+    A: Ledger + Send + Sync,
+    K: Ledger + Send + Sync,
+    R: AllocGlobal + Threads + Wait + Clock + Sync,
+>(rt: &R, shared: &Shared<Core, C, A, K>) -> Awaited {
+    let flags = Flags::new();
+    let lent = &flags;
+    let (awaited, ran) = thread::join(
+        rt,
+        move || two_await(rt, shared, lent),
+        move || run_and_close(rt, shared, lent),
+    );
+    (awaited, ran)
+}
+
+fn try_awaiting<
+    C: Ledger + Send + Sync,
+    A: Ledger + Send + Sync,
+    K: Ledger + Send + Sync,
+    R: AllocGlobal + Threads + Wait + Clock + Sync,
+>(
+    rt: &R,
+    alloc: Global,
+    commits: Blank,
+    added: Blank,
+    taken: Blank,
+) -> Result<(Awaited, (Option<i64>, Option<i64>)), Stop>
+    requires commits { IsBlank commits C.name C.parts }
+    requires added { IsBlank added A.name A.parts }
+    requires taken { IsBlank taken K.name K.parts }
+{
+    let (shared, _share) = opened::<C, A, K>(alloc, two_agents(alloc)?, commits, added, taken)?;
+    let awaited = await_and_run(rt, &shared);
+    Ok((awaited, agents_at(rt, &shared)))
+}
+
+#[test]
+fn each_that_waits_for_agents_finds_what_it_sent(rt: HostRuntime) -> Result<(), Fail> {
+    let alloc = rt.alloc();
+    let (commits, added, taken) = (
+        Blank::new(ALL_PARTS),
+        Blank::new(ALL_PARTS),
+        Blank::new(ALL_PARTS),
+    );
+    let found = try_awaiting::<Brand, Brand, Brand, _>(&rt, alloc, commits, added, taken)?;
+    let awaited = ((25, 25), (Ok(100), true));
+    assert_eq!(rt; found, (awaited, (Some(25_025), Some(25_025))));
+    Ok(())
+}

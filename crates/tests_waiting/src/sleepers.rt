@@ -1,0 +1,179 @@
+//! A thread that waits for an action to run is woken by each single send, also beside others that wait for something else.
+ghost use Rattle.std.specs.Prelude.{◌≡◌};
+ghost use Rattle.ref_world.specs.Shares.{IsBlank};
+
+use crate::awaits::{await_when_told, meet};
+use crate::whens::{nudge, wait_in_vain};
+use ref_fun::Core;
+use ref_fun::codes::PLUS;
+use ref_shared::{Shared, Worked};
+use ref_world::{ALL_PARTS, Share};
+use std::alloc::Global;
+use std::marker::Brand;
+use std::sync::Wait;
+use std::sync::atomic::Ordering;
+use std::sync::ledger::{Blank, Ledger};
+use std::test::Fail;
+use std::thread;
+use std::thread::Threads;
+use std::time::Clock;
+use tests_shared::jobs::{Work, agents_at, commit_four, two_agents};
+use tests_shared::steps::send;
+use tests_shared::worlds::{Stop, opened};
+use tests_threads::flags::Flags;
+use tests_threads::pools::work_thrice;
+use tests_threads::waits::{wait_for, wait_past};
+
+// Works three times, once the one has waited for a while that waits for an entry.
+fn work_last<R: AllocGlobal + Wait + Clock, C: Ledger, A: Ledger, K: Ledger>(
+    rt: &R,
+    shared: &Shared<Core, C, A, K>,
+    when: &Flags,
+    work: &Flags,
+) -> (Work, Work, Work) {
+    let _ = wait_past(rt, &when.second);
+    work_thrice(rt, rt.alloc(), shared, work)
+}
+
+fn send_to_g<R: AllocGlobal + Wait, C: Ledger, A: Ledger, K: Ledger>(
+    rt: &R,
+    shared: &Shared<Core, C, A, K>,
+) -> bool {
+    send(rt, rt.alloc(), shared, 0, PLUS, "1").is_ok()
+}
+
+// One waits for h, one for an entry, and then one to run an action. Sends to g twice, and then releases what is held of h, each while
+// that one waits; and returns whether it ran each in time, and the first returned then, and not before.
+fn wake_worker<R: AllocGlobal + Wait + Clock, C: Ledger, A: Ledger, K: Ledger>(
+    rt: &R,
+    shared: &Shared<Core, C, A, K>,
+    point: u64,
+    agent: &Flags,
+    when: &Flags,
+    work: &Flags,
+) -> bool {
+    meet(rt, agent)
+        && meet(rt, when)
+        && wait_past(rt, &work.first)
+        && send_to_g(rt, shared)
+        && wait_past(rt, &work.second)
+        && send_to_g(rt, shared)
+        && wait_past(rt, &work.third)
+        && !agent.third.load(Ordering::SeqCst)
+        && shared.release(rt, point)
+        && wait_for(rt, &work.fourth)
+        && wait_for(rt, &agent.third)
+}
+
+// Wakes the worker as planned, and then closes; and returns whether all went as planned, and the one who waits for an entry returned last.
+fn wake_and_close<R: AllocGlobal + Wait + Clock, C: Ledger, A: Ledger, K: Ledger>(
+    rt: &R,
+    shared: &Shared<Core, C, A, K>,
+    point: u64,
+    agent: &Flags,
+    when: &Flags,
+    work: &Flags,
+) -> bool {
+    let woke = wake_worker(rt, shared, point, agent, when, work);
+    shared.close(rt);
+    let ended = wait_for(rt, &when.third);
+    if !ended {
+        nudge(rt, rt.alloc(), shared);
+    }
+    woke && ended
+}
+
+// What the three returned: whether the first had all that it waited for, how many times the second's body was called, if it was closed,
+// and what the third did.
+type Three = (bool, Option<u32>, (Work, Work, Work));
+
+fn two_wait<
+    C: Ledger + Send + Sync,
+    A: Ledger + Send + Sync,
+    K: Ledger + Send + Sync,
+    R: AllocGlobal + Threads + Wait + Clock + Sync,
+>(
+    rt: &R,
+    shared: &Shared<Core, C, A, K>,
+    share: Share<C, A, K>,
+    agent: &Flags,
+    when: &Flags,
+) -> (bool, Option<u32>) {
+    let (is_through, bodies) = thread::join(
+        rt,
+        move || await_when_told(rt, shared, &[1], agent).is_ok(),
+        move || wait_in_vain(rt, shared, share, when),
+    );
+    (is_through, bodies)
+}
+
+fn three_wait<
+    C: Ledger + Send + Sync,
+    A: Ledger + Send + Sync,
+    K: Ledger + Send + Sync,
+    R: AllocGlobal + Threads + Wait + Clock + Sync,
+>(
+    rt: &R,
+    shared: &Shared<Core, C, A, K>,
+    share: Share<C, A, K>,
+    agent: &Flags,
+    when: &Flags,
+    work: &Flags,
+) -> Three {
+    let (both, works) = thread::join(
+        rt,
+        move || two_wait(rt, shared, share, agent, when),
+        move || work_last(rt, shared, when, work),
+    );
+    (both.0, both.1, works)
+}
+
+fn three_wait_and_wake<
+    C: Ledger + Send + Sync,
+    A: Ledger + Send + Sync,
+    K: Ledger + Send + Sync,
+    R: AllocGlobal + Threads + Wait + Clock + Sync,
+>(rt: &R, shared: &Shared<Core, C, A, K>, share: Share<C, A, K>, point: u64) -> (Three, bool) {
+    let (agent, when, work) = (Flags::new(), Flags::new(), Flags::new());
+    let (agent, when, work) = (&agent, &when, &work);
+    let (three, woke) = thread::join(
+        rt,
+        move || three_wait(rt, shared, share, agent, when, work),
+        move || wake_and_close(rt, shared, point, agent, when, work),
+    );
+    (three, woke)
+}
+
+// What the three returned, whether each was woken in its turn, and what the agents are then.
+type Woken = (Three, bool, (Option<i64>, Option<i64>));
+
+fn try_sleepers<
+    C: Ledger + Send + Sync,
+    A: Ledger + Send + Sync,
+    K: Ledger + Send + Sync,
+    R: AllocGlobal + Threads + Wait + Clock + Sync,
+>(rt: &R, alloc: Global, commits: Blank, added: Blank, taken: Blank) -> Result<Woken, Stop>
+    requires commits { IsBlank commits C.name C.parts }
+    requires added { IsBlank added A.name A.parts }
+    requires taken { IsBlank taken K.name K.parts }
+{
+    let (shared, mut share) = opened::<C, A, K>(alloc, two_agents(alloc)?, commits, added, taken)?;
+    let point = commit_four(rt, alloc, &shared, &mut share)?;
+    let (three, woke) = three_wait_and_wake(rt, &shared, share, point);
+    Ok((three, woke, agents_at(rt, &shared)))
+}
+
+#[test]
+fn a_send_wakes_a_worker_beside_others_who_wait(rt: HostRuntime) -> Result<(), Fail> {
+    let alloc = rt.alloc();
+    let (commits, added, taken) = (
+        Blank::new(ALL_PARTS),
+        Blank::new(ALL_PARTS),
+        Blank::new(ALL_PARTS),
+    );
+    let woken = try_sleepers::<Brand, Brand, Brand, _>(&rt, alloc, commits, added, taken)?;
+    let (g, h) = (Ok(Worked::Did(0)), Ok(Worked::Did(1)));
+    let three = (true, Some(1), (g, g, h));
+    assert_eq!(rt; woken, (three, true, (Some(2), Some(4))));
+    Ok(())
+}

@@ -1,0 +1,392 @@
+//! A transaction that waits is woken by each entry of another thread, and at the end.
+ghost use Rattle.std.specs.Prelude.{◌≡◌};
+ghost use Rattle.ref_world.specs.Shares.{IsBlank};
+
+use ref_fun::codes::PLUS;
+use ref_fun::{Core, CoreFunctions};
+use ref_log::{Stamp, Who};
+use ref_shared::{Open, Quiet, Shared, WaitFault};
+use ref_tx::Tx;
+use ref_world::{ALL_PARTS, Share};
+use std::alloc::Global;
+use std::marker::Brand;
+use std::sync::Wait;
+use std::sync::atomic::Ordering;
+use std::sync::ledger::{Blank, Ledger};
+use std::test::Fail;
+use std::thread;
+use std::thread::Threads;
+use std::time::Clock;
+use tests_shared::numbers::int_of;
+use tests_shared::scenarios::{AllCommits, Commits, seen_at_end};
+use tests_shared::steps::commit_set;
+use tests_shared::worlds::{STAMP, Stop, add, done, int_at, one_arg, opened, plain_start, value};
+use tests_threads::flags::Flags;
+use tests_threads::waits::{wait_for, wait_past};
+
+const OTHER: Stamp = Stamp { worker: 1, step: 0 };
+
+// ---- By each kind of entry
+
+// Adds 1 to a, if there is an entry. Else it says that it isn't ready.
+fn add_behind(alloc: Global, tx: &mut Tx<Core>, flags: &Flags) -> Result<Option<()>, Stop> {
+    if tx.read_point() == 0 {
+        flags.first.store(true, Ordering::SeqCst);
+        return Ok(None);
+    }
+    add(alloc, tx, 0, "1")?;
+    Ok(Some(()))
+}
+
+// What came of a transaction that waits.
+#[derive(Clone, Copy, Debug, Drop, PartialEq)]
+struct Added {
+    point: Result<u64, Stop>,
+    // How many times the body was called.
+    bodies: u32,
+}
+
+// Adds 1 to a in a transaction that waits for an entry, and says when it has returned.
+fn add_when<R: AllocGlobal + Wait, C: Ledger, A: Ledger, K: Ledger>(
+    rt: &R,
+    shared: &Shared<Core, C, A, K>,
+    mut share: Share<C, A, K>,
+    flags: &Flags,
+) -> (Share<C, A, K>, Added) {
+    let alloc = rt.alloc();
+    let mut bodies = 0u32;
+    let committed = shared.transact_when(
+        rt,
+        alloc,
+        &CoreFunctions,
+        &mut share,
+        STAMP,
+        1,
+        &mut Open,
+        &mut Quiet,
+        &mut |tx: &mut Tx<Core>| {
+            bodies = bodies.saturating_add(1);
+            add_behind(alloc, tx, flags)
+        },
+    );
+    flags.second.store(true, Ordering::SeqCst);
+    let point = match committed {
+        Ok((_, receipt)) => Ok(receipt.point),
+        Err(_) => Err(Stop::Refused),
+    };
+    (share, Added { point, bodies })
+}
+
+// What makes an entry.
+#[derive(Clone, Copy, Debug, Drop)]
+enum Kind {
+    Commit,
+    Swap,
+    Reset,
+    CompareAndSet,
+    MakeRef,
+    MakeAtom,
+}
+
+fn swap<R: Wait, C: Ledger, A: Ledger, K: Ledger>(
+    rt: &R,
+    alloc: Global,
+    shared: &Shared<Core, C, A, K>,
+    share: &mut Share<C, A, K>,
+) -> Result<(), Stop> {
+    let one = one_arg(alloc, "1")?;
+    done(shared.swap(rt, alloc, &CoreFunctions, share, 0, PLUS, one)).map(drop)
+}
+
+fn reset<R: Wait, C: Ledger, A: Ledger, K: Ledger>(
+    rt: &R,
+    alloc: Global,
+    shared: &Shared<Core, C, A, K>,
+    share: &mut Share<C, A, K>,
+) -> Result<(), Stop> {
+    let new = value(alloc, "7")?;
+    done(shared.reset(rt, alloc, &CoreFunctions, share, 0, new)).map(drop)
+}
+
+fn compare<R: Wait, C: Ledger, A: Ledger, K: Ledger>(
+    rt: &R,
+    alloc: Global,
+    shared: &Shared<Core, C, A, K>,
+    share: &mut Share<C, A, K>,
+) -> Result<(), Stop> {
+    let (old, new) = (value(alloc, "0")?, value(alloc, "7")?);
+    done(shared.compare_and_set(rt, alloc, &CoreFunctions, share, 0, &old, new)).map(drop)
+}
+
+fn make_ref<R: Wait, C: Ledger, A: Ledger, K: Ledger>(
+    rt: &R,
+    alloc: Global,
+    shared: &Shared<Core, C, A, K>,
+) -> Result<(), Stop> {
+    let new = value(alloc, "7")?;
+    done(shared.make_ref(rt, alloc, &CoreFunctions, new, None, false)).map(drop)
+}
+
+pub(crate) fn make_atom<R: Wait, C: Ledger, A: Ledger, K: Ledger>(
+    rt: &R,
+    alloc: Global,
+    shared: &Shared<Core, C, A, K>,
+) -> Result<(), Stop> {
+    let new = value(alloc, "7")?;
+    done(shared.make_atom(rt, alloc, &CoreFunctions, new, None)).map(drop)
+}
+
+fn enter<R: Wait, C: Ledger, A: Ledger, K: Ledger>(
+    rt: &R,
+    alloc: Global,
+    shared: &Shared<Core, C, A, K>,
+    share: &mut Share<C, A, K>,
+    kind: Kind,
+) -> Result<(), Stop> {
+    match kind {
+        Kind::Commit => commit_set(rt, alloc, shared, share, OTHER, "10").map(drop),
+        Kind::Swap => swap(rt, alloc, shared, share),
+        Kind::Reset => reset(rt, alloc, shared, share),
+        Kind::CompareAndSet => compare(rt, alloc, shared, share),
+        Kind::MakeRef => make_ref(rt, alloc, shared),
+        Kind::MakeAtom => make_atom(rt, alloc, shared),
+    }
+}
+
+// Wakes all who wait for an entry, so that a test ends which has failed.
+pub(crate) fn nudge<R: Wait, C: Ledger, A: Ledger, K: Ledger>(
+    rt: &R,
+    alloc: Global,
+    shared: &Shared<Core, C, A, K>,
+) {
+    let _ = make_ref(rt, alloc, shared);
+    let _ = make_atom(rt, alloc, shared);
+}
+
+// Makes an entry while the other waits. It returns the share, and whether the other was woken in time.
+fn enter_and_wake<R: AllocGlobal + Wait + Clock, C: Ledger, A: Ledger, K: Ledger>(
+    rt: &R,
+    shared: &Shared<Core, C, A, K>,
+    mut share: Share<C, A, K>,
+    kind: Kind,
+    flags: &Flags,
+) -> (Share<C, A, K>, bool) {
+    let was_there = wait_past(rt, &flags.first);
+    let entered = enter(rt, rt.alloc(), shared, &mut share, kind);
+    let woke = wait_for(rt, &flags.second);
+    shared.close(rt);
+    if !woke {
+        nudge(rt, rt.alloc(), shared);
+    }
+    (share, was_there && woke && entered.is_ok())
+}
+
+fn add_and_enter<
+    C: Ledger + Send + Sync,
+    A: Ledger + Send + Sync,
+    K: Ledger + Send + Sync,
+    R: AllocGlobal + Threads + Wait + Clock + Sync,
+>(
+    rt: &R,
+    shared: &Shared<Core, C, A, K>,
+    share: Share<C, A, K>,
+    other: Share<C, A, K>,
+    kind: Kind,
+) -> ((Share<C, A, K>, Added), (Share<C, A, K>, bool)) {
+    let flags = Flags::new();
+    let lent = &flags;
+    let (mine, theirs) = thread::join(
+        rt,
+        move || add_when(rt, shared, share, lent),
+        move || enter_and_wake(rt, shared, other, kind, lent),
+    );
+    (mine, theirs)
+}
+
+// What came of both, the number that a holds then, and the commits.
+#[derive(Debug, Drop, PartialEq)]
+struct Woken {
+    added: Added,
+    woke: bool,
+    value: Option<i64>,
+    commits: Commits,
+}
+
+fn try_kind<
+    C: Ledger + Send + Sync,
+    A: Ledger + Send + Sync,
+    K: Ledger + Send + Sync,
+    R: AllocGlobal + Threads + Wait + Clock + Sync,
+>(
+    rt: &R,
+    alloc: Global,
+    kind: Kind,
+    commits: Blank,
+    added: Blank,
+    taken: Blank,
+) -> Result<Woken, Stop>
+    requires commits { IsBlank commits C.name C.parts }
+    requires added { IsBlank added A.name A.parts }
+    requires taken { IsBlank taken K.name K.parts }
+{
+    let start = plain_start(alloc, "0", "0")?;
+    let (shared, mut share) = opened::<C, A, K>(alloc, start, commits, added, taken)?;
+    let other = done(share.split(1).ok_or(Stop::Refused))?;
+    let (mine, theirs) = add_and_enter(rt, &shared, share, other, kind);
+    let (mut share, added) = mine;
+    let (other, woke) = theirs;
+    done(share.join(other))?;
+    let value = int_at(rt, &shared, Who::Ref(0));
+    let commits = seen_at_end(alloc, shared, share, &AllCommits)?;
+    Ok(Woken {
+        added,
+        woke,
+        value,
+        commits,
+    })
+}
+
+// What makes the entry, what a holds in the end, and whether the entry is a commit.
+const KINDS: &[(Kind, i64, bool)] = &[
+    (Kind::Commit, 11, true),
+    (Kind::Swap, 1, false),
+    (Kind::Reset, 1, false),
+    (Kind::CompareAndSet, 1, false),
+    (Kind::MakeRef, 1, false),
+    (Kind::MakeAtom, 1, false),
+];
+
+// What is wanted: the body isn't ready at the first call, and its second one is committed behind the entry.
+fn wanted_of(alloc: Global, value: i64, is_commit: bool) -> Result<Woken, Stop> {
+    let mut log: Vec<(Stamp, u64)> = Vec::new(alloc);
+    if is_commit {
+        log.push((OTHER, 0))?;
+    }
+    log.push((STAMP, 1))?;
+    let commits = log.len() as u64;
+    Ok(Woken {
+        added: Added {
+            point: Ok(2),
+            bodies: 2,
+        },
+        woke: true,
+        value: Some(value),
+        commits: Commits { log, commits },
+    })
+}
+
+#[test]
+fn each_entry_wakes_a_transaction_that_waits(rt: HostRuntime) -> Result<(), Fail> {
+    let alloc = rt.alloc();
+    for (kind, value, is_commit) in KINDS {
+        let (commits, added, taken) = (
+            Blank::new(ALL_PARTS),
+            Blank::new(ALL_PARTS),
+            Blank::new(ALL_PARTS),
+        );
+        let woken = try_kind::<Brand, Brand, Brand, _>(&rt, alloc, *kind, commits, added, taken)?;
+        assert_eq!(rt; woken, wanted_of(alloc, *value, *is_commit)?, "{kind:?}");
+    }
+    Ok(())
+}
+
+// ---- At the end
+
+// Waits in a transaction that is never ready, once the other is there. It says before that it comes, and when it has returned; and
+// returns how many times the body was called, if it ended since the shared world was closed.
+pub(crate) fn wait_in_vain<R: AllocGlobal + Wait + Clock, C: Ledger, A: Ledger, K: Ledger>(
+    rt: &R,
+    shared: &Shared<Core, C, A, K>,
+    mut share: Share<C, A, K>,
+    flags: &Flags,
+) -> Option<u32> {
+    let _ = wait_for(rt, &flags.first);
+    let mut bodies = 0u32;
+    let waited = shared.transact_when(
+        rt,
+        rt.alloc(),
+        &CoreFunctions,
+        &mut share,
+        STAMP,
+        1,
+        &mut Open,
+        &mut Quiet,
+        &mut |_tx: &mut Tx<Core>| -> Result<Option<()>, Stop> {
+            bodies = bodies.saturating_add(1);
+            flags.second.store(true, Ordering::SeqCst);
+            Ok(None)
+        },
+    );
+    flags.third.store(true, Ordering::SeqCst);
+    match waited {
+        Err(WaitFault::Closed) => Some(bodies),
+        _ => None,
+    }
+}
+
+// Closes while the other waits, and returns whether that one returned then, and not before.
+fn close_on<R: AllocGlobal + Wait + Clock, C: Ledger, A: Ledger, K: Ledger>(
+    rt: &R,
+    shared: &Shared<Core, C, A, K>,
+    flags: &Flags,
+) -> bool {
+    flags.first.store(true, Ordering::SeqCst);
+    let was_there = wait_past(rt, &flags.second);
+    let early = flags.third.load(Ordering::SeqCst);
+    shared.close(rt);
+    let woke = wait_for(rt, &flags.third);
+    if !woke {
+        nudge(rt, rt.alloc(), shared);
+    }
+    was_there && woke && !early
+}
+
+fn wait_and_close<
+    C: Ledger + Send + Sync,
+    A: Ledger + Send + Sync,
+    K: Ledger + Send + Sync,
+    R: AllocGlobal + Threads + Wait + Clock + Sync,
+>(rt: &R, shared: &Shared<Core, C, A, K>, share: Share<C, A, K>) -> (Option<u32>, bool) {
+    let flags = Flags::new();
+    let lent = &flags;
+    let (bodies, woke) = thread::join(
+        rt,
+        move || wait_in_vain(rt, shared, share, lent),
+        move || close_on(rt, shared, lent),
+    );
+    (bodies, woke)
+}
+
+fn try_end<
+    C: Ledger + Send + Sync,
+    A: Ledger + Send + Sync,
+    K: Ledger + Send + Sync,
+    R: AllocGlobal + Threads + Wait + Clock + Sync,
+>(
+    rt: &R,
+    alloc: Global,
+    commits: Blank,
+    added: Blank,
+    taken: Blank,
+) -> Result<(Option<u32>, bool), Stop>
+    requires commits { IsBlank commits C.name C.parts }
+    requires added { IsBlank added A.name A.parts }
+    requires taken { IsBlank taken K.name K.parts }
+{
+    let start = plain_start(alloc, "0", "")?;
+    let (shared, share) = opened::<C, A, K>(alloc, start, commits, added, taken)?;
+    Ok(wait_and_close(rt, &shared, share))
+}
+
+#[test]
+fn closing_wakes_a_transaction_that_waits(rt: HostRuntime) -> Result<(), Fail> {
+    let alloc = rt.alloc();
+    let (commits, added, taken) = (
+        Blank::new(ALL_PARTS),
+        Blank::new(ALL_PARTS),
+        Blank::new(ALL_PARTS),
+    );
+    let ended = try_end::<Brand, Brand, Brand, _>(&rt, alloc, commits, added, taken)?;
+    assert_eq!(rt; ended, (Some(1), true));
+    Ok(())
+}
