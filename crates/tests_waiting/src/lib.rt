@@ -1,0 +1,21 @@
+//! Tests of waiting by several threads: for agents, and for an entry. There is nothing else here.
+//!
+//! No clause says what another thread does between two calls, so this is tested, as in `tests_threads`, with whose flags and gates one
+//! thread waits for another. Each wait of a test ends by itself.
+//!
+//! | Modules | |
+//! |---|---|
+//! | `awaits` | by two or three: who waits for agents returns once all is gone that was there when it came, and not before |
+//! | `whens` | by two: a transaction that waits is woken by each entry of another thread, and at the end |
+//! | `many` | by two or more: many waits of several threads, each of which ends |
+//! | `sleepers` | by four: one who waits to run actions, beside others who wait for something else |
+#![tactic(auto)]
+
+#[cfg(test)]
+mod awaits;
+#[cfg(test)]
+mod many;
+#[cfg(test)]
+mod sleepers;
+#[cfg(test)]
+mod whens;
