@@ -20,7 +20,10 @@ module _ (κ : NamedLft) (F C A K : RattleType) (gC : Ledger.Ghosts C.Denot) (gA
       search (y, plain) depth 60,
       (
         search plain depth 60,
-        (search (shared_crosses, plain) depth 60, (search plain depth 60, (search plain depth 60, tt))),
+        (
+          search (shared_crosses, plain) depth 60,
+          (search plain depth 60, (search plain depth 60, (search plain depth 60, tt))),
+        ),
       ),
     ),
   )

@@ -24,12 +24,13 @@ pub(crate) fn keep_folding<C: Ledger, A: Ledger, K: Ledger, R: Wait, F: Function
     shop: &Shop<F, C, A, K>,
     share: Share<C, A, K>,
 ) -> Result<Done<C, A, K>, Trouble> {
+    shop.note_folder();
     let mut done = Done::of(share);
     match fold_each(rt, shop, &mut done) {
         Ok(()) => Ok(done),
         Err(Trouble) => {
             drop(done);
-            shop.end_early();
+            shop.close_early(rt);
             Err(Trouble)
         }
     }

@@ -37,8 +37,7 @@ fn help<C: Ledger, A: Ledger, K: Ledger, R: Wait, F: Functions<Core>>(
             Ok(Worked::Did(_agent)) => {}
             Ok(Worked::Closed) => return Ok(errors),
             Err(_fault) => {
-                shop.end_early();
-                shop.shared.close(rt);
+                shop.close_early(rt);
                 return Err(Trouble);
             }
         }

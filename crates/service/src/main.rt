@@ -4,7 +4,8 @@
 //! piece at the counter, adds the price to the takings, and sends a line to one of two logs, which are agents. One line in sixteen is
 //! damaged: the log refuses it and goes on, and the helper who ran it counts an error. Now and then a thread that sells forgets the
 //! receipts that are folded, and waits until its log has taken what was sent. Two helpers run what was sent. One more thread folds: it
-//! waits until so much was taken, and then folds the entries up to there, and what the logs have handled.
+//! waits until so much was taken, and then folds the entries up to there, and what the logs have handled. A sale waits while it is too
+//! far behind.
 //!
 //! `service SALES` has each thread make so many sales, and 2,000 without an argument. What is printed is the same in whatever order
 //! the threads get on.

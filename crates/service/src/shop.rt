@@ -1,6 +1,6 @@
 //! The shop: its world, and one sale.
 use crate::Trouble;
-use crate::values::value;
+use crate::values::{integer, value};
 use ref_agents::ErrorMode;
 use ref_fun::codes::PLUS;
 use ref_fun::{Action, Args, Core, Functions};
@@ -22,11 +22,14 @@ pub(crate) const SHARED_COUNTER: u32 = 4;
 /// The tally.
 pub(crate) const TAKINGS: u32 = 5;
 
-/// The takings up to which all was folded.
+/// The takings up to which all is folded, or is about to be.
 pub(crate) const FOLDED: u32 = 6;
 
 /// The agents 0 and 1 are logs: how many lines they took.
 pub(crate) const LOGS: u32 = 2;
+
+// How much may be taken that isn't folded yet. Then sales wait, so that the log doesn't grow while who folds can't keep up.
+const MOST_UNFOLDED: i64 = 25_000;
 
 /// How often a transaction is tried: as often as it takes.
 pub(crate) const TRIES: u32 = u32::MAX;
@@ -39,8 +42,9 @@ pub(crate) struct Shop<'a, F: Functions<Core>, C: Ledger, A: Ledger, K: Ledger> 
     pub(crate) funs: &'a F,
     pub(crate) sales: u64,
     pub(crate) shared: Shared<Core, C, A, K>,
-    // Whether a helper is there, so that it makes sense to wait for what was sent.
+    // Whether somebody runs what is sent, and whether somebody folds: nobody waits for who isn't there.
     has_helper: AtomicBool,
+    has_folder: AtomicBool,
     // Whether nobody is to sell any more.
     is_over: AtomicBool,
 }
@@ -63,7 +67,7 @@ fn at_zero(alloc: Global, tally: bool) -> Result<RefStart, AllocError> {
     })
 }
 
-// The counters, the takings, and up to where all was folded.
+// The counters, the takings, and up to where all is folded.
 fn refs(alloc: Global) -> Result<Vec<RefStart>, AllocError> {
     let mut refs = Vec::new(alloc);
     for r in 0..=FOLDED {
@@ -104,11 +108,12 @@ impl<'a, F: Functions<Core>, C: Ledger, A: Ledger, K: Ledger> Shop<'a, F, C, A, 
             sales,
             shared: Shared::new(world),
             has_helper: AtomicBool::new(false),
+            has_folder: AtomicBool::new(false),
             is_over: AtomicBool::new(false),
         }
     }
 
-    /// Makes a sale. Where another one at the same counter came between, it is tried again.
+    /// Makes a sale, once who folds has kept up. Where another one at the same counter came between, it is tried again.
     pub(crate) fn sell<R: Wait>(
         &self,
         rt: &R,
@@ -118,18 +123,22 @@ impl<'a, F: Functions<Core>, C: Ledger, A: Ledger, K: Ledger> Shop<'a, F, C, A, 
     ) -> Result<(), Trouble> {
         let (alloc, funs) = (self.alloc, self.funs);
         let (gate, sink) = (&mut Open, &mut Quiet);
-        let body = |tx: &mut Tx<Core>| self.body(tx, sale);
-        let sold = self
-            .shared
-            .transact(rt, alloc, funs, share, stamp, TRIES, gate, sink, body);
+        let mut body = |tx: &mut Tx<Core>| self.body(tx, sale);
+        let sold = self.shared.transact_when(
+            rt, alloc, funs, share, stamp, TRIES, gate, sink, &mut body,
+        );
         sold.ok().map(drop).ok_or(Trouble)
     }
 
-    fn body(&self, tx: &mut Tx<Core>, sale: Sale) -> Result<(), TxFault> {
+    fn body(&self, tx: &mut Tx<Core>, sale: Sale) -> Result<Option<()>, TxFault> {
         let (alloc, funs) = (self.alloc, self.funs);
+        if self.has_folder.load(Ordering::SeqCst) && is_too_much(tx)? {
+            return Ok(None);
+        }
         tx.alter(alloc, funs, sale.counter, PLUS, sale.one.share()?)?;
         tx.commute(alloc, funs, TAKINGS, PLUS, sale.price.share()?)?;
-        tx.send(alloc, funs, sale.log, Action::new(PLUS, sale.line.share()?))
+        tx.send(alloc, funs, sale.log, Action::new(PLUS, sale.line.share()?))?;
+        Ok(Some(()))
     }
 
     /// Rests between two sales: forgets the receipts that are folded, and waits until a log has taken all lines that were sent to it by
@@ -153,6 +162,17 @@ impl<'a, F: Functions<Core>, C: Ledger, A: Ledger, K: Ledger> Shop<'a, F, C, A, 
         self.has_helper.store(true, Ordering::SeqCst);
     }
 
+    /// Who folds is there from now on.
+    pub(crate) fn note_folder(&self) {
+        self.has_folder.store(true, Ordering::SeqCst);
+    }
+
+    /// Has nobody sell any more, and nobody wait, since one of those that others wait for can't go on.
+    pub(crate) fn close_early<R: Wait>(&self, rt: &R) {
+        self.end_early();
+        self.shared.close(rt);
+    }
+
     /// Nobody is to sell any more.
     pub(crate) fn end_early(&self) {
         self.is_over.store(true, Ordering::SeqCst);
@@ -161,4 +181,14 @@ impl<'a, F: Functions<Core>, C: Ledger, A: Ledger, K: Ledger> Shop<'a, F, C, A, 
     pub(crate) fn is_over(&self) -> bool {
         self.is_over.load(Ordering::SeqCst)
     }
+}
+
+// Whether too much was taken that isn't folded yet.
+fn is_too_much(tx: &Tx<Core>) -> Result<bool, TxFault> {
+    let taken = integer(tx.deref(TAKINGS)?);
+    let folded = integer(tx.deref(FOLDED)?);
+    Ok(match (taken, folded) {
+        (Some(taken), Some(folded)) => taken.saturating_sub(folded) >= MOST_UNFOLDED,
+        _ => false,
+    })
 }
