@@ -8,6 +8,6 @@
 # ref-bench among the temporary files, over copies of the libraries.
 set -eu
 here=$(cd "$(dirname "$0")" && pwd)
-name=threads library="ref_shared ref_edn" try="try 1"
+name=threads library=ref_shared try="try 1"
 . "$here/build.sh"
 exec python3 -B "$here/stress.py" "$program" "$@"
