@@ -1,5 +1,5 @@
 //! Tests of shared worlds by one thread: of each call, and of the check of receipts against the log; and what these tests and those
-//! by several threads, in `tests_threads`, make their worlds with.
+//! by several threads, in `tests_threads` and `tests_waiting`, make their worlds with.
 //!
 //! | Modules | |
 //! |---|---|
