@@ -128,18 +128,30 @@ fn three_wait<
     (both.0, both.1, works)
 }
 
+// How far the three have come: who waits for h, who waits for an entry, and who waits to run an action.
+#[derive(Drop)]
+struct ThreeFlags {
+    agent: Flags,
+    when: Flags,
+    work: Flags,
+}
+
 fn three_wait_and_wake<
     C: Ledger + Send + Sync,
     A: Ledger + Send + Sync,
     K: Ledger + Send + Sync,
     R: AllocGlobal + Threads + Wait + Clock + Sync,
 >(rt: &R, shared: &Shared<Core, C, A, K>, share: Share<C, A, K>, point: u64) -> (Three, bool) {
-    let (agent, when, work) = (Flags::new(), Flags::new(), Flags::new());
-    let (agent, when, work) = (&agent, &when, &work);
+    let flags = ThreeFlags {
+        agent: Flags::new(),
+        when: Flags::new(),
+        work: Flags::new(),
+    };
+    let lent = &flags;
     let (three, woke) = thread::join(
         rt,
-        move || three_wait(rt, shared, share, agent, when, work),
-        move || wake_and_close(rt, shared, point, agent, when, work),
+        move || three_wait(rt, shared, share, &lent.agent, &lent.when, &lent.work),
+        move || wake_and_close(rt, shared, point, &lent.agent, &lent.when, &lent.work),
     );
     (three, woke)
 }
