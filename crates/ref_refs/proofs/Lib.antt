@@ -5,3 +5,5 @@ pub mod Moved
 pub mod Accepted
 pub mod Since
 pub mod Tallies
+pub mod Unguarded
+pub mod Others

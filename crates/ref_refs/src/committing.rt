@@ -18,15 +18,15 @@ ghost use Rattle.ref_refs.specs.declared.faults.CommitFault.TheVariants as commi
 
 use crate::checking::{
     check_agents, check_refs, check_served, first_changed, first_differing, fits_tally,
-    moved_within,
+    is_any_other, moved_within,
 };
 use crate::faults::{Alien, CommitFault, Conflict};
 use crate::placing::place_all;
 use crate::rules::{check_rules_known, first_invalid};
 use crate::store::RefStore;
-use crate::watches::{notices, touched_refs};
+use crate::watches::{are_unguarded, notices, touched_refs};
 use ref_fun::{Functions, Meaning};
-use ref_log::{Done, Entry, LAST_POINT, Notice, SharedVec, Side, Stamp, Transaction, share_all};
+use ref_log::{Done, Entry, LAST_POINT, Notice, Side, Stamp, Transaction};
 use ref_tx::{Snapshot, Tx};
 use std::alloc::Global;
 
@@ -160,8 +160,8 @@ impl<M: Meaning> RefStore<M> {
         let entry = Entry::Trans(Transaction {
             stamp,
             read_point: tx.read_point(),
-            dones: SharedVec::of(alloc, share_all(alloc, dones)?)?,
-            sends: SharedVec::of(alloc, share_all(alloc, tx.sends())?)?,
+            dones: tx.shared_dones().share()?,
+            sends: tx.shared_sends().share()?,
         });
         Ok(Prepared {
             refs,
@@ -194,7 +194,9 @@ impl<M: Meaning> RefStore<M> {
 }
 
 impl<M: Meaning> RefStore<M> {
-    // Asks the rules of the refs that these operations change, of the values after them. Answers the refs.
+    // Asks the rules of the refs that these operations change, of the values after them. It returns the refs whose watches are to be
+    // told, with others that have none, or no ref where none of them has a rule or a watch.
+    #[tactic(auto, using(crate::proofs::Unguarded::invalid_none, crate::proofs::Unguarded::notices_none))]
     fn check_rules<F: Functions<M>>(
         &self,
         alloc: Global,
@@ -204,13 +206,17 @@ impl<M: Meaning> RefStore<M> {
     ) -> Result<Vec<u32>, CommitFault>
         requires known { lacking_rule (F.knows funs.now).preds self.now.guards dones.now ≡ None }
         requires made { (at : ℕ) → after_dones M.means dones.now at dones.now (Ok self.now.values) ≡ Ok refs.now.values }
-        ensures touched { IfOk result (λ rs. rs.items ≡ touched_refs dones.now) }
+        ensures told { IfOk result (λ rs. (before after : List Edn)
+            → notices self.now.guards before after rs.items ≡ notices self.now.guards before after (touched_refs dones.now)) }
         ensures ok { OnOk result (first_invalid M.accepts self.now.guards refs.now.values (touched_refs dones.now) ≡ None) }
         ensures accepted { OnOk result (AreAccepted M.accepts self.now.guards refs.now.values) }
         ensures err { IfErr result (λ f. f ≢ commits.Memory
             → option_map commits.Invalid (first_invalid M.accepts self.now.guards refs.now.values (touched_refs dones.now))
             ≡ Some f) }
     {
+        if are_unguarded(&self.guards, dones) {
+            return Ok(Vec::new(alloc));
+        }
         let touched = touched_refs(alloc, dones)?;
         match first_invalid(funs, &self.guards, refs, &touched) {
             None => Ok(touched),
@@ -258,6 +264,9 @@ impl<M: Meaning> RefStore<M> {
         self.check_foreign(at, agents, tx)?;
         check_served(funs, tx.dones())?;
         check_rules_known(funs, &self.guards, tx.dones())?;
+        if !is_any_other(&self.refs, tx) {
+            return Ok(());
+        }
         self.check_conflict(tx)?;
         self.check_values(tx)
     }

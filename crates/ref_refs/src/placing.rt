@@ -83,7 +83,7 @@ fn place_one<M: Meaning, F: Functions<M>>(
         return Ok(());
     }
     let value = next_value(alloc, funs, is_free, done, value)?;
-    *refs = refs.with(alloc, done.r, value, at)?;
+    refs.set(alloc, done.r, value, at)?;
     Ok(())
 }
 

@@ -1,8 +1,9 @@
 //! The notices that a commit gives the watches of refs.
-ghost use Rattle.std.specs.Prelude.{◌≡◌, ◌++◌, ◌∷◌, [], IfOk, OnOk, option_copied};
+ghost use Rattle.std.specs.Prelude.{◌≡◌, ◌++◌, ◌∷◌, [], ◌⊎◌, true, false, IfOk, OnOk, option_copied};
 ghost use Rattle.std.specs.BTreeSet.{keys};
 ghost use Rattle.ref_log.specs.Guards.{keys_at};
-ghost use Rattle.ref_refs.specs.Watches.{notices, notices_at, notices_if_here, touched_refs};
+ghost use Rattle.ref_log.specs.Replay.{is_ensure};
+ghost use Rattle.ref_refs.specs.Watches.{AreUnguarded, IsUnguarded, notices, notices_at, notices_if_here, touched_refs};
 
 use ref_log::{Done, Guards, Notice, Who};
 use ref_tx::Snapshot;
@@ -51,6 +52,31 @@ fn in_order(alloc: Global, refs: BTreeSet<u32>) -> Result<Vec<u32>, AllocError>
         all.push(r)?;
     }
     Ok(all)
+}
+
+// Whether no ref that these operations change has a rule or a watch. It takes no memory.
+pub(crate) fn are_unguarded(guards: &Guards, dones: &[Done]) -> bool
+    ensures { result ≡ true → AreUnguarded guards.now (touched_refs dones.now) }
+{
+    for done in dones {
+        if changes_guarded(guards, done) {
+            return false;
+        }
+    }
+    true
+}
+
+// Whether an operation changes a ref that has a rule or a watch.
+fn changes_guarded(guards: &Guards, done: &Done) -> bool
+    ensures { result ≡ false → (is_ensure done.now.op ≡ true) ⊎ IsUnguarded guards.now done.now.r }
+{
+    !done.op.is_ensure() && is_guarded(guards, done.r)
+}
+
+fn is_guarded(guards: &Guards, r: u32) -> bool
+    ensures { result ≡ false → IsUnguarded guards.now r }
+{
+    guards.rule_of(r).is_some() || !guards.is_unwatched(r)
 }
 
 // The notices of a commit that changes these refs.
