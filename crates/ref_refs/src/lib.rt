@@ -20,7 +20,8 @@
 //! threads share such a world, and which tries a transaction again where it is in conflict.
 //!
 //! **Costs.** `begin` takes constant time and no memory, whatever the number of refs. A commit takes time logarithmic in that number for
-//! each operation, and as much memory, but an `ensure` makes no new snapshot; for each send it takes a step. The value of each ref that
+//! each operation, and as much memory, but an `ensure` changes no ref; for each send it takes a step. The entry shares operations and sends
+//! with the transaction. The value of each ref that
 //! was set, altered or ensured is compared with that of the beginning, once, in time linear in its size. Each `commute` on another ref
 //! costs its function, and each ref that is changed the test of its rule and a notice for each of its watches. `value_of` is
 //! logarithmic; `are_unchanged_since` and `are_rules_known` go over all refs, `add_watch` and `remove_watch` over the watches of one.

@@ -100,7 +100,7 @@ impl<M: Meaning> Tx<M> {
         ensures value { result.now ≡ self.now.dones }
         ensures kept { IsTx M.means self.now.began self.now.dones self.now.tally }
     {
-        self.dones.as_slice()
+        SharedVec::as_slice(&self.dones)
     }
 
     /// The operations so far, for one more owner of them all.
