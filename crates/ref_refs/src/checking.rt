@@ -9,6 +9,7 @@ ghost use Rattle.ref_refs.specs.Seen.{are_unchanged_since};
 ghost use Rattle.ref_refs.specs.Smaller.{smaller};
 
 use crate::faults::{Alien, CommitFault};
+use crate::refs::Refs;
 use ref_fun::{Functions, Meaning, absent_agent};
 use ref_log::counting::moved_by_dones;
 use ref_log::{Done, Op, Sent, Side};
@@ -16,7 +17,7 @@ use ref_tx::{Snapshot, Tx};
 use ref_value::{Node, Value};
 
 // The first operation on a ref that isn't here, if there is one.
-pub(crate) fn check_refs(refs: &Snapshot, dones: &[Done]) -> Result<(), CommitFault>
+pub(crate) fn check_refs(refs: &Refs, dones: &[Done]) -> Result<(), CommitFault>
     ensures refused { Tells (alien_ref refs.now.values dones.now) result }
     ensures told { IfErr result (λ f. f ≢ Memory) }
 {
@@ -77,7 +78,7 @@ pub fn check_served<M: Meaning, F: Functions<M>>(
 
 // Whether somebody else changed a ref that the transaction protects, or one of these has another value than in the beginning. Each
 // operation costs one look-up here and one in the beginning.
-pub(crate) fn is_any_other<M: Meaning>(refs: &Snapshot, tx: &Tx<M>) -> bool
+pub(crate) fn is_any_other<M: Meaning>(refs: &Refs, tx: &Tx<M>) -> bool
     requires { alien_ref refs.now.values tx.now.dones ≡ None }
     ensures unchanged { result ≡ false
         → first_protected refs.now.values tx.now.dones (changed_after refs.now.lasts tx.now.read_point) ≡ None }
@@ -95,7 +96,7 @@ pub(crate) fn is_any_other<M: Meaning>(refs: &Snapshot, tx: &Tx<M>) -> bool
 }
 
 // Whether an operation protects a ref that has changed after a point, or has another value than in the beginning.
-fn protects_other(refs: &Snapshot, began: &Snapshot, read_point: u64, done: &Done) -> bool
+fn protects_other(refs: &Refs, began: &Snapshot, read_point: u64, done: &Done) -> bool
     ensures { result ≡ (not (is_commute done.now.op) && (changed_after refs.now.lasts read_point done.now.r
         || differs_at refs.now.values began.now.values done.now.r)) }
 {
@@ -103,7 +104,7 @@ fn protects_other(refs: &Snapshot, began: &Snapshot, read_point: u64, done: &Don
 }
 
 // Whether a ref has changed after a point, or has another value than in the beginning.
-fn is_other(refs: &Snapshot, began: &Snapshot, read_point: u64, r: u32) -> bool
+fn is_other(refs: &Refs, began: &Snapshot, read_point: u64, r: u32) -> bool
     ensures { result ≡ (changed_after refs.now.lasts read_point r || differs_at refs.now.values began.now.values r) }
 {
     match refs.version(r) {
@@ -116,7 +117,7 @@ fn is_other(refs: &Snapshot, began: &Snapshot, read_point: u64, r: u32) -> bool
 }
 
 // The smallest protected ref that has changed after the read point.
-pub(crate) fn first_changed<M: Meaning>(refs: &Snapshot, tx: &Tx<M>) -> Option<u32>
+pub(crate) fn first_changed<M: Meaning>(refs: &Refs, tx: &Tx<M>) -> Option<u32>
     requires { alien_ref refs.now.values tx.now.dones ≡ None }
     ensures { result ≡ first_protected refs.now.values tx.now.dones (changed_after refs.now.lasts tx.now.read_point) }
 {
@@ -132,7 +133,7 @@ pub(crate) fn first_changed<M: Meaning>(refs: &Snapshot, tx: &Tx<M>) -> Option<u
 }
 
 // The smallest protected ref whose value isn't the one that the transaction began with.
-pub(crate) fn first_differing<M: Meaning>(refs: &Snapshot, tx: &Tx<M>) -> Option<u32>
+pub(crate) fn first_differing<M: Meaning>(refs: &Refs, tx: &Tx<M>) -> Option<u32>
     requires { alien_ref refs.now.values tx.now.dones ≡ None }
     ensures { result ≡ first_protected refs.now.values tx.now.dones (differs_at refs.now.values tx.now.began) }
 {
@@ -148,26 +149,25 @@ pub(crate) fn first_differing<M: Meaning>(refs: &Snapshot, tx: &Tx<M>) -> Option
 }
 
 // Whether an operation protects a ref that has changed after a point.
-fn protects_changed(refs: &Snapshot, done: &Done, point: u64) -> bool
+fn protects_changed(refs: &Refs, done: &Done, point: u64) -> bool
     ensures { result ≡ (not (is_commute done.now.op) && changed_after refs.now.lasts point done.now.r) }
 {
     !done.op.is_commute() && is_changed(refs, done.r, point)
 }
 
 // Whether an operation protects a ref that has another value than in the beginning.
-fn protects_differing(refs: &Snapshot, began: &Snapshot, done: &Done) -> bool
+fn protects_differing(refs: &Refs, began: &Snapshot, done: &Done) -> bool
     ensures { result ≡ (not (is_commute done.now.op) && differs_at refs.now.values began.now.values done.now.r) }
 {
     !done.op.is_commute() && differs_at(refs, began, done.r)
 }
 
 // Whether no ref has changed after a point.
-pub(crate) fn are_unchanged_since(refs: &Snapshot, point: u64) -> bool
+pub(crate) fn are_unchanged_since(refs: &Refs, point: u64) -> bool
     ensures { result ≡ are_unchanged_since refs.now.lasts point }
 {
-    let versions = refs.versions();
-    for version in versions {
-        if version.changed_at > point {
+    for r in 0..refs.len() {
+        if is_changed(refs, r as u32, point) {
             return false;
         }
     }
@@ -175,7 +175,7 @@ pub(crate) fn are_unchanged_since(refs: &Snapshot, point: u64) -> bool
 }
 
 // Whether a ref has changed after a point.
-fn is_changed(refs: &Snapshot, r: u32, point: u64) -> bool
+fn is_changed(refs: &Refs, r: u32, point: u64) -> bool
     ensures { result ≡ changed_after refs.now.lasts point r }
 {
     match refs.last_change(r) {
@@ -185,7 +185,7 @@ fn is_changed(refs: &Snapshot, r: u32, point: u64) -> bool
 }
 
 // Whether a ref has another value now than in the beginning.
-fn differs_at(refs: &Snapshot, began: &Snapshot, r: u32) -> bool
+fn differs_at(refs: &Refs, began: &Snapshot, r: u32) -> bool
     ensures { result ≡ differs_at refs.now.values began.now.values r }
 {
     match refs.get(r) {

@@ -20,6 +20,7 @@ use crate::checking::{
     check_agents, check_refs, check_served, first_changed, first_differing, fits_tally,
     is_any_other, moved_within,
 };
+use crate::drafts::{Changes, Draft};
 use crate::faults::{Alien, CommitFault, Conflict};
 use crate::placing::place_all;
 use crate::rules::{check_rules_known, first_invalid};
@@ -27,7 +28,7 @@ use crate::store::RefStore;
 use crate::watches::{are_unguarded, notices, touched_refs};
 use ref_fun::{Functions, Meaning};
 use ref_log::{Done, Entry, LAST_POINT, Notice, Side, Stamp, Transaction};
-use ref_tx::{Snapshot, Tx};
+use ref_tx::Tx;
 use std::alloc::Global;
 
 /// A commit that was made: its entry for the log, and the notices for its watches.
@@ -37,10 +38,10 @@ pub struct Landed {
     pub notices: Vec<Notice>,
 }
 
-/// A commit that was tested: all refs after it, what is returned, and how much it adds to the tally and takes from it.
+/// A commit that was tested: what it does to the refs, what is returned, and how much it adds to the tally and takes from it.
 #[derive(Drop)]
 pub struct Prepared {
-    pub refs: Snapshot,
+    pub refs: Changes,
     pub landed: Landed,
     pub added: u64,
     pub taken: u64,
@@ -105,7 +106,7 @@ impl<M: Meaning> RefStore<M> {
     {
         match self.prepare(alloc, funs, at, agents, most_added, most_taken, stamp, &tx) {
             Ok(prepared) => {
-                self.install(at, prepared.refs, tx.dones());
+                self.install(alloc, at, prepared.refs, tx.dones());
                 Ok(prepared.landed)
             }
             Err(fault) => Err((tx, fault)),
@@ -131,6 +132,7 @@ impl<M: Meaning> RefStore<M> {
             → step M.means at (entry_of stamp tx.now) (record { refs = self.now.values; atoms = atoms })
             ≡ Ok (record { refs = p.refs.values; atoms = atoms })) }
         // What `install` asks.
+        ensures base { IfOk result (λ p. p.refs.base ≡ record { values = self.now.values; lasts = self.now.lasts }) }
         ensures fits { OnOk result (fit_tally self.now.tally tx.now.dones ≡ true) }
         ensures made { IfOk result (λ p. after_dones M.means tx.now.dones at tx.now.dones (Ok self.now.values)
             ≡ Ok p.refs.values) }
@@ -164,15 +166,17 @@ impl<M: Meaning> RefStore<M> {
             sends: tx.shared_sends().share()?,
         });
         Ok(Prepared {
-            refs,
+            refs: refs.done(),
             landed: Landed { entry, notices },
             added,
             taken,
         })
     }
 
-    /// Replaces the refs by those after a prepared commit. It can't fail.
-    pub fn install(&mut self, at: u64, refs: Snapshot, dones: &[Done])
+    /// Makes the changes of a prepared commit. It can't fail: where memory is refused to put them into their places, they are noted beside,
+    /// and put there later. A place that no open transaction can see is changed there; others are copied.
+    pub fn install(&mut self, alloc: Global, at: u64, refs: Changes, dones: &[Done])
+        requires base { refs.base ≡ record { values = self.old.values; lasts = self.old.lasts } }
         requires new { 1 ≤ at }
         requires limit { at ≤ 2 ^ 62 }
         requires last { are_unchanged_since self.old.lasts (at - 1) ≡ true }
@@ -189,7 +193,8 @@ impl<M: Meaning> RefStore<M> {
             ≡ moved (tally_value self.old.tally self.old.values) (moved_by_dones Added self.old.tally dones.now)
             (moved_by_dones Taken self.old.tally dones.now) }
     {
-        self.refs = refs;
+        self.refs.make(refs);
+        self.refs.settle(alloc);
     }
 }
 
@@ -202,7 +207,7 @@ impl<M: Meaning> RefStore<M> {
         alloc: Global,
         funs: &F,
         dones: &[Done],
-        refs: &Snapshot,
+        refs: &Draft<'_>,
     ) -> Result<Vec<u32>, CommitFault>
         requires known { lacking_rule (F.knows funs.now).preds self.now.guards dones.now ≡ None }
         requires made { (at : ℕ) → after_dones M.means dones.now at dones.now (Ok self.now.values) ≡ Ok refs.now.values }

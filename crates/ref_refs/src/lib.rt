@@ -35,14 +35,18 @@
 
 mod checking;
 pub mod committing;
+pub mod drafts;
 pub mod faults;
+mod late;
 mod making;
 mod placing;
+mod refs;
 mod rules;
 pub mod store;
 mod watches;
 
 pub use checking::check_served;
 pub use committing::{Landed, Prepared};
+pub use drafts::Changes;
 pub use faults::{Alien, CommitFault, Conflict};
 pub use store::RefStore;

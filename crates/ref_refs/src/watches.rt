@@ -5,8 +5,9 @@ ghost use Rattle.ref_log.specs.Guards.{keys_at};
 ghost use Rattle.ref_log.specs.Replay.{is_ensure};
 ghost use Rattle.ref_refs.specs.Watches.{AreUnguarded, IsUnguarded, notices, notices_at, notices_if_here, touched_refs};
 
+use crate::drafts::Draft;
+use crate::refs::Refs;
 use ref_log::{Done, Guards, Notice, Who};
-use ref_tx::Snapshot;
 use ref_value::Value;
 use std::alloc::{AllocError, Global};
 use std::collections::BTreeSet;
@@ -83,8 +84,8 @@ fn is_guarded(guards: &Guards, r: u32) -> bool
 pub(crate) fn notices(
     alloc: Global,
     guards: &Guards,
-    before: &Snapshot,
-    after: &Snapshot,
+    before: &Refs,
+    after: &Draft<'_>,
     touched: &[u32],
 ) -> Result<Vec<Notice>, AllocError>
     ensures { IfOk result (λ ns. ns.items ≡ notices guards.now before.now.values after.now.values touched.now) }
@@ -99,8 +100,8 @@ pub(crate) fn notices(
 // Adds the notices of one ref.
 fn tell(
     guards: &Guards,
-    before: &Snapshot,
-    after: &Snapshot,
+    before: &Refs,
+    after: &Draft<'_>,
     r: u32,
     all: &mut Vec<Notice>,
 ) -> Result<(), AllocError>
