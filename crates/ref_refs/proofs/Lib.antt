@@ -7,3 +7,4 @@ pub mod Since
 pub mod Tallies
 pub mod Unguarded
 pub mod Others
+pub mod Taken

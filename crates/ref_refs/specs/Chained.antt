@@ -1,10 +1,9 @@
 -- The list that a chain of changes is.
-use Rattle.std.specs.Prelude.{List, [], ◌∷◌, Option, None, Some}
-use Rattle.std.specs.declared.boxed.Box.{Box}
-use Rattle.std.specs.declared.alloc.Global.{Global}
+use Rattle.std.specs.Prelude.{List, [], ◌∷◌}
 use Rattle.ref_refs.specs.declared.late.Item.{Item}
-use Rattle.ref_refs.specs.declared.late.Change.{Change}
+use Rattle.ref_refs.specs.declared.late.Link.{Link}
+use Rattle.ref_refs.specs.declared.late.Link.TheVariants.{End, To}
 
-abbrev pub items_of : Option (Box Change Global) → List Item
-items_of None = []
-items_of (Some b) = b.value.item ∷ b.value.older
+abbrev pub items_of : Link → List Item
+items_of End = []
+items_of (To b) = b.value.item ∷ b.value.older

@@ -11,3 +11,5 @@ pub mod Faults
 pub mod Late
 pub mod Chained
 pub mod Falls
+pub mod Drafts
+pub mod Kept

@@ -8,8 +8,8 @@ ghost use Rattle.ref_refs.specs.declared.faults.CommitFault.TheVariants.{Memory}
 ghost use Rattle.ref_refs.specs.Seen.{are_unchanged_since};
 ghost use Rattle.ref_refs.specs.Smaller.{smaller};
 
+use crate::current::Refs;
 use crate::faults::{Alien, CommitFault};
-use crate::refs::Refs;
 use ref_fun::{Functions, Meaning, absent_agent};
 use ref_log::counting::moved_by_dones;
 use ref_log::{Done, Op, Sent, Side};

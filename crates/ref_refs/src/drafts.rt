@@ -1,15 +1,14 @@
 //! Drafts of the refs: what they are to be after a commit.
 ghost use Rattle.std.specs.Option.{option_map};
 ghost use Rattle.std.specs.Prelude.{◌≡◌, ◌<◌, ◌≤◌, ◌^◌, IfOk, OnOk, length, option_copied, slice_get, slice_set};
-ghost use Rattle.ref_refs.specs.Drafts.{drafted};
+ghost use Rattle.ref_refs.specs.Kept.{drafted};
 
+use crate::current::Refs;
 use crate::late::{Item, Late};
-use crate::refs::Refs;
 use ref_tx::{Snapshot, Version};
 use ref_value::Value;
 use std::alloc::{AllocError, Global};
 use std::marker::Model;
-use std::mem::replace;
 use std::snapshot;
 
 // How many changes are kept as such. From there on a draft is a whole snapshot.
@@ -34,13 +33,15 @@ pub(crate) struct Draft<'a> {
 impl<'a> Model for Draft<'a> {
     ghost use Rattle.std.specs.Coded.{codes};
     ghost use Rattle.ref_value.specs.Code.{edn_code};
-    ghost use Rattle.ref_refs.specs.Drafts.{DraftSeen, drafted, kept};
+    ghost use Rattle.ref_refs.specs.Drafts.{DraftSeen};
 
     ghost Value = { DraftSeen };
 
     ghost coded = { Prim.hlevel (codes, edn_code) };
 
-    ghost view = { λ a. drafted a.base.now (kept a.kept a.base.now) };
+    ghost use Rattle.ref_refs.specs.Kept.{after_kept, drafted};
+
+    ghost view = { λ a. drafted a.base.now (after_kept a.kept a.base.now) };
 }
 
 impl<'a> Draft<'a> {
@@ -99,8 +100,7 @@ impl<'a> Draft<'a> {
         };
         match &mut self.kept {
             Kept::Few(late) => {
-                let before = replace(late, Late::none());
-                *late = before.with(alloc, Item { r, version })?;
+                late.add(alloc, Item { r, version })?;
                 self.count = self.count.saturating_add(1);
                 Ok(())
             }
@@ -125,7 +125,7 @@ impl<'a> Draft<'a> {
 
     /// What is to be done to the refs.
     pub(crate) fn done(self) -> Changes
-        ensures { result ≡ self }
+        ensures { result ≡ self.entry }
     {
         let Draft {
             base,
@@ -149,13 +149,15 @@ pub struct Changes {
 impl Model for Changes {
     ghost use Rattle.std.specs.Coded.{codes};
     ghost use Rattle.ref_value.specs.Code.{edn_code};
-    ghost use Rattle.ref_refs.specs.Drafts.{DraftSeen, drafted, kept};
+    ghost use Rattle.ref_refs.specs.Drafts.{DraftSeen};
 
     ghost Value = { DraftSeen };
 
     ghost coded = { Prim.hlevel (codes, edn_code) };
 
-    ghost view = { λ a. drafted a.base.value (kept a.kept a.base.value) };
+    ghost use Rattle.ref_refs.specs.Kept.{after_kept, drafted};
+
+    ghost view = { λ a. drafted a.base.value (after_kept a.kept a.base.value) };
 }
 
 impl Refs {
@@ -165,7 +167,8 @@ impl Refs {
         ensures values { self.new.values ≡ changes.values }
         ensures lasts { self.new.lasts ≡ changes.lasts }
     {
-        match changes.kept {
+        let Changes { kept, base: _base } = changes;
+        match kept {
             Kept::Few(late) => self.note(late),
             Kept::Whole(refs) => {
                 *self = Refs::of(refs);

@@ -1,11 +1,12 @@
 //! Changes of refs that a snapshot has yet to take.
-ghost use Rattle.std.specs.Prelude.{◌≡◌, ◌+◌, ◌++◌, ◌∷◌, ◌↔◌, [], ◌⊎◌, IfOk, IsTrue, OnErr, OnOk, length, option_copied};
+ghost use Rattle.std.specs.Prelude.{◌≡◌, ◌+◌, ◌++◌, ◌∷◌, ◌↔◌, [], ◌⊎◌, IsTrue, OnErr, OnOk, length, option_copied};
 ghost use Rattle.ref_refs.specs.Late.{all_taken, latest_of, taken};
 
 use ref_tx::{Snapshot, Version};
-use std::alloc::{AllocError, Global};
+use std::alloc::{AllocError, AllocFailed, Global};
 use std::boxed::Box;
 use std::marker::Model;
+use std::mem::replace;
 
 /// The new version of a ref.
 #[derive(Drop)]
@@ -18,7 +19,14 @@ pub(crate) struct Item {
 #[cycle(late)]
 #[derive(Drop)]
 pub(crate) struct Late {
-    first: Option<Box<Change>>,
+    first: Link,
+}
+
+#[cycle(late)]
+#[derive(Drop)]
+pub(crate) enum Link {
+    End,
+    To(Box<Change>),
 }
 
 #[cycle(late)]
@@ -33,11 +41,12 @@ impl Model for Late {
     ghost use Rattle.std.specs.Coded.{codes};
     ghost use Rattle.ref_value.specs.Code.{edn_code};
     ghost use Rattle.ref_refs.specs.declared.late.Item.{Item};
-    ghost use Rattle.ref_refs.specs.Chained.{items_of};
 
     ghost Value = { List Item };
 
     ghost coded = { Prim.hlevel (codes, edn_code) };
+
+    ghost use Rattle.ref_refs.specs.Chained.{items_of};
 
     ghost view = { λ a. items_of a.first };
 
@@ -53,23 +62,32 @@ impl Late {
     pub(crate) fn none() -> Late
         ensures { result ≡ [] }
     {
-        Late { first: None }
+        Late { first: Link::End }
     }
 
     pub(crate) fn is_none(&self) -> bool
         ensures { IsTrue result ↔ (self.now ≡ []) }
     {
-        self.first.is_none()
+        matches!(self.first, Link::End)
     }
 
-    /// With one more, the latest. Where memory is refused, all are dropped.
-    pub(crate) fn with(self, alloc: Global, item: Item) -> Result<Late, AllocError>
-        ensures { IfOk result (λ late. late ≡ item ∷ self) }
+    /// Adds one more, the latest. Where memory is refused, it is dropped.
+    pub(crate) fn add(&mut self, alloc: Global, item: Item) -> Result<(), AllocError>
+        ensures ok { OnOk result (self.new ≡ item ∷ self.old) }
+        ensures err { OnErr result (self.new ≡ self.old) }
     {
-        let change = Box::new(alloc, Change { item, older: self })?;
-        Ok(Late {
-            first: Some(change),
-        })
+        let older = replace(self, Late::none());
+        match Box::new(alloc, Change { item, older }) {
+            Ok(change) => {
+                self.first = Link::To(change);
+                Ok(())
+            }
+            Err(AllocFailed { value }) => {
+                let Change { item: _item, older } = value;
+                *self = older;
+                Err(AllocError)
+            }
+        }
     }
 
     /// The latest version of a ref among these, in as many steps as there are changes.
@@ -77,8 +95,8 @@ impl Late {
         ensures { option_copied result ≡ latest_of self.now r }
     {
         match &self.first {
-            None => None,
-            Some(change) => {
+            Link::End => None,
+            Link::To(change) => {
                 if change.item.r == r {
                     Some(&change.item.version)
                 } else {
@@ -93,10 +111,10 @@ impl Late {
         ensures { self.new ≡ self.old ++ older }
     {
         match &mut self.first {
-            None => {
+            Link::End => {
                 self.first = older.first;
             }
-            Some(change) => change.older.put_behind(older),
+            Link::To(change) => change.older.put_behind(older),
         }
     }
 
@@ -106,8 +124,8 @@ impl Late {
         ensures shorter { OnOk result ((self.old ≡ []) ⊎ (length self.new + 1 ≡ length self.old)) }
     {
         let is_oldest = match &mut self.first {
-            None => return Ok(()),
-            Some(change) => {
+            Link::End => return Ok(()),
+            Link::To(change) => {
                 if change.older.is_none() {
                     place(alloc, &change.item, refs)?;
                     true
@@ -118,7 +136,7 @@ impl Late {
             }
         };
         if is_oldest {
-            self.first = None;
+            self.first = Link::End;
         }
         Ok(())
     }
@@ -128,8 +146,8 @@ impl Late {
         ensures { OnOk result (refs.new ≡ all_taken self.now refs.old) }
     {
         match &self.first {
-            None => Ok(()),
-            Some(change) => {
+            Link::End => Ok(()),
+            Link::To(change) => {
                 change.older.place_all(alloc, refs)?;
                 place(alloc, &change.item, refs)
             }

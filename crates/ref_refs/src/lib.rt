@@ -35,12 +35,12 @@
 
 mod checking;
 pub mod committing;
+mod current;
 pub mod drafts;
 pub mod faults;
 mod late;
 mod making;
 mod placing;
-mod refs;
 mod rules;
 pub mod store;
 mod watches;

@@ -7,7 +7,7 @@ ghost use Rattle.ref_refs.specs.Make.{is_bad_tally, made_at, make_refusal, with_
 ghost use Rattle.ref_refs.specs.Seen.{are_unchanged_since, changed_at};
 
 use crate::checking::is_count;
-use crate::refs::Refs;
+use crate::current::Refs;
 use crate::store::RefStore;
 use ref_fun::{Functions, Meaning, Rule};
 use ref_log::{MakeFault, check_make};

@@ -10,9 +10,9 @@ ghost use Rattle.ref_refs.specs.Commit.{alien_ref, alien_value, changed_by, chan
 ghost use Rattle.ref_refs.specs.Seen.{changed_at};
 ghost use Rattle.ref_refs.specs.declared.faults.CommitFault.TheVariants.{Memory};
 
+use crate::current::Refs;
 use crate::drafts::Draft;
 use crate::faults::CommitFault;
-use crate::refs::Refs;
 use ref_fun::{CallFault, Functions, Meaning};
 use ref_log::Done;
 use ref_tx::Tx;

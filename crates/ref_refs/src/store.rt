@@ -9,7 +9,7 @@ ghost use Rattle.ref_log.specs.declared.faults.WatchFault.TheVariants as watches
 ghost use Rattle.ref_refs.specs.Seen.{changed_at, are_unchanged_since, with_guards};
 
 use crate::checking::are_unchanged_since;
-use crate::refs::Refs;
+use crate::current::Refs;
 use ref_fun::{Functions, Meaning, Rule};
 use ref_log::{Guards, RuleFault, WatchFault};
 use ref_tx::{Snapshot, Tx};

@@ -5,8 +5,8 @@ ghost use Rattle.ref_log.specs.Guards.{keys_at};
 ghost use Rattle.ref_log.specs.Replay.{is_ensure};
 ghost use Rattle.ref_refs.specs.Watches.{AreUnguarded, IsUnguarded, notices, notices_at, notices_if_here, touched_refs};
 
+use crate::current::Refs;
 use crate::drafts::Draft;
-use crate::refs::Refs;
 use ref_log::{Done, Guards, Notice, Who};
 use ref_value::Value;
 use std::alloc::{AllocError, Global};
