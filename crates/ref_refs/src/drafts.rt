@@ -1,6 +1,6 @@
 //! Drafts of the refs: what they are to be after a commit.
 ghost use Rattle.std.specs.Option.{option_map};
-ghost use Rattle.std.specs.Prelude.{◌≡◌, ◌<◌, ◌≤◌, ◌^◌, IfOk, OnOk, length, option_copied, slice_get, slice_set};
+ghost use Rattle.std.specs.Prelude.{◌≡◌, ◌<◌, ◌≤◌, ◌^◌, IfOk, OnErr, OnOk, length, option_copied, slice_get, slice_set};
 ghost use Rattle.ref_refs.specs.Kept.{drafted};
 
 use crate::current::Refs;
@@ -83,13 +83,14 @@ impl<'a> Draft<'a> {
         }
     }
 
-    /// Puts another value at a ref, which changes at this point. Where memory is refused, the draft is of no use any more.
+    /// Puts another value at a ref, which changes at this point. Where memory is refused, the draft stays as it is and the value is
+    /// dropped.
     pub(crate) fn set(&mut self, alloc: Global, r: u32, value: Value, at: u64) -> Result<(), AllocError>
         requires { r < length self.old.values }
         ensures base { self.new.base ≡ self.old.base }
         ensures values { OnOk result (self.new.values ≡ slice_set self.old.values r value) }
         ensures lasts { OnOk result (self.new.lasts ≡ slice_set self.old.lasts r at) }
-        ensures all { length self.new.values ≡ length self.old.values }
+        ensures err { OnErr result (self.new ≡ self.old) }
     {
         if self.count >= MOST_CHANGES {
             self.make_whole(alloc)?;

@@ -1,4 +1,4 @@
-use Rattle.std.proofs.Common.{Some, ap, slice_get, sym, ◌∙◌}
+use Rattle.std.proofs.Common.{ap, slice_get, sym, ◌∙◌}
 use Rattle.std.specs.Option.{option_map, option_or}
 use Rattle.std.proofs.lemmas.Option.{slice_get_within}
 use Rattle.ref_tx.specs.declared.snapshots.Version.{Version}
