@@ -76,7 +76,7 @@ impl<M: Meaning> RefStore<M> {
     pub fn is_empty(&self) -> bool
         ensures { IsTrue result ↔ (self.now.values ≡ []) }
     {
-        self.refs.len() == 0
+        self.len() == 0
     }
 
     /// The value of a ref now, if there is such a ref. It takes no memory.
