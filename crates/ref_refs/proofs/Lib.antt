@@ -8,3 +8,4 @@ pub mod Tallies
 pub mod Unguarded
 pub mod Others
 pub mod Taken
+pub mod Crossing

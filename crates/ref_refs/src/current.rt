@@ -14,10 +14,19 @@ use std::marker::Model;
 use std::mem::replace;
 
 /// The refs now. Contracts see their values and the points of their last changes.
-#[derive(Drop)]
 pub(crate) struct Refs {
     pub(crate) settled: Snapshot,
     pub(crate) late: Late,
+}
+
+// A derived one would be written out wherever stores are dropped.
+impl Drop for Refs {
+    fn drop(self) {
+        let Refs {
+            settled: _settled,
+            late: _late,
+        } = self;
+    }
 }
 
 impl Model for Refs {

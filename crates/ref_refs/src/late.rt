@@ -17,9 +17,16 @@ pub(crate) struct Item {
 
 /// Changes of refs, the latest first. Contracts see a list. One more, and more behind the others, need nothing of those that are there.
 #[cycle(late)]
-#[derive(Drop)]
 pub(crate) struct Late {
     first: Link,
+}
+
+// A derived one would be written out wherever changes are dropped.
+impl Drop for Late {
+    #[cycle(late)]
+    fn drop(self) {
+        let Late { first: _first } = self;
+    }
 }
 
 #[cycle(late)]
@@ -107,12 +114,12 @@ impl Late {
     }
 
     /// Puts older changes behind these. It can't fail.
-    pub(crate) fn put_behind(&mut self, older: Late)
+    pub(crate) fn put_behind(&mut self, mut older: Late)
         ensures { self.new ≡ self.old ++ older }
     {
         match &mut self.first {
             Link::End => {
-                self.first = older.first;
+                self.first = replace(&mut older.first, Link::End);
             }
             Link::To(change) => change.older.put_behind(older),
         }
