@@ -50,6 +50,9 @@ impl Table {
             → IsTabled means began dones.now self.now
             → option_or (option_copied result) (slice_get began r) ≡ value_after means began dones.now r }
     {
+        if dones.is_empty() {
+            return None;
+        }
         match last_on(others(dones, self.first), r) {
             Some(answer) => Some(answer),
             None => match self.own.get(&r) {
