@@ -181,7 +181,8 @@ impl<M: Meaning> RefStore<M> {
     }
 
     /// Begins a transaction, which reads the values as they are now. The point is the present one: no ref has changed after
-    /// it; there are so many agents. It takes no memory, and as long whatever the number of refs.
+    /// it; there are so many agents. It takes no memory, and as long whatever the number of refs; but where memory was refused to put
+    /// changes of earlier commits into their places, it takes as much as that takes.
     pub fn begin(&self, alloc: Global, point: u64, agents: usize) -> Result<Tx<M>, AllocError>
         requires { are_unchanged_since self.now.lasts point ≡ true }
         ensures { IfOk result (λ tx. tx

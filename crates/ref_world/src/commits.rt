@@ -35,7 +35,8 @@ pub struct Receipt {
 }
 
 impl<M: Meaning, C: Ledger, A: Ledger, K: Ledger> World<M, C, A, K> {
-    /// Begins a transaction over the values as they are now. It takes no memory, and as long whatever the number of refs.
+    /// Begins a transaction over the values as they are now. It takes no memory, and as long whatever the number of refs; but where memory
+    /// was refused to put changes of earlier commits into their places, it takes as much as that takes.
     pub fn begin(&self, alloc: Global) -> Result<Tx<M>, AllocError>
         ensures { IfOk result (λ tx. tx
             ≡ record {
