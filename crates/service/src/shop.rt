@@ -113,7 +113,7 @@ impl<'a, F: Functions<Core>, C: Ledger, A: Ledger, K: Ledger> Shop<'a, F, C, A, 
         }
     }
 
-    /// Makes a sale, once who folds has kept up. Where another one at the same counter came between, it is tried again.
+    /// Makes a sale, when few enough are left to fold. Where another one at the same counter came between, it is tried again.
     pub(crate) fn sell<R: Wait>(
         &self,
         rt: &R,

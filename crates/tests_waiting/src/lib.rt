@@ -8,7 +8,7 @@
 //! | `awaits` | by two or three: who waits for agents returns once all is gone that was there when it came, and not before |
 //! | `whens` | by two: a transaction that waits is woken by each entry of another thread, and at the end |
 //! | `many` | by two or more: many waits of several threads, each of which ends |
-//! | `sleepers` | by four: one who waits to run actions, beside others who wait for something else |
+//! | `sleepers` | by four: one waits to run actions, while others wait for something else |
 #![tactic(auto)]
 
 #[cfg(test)]

@@ -1,4 +1,4 @@
-//! A thread that waits for an action to run is woken by each single send, also beside others that wait for something else.
+//! A thread that waits for an action to run is woken by each single send, also while others wait for something else.
 ghost use Rattle.std.specs.Prelude.{◌≡◌};
 ghost use Rattle.ref_world.specs.Shares.{IsBlank};
 
