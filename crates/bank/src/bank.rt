@@ -50,8 +50,8 @@ fn value(alloc: Global, edn: &str) -> Result<Value, AllocError> {
     }
 }
 
-fn args(alloc: Global, value: &Value) -> Result<Args, AllocError> {
-    Args::of(alloc, vec![in alloc; value.share()?]?)
+fn args(value: &Value) -> Result<Args, AllocError> {
+    Ok(Args::one(value.share()?))
 }
 
 // An account, whose rule `[>= 0]` refuses less than 0.
@@ -60,7 +60,7 @@ fn account(alloc: Global, balance: &str) -> Result<RefStart, AllocError> {
         value: value(alloc, balance)?,
         rule: Some(Rule {
             code: AT_LEAST,
-            args: args(alloc, &value(alloc, "0")?)?,
+            args: args(&value(alloc, "0")?)?,
         }),
         tally: false,
     })
@@ -148,9 +148,9 @@ impl<'a, C: Ledger, A: Ledger, K: Ledger> Bank<'a, C, A, K> {
         let (alloc, funs) = (self.alloc, self.funs);
         let sum = value(alloc, sum)?;
         let mut tx = self.world.begin(alloc)?;
-        tx.alter(alloc, funs, from, MINUS, args(alloc, &sum)?)?;
-        tx.alter(alloc, funs, to, PLUS, args(alloc, &sum)?)?;
-        tx.send(alloc, funs, JOURNAL, Action::new(CONJ, args(alloc, &sum)?))?;
+        tx.alter(alloc, funs, from, MINUS, args(&sum)?)?;
+        tx.alter(alloc, funs, to, PLUS, args(&sum)?)?;
+        tx.send(alloc, funs, JOURNAL, Action::new(CONJ, args(&sum)?))?;
         Ok(tx)
     }
 

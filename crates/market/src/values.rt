@@ -15,7 +15,7 @@ pub(crate) fn value(alloc: Global, edn: &str) -> Result<Value, AllocError> {
 
 /// The one argument of a function.
 pub(crate) fn args(alloc: Global, edn: &str) -> Result<Args, AllocError> {
-    Args::of(alloc, vec![in alloc; value(alloc, edn)?]?)
+    Ok(Args::one(value(alloc, edn)?))
 }
 
 pub(crate) fn no_args(alloc: Global) -> Result<Args, AllocError> {

@@ -10,5 +10,6 @@ pub mod Core
 pub mod Names
 pub mod Rule
 pub mod Calls
+pub mod Args
 pub mod Table
 pub mod Actions

@@ -1,5 +1,5 @@
 //! Lists with several owners, and what can have several owners.
-ghost use Rattle.std.specs.Prelude.{◌≡◌, ◌≢◌, ◌<◌, ◌↔◌, [], ◌^◌, IsTrue, length, IfOk, OnErr, slice_get, slice_index_or, option_copied};
+ghost use Rattle.std.specs.Prelude.{◌≡◌, ◌≢◌, ◌<◌, ◌↔◌, [], ◌∷◌, ◌++◌, ◌^◌, IsTrue, length, IfOk, OnErr, OnOk, slice_get, slice_index_or, option_copied};
 ghost use Rattle.std.specs.Slice.{IsItemAt};
 ghost use Rattle.std.specs.Iterator.{YieldsFirstRef, item_count};
 
@@ -26,7 +26,7 @@ pub fn share_all<T: Share>(alloc: Global, items: &[T]) -> Result<Vec<T>, AllocEr
     Ok(all)
 }
 
-/// The items of a `Vec`, which may have several owners and doesn't change. Contracts see a list.
+/// The items of a `Vec`, which may have several owners. What the others have doesn't change. Contracts see a list.
 #[derive(Drop)]
 pub struct SharedVec<T> {
     // No block is taken for no items.
@@ -141,6 +141,73 @@ impl<T: Drop> SharedVec<T> {
             None => Ok(SharedVec::none()),
         }
     }
+}
+
+impl<T: Share> SharedVec<T> {
+    /// Puts an item behind the others, in place where the list has no other owner. Else the items get one more owner each, in a
+    /// list of their own. Room is made for exactly one item, then for as many again as there are: a list of one or two takes no more
+    /// than it needs.
+    pub fn push(&mut self, alloc: Global, item: T) -> Result<(), AllocError>
+        ensures ok { OnOk result (self.new ≡ self.old ++ item ∷ []) }
+        ensures err { OnErr result (self.new ≡ self.old) }
+    {
+        match &mut self.inside {
+            Some(items) => push_shared(alloc, items, item),
+            None => {
+                self.inside = Some(one(alloc, item)?);
+                Ok(())
+            }
+        }
+    }
+}
+
+// A list of one item, with room for no other.
+fn one<T: Drop>(alloc: Global, item: T) -> Result<Arc<Vec<T>>, AllocError>
+    ensures { IfOk result (λ items. items.value.items ≡ item ∷ []) }
+{
+    let mut items = Vec::with_capacity(alloc, 1)?;
+    items.push(item)?;
+    Ok(Arc::new(alloc, items)?)
+}
+
+// Puts an item behind the others.
+fn push_shared<T: Share>(
+    alloc: Global,
+    items: &mut Arc<Vec<T>>,
+    item: T,
+) -> Result<(), AllocError>
+    ensures ok { OnOk result (items.new.value.items ≡ items.old.value.items ++ item ∷ []) }
+    ensures err { OnErr result (items.new.value.items ≡ items.old.value.items) }
+{
+    unshare(alloc, items)?;
+    match Arc::get_mut(items) {
+        Some(items) => push_doubling(items, item),
+        None => Err(AllocError),
+    }
+}
+
+// Replaces items that have other owners by as many of their own.
+fn unshare<T: Share>(alloc: Global, items: &mut Arc<Vec<T>>) -> Result<(), AllocError>
+    ensures { items.new.value.items ≡ items.old.value.items }
+{
+    if let Some(_) = Arc::get_mut(items) {
+        return Ok(());
+    }
+    let own = share_all(alloc, items.as_slice())?;
+    *items = Arc::new(alloc, own)?;
+    Ok(())
+}
+
+// Puts an item behind the others. A full list gets room for as many again.
+fn push_doubling<T: Drop>(items: &mut Vec<T>, item: T) -> Result<(), AllocError>
+    ensures ok { OnOk result (items.new.items ≡ items.old.items ++ item ∷ []) }
+    ensures err { OnErr result (items.new.items ≡ items.old.items) }
+{
+    if items.len() == items.capacity() {
+        items.reserve_exact(items.len())?;
+    }
+    items.push(item)?;
+    Ok(())
 }
 
 impl Share for Value {

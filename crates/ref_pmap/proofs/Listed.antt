@@ -1,5 +1,5 @@
 -- The list of a map's values by number.
-use Rattle.std.proofs.Common.{◌≡◌, ℕ, zero, suc, ◌+◌, ◌<◌, ◌≤◌, ◌^◌, ◌⊎◌, inl, inr, Bool, true, false, cond, List, [], ◌∷◌, ◌++◌, length, slice_get, slice_set, get_or, Option, None, Some, refl, sym, ap, ◌∙◌, arith, ◌==◌, ⊎_elim}
+use Rattle.std.proofs.Common.{◌≡◌, ℕ, zero, suc, ◌+◌, ◌<◌, ◌≤◌, ◌^◌, ◌⊎◌, inl, inr, Bool, true, false, cond, List, [], ◌∷◌, ◌++◌, length, slice_get, slice_set, get_or, Option, None, Some, refl, sym, ap, ◌∙◌, arith, ◌==◌, ⊎_elim, subst, Result, Ok, Err, OnOk, OnErr}
 use Rattle.std.specs.Prelude.{is_some}
 use Rattle.std.specs.Ordering.{nat_cmp, eq_by_cmp}
 use Rattle.std.specs.Cmp.{nat_cmp_total, unsigned_tied}
@@ -155,3 +155,16 @@ module _ {V : Type 0} where
 
   pub item_found : (m : FinMap nat_cmp V) (xs : List V) (i : ℕ) (v : V) → IsByNumber m → items_of m ≡ xs → Some v ≡ get m i → v ≡ get_or xs i v
   item_found m xs i v is are found = sym (get_or_from_slice_get xs i v v (ap (λ l. slice_get l i) (sym are) ∙ items_get m is i ∙ sym found))
+
+  -- a map that was changed at a number that has a value, or stayed
+  pub set_by_number : {T E : Type 0} (m n : FinMap nat_cmp V) (k : ℕ) (v : V) (result : Result T E) → IsByNumber m → k < len m → OnOk result (n ≡ insert m k v) → OnErr result (n ≡ m) → IsByNumber n
+  set_by_number m n k v (Ok x) is below ok err = subst IsByNumber (sym ok) (with_by_number m k v is below)
+  set_by_number m n k v (Err e) is below ok err = subst IsByNumber (sym err) is
+
+  pub set_listed : {T E : Type 0} (m n : FinMap nat_cmp V) (k : ℕ) (v : V) (xs : List V) (result : Result T E) → IsByNumber m → k < len m → items_of m ≡ xs → OnOk result (n ≡ insert m k v) → OnOk result (items_of n ≡ slice_set xs k v)
+  set_listed m n k v xs (Ok x) is below seen ok = ap items_of ok ∙ with_listed m k v is below ∙ ap (λ ys. slice_set ys k v) seen
+  set_listed m n k v xs (Err e) is below seen ok = tt
+
+  pub kept_listed : {T E : Type 0} (m n : FinMap nat_cmp V) (xs : List V) (result : Result T E) → items_of m ≡ xs → OnErr result (n ≡ m) → OnErr result (items_of n ≡ xs)
+  kept_listed m n xs (Ok x) seen err = tt
+  kept_listed m n xs (Err e) seen err = ap items_of err ∙ seen

@@ -3,7 +3,7 @@
 //!
 //! Take one where somebody holds a map as it was while somebody else goes on, as a transaction holds the values of its
 //! beginning while others commit: [`PMap::with`] and [`PMap::without`] return a new map and leave the old one as it is, and
-//! [`PMap::share`] gives one more owner of a map in constant time. A map with one owner is better off in a `BTreeMap` or
+//! [`PMap::share`] gives one more owner of a map in constant time. [`PMap::set`] changes a map in place where no other map shares it. A map with one owner is better off in a `BTreeMap` or
 //! an `IndexMap`, which change in place, several times as fast.
 //!
 //! Keys are `u32`, and close ones are best: numbers that count up from 0 make a tree without gaps.
@@ -13,12 +13,14 @@
 //! | `empty`, `len`, `is_empty` | constant | none |
 //! | `get` | a step for each level, of which there are at most 32, and about log2(n) where keys are close | none |
 //! | `with` | as `get`, twice | a block for the entry, and one for each fork on its way |
+//! | `set` | as `get` | as `with`, but for what no other map has |
 //! | `without` | as `get`, twice | a block for each fork on its way; none where the key isn't there |
 //! | `walk` | linear | the answer |
 //! | `share` | constant | none |
 //! | letting the last owner go | linear | |
 //! | `Numbered`: `empty`, `len`, `is_empty`, `share`, `get` | as those of the map | none |
 //! | `Numbered`: `with`, `with_next` | as `with` | as `with` |
+//! | `Numbered`: `set` | as `set` | as `set` |
 //! | `Numbered`: going over all | a `get` for each value | none |
 //!
 //! **How it is stored.** As a binary radix tree, which is also known as a Patricia tree; Okasaki and Gill's 'Fast Mergeable
@@ -31,7 +33,7 @@
 //! on no arithmetic of bits, which only shapes the tree.
 //!
 //! **Not promised.** Contracts see a finite map, and say what is in it. No contract speaks of time, of memory, of the height
-//! of the tree, or of which versions share what. Where memory is refused, `with` drops the value that it was passed: where it
+//! of the tree, or of which versions share what. Where memory is refused, `with` and `set` drop the value that they were passed: where it
 //! couldn't be made again, share it before the call.
 #![tactic(auto)]
 

@@ -1,5 +1,5 @@
 //! The map: a tree where there are entries, and their number.
-ghost use Rattle.std.specs.Prelude.{◌≡◌, ◌↔◌, IsTrue, IfOk};
+ghost use Rattle.std.specs.Prelude.{◌≡◌, ◌↔◌, IsTrue, IfOk, OnErr, OnOk, is_some, true};
 ghost use Rattle.std.specs.Option.{option_copied};
 ghost use Rattle.std.specs.FinMap as map;
 ghost use Rattle.ref_pmap.specs.Whole.{shown};
@@ -97,6 +97,20 @@ impl<V: Drop> PMap<V> {
             len,
             tree: Some(tree),
         })
+    }
+
+    /// Puts this value at the key, instead of the one that is there. On its way there, what other maps have too is copied, and the rest
+    /// is changed in place. Where memory is refused, the map stays as it is and the value is dropped.
+    #[tactic(auto, using(crate::proofs::WholeMaps::maps, crate::proofs::WholeMaps::as_many))]
+    pub fn set(&mut self, alloc: Global, key: u32, value: V) -> Result<(), AllocError>
+        requires { is_some (map.get self.old key) ≡ true }
+        ensures ok { OnOk result (self.new ≡ map.insert self.old key value) }
+        ensures err { OnErr result (self.new ≡ self.old) }
+    {
+        match &mut self.tree {
+            Some(tree) => tree.set(alloc, key, value),
+            None => Err(AllocError),
+        }
     }
 
     /// The map without the key: one more owner of this one, where the key isn't there.

@@ -1,5 +1,5 @@
 //! Values by number: a map whose keys are the numbers from 0 on.
-ghost use Rattle.std.specs.Prelude.{◌≡◌, ◌<◌, ◌≤◌, ◌↔◌, ◌^◌, [], ◌∷◌, ◌++◌, length, slice_get, slice_index_or, slice_set, IsTrue, IfOk};
+ghost use Rattle.std.specs.Prelude.{◌≡◌, ◌<◌, ◌≤◌, ◌↔◌, ◌^◌, [], ◌∷◌, ◌++◌, length, slice_get, slice_index_or, slice_set, IsTrue, IfOk, OnErr, OnOk};
 ghost use Rattle.std.specs.Option.{option_copied};
 ghost use Rattle.std.specs.Iterator.{YieldsFirstRef, item_count};
 
@@ -93,6 +93,16 @@ impl<V: Drop> Numbered<V> {
         Ok(Numbered {
             map: self.map.with(alloc, number, value)?,
         })
+    }
+
+    /// Puts another value at a number. What other lists share with this one stays as it is, and is copied on the way there; the rest is
+    /// changed in place. Where memory is refused, the list stays as it is and the value is dropped.
+    pub fn set(&mut self, alloc: Global, number: u32, value: V) -> Result<(), AllocError>
+        requires { number < length self.old }
+        ensures ok { OnOk result (self.new ≡ slice_set self.old number value) }
+        ensures err { OnErr result (self.new ≡ self.old) }
+    {
+        self.map.set(alloc, number, value)
     }
 
     /// The values with one more, whose number is the next one. Where memory is refused, the value is dropped.

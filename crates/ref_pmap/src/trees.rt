@@ -1,5 +1,5 @@
 //! Trees with at least one entry.
-ghost use Rattle.std.specs.Prelude.{◌≡◌, ℕ, ◌+◌, ◌<◌, ◌≤◌, max, ◌⊎◌, ◌++◌, IfOk, OnOk, MatchOption};
+ghost use Rattle.std.specs.Prelude.{◌≡◌, ℕ, ◌+◌, ◌<◌, ◌≤◌, max, ◌⊎◌, ◌++◌, IfOk, OnErr, OnOk, MatchOption};
 ghost use Rattle.std.specs.Option.{option_copied};
 ghost use Rattle.std.specs.FinMap as map;
 ghost use Rattle.ref_pmap.specs.Joined.{joined, single, IsWithin};
@@ -148,6 +148,49 @@ impl<V: Drop> Tree<V> {
                 }
             }
         }
+    }
+
+    // Whether the key may be put in below this node.
+    fn has_place(&self, key: u32) -> bool {
+        match &*self.node {
+            Node::Leaf(k, _) => *k == key,
+            Node::Fork(bounds, _, _) => bounds.first <= key && key <= bounds.last,
+        }
+    }
+
+    /// Puts this value at the key. On its way there, what has other owners is copied, and the rest changed in place.
+    #[tactic(auto, using(crate::proofs::Joins::with_left, crate::proofs::Joins::with_right, crate::proofs::Joins::single_again))]
+    pub(crate) fn set(&mut self, alloc: Global, key: u32, value: V) -> Result<(), AllocError>
+        ensures ok { OnOk result (self.new.0 ≡ map.insert self.old.0 key value) }
+        ensures err { OnErr result (self.new ≡ self.old) }
+    {
+        if !self.has_place(key) {
+            *self = self.with(alloc, key, value)?;
+            return Ok(());
+        }
+        let Some(node) = Arc::get_mut(&mut self.node) else {
+            *self = self.with(alloc, key, value)?;
+            return Ok(());
+        };
+        match node {
+            Node::Leaf(k, v) => {
+                if *k != key {
+                    return Err(AllocError);
+                }
+                *v = value;
+            }
+            Node::Fork(bounds, left, right) => {
+                if key < bounds.first || bounds.last < key {
+                    return Err(AllocError);
+                }
+                if key < bounds.middle {
+                    left.set(alloc, key, value)?;
+                } else {
+                    right.set(alloc, key, value)?;
+                }
+            }
+        }
+        Ok(())
     }
 
     /// The tree without the key; `None` where nothing else is there.

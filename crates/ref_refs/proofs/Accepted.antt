@@ -26,7 +26,7 @@ use Rattle.ref_refs.proofs.Refs.{among, no_map}
 -- ---- what is known of the refs that are touched
 
 module _ (P : ℕ → Type 0) where
-  all_insert : (rs : List ℕ) (r : ℕ) → P r → AllByRecursion P rs → AllByRecursion P (insert_key nat_cmp rs r)
+  pub all_insert : (rs : List ℕ) (r : ℕ) → P r → AllByRecursion P rs → AllByRecursion P (insert_key nat_cmp rs r)
   all_insert [] r p h = (p, tt)
   all_insert (x ∷ xs) r p h = by (nat_cmp r x) (all_insert xs r p h.1)
     where

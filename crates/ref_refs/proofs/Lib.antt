@@ -5,3 +5,7 @@ pub mod Moved
 pub mod Accepted
 pub mod Since
 pub mod Tallies
+pub mod Unguarded
+pub mod Others
+pub mod Taken
+pub mod Crossing

@@ -1,5 +1,5 @@
 -- No ref has changed after a point, where each last change is at it or before.
-use Rattle.std.proofs.Common.{◌≡◌, ℕ, zero, suc, ◌≤◌, ◌-◌, ◌==◌, ◌++◌, ◌∷◌, [], Bool, true, false, not, cond, List, length, refl, ap, sym, ◌∙◌, arith, subst}
+use Rattle.std.proofs.Common.{◌≡◌, ℕ, zero, suc, ◌≤◌, ◌<◌, ◌&&◌, drop, ◌-◌, ◌++◌, ◌∷◌, [], Bool, true, false, not, cond, List, length, refl, ap, sym, ◌∙◌, arith, subst}
 use Rattle.std.specs.Prelude.{nat_lt, None, slice_get, unwrap_or}
 use Rattle.std.proofs.lemmas.Option.{unwrap_or-slice_get}
 use Rattle.std.proofs.lemmas.Bool.{and_from, and_parts, le-ltb, ltb-false, not-true}
@@ -43,3 +43,15 @@ elsewhere (x ∷ xs) at (suc r) other = elsewhere xs at r (λ same. other (ap su
 -- The last change of a ref that isn't there.
 pub never_changed : (lasts : List ℕ) (r : ℕ) → slice_get lasts r ≡ None → changed_at lasts r ≡ 0
 never_changed lasts r none = sym (unwrap_or-slice_get lasts r 0) ∙ ap (λ o. unwrap_or o 0) none
+
+-- one ref more that hasn't changed
+pub since_next : (lasts : List ℕ) (p r : ℕ) → r < length lasts → nat_lt p (changed_at lasts r) ≡ false → are_unchanged_since (drop (suc r) lasts) p ≡ are_unchanged_since (drop r lasts) p
+since_next [] p r below same = absurd (omega (arith, below))
+since_next (x ∷ xs) p zero below same = ap (λ b. not b && are_unchanged_since xs p) (sym same)
+since_next (x ∷ xs) p (suc r) below same = since_next xs p r (omega (arith, below)) same
+
+pub since_all : (lasts : List ℕ) (p r : ℕ) → length lasts ≤ r → are_unchanged_since (drop r lasts) p ≡ true
+since_all [] p zero past = refl
+since_all [] p (suc r) past = refl
+since_all (x ∷ xs) p zero past = absurd (omega (arith, past))
+since_all (x ∷ xs) p (suc r) past = since_all xs p r (omega (arith, past))

@@ -1,11 +1,12 @@
 -- The smallest of some refs of which something holds, found by one pass over them.
-use Rattle.std.proofs.Common.{◌≡◌, ℕ, zero, suc, cond, ◌+◌, ◌<◌, ◌≤◌, ◌==◌, ◌&&◌, not, nat_lt, Bool, true, false, if◌then◌else◌, ◌⊎◌, inl, inr, List, [], ◌∷◌, ◌++◌, length, Option, None, Some, refl, sym, ap, ◌∙◌, arith}
+use Rattle.std.proofs.Common.{◌≡◌, ℕ, zero, suc, cond, ◌+◌, ◌<◌, ◌≤◌, ◌==◌, ◌&&◌, ◌||◌, not, nat_lt, Bool, true, false, if◌then◌else◌, ◌⊎◌, inl, inr, List, [], ◌∷◌, ◌++◌, length, take, get_or, subst, Option, None, Some, refl, sym, ap, ◌∙◌, arith}
 use Rattle.std.specs.List.{find, range_with_len}
 use Rattle.std.specs.Option.{MatchOption}
 use Rattle.std.proofs.lemmas.Bool.{eqb-true, eq-eqb, or_cases, and_parts, and_from, or_left, or_right, both_ways, not-true, ltb-true, ltb-false, lt-ltb, le-ltb, cases_order, cond-true, cond-false, false_from_ne_true}
+use Rattle.std.proofs.Math.Seq.{take-suc}
 use Rattle.ref_value.specs.Edn.{Edn}
+use Rattle.ref_log.specs.Replay.{is_commute, is_protected}
 use Rattle.ref_log.specs.declared.operations.Done.{Done}
-use Rattle.ref_tx.specs.Own.{AreProtected}
 use Rattle.ref_refs.specs.Commit.{alien_ref, first_protected}
 use Rattle.ref_refs.specs.Smaller.{smaller}
 use Rattle.ref_refs.proofs.Refs.{all_here, among, among_more}
@@ -110,8 +111,87 @@ first_is holds rs (Some m) n is here =
     sym (find_first (wanted holds rs) n 0 m (omega arith) (omega (arith, here m (and_parts (among rs m) (holds m) is.found).0)) is.found
     (λ q less. false_from_ne_true (wanted holds rs q) (λ w. both_ways (nat_lt q m) (not-true (nat_lt q m) (is.least q w)) (lt-ltb q m less))))
 
--- where the refs are those that a transaction protects
-pub first_protected_is : (values : List Edn) (ds : List Done) (rs : List ℕ) (holds : ℕ → Bool) (first : Option ℕ) → AreProtected ds rs → alien_ref values ds ≡ None → IsFirst holds rs first → first ≡ first_protected values ds holds
-first_protected_is values ds rs holds first are here is =
+-- ---- the refs that operations protect, in the order of the operations
+
+abbrev pub protecting : List Done → List ℕ
+protecting [] = []
+protecting (d ∷ ds) = if is_commute d.op then protecting ds else d.r ∷ protecting ds
+
+are_protecting : (ds : List Done) (r : ℕ) → among (protecting ds) r ≡ is_protected ds r
+are_protecting [] r = refl
+are_protecting (d ∷ ds) r = by (is_commute d.op) ∙ ap (λ b. (d.r == r && not (is_commute d.op)) || b) (are_protecting ds r)
+  where
+    skip : (c x : Bool) → x ≡ ((c && false) || x)
+    skip true x = refl
+    skip false x = refl
+
+    on : (c x : Bool) → (c || x) ≡ ((c && true) || x)
+    on true x = refl
+    on false x = refl
+
+    by : (b : Bool) → among (if b then protecting ds else d.r ∷ protecting ds) r ≡ ((d.r == r && not b) || among (protecting ds) r)
+    by true = skip (d.r == r) (among (protecting ds) r)
+    by false = on (d.r == r) (among (protecting ds) r)
+
+protecting_append : (ds : List Done) (d : Done) → protecting (ds ++ d ∷ []) ≡ (if is_commute d.op then protecting ds else protecting ds ++ d.r ∷ [])
+protecting_append [] d = refl
+protecting_append (x ∷ ds) d = ap (λ l. if is_commute x.op then l else x.r ∷ l) (protecting_append ds d) ∙ by (is_commute x.op) (is_commute d.op)
+  where
+    by : (b c : Bool) → (if b then (if c then protecting ds else protecting ds ++ d.r ∷ []) else x.r ∷ (if c then protecting ds else protecting ds ++ d.r ∷ []))
+        ≡ (if c then (if b then protecting ds else x.r ∷ protecting ds) else (if b then protecting ds else x.r ∷ protecting ds) ++ d.r ∷ [])
+    by true true = refl
+    by true false = refl
+    by false true = refl
+    by false false = refl
+
+protecting_next : (ds : List Done) (i : ℕ) (d : Done) → i < length ds → d ≡ get_or ds i d → protecting (take (i + 1) ds) ≡ (if is_commute d.op then protecting (take i ds) else protecting (take i ds) ++ d.r ∷ [])
+protecting_next ds i d below at =
+    let suc_of : i + 1 ≡ suc i = omega arith in
+    ap protecting (ap (λ n. take n ds) suc_of ∙ take-suc ds i d below ∙ ap (λ x. take i ds ++ x ∷ []) (sym at)) ∙ protecting_append (take i ds) d
+
+-- a ref of which nothing holds
+first_stays : (holds : ℕ → Bool) (rs : List ℕ) (x : ℕ) (first : Option ℕ) → IsFirst holds rs first → holds x ≡ false → IsFirst holds (rs ++ x ∷ []) first
+first_stays holds rs x first is not_it = record {
+  found = stays first is.found;
+  least = λ q w. by q (came holds rs x q w);
+} where
+  stays : (o : Option ℕ) → MatchOption o (Unit {0}) (λ m. wanted holds rs m ≡ true) → MatchOption o (Unit {0}) (λ m. wanted holds (rs ++ x ∷ []) m ≡ true)
+  stays None f = tt
+  stays (Some m) f = still holds rs x m f
+
+  by : (q : ℕ) → (wanted holds rs q ≡ true) ⊎ ((x ≡ q) × (holds x ≡ true)) → covers first q ≡ true
+  by q (inl before) = is.least q before
+  by q (inr on) = absurd (both_ways (holds x) not_it on.1)
+
+-- after one operation more
+pub next_first : (holds : ℕ → Bool) (ds : List Done) (i : ℕ) (d : Done) (first : Option ℕ) (b : Bool) → i < length ds → d ≡ get_or ds i d → IsFirst holds (protecting (take i ds)) first
+    → b ≡ (not (is_commute d.op) && holds d.r) → IsFirst holds (protecting (take (i + 1) ds)) (if b then Some (smaller first d.r) else first)
+next_first holds ds i d first b below at is tested =
+    subst (λ l. IsFirst holds l (if b then Some (smaller first d.r) else first)) (sym (protecting_next ds i d below at)) (by (is_commute d.op) (holds d.r) refl b tested)
+  where
+    by : (commutes it : Bool) → holds d.r ≡ it → (test : Bool) → test ≡ (not commutes && it) → IsFirst holds (if commutes then protecting (take i ds) else protecting (take i ds) ++ d.r ∷ []) (if test then Some (smaller first d.r) else first)
+    by true it e true t = absurd cc
+    by true it e false t = is
+    by false true e true t = first_takes holds (protecting (take i ds)) d.r first is e
+    by false true e false t = absurd cc
+    by false false e true t = absurd cc
+    by false false e false t = first_stays holds (protecting (take i ds)) d.r first is e
+
+-- where these are the refs that a transaction protects
+first_among : (values : List Edn) (ds : List Done) (rs : List ℕ) (holds : ℕ → Bool) (first : Option ℕ) → ((r : ℕ) → among rs r ≡ is_protected ds r) → alien_ref values ds ≡ None → IsFirst holds rs first → first ≡ first_protected values ds holds
+first_among values ds rs holds first are here is =
     first_is holds rs first (length values) is (λ q it. all_here values ds here q (sym (are q) ∙ it))
     ∙ ap (λ (p : ℕ → Bool). find p (range_with_len 0 (length values))) (λ i q. are q i && holds q)
+
+pub first_protected_is : (values : List Edn) (ds : List Done) (holds : ℕ → Bool) (first : Option ℕ) → alien_ref values ds ≡ None → IsFirst holds (protecting ds) first → first ≡ first_protected values ds holds
+first_protected_is values ds holds first here is = first_among values ds (protecting ds) holds first (are_protecting ds) here is
+
+-- none of which more holds
+pub none_of : (holds more : ℕ → Bool) (rs : List ℕ) → ((r : ℕ) → more r ≡ true → holds r ≡ true) → IsFirst holds rs None → IsFirst more rs None
+none_of holds more rs implies is = record {
+  found = tt;
+  least = λ q w. let p = and_parts (among rs q) (more q) w in is.least q (and_from (among rs q) (holds q) p.0 (implies q p.1));
+}
+
+pub none_yet : (holds : ℕ → Bool) → IsFirst holds [] None
+none_yet holds = record { found = tt; least = λ q w. absurd cc }

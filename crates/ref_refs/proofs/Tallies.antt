@@ -1,5 +1,5 @@
 -- The tally stays an integer.
-use Rattle.std.proofs.Common.{◌≡◌, ℕ, ◌++◌, ◌∷◌, [], true, List, Option, Ok}
+use Rattle.std.proofs.Common.{◌≡◌, ℕ, true, List, Option, Ok}
 use Rattle.ref_value.specs.Edn.{Edn}
 use Rattle.ref_fun.specs.Meaning.{Means}
 use Rattle.ref_log.specs.Replay.{after_dones}

@@ -1,5 +1,5 @@
 -- To be read and believed: Seen, Commit, Watches, Make, Faults, and of Conflicts the first two definitions, the rest of which is
--- proved. Rules and Smaller are for private functions.
+-- proved. Rules, Smaller, Late, Chained and Falls are for private functions.
 pub mod Seen
 pub mod Rules
 pub mod Watches
@@ -8,3 +8,8 @@ pub mod Commit
 pub mod Conflicts
 pub mod Make
 pub mod Faults
+pub mod Late
+pub mod Chained
+pub mod Falls
+pub mod Drafts
+pub mod Kept

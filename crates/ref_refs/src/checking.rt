@@ -1,12 +1,14 @@
 //! The tests before a commit.
 ghost use Rattle.ref_log.specs.Told.{Tells};
-ghost use Rattle.std.specs.Prelude.{◌≡◌, ◌≢◌, [], ◌∷◌, None, IfErr, IfSome, is_some, nat_lt, not};
+ghost use Rattle.std.specs.Prelude.{◌≡◌, ◌≢◌, ◌||◌, ◌&&◌, [], ◌∷◌, false, None, Some, option_copied, IfErr, IfSome, is_some, nat_lt, not};
+ghost use Rattle.ref_log.specs.Replay.{is_commute};
 ghost use Rattle.ref_log.specs.Tally.{fit_tally, is_count, moved_by_dones};
-ghost use Rattle.ref_refs.specs.Commit.{alien_agent, alien_ref, changed_after, differs_at, first_protected, lacking};
+ghost use Rattle.ref_refs.specs.Commit.{alien_agent, alien_ref, changed_after, differs, differs_at, first_protected, lacking};
 ghost use Rattle.ref_refs.specs.declared.faults.CommitFault.TheVariants.{Memory};
 ghost use Rattle.ref_refs.specs.Seen.{are_unchanged_since};
 ghost use Rattle.ref_refs.specs.Smaller.{smaller};
 
+use crate::current::Refs;
 use crate::faults::{Alien, CommitFault};
 use ref_fun::{Functions, Meaning, absent_agent};
 use ref_log::counting::moved_by_dones;
@@ -15,7 +17,7 @@ use ref_tx::{Snapshot, Tx};
 use ref_value::{Node, Value};
 
 // The first operation on a ref that isn't here, if there is one.
-pub(crate) fn check_refs(refs: &Snapshot, dones: &[Done]) -> Result<(), CommitFault>
+pub(crate) fn check_refs(refs: &Refs, dones: &[Done]) -> Result<(), CommitFault>
     ensures refused { Tells (alien_ref refs.now.values dones.now) result }
     ensures told { IfErr result (λ f. f ≢ Memory) }
 {
@@ -74,45 +76,98 @@ pub fn check_served<M: Meaning, F: Functions<M>>(
     Ok(())
 }
 
+// Whether somebody else changed a ref that the transaction protects, or one of these has another value than in the beginning. Each
+// operation costs one look-up here and one in the beginning.
+pub(crate) fn is_any_other<M: Meaning>(refs: &Refs, tx: &Tx<M>) -> bool
+    requires { alien_ref refs.now.values tx.now.dones ≡ None }
+    ensures unchanged { result ≡ false
+        → first_protected refs.now.values tx.now.dones (changed_after refs.now.lasts tx.now.read_point) ≡ None }
+    ensures same { result ≡ false
+        → first_protected refs.now.values tx.now.dones (differs_at refs.now.values tx.now.began) ≡ None }
+{
+    let (began, read_point) = (tx.began(), tx.read_point());
+    let dones = tx.dones();
+    for done in dones {
+        if protects_other(refs, began, read_point, done) {
+            return true;
+        }
+    }
+    false
+}
+
+// Whether an operation protects a ref that has changed after a point, or has another value than in the beginning.
+fn protects_other(refs: &Refs, began: &Snapshot, read_point: u64, done: &Done) -> bool
+    ensures { result ≡ (not (is_commute done.now.op) && (changed_after refs.now.lasts read_point done.now.r
+        || differs_at refs.now.values began.now.values done.now.r)) }
+{
+    !done.op.is_commute() && is_other(refs, began, read_point, done.r)
+}
+
+// Whether a ref has changed after a point, or has another value than in the beginning.
+fn is_other(refs: &Refs, began: &Snapshot, read_point: u64, r: u32) -> bool
+    ensures { result ≡ (changed_after refs.now.lasts read_point r || differs_at refs.now.values began.now.values r) }
+{
+    match refs.version(r) {
+        None => false,
+        Some(version) => {
+            let is_changed = version.changed_at > read_point;
+            is_changed | differs(began.get(r), &version.value)
+        }
+    }
+}
+
 // The smallest protected ref that has changed after the read point.
-pub(crate) fn first_changed<M: Meaning>(refs: &Snapshot, tx: &Tx<M>) -> Option<u32>
+pub(crate) fn first_changed<M: Meaning>(refs: &Refs, tx: &Tx<M>) -> Option<u32>
     requires { alien_ref refs.now.values tx.now.dones ≡ None }
     ensures { result ≡ first_protected refs.now.values tx.now.dones (changed_after refs.now.lasts tx.now.read_point) }
 {
     let read_point = tx.read_point();
-    let protected = tx.protected();
+    let dones = tx.dones();
     let mut first = None;
-    for r in protected {
-        if is_changed(refs, *r, read_point) {
-            first = Some(smaller(first, *r));
+    for done in dones {
+        if protects_changed(refs, done, read_point) {
+            first = Some(smaller(first, done.r));
         }
     }
     first
 }
 
-// The smallest protected ref whose value isn't the one that the transaction began with. Each ref's is compared once.
-pub(crate) fn first_differing<M: Meaning>(refs: &Snapshot, tx: &Tx<M>) -> Option<u32>
+// The smallest protected ref whose value isn't the one that the transaction began with.
+pub(crate) fn first_differing<M: Meaning>(refs: &Refs, tx: &Tx<M>) -> Option<u32>
     requires { alien_ref refs.now.values tx.now.dones ≡ None }
     ensures { result ≡ first_protected refs.now.values tx.now.dones (differs_at refs.now.values tx.now.began) }
 {
     let began = tx.began();
-    let protected = tx.protected();
+    let dones = tx.dones();
     let mut first = None;
-    for r in protected {
-        if differs_at(refs, began, *r) {
-            first = Some(smaller(first, *r));
+    for done in dones {
+        if protects_differing(refs, began, done) {
+            first = Some(smaller(first, done.r));
         }
     }
     first
 }
 
+// Whether an operation protects a ref that has changed after a point.
+fn protects_changed(refs: &Refs, done: &Done, point: u64) -> bool
+    ensures { result ≡ (not (is_commute done.now.op) && changed_after refs.now.lasts point done.now.r) }
+{
+    !done.op.is_commute() && is_changed(refs, done.r, point)
+}
+
+// Whether an operation protects a ref that has another value than in the beginning.
+fn protects_differing(refs: &Refs, began: &Snapshot, done: &Done) -> bool
+    ensures { result ≡ (not (is_commute done.now.op) && differs_at refs.now.values began.now.values done.now.r) }
+{
+    !done.op.is_commute() && differs_at(refs, began, done.r)
+}
+
 // Whether no ref has changed after a point.
-pub(crate) fn are_unchanged_since(refs: &Snapshot, point: u64) -> bool
+pub(crate) fn are_unchanged_since(refs: &Refs, point: u64) -> bool
     ensures { result ≡ are_unchanged_since refs.now.lasts point }
 {
-    let versions = refs.versions();
-    for version in versions {
-        if version.changed_at > point {
+    for r in 0..refs.len() {
+        if is_changed(refs, r as u32, point) {
             return false;
         }
     }
@@ -120,7 +175,7 @@ pub(crate) fn are_unchanged_since(refs: &Snapshot, point: u64) -> bool
 }
 
 // Whether a ref has changed after a point.
-fn is_changed(refs: &Snapshot, r: u32, point: u64) -> bool
+fn is_changed(refs: &Refs, r: u32, point: u64) -> bool
     ensures { result ≡ changed_after refs.now.lasts point r }
 {
     match refs.last_change(r) {
@@ -130,15 +185,22 @@ fn is_changed(refs: &Snapshot, r: u32, point: u64) -> bool
 }
 
 // Whether a ref has another value now than in the beginning.
-fn differs_at(refs: &Snapshot, began: &Snapshot, r: u32) -> bool
+fn differs_at(refs: &Refs, began: &Snapshot, r: u32) -> bool
     ensures { result ≡ differs_at refs.now.values began.now.values r }
 {
     match refs.get(r) {
         None => false,
-        Some(now) => match began.get(r) {
-            None => true,
-            Some(began) => began != now,
-        },
+        Some(now) => differs(began.get(r), now),
+    }
+}
+
+// Whether a value isn't the one of the beginning.
+fn differs(began: Option<&Value>, now: &Value) -> bool
+    ensures { result ≡ differs (option_copied began.entry) (Some now.now) }
+{
+    match began {
+        None => true,
+        Some(began) => began != now,
     }
 }
 

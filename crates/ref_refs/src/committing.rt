@@ -18,16 +18,17 @@ ghost use Rattle.ref_refs.specs.declared.faults.CommitFault.TheVariants as commi
 
 use crate::checking::{
     check_agents, check_refs, check_served, first_changed, first_differing, fits_tally,
-    moved_within,
+    is_any_other, moved_within,
 };
+use crate::drafts::{Changes, Draft};
 use crate::faults::{Alien, CommitFault, Conflict};
 use crate::placing::place_all;
 use crate::rules::{check_rules_known, first_invalid};
 use crate::store::RefStore;
-use crate::watches::{notices, touched_refs};
+use crate::watches::{are_unguarded, notices, touched_refs};
 use ref_fun::{Functions, Meaning};
-use ref_log::{Done, Entry, LAST_POINT, Notice, SharedVec, Side, Stamp, Transaction, share_all};
-use ref_tx::{Snapshot, Tx};
+use ref_log::{Done, Entry, LAST_POINT, Notice, Side, Stamp, Transaction};
+use ref_tx::Tx;
 use std::alloc::Global;
 
 /// A commit that was made: its entry for the log, and the notices for its watches.
@@ -37,10 +38,10 @@ pub struct Landed {
     pub notices: Vec<Notice>,
 }
 
-/// A commit that was tested: all refs after it, what is returned, and how much it adds to the tally and takes from it.
+/// A commit that was tested: what it does to the refs, what is returned, and how much it adds to the tally and takes from it.
 #[derive(Drop)]
 pub struct Prepared {
-    pub refs: Snapshot,
+    pub refs: Changes,
     pub landed: Landed,
     pub added: u64,
     pub taken: u64,
@@ -105,7 +106,7 @@ impl<M: Meaning> RefStore<M> {
     {
         match self.prepare(alloc, funs, at, agents, most_added, most_taken, stamp, &tx) {
             Ok(prepared) => {
-                self.install(at, prepared.refs, tx.dones());
+                self.install(alloc, at, prepared.refs, tx.dones());
                 Ok(prepared.landed)
             }
             Err(fault) => Err((tx, fault)),
@@ -131,6 +132,7 @@ impl<M: Meaning> RefStore<M> {
             → step M.means at (entry_of stamp tx.now) (record { refs = self.now.values; atoms = atoms })
             ≡ Ok (record { refs = p.refs.values; atoms = atoms })) }
         // What `install` asks.
+        ensures base { IfOk result (λ p. p.refs.base ≡ record { values = self.now.values; lasts = self.now.lasts }) }
         ensures fits { OnOk result (fit_tally self.now.tally tx.now.dones ≡ true) }
         ensures made { IfOk result (λ p. after_dones M.means tx.now.dones at tx.now.dones (Ok self.now.values)
             ≡ Ok p.refs.values) }
@@ -160,19 +162,21 @@ impl<M: Meaning> RefStore<M> {
         let entry = Entry::Trans(Transaction {
             stamp,
             read_point: tx.read_point(),
-            dones: SharedVec::of(alloc, share_all(alloc, dones)?)?,
-            sends: SharedVec::of(alloc, share_all(alloc, tx.sends())?)?,
+            dones: tx.shared_dones().share()?,
+            sends: tx.shared_sends().share()?,
         });
         Ok(Prepared {
-            refs,
+            refs: refs.done(),
             landed: Landed { entry, notices },
             added,
             taken,
         })
     }
 
-    /// Replaces the refs by those after a prepared commit. It can't fail.
-    pub fn install(&mut self, at: u64, refs: Snapshot, dones: &[Done])
+    /// Makes the changes of a prepared commit. It can't fail: where memory is refused to put them into their places, they are noted beside,
+    /// and put there later. A place that no open transaction can see is changed there; others are copied.
+    pub fn install(&mut self, alloc: Global, at: u64, refs: Changes, dones: &[Done])
+        requires base { refs.base ≡ record { values = self.old.values; lasts = self.old.lasts } }
         requires new { 1 ≤ at }
         requires limit { at ≤ 2 ^ 62 }
         requires last { are_unchanged_since self.old.lasts (at - 1) ≡ true }
@@ -189,28 +193,35 @@ impl<M: Meaning> RefStore<M> {
             ≡ moved (tally_value self.old.tally self.old.values) (moved_by_dones Added self.old.tally dones.now)
             (moved_by_dones Taken self.old.tally dones.now) }
     {
-        self.refs = refs;
+        self.refs.make(refs);
+        self.refs.settle(alloc);
     }
 }
 
 impl<M: Meaning> RefStore<M> {
-    // Asks the rules of the refs that these operations change, of the values after them. Answers the refs.
+    // Asks the rules of the refs that these operations change, of the values after them. It returns the refs whose watches are to be
+    // told, with others that have none, or no ref where none of them has a rule or a watch.
+    #[tactic(auto, using(crate::proofs::Unguarded::invalid_none, crate::proofs::Unguarded::notices_none))]
     fn check_rules<F: Functions<M>>(
         &self,
         alloc: Global,
         funs: &F,
         dones: &[Done],
-        refs: &Snapshot,
+        refs: &Draft<'_>,
     ) -> Result<Vec<u32>, CommitFault>
         requires known { lacking_rule (F.knows funs.now).preds self.now.guards dones.now ≡ None }
         requires made { (at : ℕ) → after_dones M.means dones.now at dones.now (Ok self.now.values) ≡ Ok refs.now.values }
-        ensures touched { IfOk result (λ rs. rs.items ≡ touched_refs dones.now) }
+        ensures told { IfOk result (λ rs. (before after : List Edn)
+            → notices self.now.guards before after rs.items ≡ notices self.now.guards before after (touched_refs dones.now)) }
         ensures ok { OnOk result (first_invalid M.accepts self.now.guards refs.now.values (touched_refs dones.now) ≡ None) }
         ensures accepted { OnOk result (AreAccepted M.accepts self.now.guards refs.now.values) }
         ensures err { IfErr result (λ f. f ≢ commits.Memory
             → option_map commits.Invalid (first_invalid M.accepts self.now.guards refs.now.values (touched_refs dones.now))
             ≡ Some f) }
     {
+        if are_unguarded(&self.guards, dones) {
+            return Ok(Vec::new(alloc));
+        }
         let touched = touched_refs(alloc, dones)?;
         match first_invalid(funs, &self.guards, refs, &touched) {
             None => Ok(touched),
@@ -258,6 +269,9 @@ impl<M: Meaning> RefStore<M> {
         self.check_foreign(at, agents, tx)?;
         check_served(funs, tx.dones())?;
         check_rules_known(funs, &self.guards, tx.dones())?;
+        if !is_any_other(&self.refs, tx) {
+            return Ok(());
+        }
         self.check_conflict(tx)?;
         self.check_values(tx)
     }

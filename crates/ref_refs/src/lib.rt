@@ -10,7 +10,7 @@
 //! |---|---|
 //! | [`RefStore`] | the refs, at most 2^20: their values and last changes, which of them is the tally, their rules and watches |
 //! | [`Landed`] | a commit that was made: its entry for a log, and the notices for its watches |
-//! | [`Prepared`] | a commit that was tested by [`RefStore::prepare`]; [`RefStore::install`], which can't fail, puts its refs in place |
+//! | [`Prepared`] | a commit that was tested by [`RefStore::prepare`]; [`RefStore::install`], which can't fail, makes its [`Changes`] |
 //! | [`CommitFault`] | why a transaction wasn't committed; it comes back, and the store is as it was |
 //! | [`Conflict`] | the smallest ref in conflict, with the read point and the point of its last change |
 //! | [`Alien`] | what of a transaction is foreign to the store, as it may be of one that was begun on another store |
@@ -20,9 +20,10 @@
 //! threads share such a world, and which tries a transaction again where it is in conflict.
 //!
 //! **Costs.** `begin` takes constant time and no memory, whatever the number of refs. A commit takes time logarithmic in that number for
-//! each operation, and as much memory, but an `ensure` makes no new snapshot; for each send it takes a step. The value of each ref that
-//! was set, altered or ensured is compared with that of the beginning, once, in time linear in its size. Each `commute` on another ref
-//! costs its function, and each ref that is changed the test of its rule and a notice for each of its watches. `value_of` is
+//! each operation, and as much memory where another transaction still reads the refs as they were, else a block for each changed ref. An
+//! `ensure` changes no ref; for each send it takes a step. The entry shares operations and sends with the transaction. The value of each
+//! ref that was set, altered or ensured is compared with that of the beginning, once, in time linear in its size. Each `commute` on another
+//! ref costs its function, and each ref that is changed the test of its rule and a notice for each of its watches. `value_of` is
 //! logarithmic; `are_unchanged_since` and `are_rules_known` go over all refs, `add_watch` and `remove_watch` over the watches of one.
 //!
 //! **Not promised.** That the points which a caller passes are right: it asks that they fit its last changes. That a transaction of
@@ -34,7 +35,10 @@
 
 mod checking;
 pub mod committing;
+mod current;
+pub mod drafts;
 pub mod faults;
+mod late;
 mod making;
 mod placing;
 mod rules;
@@ -43,5 +47,6 @@ mod watches;
 
 pub use checking::check_served;
 pub use committing::{Landed, Prepared};
+pub use drafts::Changes;
 pub use faults::{Alien, CommitFault, Conflict};
 pub use store::RefStore;

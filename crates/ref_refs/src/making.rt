@@ -7,6 +7,7 @@ ghost use Rattle.ref_refs.specs.Make.{is_bad_tally, made_at, make_refusal, with_
 ghost use Rattle.ref_refs.specs.Seen.{are_unchanged_since, changed_at};
 
 use crate::checking::is_count;
+use crate::current::Refs;
 use crate::store::RefStore;
 use ref_fun::{Functions, Meaning, Rule};
 use ref_log::{MakeFault, check_make};
@@ -83,10 +84,10 @@ impl<M: Meaning> RefStore<M> {
         ensures err { OnErr result (self.new ≡ self.old) }
     {
         let r = self.len() as u32;
-        let refs = self.refs.with_next(alloc, start, at)?;
+        let refs = self.refs.share(alloc)?.with_next(alloc, start, at)?;
         self.guards.add(alloc, rule)?;
         // From here on nothing can fail.
-        self.refs = refs;
+        self.refs = Refs::of(refs);
         if tally {
             self.tally = Some(r);
         }

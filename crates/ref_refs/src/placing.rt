@@ -10,28 +10,31 @@ ghost use Rattle.ref_refs.specs.Commit.{alien_ref, alien_value, changed_by, chan
 ghost use Rattle.ref_refs.specs.Seen.{changed_at};
 ghost use Rattle.ref_refs.specs.declared.faults.CommitFault.TheVariants.{Memory};
 
+use crate::current::Refs;
+use crate::drafts::Draft;
 use crate::faults::CommitFault;
 use ref_fun::{CallFault, Functions, Meaning};
 use ref_log::Done;
-use ref_tx::{Snapshot, Tx};
+use ref_tx::Tx;
 use ref_value::Value;
 use std::alloc::Global;
 
 // The refs after the operations of a transaction, which come at a point. Each is made on the latest value of its ref, where
 // nobody else has changed a ref that the transaction protects.
-pub(crate) fn place_all<M: Meaning, F: Functions<M>>(
+pub(crate) fn place_all<'a, M: Meaning, F: Functions<M>>(
     alloc: Global,
     funs: &F,
     at: u64,
-    refs: &Snapshot,
+    refs: &'a Refs,
     tx: &Tx<M>,
-) -> Result<Snapshot, CommitFault>
+) -> Result<Draft<'a>, CommitFault>
     requires all { length refs.now.lasts ≡ length refs.now.values }
     requires here { alien_ref refs.now.values tx.now.dones ≡ None }
     requires served { lacking (F.knows funs.now).funs tx.now.dones ≡ None }
     requires unchanged { alien_value refs.now.values tx.now ≡ None }
     ensures ok { IfOk result (λ after. (at : ℕ)
         → after_dones M.means tx.now.dones at tx.now.dones (Ok refs.now.values) ≡ Ok after.values) }
+    ensures base { IfOk result (λ after. after.base ≡ refs.now) }
     ensures moved { IfOk result (λ after. (r : ℕ)
         → changed_at after.lasts r ≡ changed_by refs.now.lasts at tx.now.dones r) }
     ensures all { IfOk result (λ after. length after.lasts ≡ length refs.now.lasts) }
@@ -41,7 +44,7 @@ pub(crate) fn place_all<M: Meaning, F: Functions<M>>(
     ensures fault { IfErr result (λ f. f ≢ Memory → refused M.means tx.now.dones refs.now.values ≡ Some f) }
 {
     let dones = tx.dones();
-    let mut after = refs.share()?;
+    let mut after = Draft::over(refs);
     for done in dones {
         let is_free = !tx.is_protected(done.r);
         place_one(alloc, funs, is_free, at, done, &mut after)?;
@@ -57,7 +60,7 @@ fn place_one<M: Meaning, F: Functions<M>>(
     is_free: bool,
     at: u64,
     done: &Done,
-    refs: &mut Snapshot,
+    refs: &mut Draft<'_>,
 ) -> Result<(), CommitFault>
     requires here { done.now.r < length refs.old.values }
     requires last { done.now.r < length refs.old.lasts }
@@ -67,6 +70,7 @@ fn place_one<M: Meaning, F: Functions<M>>(
         ≡ Some (Ok done.now.answer) }
     ensures ok { OnOk result ((at : ℕ) → after_one M.means is_free at done.now refs.old.values ≡ Ok refs.new.values) }
     ensures moved { OnOk result ((r : ℕ) → changed_at refs.new.lasts r ≡ changed_by_one refs.old.lasts at done.now r) }
+    ensures base { refs.new.base ≡ refs.old.base }
     ensures all { length refs.new.values ≡ length refs.old.values }
     ensures lasts { length refs.new.lasts ≡ length refs.old.lasts }
     ensures others { (r : ℕ) → (done.now.r == r) ≡ false → slice_get refs.new.values r ≡ slice_get refs.old.values r }
@@ -83,7 +87,7 @@ fn place_one<M: Meaning, F: Functions<M>>(
         return Ok(());
     }
     let value = next_value(alloc, funs, is_free, done, value)?;
-    *refs = refs.with(alloc, done.r, value, at)?;
+    refs.set(alloc, done.r, value, at)?;
     Ok(())
 }
 

@@ -7,10 +7,10 @@ ghost use Rattle.ref_log.specs.Guards.{is_accepted_at, rule_at};
 ghost use Rattle.ref_refs.specs.Rules.{AreKnown};
 ghost use Rattle.ref_refs.specs.declared.faults.CommitFault.TheVariants.{Memory};
 
+use crate::drafts::Draft;
 use crate::faults::CommitFault;
 use ref_fun::{Functions, Meaning};
 use ref_log::{Done, Guards};
-use ref_tx::Snapshot;
 
 // The first rule of a ref that these operations change whose predicate the table lacks.
 pub(crate) fn check_rules_known<M: Meaning, F: Functions<M>>(
@@ -48,7 +48,7 @@ fn check_rule_known<M: Meaning, F: Functions<M>>(
 pub(crate) fn first_invalid<M: Meaning, F: Functions<M>>(
     funs: &F,
     guards: &Guards,
-    refs: &Snapshot,
+    refs: &Draft<'_>,
     touched: &[u32],
 ) -> Option<u32>
     requires { AreKnown (F.knows funs.now).preds guards.now touched.now }
@@ -66,7 +66,7 @@ pub(crate) fn first_invalid<M: Meaning, F: Functions<M>>(
 fn is_accepted<M: Meaning, F: Functions<M>>(
     funs: &F,
     guards: &Guards,
-    refs: &Snapshot,
+    refs: &Draft<'_>,
     r: u32,
 ) -> bool
     requires { unknown (F.knows funs.now).preds (rule_at guards.now r) ≡ None }

@@ -9,6 +9,7 @@ ghost use Rattle.ref_log.specs.declared.faults.WatchFault.TheVariants as watches
 ghost use Rattle.ref_refs.specs.Seen.{changed_at, are_unchanged_since, with_guards};
 
 use crate::checking::are_unchanged_since;
+use crate::current::Refs;
 use ref_fun::{Functions, Meaning, Rule};
 use ref_log::{Guards, RuleFault, WatchFault};
 use ref_tx::{Snapshot, Tx};
@@ -22,7 +23,7 @@ use std::marker::{Model, PhantomData};
 /// It is always so that each rule accepts the value of its ref, and that the tally is an integer.
 #[derive(Drop)]
 pub struct RefStore<M: Meaning> {
-    pub(crate) refs: Snapshot,
+    pub(crate) refs: Refs,
     pub(crate) tally: Option<u32>,
     pub(crate) guards: Guards,
     of: PhantomData<M>,
@@ -53,7 +54,7 @@ impl<M: Meaning> RefStore<M> {
         ensures { result ≡ record { values = []; lasts = []; tally = None; guards = [] } }
     {
         RefStore {
-            refs: Snapshot::empty(),
+            refs: Refs::of(Snapshot::empty()),
             tally: None,
             guards: Guards::empty(alloc),
             of: PhantomData,
@@ -75,7 +76,7 @@ impl<M: Meaning> RefStore<M> {
     pub fn is_empty(&self) -> bool
         ensures { IsTrue result ↔ (self.now.values ≡ []) }
     {
-        self.refs.is_empty()
+        self.len() == 0
     }
 
     /// The value of a ref now, if there is such a ref. It takes no memory.
@@ -180,13 +181,14 @@ impl<M: Meaning> RefStore<M> {
     }
 
     /// Begins a transaction, which reads the values as they are now. The point is the present one: no ref has changed after
-    /// it; there are so many agents. It takes no memory, and as long whatever the number of refs.
+    /// it; there are so many agents. It takes no memory, and as long whatever the number of refs; but where memory was refused to put
+    /// changes of earlier commits into their places, it takes as much as that takes.
     pub fn begin(&self, alloc: Global, point: u64, agents: usize) -> Result<Tx<M>, AllocError>
         requires { are_unchanged_since self.now.lasts point ≡ true }
         ensures { IfOk result (λ tx. tx
             ≡ record { read_point = point; began = self.now.values; dones = []; sends = []; tally = self.now.tally; agents = agents }) }
     {
-        let refs = self.refs.share()?;
+        let refs = self.refs.share(alloc)?;
         Ok(Tx::start(alloc, point, refs, self.tally, agents))
     }
 }

@@ -1,11 +1,13 @@
 //! The notices that a commit gives the watches of refs.
-ghost use Rattle.std.specs.Prelude.{◌≡◌, ◌++◌, ◌∷◌, [], IfOk, OnOk, option_copied};
+ghost use Rattle.std.specs.Prelude.{◌≡◌, ◌++◌, ◌∷◌, [], ◌⊎◌, true, false, IfOk, OnOk, option_copied};
 ghost use Rattle.std.specs.BTreeSet.{keys};
 ghost use Rattle.ref_log.specs.Guards.{keys_at};
-ghost use Rattle.ref_refs.specs.Watches.{notices, notices_at, notices_if_here, touched_refs};
+ghost use Rattle.ref_log.specs.Replay.{is_ensure};
+ghost use Rattle.ref_refs.specs.Watches.{AreUnguarded, IsUnguarded, notices, notices_at, notices_if_here, touched_refs};
 
+use crate::current::Refs;
+use crate::drafts::Draft;
 use ref_log::{Done, Guards, Notice, Who};
-use ref_tx::Snapshot;
 use ref_value::Value;
 use std::alloc::{AllocError, Global};
 use std::collections::BTreeSet;
@@ -53,12 +55,37 @@ fn in_order(alloc: Global, refs: BTreeSet<u32>) -> Result<Vec<u32>, AllocError>
     Ok(all)
 }
 
+// Whether no ref that these operations change has a rule or a watch. It takes no memory.
+pub(crate) fn are_unguarded(guards: &Guards, dones: &[Done]) -> bool
+    ensures { result ≡ true → AreUnguarded guards.now (touched_refs dones.now) }
+{
+    for done in dones {
+        if changes_guarded(guards, done) {
+            return false;
+        }
+    }
+    true
+}
+
+// Whether an operation changes a ref that has a rule or a watch.
+fn changes_guarded(guards: &Guards, done: &Done) -> bool
+    ensures { result ≡ false → (is_ensure done.now.op ≡ true) ⊎ IsUnguarded guards.now done.now.r }
+{
+    !done.op.is_ensure() && is_guarded(guards, done.r)
+}
+
+fn is_guarded(guards: &Guards, r: u32) -> bool
+    ensures { result ≡ false → IsUnguarded guards.now r }
+{
+    guards.rule_of(r).is_some() || !guards.is_unwatched(r)
+}
+
 // The notices of a commit that changes these refs.
 pub(crate) fn notices(
     alloc: Global,
     guards: &Guards,
-    before: &Snapshot,
-    after: &Snapshot,
+    before: &Refs,
+    after: &Draft<'_>,
     touched: &[u32],
 ) -> Result<Vec<Notice>, AllocError>
     ensures { IfOk result (λ ns. ns.items ≡ notices guards.now before.now.values after.now.values touched.now) }
@@ -73,8 +100,8 @@ pub(crate) fn notices(
 // Adds the notices of one ref.
 fn tell(
     guards: &Guards,
-    before: &Snapshot,
-    after: &Snapshot,
+    before: &Refs,
+    after: &Draft<'_>,
     r: u32,
     all: &mut Vec<Notice>,
 ) -> Result<(), AllocError>

@@ -114,12 +114,9 @@ impl<M: Meaning, C: Ledger, A: Ledger, K: Ledger> Shared<M, C, A, K> {
         ensures back { IfErr result (λ e. e.0 ≡ tx) }
         ensures same { OnErr result (share.new ≡ share.old) }
     {
-        // One owner more, so that the refs before the commit are dropped when the lock is free again.
-        let began = tx.began().share();
         let mut held = self.lock(rt);
         let committed = held.world.commit_with(alloc, funs, share, stamp, tx);
         self.free_with_entry(held, committed.is_ok());
-        drop(began);
         committed
     }
 

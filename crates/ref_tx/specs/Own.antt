@@ -1,11 +1,14 @@
 -- How a transaction stores its in-transaction values: a table of the refs that it has operated on.
-use Rattle.std.specs.Prelude.{ℕ, ◌==◌, Bool, false, Option, None, Some, List, ◌≡◌, slice_get}
-use Rattle.std.specs.List.{list_any}
+use Rattle.std.specs.Prelude.{ℕ, ◌==◌, ◌≤◌, Bool, false, if◌then◌else◌, Option, None, Some, List, [], ◌∷◌, length, take, ◌≡◌, slice_get}
+use Rattle.std.specs.BTreeMap.{get}
+use Rattle.std.specs.Option.{option_or}
+use Rattle.std.specs.Ordering.{nat_cmp}
 use Rattle.ref_value.specs.Edn.{Edn}
 use Rattle.ref_fun.specs.Meaning.{Means}
 use Rattle.ref_log.specs.Replay.{is_protected}
 use Rattle.ref_log.specs.declared.operations.Done.{Done}
-use Rattle.ref_tx.specs.declared.owns.Own.{Own}
+use Rattle.ref_tx.specs.declared.tables.Own.{Own}
+use Rattle.ref_tx.specs.declared.tables.Table.{Table}
 use Rattle.ref_tx.specs.Inner.{value_after, is_commuted}
 
 -- The value in the table; that of the beginning where the table has none.
@@ -27,6 +30,12 @@ pub record IsTableOf (means : Means) (began : List Edn) (dones : List Done) (own
   pub commuted : (r : ℕ) → own_commuted (own r) ≡ is_commuted dones r
   pub protected : (r : ℕ) → own_protected (own r) ≡ is_protected dones r
 
--- These are the refs that the operations protect.
-abbrev pub AreProtected : List Done → List ℕ → Type 0
-AreProtected dones rs = (r : ℕ) → list_any (λ x. x == r) rs ≡ is_protected dones r
+-- The last answer of these operations on a ref.
+abbrev pub last_on : ℕ → List Done → Option Edn
+last_on r [] = None
+last_on r (d ∷ ds) = option_or (last_on r ds) (if d.r == r then Some d.answer else None)
+
+-- The table has the first operations, so many of them.
+pub record IsTabled (means : Means) (began : List Edn) (dones : List Done) (table : Table) : Type 0 where
+  pub within : table.first ≤ length dones
+  pub has : IsTableOf means began (take table.first dones) (get nat_cmp table.own)

@@ -8,7 +8,7 @@
 //! |---|---|
 //! | [`Tx`] | an open transaction: its operations so far with their answers, and what it sends |
 //! | [`TxFault`] | why a call of it was refused; the transaction is then as it was |
-//! | [`Snapshot`] | all refs at one point, by number; it never changes, and one with another value shares all else with it |
+//! | [`Snapshot`] | all refs at one point, by number; one that is shared and then gets another value has all else in common with it |
 //! | [`Version`] | a ref in a snapshot: its value, and the point of its last change |
 //!
 //! The calls are Clojure's: [`Tx::deref`], [`Tx::ref_set`] for `ref-set`, [`Tx::alter`], [`Tx::commute`], [`Tx::ensure`] and [`Tx::send`];
@@ -20,8 +20,9 @@
 //!
 //! **Costs.** A call on a ref looks it up among all refs and among those that the transaction has operated on, each in logarithmic time,
 //! and calls its function or asks its rule; `send` looks its function up in the table and doesn't call it. `deref` and `require` take
-//! no memory; operations and sends are stored, and the value now of each ref that was operated on. `start` and one more owner of a
-//! snapshot take constant time and no memory; a snapshot with another value takes time and memory logarithmic in the number of refs.
+//! no memory; operations and sends are stored, for the entry of the commit too. The last 16 operations are looked through one by one;
+//! of those before them a table has the value now of each ref. Most transactions have fewer and need no table. `start` and one more owner of a
+//! snapshot take constant time and no memory; another value in a snapshot takes time and memory logarithmic in the number of refs.
 //! The values of the read point are held as long as the transaction is open.
 //!
 //! **Not promised.** That a ref which was only read, by `deref` or `require`, still has its value at the commit: `ensure` is the remedy.
@@ -31,8 +32,8 @@
 #![tactic(auto)]
 
 pub mod faults;
-mod owns;
 pub mod snapshots;
+mod tables;
 pub mod transactions;
 
 pub use faults::TxFault;

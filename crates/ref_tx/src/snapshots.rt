@@ -1,5 +1,6 @@
 //! The refs at one point.
-ghost use Rattle.std.specs.Prelude.{◌≡◌, ◌<◌, ◌≤◌, ◌^◌, ◌↔◌, ◌++◌, ◌∷◌, [], IfOk, IsTrue, length, option_copied, slice_get, slice_set};
+ghost use Rattle.std.specs.Prelude.{◌≡◌, ◌<◌, ◌≤◌, ◌^◌, ◌↔◌, ◌++◌, ◌∷◌, [], IfOk, IsTrue, OnErr, OnOk, length, option_copied, slice_get, slice_set};
+ghost use Rattle.std.specs.Option.{option_map};
 ghost use Rattle.ref_tx.specs.Snapshots.{changes_of, values_of};
 
 use ref_pmap::Numbered;
@@ -14,10 +15,10 @@ pub struct Version {
     pub changed_at: u64,
 }
 
-/// The refs at one point, by number. Contracts see their values, and the points of their last changes. It never changes: what
-/// differs in a few refs is another snapshot, which shares all else with this one.
+/// The refs at one point, by number. Contracts see their values, and the points of their last changes. A snapshot has owners of its
+/// own: one that is made by [`Snapshot::share`] and then gets other values shares all else with the first, which stays as it is.
 ///
-/// A look-up, and a snapshot with another value, take time logarithmic in the number of refs.
+/// A look-up and another value take time logarithmic in the number of refs.
 pub struct Snapshot {
     refs: Numbered<Version>,
 }
@@ -87,6 +88,14 @@ impl Snapshot {
         }
     }
 
+    /// A ref at this point, if there is such a ref: one look-up for its value and the point of its last change.
+    pub fn version(&self, r: u32) -> Option<&Version>
+        ensures value { option_map (λ v. v.value) (option_copied result) ≡ slice_get self.now.values r }
+        ensures last { option_map (λ v. v.changed_at) (option_copied result) ≡ slice_get self.now.lasts r }
+    {
+        self.refs.get(r)
+    }
+
     /// The point of a ref's last change, if there is such a ref.
     pub fn last_change(&self, r: u32) -> Option<u64>
         ensures { result ≡ slice_get self.now.lasts r }
@@ -105,19 +114,19 @@ impl Snapshot {
         &self.refs
     }
 
-    /// The refs with another value of one of them, which changes at this point. Where memory is refused, the value is dropped.
-    pub fn with(&self, alloc: Global, r: u32, value: Value, at: u64) -> Result<Snapshot, AllocError>
-        requires { r < length self.now.values }
-        ensures values { IfOk result (λ after. after.values ≡ slice_set self.now.values r value) }
-        ensures lasts { IfOk result (λ after. after.lasts ≡ slice_set self.now.lasts r at) }
+    /// Puts another value at a ref, which changes at this point. What other snapshots share with this one stays as it is, and is copied on
+    /// the way there; the rest is changed in place. Where memory is refused, the snapshot stays as it is and the value is dropped.
+    pub fn set(&mut self, alloc: Global, r: u32, value: Value, at: u64) -> Result<(), AllocError>
+        requires { r < length self.old.values }
+        ensures values { OnOk result (self.new.values ≡ slice_set self.old.values r value) }
+        ensures lasts { OnOk result (self.new.lasts ≡ slice_set self.old.lasts r at) }
+        ensures err { OnErr result (self.new ≡ self.old) }
     {
         let version = Version {
             value,
             changed_at: at,
         };
-        Ok(Snapshot {
-            refs: self.refs.with(alloc, r, version)?,
-        })
+        self.refs.set(alloc, r, version)
     }
 
     /// The refs with one more, whose number is the next one. Where memory is refused, its value is dropped.

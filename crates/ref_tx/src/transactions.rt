@@ -1,23 +1,19 @@
 //! An open transaction.
 ghost use Rattle.ref_log.specs.Told.{AnswersOrMemory, Tells, TellsThenMemory};
-ghost use Rattle.std.specs.BTreeMap.{get};
-ghost use Rattle.std.specs.Ordering.{nat_cmp};
-ghost use Rattle.std.specs.Prelude.{◌==◌, ◌||◌, ◌<◌, ◌∷◌, ◌++◌, cond, if◌then◌else◌, not, ◌&&◌, vec_len, vec_capacity, ◌≡◌, ◌≢◌, ℕ, [], true, false, Ok, Err, Some, None, IfOk, IfErr, OnOk, OnErr};
+ghost use Rattle.std.specs.Prelude.{◌≡◌, ◌≢◌, [], true, false, Ok, Err, Some, None, IfOk, IfErr, OnOk, OnErr};
 ghost use Rattle.ref_log.specs.Replay.{codes_of, is_commute, is_protected, missing, place};
 ghost use Rattle.ref_log.specs.declared.operations.Op.TheVariants.{Set, Alter, Commute, Ensure};
 ghost use Rattle.ref_log.specs.Tally.{is_tally};
 ghost use Rattle.ref_tx.specs.Inner.{IsTx, inner_value, has_ref, is_commuted, refusal, refusal_by, early_refusal, answer_of, and_place, called, send_refusal, unmet, with_done, with_sent};
-ghost use Rattle.ref_tx.specs.Own.{AreProtected};
 ghost use Rattle.ref_tx.specs.declared.faults.TxFault.TheVariants.{NoSuchRef, Memory};
 
 use crate::faults::TxFault;
-use crate::owns::Own;
 use crate::snapshots::Snapshot;
+use crate::tables::Table;
 use ref_fun::{Action, CallFault, Functions, Meaning, Rule, absent_agent, missing_fun};
-use ref_log::{Args, Done, Op, Sent};
+use ref_log::{Args, Done, Op, Sent, SharedVec};
 use ref_value::Value;
 use std::alloc::{AllocError, Global};
-use std::collections::BTreeMap;
 use std::marker::{Model, PhantomData};
 
 /// A transaction that is open. Contracts see its read point, the values that it began with, its operations with their
@@ -28,23 +24,19 @@ use std::marker::{Model, PhantomData};
 pub struct Tx<M: Meaning> {
     read_point: u64,
     began: Snapshot,
-    dones: Vec<Done>,
-    // The refs that were set, altered or ensured, each once.
-    protected: Vec<u32>,
-    sends: Vec<Sent>,
+    dones: SharedVec<Done>,
+    sends: SharedVec<Sent>,
     tally: Option<u32>,
     agents: usize,
-    own: BTreeMap<u32, Own>,
+    table: Table,
     of: PhantomData<M>,
 }
 
 impl<M: Meaning> Model for Tx<M> {
-    ghost use Rattle.std.specs.BTreeMap.{get};
     ghost use Rattle.std.specs.Coded.{codes};
-    ghost use Rattle.std.specs.Ordering.{nat_cmp};
     ghost use Rattle.ref_value.specs.Code.{edn_code};
     ghost use Rattle.ref_tx.specs.Inner.{IsTx};
-    ghost use Rattle.ref_tx.specs.Own.{AreProtected, IsTableOf};
+    ghost use Rattle.ref_tx.specs.Own.{IsTabled};
     ghost use Rattle.ref_tx.specs.Seen.{TxSeen};
 
     ghost Value = { TxSeen };
@@ -54,15 +46,14 @@ impl<M: Meaning> Model for Tx<M> {
     ghost view = { λ a. record {
       read_point = a.read_point;
       began = a.began.values;
-      dones = a.dones.items;
-      sends = a.sends.items;
+      dones = a.dones;
+      sends = a.sends;
       tally = a.tally;
       agents = a.agents;
     } };
 
-    ghost invariant = { λ a. IsTx M.means a.began.values a.dones.items a.tally
-        × IsTableOf M.means a.began.values a.dones.items (get nat_cmp a.own)
-        × AreProtected a.dones.items a.protected.items };
+    ghost invariant = { λ a. IsTx M.means a.began.values a.dones a.tally
+        × IsTabled M.means a.began.values a.dones a.table };
 }
 
 impl<M: Meaning> Tx<M> {
@@ -81,12 +72,11 @@ impl<M: Meaning> Tx<M> {
         Tx {
             read_point,
             began,
-            dones: Vec::new(alloc),
-            protected: Vec::new(alloc),
-            sends: Vec::new(alloc),
+            dones: SharedVec::none(),
+            sends: SharedVec::none(),
             tally,
             agents,
-            own: BTreeMap::new(alloc),
+            table: Table::empty(alloc),
             of: PhantomData,
         }
     }
@@ -110,24 +100,21 @@ impl<M: Meaning> Tx<M> {
         ensures value { result.now ≡ self.now.dones }
         ensures kept { IsTx M.means self.now.began self.now.dones self.now.tally }
     {
-        self.dones.as_slice()
+        SharedVec::as_slice(&self.dones)
     }
 
-    /// The refs that it has set, altered or ensured, each once.
-    pub fn protected(&self) -> &[u32]
-        ensures { AreProtected self.now.dones result.now }
+    /// The operations so far, for one more owner of them all.
+    pub fn shared_dones(&self) -> &SharedVec<Done>
+        ensures { result.now ≡ self.now.dones }
     {
-        self.protected.as_slice()
+        &self.dones
     }
 
     /// Whether it has set, altered or ensured a ref. A look-up among the refs that it has operated on.
     pub fn is_protected(&self, r: u32) -> bool
         ensures { result ≡ is_protected self.now.dones r }
     {
-        match self.own.get(&r) {
-            Some(own) => own.protected,
-            None => false,
-        }
+        self.table.is_protected(self.dones.as_slice(), r)
     }
 
     /// What it sends when it is committed, in the order in which it was sent.
@@ -135,6 +122,13 @@ impl<M: Meaning> Tx<M> {
         ensures { result.now ≡ self.now.sends }
     {
         self.sends.as_slice()
+    }
+
+    /// What it sends when it is committed, for one more owner of it all.
+    pub fn shared_sends(&self) -> &SharedVec<Sent>
+        ensures { result.now ≡ self.now.sends }
+    {
+        &self.sends
     }
 
     /// The in-transaction value of a ref: Clojure's `deref`. It takes no memory.
@@ -147,9 +141,9 @@ impl<M: Meaning> Tx<M> {
     {
         match self.began.get(r) {
             None => Err(TxFault::NoSuchRef),
-            Some(value) => match self.own.get(&r) {
-                Some(own) => Ok(&own.value),
-                None => Ok(value),
+            Some(began) => match self.table.last_of(self.dones.as_slice(), r) {
+                Some(answer) => Ok(answer),
+                None => Ok(began),
             },
         }
     }
@@ -229,7 +223,7 @@ impl<M: Meaning> Tx<M> {
     /// have to have been there when the transaction began. Behind it stands what is sent later.
     pub fn send<F: Functions<M>>(
         &mut self,
-        _alloc: Global,
+        alloc: Global,
         funs: &F,
         g: u32,
         action: Action,
@@ -244,7 +238,7 @@ impl<M: Meaning> Tx<M> {
         if absent_agent(self.agents, g, &action).is_some() {
             return Err(TxFault::NoSuchAgent);
         }
-        self.sends.push(Sent { agent: g, action })?;
+        self.sends.push(alloc, Sent { agent: g, action })?;
         Ok(())
     }
 
@@ -280,24 +274,7 @@ impl<M: Meaning> Tx<M> {
     fn is_commuted(&self, r: u32) -> bool
         ensures { result ≡ is_commuted self.now.dones r }
     {
-        match self.own.get(&r) {
-            Some(own) => own.commuted,
-            None => false,
-        }
-    }
-
-    // Whether the ref is commuted once this operation is made on it.
-    fn is_commuted_with(&self, r: u32, op: &Op) -> bool
-        ensures { result ≡ (is_commuted self.now.dones r || is_commute op.now) }
-    {
-        self.is_commuted(r) || op.is_commute()
-    }
-
-    // Whether the ref is protected once this operation is made on it.
-    fn is_protected_with(&self, r: u32, op: &Op) -> bool
-        ensures { result ≡ (is_protected self.now.dones r || not (is_commute op.now)) }
-    {
-        self.is_protected(r) || !op.is_commute()
+        self.table.is_commuted(self.dones.as_slice(), r)
     }
 
     fn is_tally(&self, r: u32) -> bool
@@ -309,8 +286,8 @@ impl<M: Meaning> Tx<M> {
         }
     }
 
-    // Adds an operation, whose answer is this value. The growths come first, and the last step can't fail.
-    #[tactic(auto, using(crate::proofs::Grown::table_same, crate::proofs::Grown::value_more))]
+    // Adds an operation, whose answer is this value.
+    #[tactic(auto, using(crate::proofs::Grown::value_more))]
     fn record(&mut self, alloc: Global, r: u32, op: Op, value: Value) -> Result<Value, TxFault>
         requires allowed { refusal self.old r op ≡ None }
         requires answer { and_place M.means op (inner_value M.means self.old r) ≡ Some value }
@@ -320,53 +297,10 @@ impl<M: Meaning> Tx<M> {
         ensures inner { IfOk result (λ v. inner_value M.means self.new r ≡ Some v) }
         ensures err { OnErr result (self.new ≡ self.old) }
     {
-        let commuted = self.is_commuted_with(r, &op);
-        let before = self.is_protected(r);
-        let protected = self.is_protected_with(r, &op);
-        let kept = value.share()?;
         let answer = value.share()?;
-        self.dones.reserve(1)?;
-        self.protected.reserve(1)?;
-        put(&mut self.own, r, kept, commuted, protected)?;
-        add_if_new(&mut self.protected, r, before, protected);
-        self.dones.push_reserved(Done { r, op, answer });
+        self.table.make_place(self.dones.as_slice())?;
+        self.dones.push(alloc, Done { r, op, answer })?;
         Ok(value)
-    }
-}
-
-// Stores what stands for a ref from now on.
-#[tactic(auto, using(crate::proofs::Grown::tied))]
-fn put(
-    own: &mut BTreeMap<u32, Own>,
-    r: u32,
-    value: Value,
-    commuted: bool,
-    protected: bool,
-) -> Result<(), AllocError>
-    ensures ok { OnOk result ((q : ℕ)
-        → get nat_cmp own.new q
-        ≡ cond (r == q) (Some (record { value = value; commuted = commuted; protected = protected }))
-        (get nat_cmp own.old q)) }
-    ensures err { OnErr result (own.new.entries ≡ own.old.entries) }
-{
-    own.insert(
-        r,
-        Own {
-            value,
-            commuted,
-            protected,
-        },
-    )?;
-    Ok(())
-}
-
-// Adds a ref to a list that has room, where it belongs there now and didn't before.
-fn add_if_new(refs: &mut Vec<u32>, r: u32, before: bool, now: bool)
-    requires { vec_len refs.old < vec_capacity refs.old }
-    ensures { refs.new.items ≡ (if now && not before then refs.old.items ++ r ∷ [] else refs.old.items) }
-{
-    if now && !before {
-        refs.push_reserved(r);
     }
 }
 

@@ -36,6 +36,7 @@ use Rattle.ref_log.specs.contracts.states.Base as Base
 use Rattle.ref_tx.specs.contracts.snapshots.Snapshot as Snapshot
 use Rattle.ref_tx.specs.contracts.snapshots.Snapshot.TheInside as InSnapshot
 use Rattle.ref_tx.specs.contracts.snapshots.Version as Version
+use Rattle.ref_refs.proofs.Crossing as now
 use Rattle.ref_refs.specs.contracts.store.RefStore as RefStore
 use Rattle.ref_refs.specs.contracts.store.RefStore.TheInside as InRefStore
 use Rattle.ref_atoms.specs.contracts.atoms.AtomStore as AtomStore
@@ -258,7 +259,7 @@ snapshot_send = view_send _ _ _ _ _ (declared_send InSnapshot.the_type (search (
 module _ (M : RattleType) (g : Meaning.Ghosts M.Denot) where
   refs_send : IsSend (RefStore.the_row M g)
   refs_send = view_send _ _ _ _ _ (declared_send (InRefStore.the_type M g) (
-    snapshot_send,
+    now.refs_send snapshot_send version_send,
     (
       search plain depth 60,
       (

@@ -35,7 +35,8 @@ pub struct Receipt {
 }
 
 impl<M: Meaning, C: Ledger, A: Ledger, K: Ledger> World<M, C, A, K> {
-    /// Begins a transaction over the values as they are now. It takes no memory, and as long whatever the number of refs.
+    /// Begins a transaction over the values as they are now. It takes no memory, and as long whatever the number of refs; but where memory
+    /// was refused to put changes of earlier commits into their places, it takes as much as that takes.
     pub fn begin(&self, alloc: Global) -> Result<Tx<M>, AllocError>
         ensures { IfOk result (λ tx. tx
             ≡ record {
@@ -116,13 +117,18 @@ impl<M: Meaning, C: Ledger, A: Ledger, K: Ledger> World<M, C, A, K> {
         if share.receipts.reserve(1).is_err() {
             return Err((tx, CommitFault::Memory));
         }
+        let Ok(dones) = tx.shared_dones().share() else {
+            return Err((tx, CommitFault::Memory));
+        };
         let sends = tx.sends();
         let written = write(alloc, &mut self.log, &mut self.agents, at, entry, sends);
         if written.is_err() {
             return Err((tx, CommitFault::Memory));
         }
-        // From here on nothing can fail.
-        self.refs.install(at, refs, tx.dones());
+        // From here on nothing can fail. The transaction is dropped first: where no other one reads the refs as they were, they are changed
+        // in place.
+        drop(tx);
+        self.refs.install(alloc, at, refs, dones.as_slice());
         share.receipts.push_reserved(LogReceipt {
             point: at,
             entry: kept,

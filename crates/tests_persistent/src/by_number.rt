@@ -32,6 +32,18 @@ fn with(alloc: Global, version: &Version, number: u32, value: u64) -> Result<Ver
     })
 }
 
+// Puts another value in, and leaves the versions that share some of its values as they are.
+fn set(alloc: Global, version: &mut Version, number: u32, value: u64) -> Result<(), AllocError> {
+    if number as usize >= version.values.len() {
+        return Ok(());
+    }
+    version.values.set(alloc, number, value)?;
+    if let Some(slot) = version.model.get_mut(number as usize) {
+        *slot = value;
+    }
+    Ok(())
+}
+
 fn with_next(alloc: Global, version: &Version, value: u64) -> Result<Version, AllocError> {
     let mut model = version.model.clone()?;
     model.push(value)?;
@@ -71,7 +83,7 @@ fn agrees(version: &Version) -> bool {
         && agrees_in_order(version)
 }
 
-// A version of one that is drawn, with one value more or another value.
+// Another value in a version that is drawn; or a version of it, with one value more or another value.
 fn step(alloc: Global, seed: &mut u64, versions: &mut Vec<Version>) -> Result<(), AllocError> {
     let old = match draw(seed, 3) {
         0 => draw(seed, versions.len()),
@@ -84,6 +96,12 @@ fn step(alloc: Global, seed: &mut u64, versions: &mut Vec<Version>) -> Result<()
     let Ok(number) = u32::try_from(draw(seed, version.model.len())) else {
         return Ok(());
     };
+    if draw(seed, 4) == 0 {
+        if let Some(version) = versions.get_mut(old) {
+            set(alloc, version, number, value)?;
+        }
+        return Ok(());
+    }
     let new = if draw(seed, 3) == 0 && !version.model.is_empty() {
         with(alloc, version, number, value)?
     } else {

@@ -1,14 +1,30 @@
-use Rattle.std.proofs.Common.{ℕ, Bool, ap, subst}
+use Rattle.std.proofs.Common.{ℕ, Bool, ◌≡◌, if◌then◌else◌, true, false, Some, ap, subst, sym, take, ◌+◌, ◌∙◌}
 use Rattle.std.proofs.lemmas.List.{take_all}
-use Rattle.ref_refs.specs.Commit.{differs_at}
-use Rattle.ref_refs.proofs.Smallest.{IsFirst, first_protected_is}
+use Rattle.ref_refs.specs.Commit.{alien_ref, differs_at, first_protected}
+use Rattle.ref_refs.specs.Smaller.{smaller}
+use Rattle.ref_refs.proofs.Smallest.{IsFirst, first_protected_is, next_first, protecting}
+use Rattle.ref_refs.proofs.checking.first_differing.Goals.{else-protects_differing, then-protects_differing}
 use Rattle.ref_refs.proofs.checking.first_differing.Goals as goal
+
+pub loop-done-preserved : goal.loop-done-preserved
+loop-done-preserved g c =
+    let ds = c.dones-dones.result.now in
+    let i = c.loop-done.done-index in
+    let d = c.done-item.result in
+    let holds : ℕ → Bool = differs_at c.args.refs.now.values c.began-began.result.now.values in
+    let next : (b : Bool) → b ≡ c.protects_differing.result → IsFirst holds (protecting (take (i + 1) ds)) (if b then Some (smaller c.loop-done.first d.r) else c.loop-done.first) =
+        λ b is. next_first holds ds i d c.loop-done.first b c.loop-done-test.true c.done-item.is c.loop-done.invariant (is ∙ c.protects_differing.ensures) in
+    elim c.if-protects_differing.branch [
+      then-protects_differing w ↦ subst (IsFirst holds (protecting (take (i + 1) ds))) (ap Some (sym w.smaller.ensures) ∙ sym w.first-is) (next true (sym w.if-protects_differing.true)) |
+      else-protects_differing w ↦ subst (IsFirst holds (protecting (take (i + 1) ds))) (sym w.first-is) (next false (sym w.if-protects_differing.false))
+    ]
 
 pub returns : goal.returns
 returns g c =
-    let rs = c.protected-protected.result.now in
+    let ds = c.dones-dones.result.now in
     let holds : ℕ → Bool = differs_at c.args.refs.now.values c.args.tx.now.began in
-    let first = c.loop-r.first in
-    let all = subst (λ l. IsFirst (differs_at c.args.refs.now.values c.began-began.result.now.values) l first) (take_all c.loop-r.r-index rs c.loop-r-test.false) c.loop-r.invariant in
-    let is : IsFirst holds rs first = subst (λ h. IsFirst h rs first) (ap (differs_at c.args.refs.now.values) c.began-began.ensures) all in
-    first_protected_is c.args.refs.now.values c.args.tx.now.dones rs holds first c.protected-protected.ensures c.requires is
+    let first = c.loop-done.first in
+    let all : IsFirst (differs_at c.args.refs.now.values c.began-began.result.now.values) (protecting ds) first = subst (λ l. IsFirst (differs_at c.args.refs.now.values c.began-began.result.now.values) (protecting l) first) (take_all c.loop-done.done-index ds c.loop-done-test.false) c.loop-done.invariant in
+    let is : IsFirst holds (protecting ds) first = subst (λ h. IsFirst h (protecting ds) first) (ap (differs_at c.args.refs.now.values) c.began-began.ensures) all in
+    first_protected_is c.args.refs.now.values ds holds first (ap (alien_ref c.args.refs.now.values) c.dones-dones.ensures.value ∙ c.requires) is
+    ∙ ap (λ l. first_protected c.args.refs.now.values l holds) c.dones-dones.ensures.value

@@ -2,7 +2,7 @@ use Rattle.std.proofs.Common.{[], Ok, arith, not, ap, length, slice_get, sym, ta
 use Rattle.std.proofs.lemmas.Result.{err_from_is_err_and}
 use Rattle.ref_log.specs.Replay.{after_dones, is_protected}
 use Rattle.ref_tx.specs.Inner.{AreAnswers}
-use Rattle.ref_tx.specs.Snapshots.{SnapshotSeen}
+use Rattle.ref_refs.specs.Drafts.{DraftSeen}
 use Rattle.ref_refs.specs.Commit.{alien_ref, changed_by, lacking, refused}
 use Rattle.ref_refs.specs.Seen.{changed_at}
 use Rattle.ref_refs.specs.declared.faults.CommitFault.TheVariants.{NoSuchFun}
@@ -15,13 +15,14 @@ pub loop-done-init : goal.loop-done-init
 loop-done-init g c =
     let means = g.M.Meaning.means in
     let ds = c.dones-dones.result.now in
-    let same = ap (λ (s : SnapshotSeen). s.values) c.in_ok-after.ensures in
+    let same = ap (λ (s : DraftSeen). s.values) c.over-after.ensures in
     record {
       stepped = λ at. ap (λ l. after_dones means ds at ds (Ok l)) same;
-      moved = λ r. ap (λ (s : SnapshotSeen). changed_at s.lasts r) c.in_ok-after.ensures;
+      moved = λ r. ap (λ (s : DraftSeen). changed_at s.lasts r) c.over-after.ensures;
       unrefused = ap (refused means ds) same;
       all = ap length same;
-      lasts = ap (λ (s : SnapshotSeen). length s.lasts) c.in_ok-after.ensures;
+      base = ap (λ (s : DraftSeen). s.base) c.over-after.ensures;
+      lasts = ap (λ (s : DraftSeen). length s.lasts) c.over-after.ensures;
       agrees = λ r protected. ap (λ l. slice_get l r) same ∙ agrees_first c.args.refs.now.values c.args.tx.now c.requires.here c.requires.unchanged r (ap (λ l. is_protected l r) (sym c.dones-dones.ensures.value) ∙ protected);
     }
 
@@ -51,7 +52,7 @@ pub returns-in_err-place_one-clause-fault : goal.returns-in_err-place_one-clause
 returns-in_err-place_one-clause-fault g c =
     let means = g.M.Meaning.means in
     let ds = c.dones-dones.result.now in
-    let p = err_from_is_err_and c.from_residual-in_err-place_one.result c.from_residual-in_err-place_one.ensures.1 in
+    let p = err_from_is_err_and c.from_residual.result c.from_residual.ensures.1 in
     rw (p.1, p.2) (λ n. ap (λ l. refused means l c.args.refs.now.values) (sym c.dones-dones.ensures.value) ∙ refused_now means ds c.loop-done.done-index c.done-item.result c.loop-done.after.values (refused means ds c.args.refs.now.values) _ c.loop-done-test.true c.done-item.is (c.in_err-place_one.ensures.fault n) c.loop-done.invariant.unrefused)
 
 pub loop-done-preserved : goal.loop-done-preserved
@@ -72,6 +73,7 @@ loop-done-preserved g c =
       unrefused = refused_more means ds i d before after (refused means ds c.args.refs.now.values) c.loop-done-test.true c.done-item.is one.unrefused so_far.unrefused;
       moved = λ r. moved_more c.args.refs.now.lasts c.loop-done.after.lasts c.place_one.new.refs.lasts c.args.at (take i ds) d so_far.moved one.moved r ∙ ap (λ l. changed_by c.args.refs.now.lasts c.args.at l r) (sym (one_more ds i d c.loop-done-test.true c.done-item.is));
       all = one.all ∙ so_far.all;
+      base = one.base ∙ so_far.base;
       lasts = one.lasts ∙ so_far.lasts;
       agrees = agrees_more means c.args.tx.now.began ds are i d before after free c.loop-done-test.true c.done-item.is frees so_far.agrees one.others one.answers;
     }

@@ -13,6 +13,7 @@ invariant-loop-done g l =
       moved : (r : ℕ) → changed_at l.after.lasts r ≡ changed_by l.refs.lasts l.at (take l.done-index l.dones) r;
       unrefused : refused means (drop l.done-index l.dones) l.after.values ≡ refused means l.dones l.refs.values;
       all : length l.after.values ≡ length l.refs.values;
+      base : l.after.base ≡ l.refs;
       lasts : length l.after.lasts ≡ length l.refs.lasts;
       agrees : (r : ℕ) → is_protected l.dones r ≡ true → slice_get l.after.values r ≡ value_after means l.tx.began (take l.done-index l.dones) r;
     }

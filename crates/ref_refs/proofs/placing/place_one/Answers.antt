@@ -6,21 +6,21 @@ use Rattle.ref_refs.proofs.placing.place_one.Goals as goal
 pub returns-clause-ok : goal.returns-clause-ok
 returns-clause-ok g c = λ at.
     stepped_one g.M.Meaning.means c.args.is_free at c.args.done.now c.args.refs.now.values c.in-Some.value.now c.in_ok-value.value (sym c.in-Some.ensures) c.in_ok-value.ensures.ok c.in_ok-value.ensures.answers
-    ∙ ap Ok (sym c.in_ok-refs.ensures.values)
+    ∙ ap Ok (sym c.in_ok-set.ensures.values)
 
 pub returns-clause-others : goal.returns-clause-others
 returns-clause-others g c = λ r other.
-    ap (λ l. slice_get l r) c.in_ok-refs.ensures.values ∙ others_stay c.args.refs.now.values c.args.done.now.r r c.in_ok-value.value other
+    ap (λ l. slice_get l r) c.in_ok-set.ensures.values ∙ others_stay c.args.refs.now.values c.args.done.now.r r c.in_ok-value.value other
 
 pub returns-clause-answers : goal.returns-clause-answers
 returns-clause-answers g c = λ protected.
-    ap (λ l. slice_get l c.args.done.now.r) c.in_ok-refs.ensures.values
+    ap (λ l. slice_get l c.args.done.now.r) c.in_ok-set.ensures.values
     ∙ answered c.args.is_free c.args.refs.now.values c.args.done.now.r c.in_ok-value.value c.args.done.now.answer c.requires.here c.in_ok-value.ensures.answers protected
 
 pub returns-clause-unrefused : goal.returns-clause-unrefused
 returns-clause-unrefused g c = λ ds.
     refused_one g.M.Meaning.means c.args.done.now ds c.args.refs.now.values c.in-Some.value.now c.in_ok-value.value (sym c.in-Some.ensures) c.in_ok-value.ensures.ok
-    ∙ ap (refused g.M.Meaning.means ds) (sym c.in_ok-refs.ensures.values)
+    ∙ ap (refused g.M.Meaning.means ds) (sym c.in_ok-set.ensures.values)
 
 pub returns-then-is_ensure-clause-ok : goal.returns-then-is_ensure-clause-ok
 returns-then-is_ensure-clause-ok g c = λ at.

@@ -37,7 +37,7 @@ invariant_of-self-2 g c =
     let values = c.in-Ok.ensures.values w.atoms.values in
     let here = subst (λ p. step means (p + 1) e (values_now w.refs w.atoms) ≡ Ok (record { refs = prepared.refs.values; atoms = w.atoms.values })) point values in
     let next : step means (point_after w.base.value log + 1) e (values_now w.refs w.atoms) ≡ Ok (values_now after w.atoms) = here ∙ ap (λ vs. Ok (record { refs = vs; atoms = w.atoms.values })) (sym c.install.ensures.values) in
-    let lasts = subst (λ ds. (r : ℕ) → changed_at after.lasts r ≡ changed_by w.refs.lasts (c.point-at.result + 1) ds r) c.dones.ensures.value c.install.ensures.lasts in
+    let lasts = subst (λ ds. (r : ℕ) → changed_at after.lasts r ≡ changed_by w.refs.lasts (c.point-at.result + 1) ds r) (c.as_slice.ensures ∙ c.in-Ok-share-2.ensures ∙ c.shared_dones.ensures) c.install.ensures.lasts in
     let moved = subst (λ p. (r : ℕ) → changed_at after.lasts r ≡ changed_by w.refs.lasts (p + 1) tx.dones r) point lasts in
     let since = subst (λ p. are_unchanged_since after.lasts (p + 1) ≡ true) point c.install.ensures.since in
     let limit = subst (λ p. p + 1 ≤ 2 ^ 62) point c.in-Ok.ensures.limit in
@@ -88,3 +88,14 @@ returns-then-is_err-2-clause-refused g c =
 
 pub returns-in-Err-clause-conflict : goal.returns-in-Err-clause-conflict
 returns-in-Err-clause-conflict g c = told-fits c.args.tx _ _ c.in-Err.fault c.in-Err.ensures.refused (refusal-fits c.args.tx g.M.Meaning.means g.M.Meaning.accepts (g.F.Functions.knows c.args.funs.now) c.self.inside.refs (c.point-at.result + 1) c.len-agents.result c.room-most_added.result c.room-most_taken.result)
+
+pub returns-in_default-share-clause-refused : goal.returns-in_default-share-clause-refused
+returns-in_default-share-clause-refused g c =
+    let w = c.self.inside in
+    let point : c.point-at.result ≡ point_after w.base.value w.log = c.point-at.ensures.value ∙ ap point_of (sym c.self.view_is) in
+    let agents : c.len-agents.result ≡ length w.agents.agents = c.len-agents.ensures.value in
+    let knows = g.F.Functions.knows c.args.funs.now in
+    let none : commit_refusal g.M.Meaning.means g.M.Meaning.accepts knows w.refs (c.point-at.result + 1) c.len-agents.result c.room-most_added.result c.room-most_taken.result c.args.tx ≡ None = c.in-Ok.ensures.refused in
+    let early : ℕ → ℕ → Option CommitFault = λ p n. early_refusal knows w.refs (p + 1) n c.args.tx in
+    let before = first_none (early c.point-at.result c.len-agents.result) _ none in
+    (λ other. absurd (other refl), λ memory. rw (← c.self.view_is) (ap (early (point_after w.base.value w.log)) (sym agents) ∙ (ap (λ p. early p c.len-agents.result) (sym point) ∙ before)))
