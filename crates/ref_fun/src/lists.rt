@@ -171,11 +171,7 @@ fn one<T: Drop>(alloc: Global, item: T) -> Result<Arc<Vec<T>>, AllocError>
 }
 
 // Puts an item behind the others.
-fn push_shared<T: Share>(
-    alloc: Global,
-    items: &mut Arc<Vec<T>>,
-    item: T,
-) -> Result<(), AllocError>
+fn push_shared<T: Share>(alloc: Global, items: &mut Arc<Vec<T>>, item: T) -> Result<(), AllocError>
     ensures ok { OnOk result (items.new.value.items ≡ items.old.value.items ++ item ∷ []) }
     ensures err { OnErr result (items.new.value.items ≡ items.old.value.items) }
 {

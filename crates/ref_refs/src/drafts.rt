@@ -85,7 +85,13 @@ impl<'a> Draft<'a> {
 
     /// Puts another value at a ref, which changes at this point. Where memory is refused, the draft stays as it is and the value is
     /// dropped.
-    pub(crate) fn set(&mut self, alloc: Global, r: u32, value: Value, at: u64) -> Result<(), AllocError>
+    pub(crate) fn set(
+        &mut self,
+        alloc: Global,
+        r: u32,
+        value: Value,
+        at: u64,
+    ) -> Result<(), AllocError>
         requires { r < length self.old.values }
         ensures base { self.new.base ≡ self.old.base }
         ensures values { OnOk result (self.new.values ≡ slice_set self.old.values r value) }

@@ -126,7 +126,11 @@ impl Late {
     }
 
     /// Has a snapshot take the oldest change, which is then gone. Where memory is refused, both stay as they are.
-    pub(crate) fn place_oldest(&mut self, alloc: Global, refs: &mut Snapshot) -> Result<(), AllocError>
+    pub(crate) fn place_oldest(
+        &mut self,
+        alloc: Global,
+        refs: &mut Snapshot,
+    ) -> Result<(), AllocError>
         ensures same { all_taken self.new refs.new ≡ all_taken self.old refs.old }
         ensures shorter { OnOk result ((self.old ≡ []) ⊎ (length self.new + 1 ≡ length self.old)) }
     {

@@ -182,13 +182,13 @@ pub tabled_next : (means : Means) (began : List Edn) (ds : List Done) (d : Done)
     → new.first ≡ table.first + 1
     → IsTabled means began ds new
 tabled_next means began ds d table new own are is below at former was owned updates next =
-  let owns = owned ∙ ap (λ o. own_of d.answer (own_commuted o || is_commute d.op) (own_protected o || not (is_commute d.op))) was in record {
-  within = omega (arith, below, next);
-  has = subst (λ l. IsTableOf means began l (get nat_cmp new.own))
-      (sym (next_one ds table.first d below at) ∙ ap (λ n. take n ds) (sym next))
-      (table_more means began (take table.first ds) d (own_commuted (get nat_cmp table.own d.r) || is_commute d.op) (own_protected (get nat_cmp table.own d.r) || not (is_commute d.op)) (get nat_cmp table.own) (get nat_cmp new.own) is.has
-      (answer_at means began ds table.first d are below at)
-      (ap (λ b. b || is_commute d.op) (is.has.commuted d.r))
-      (ap (λ b. b || not (is_commute d.op)) (is.has.protected d.r))
-      (λ q. updates q ∙ ap (λ o. cond (d.r == q) (Some o) (get nat_cmp table.own q)) owns));
-}
+    let owns = owned ∙ ap (λ o. own_of d.answer (own_commuted o || is_commute d.op) (own_protected o || not (is_commute d.op))) was in record {
+      within = omega (arith, below, next);
+      has = subst (λ l. IsTableOf means began l (get nat_cmp new.own))
+          (sym (next_one ds table.first d below at) ∙ ap (λ n. take n ds) (sym next))
+          (table_more means began (take table.first ds) d (own_commuted (get nat_cmp table.own d.r) || is_commute d.op) (own_protected (get nat_cmp table.own d.r) || not (is_commute d.op)) (get nat_cmp table.own) (get nat_cmp new.own) is.has
+          (answer_at means began ds table.first d are below at)
+          (ap (λ b. b || is_commute d.op) (is.has.commuted d.r))
+          (ap (λ b. b || not (is_commute d.op)) (is.has.protected d.r))
+          (λ q. updates q ∙ ap (λ o. cond (d.r == q) (Some o) (get nat_cmp table.own q)) owns));
+    }

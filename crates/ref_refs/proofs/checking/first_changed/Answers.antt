@@ -13,10 +13,10 @@ loop-done-preserved g c =
     let d = c.done-item.result in
     let holds : ℕ → Bool = changed_after c.args.refs.now.lasts c.read_point-read_point.result in
     let next : (b : Bool) → b ≡ c.protects_changed.result → IsFirst holds (protecting (take (i + 1) ds)) (if b then Some (smaller c.loop-done.first d.r) else c.loop-done.first) =
-        λ b is. next_first holds ds i d c.loop-done.first b c.loop-done-test.true c.done-item.is c.loop-done.invariant (is ∙ c.protects_changed.ensures) in
+    λ b is. next_first holds ds i d c.loop-done.first b c.loop-done-test.true c.done-item.is c.loop-done.invariant (is ∙ c.protects_changed.ensures) in
     elim c.if-protects_changed.branch [
-      then-protects_changed w ↦ subst (IsFirst holds (protecting (take (i + 1) ds))) (ap Some (sym w.smaller.ensures) ∙ sym w.first-is) (next true (sym w.if-protects_changed.true)) |
-      else-protects_changed w ↦ subst (IsFirst holds (protecting (take (i + 1) ds))) (sym w.first-is) (next false (sym w.if-protects_changed.false))
+      | then-protects_changed w ↦ subst (IsFirst holds (protecting (take (i + 1) ds))) (ap Some (sym w.smaller.ensures) ∙ sym w.first-is) (next true (sym w.if-protects_changed.true))
+      | else-protects_changed w ↦ subst (IsFirst holds (protecting (take (i + 1) ds))) (sym w.first-is) (next false (sym w.if-protects_changed.false))
     ]
 
 pub returns : goal.returns

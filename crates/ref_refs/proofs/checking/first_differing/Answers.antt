@@ -13,10 +13,10 @@ loop-done-preserved g c =
     let d = c.done-item.result in
     let holds : ℕ → Bool = differs_at c.args.refs.now.values c.began-began.result.now.values in
     let next : (b : Bool) → b ≡ c.protects_differing.result → IsFirst holds (protecting (take (i + 1) ds)) (if b then Some (smaller c.loop-done.first d.r) else c.loop-done.first) =
-        λ b is. next_first holds ds i d c.loop-done.first b c.loop-done-test.true c.done-item.is c.loop-done.invariant (is ∙ c.protects_differing.ensures) in
+    λ b is. next_first holds ds i d c.loop-done.first b c.loop-done-test.true c.done-item.is c.loop-done.invariant (is ∙ c.protects_differing.ensures) in
     elim c.if-protects_differing.branch [
-      then-protects_differing w ↦ subst (IsFirst holds (protecting (take (i + 1) ds))) (ap Some (sym w.smaller.ensures) ∙ sym w.first-is) (next true (sym w.if-protects_differing.true)) |
-      else-protects_differing w ↦ subst (IsFirst holds (protecting (take (i + 1) ds))) (sym w.first-is) (next false (sym w.if-protects_differing.false))
+      | then-protects_differing w ↦ subst (IsFirst holds (protecting (take (i + 1) ds))) (ap Some (sym w.smaller.ensures) ∙ sym w.first-is) (next true (sym w.if-protects_differing.true))
+      | else-protects_differing w ↦ subst (IsFirst holds (protecting (take (i + 1) ds))) (sym w.first-is) (next false (sym w.if-protects_differing.false))
     ]
 
 pub returns : goal.returns
