@@ -5,7 +5,8 @@
 //!
 //! | Modules | |
 //! |---|---|
-//! | `awaits` | by two or three: who waits for agents returns once all is gone that was there when it came, and not before |
+//! | `awaits` | by two: who waits for agents returns once all is gone that was there when it came, and not before |
+//! | `turns` | by four: of three who wait for an agent each returns in its turn |
 //! | `whens` | by two: a transaction that waits is woken by each entry of another thread, and at the end |
 //! | `many` | by two or more: many waits of several threads, each of which ends |
 //! | `sleepers` | by four: one waits to run actions, while others wait for something else |
@@ -17,5 +18,7 @@ mod awaits;
 mod many;
 #[cfg(test)]
 mod sleepers;
+#[cfg(test)]
+mod turns;
 #[cfg(test)]
 mod whens;

@@ -1,4 +1,5 @@
-//! A thread that waits for an action to run is woken by each single send, also while others wait for something else.
+//! A thread that waits for an action to run is woken by each single send, also while others wait for something else; and the end wakes all
+//! who wait.
 ghost use Rattle.std.specs.Prelude.{◌≡◌};
 ghost use Rattle.ref_world.specs.Shares.{IsBlank};
 
@@ -6,7 +7,7 @@ use crate::awaits::{await_when_told, meet};
 use crate::whens::{nudge, wait_in_vain};
 use ref_fun::Core;
 use ref_fun::codes::PLUS;
-use ref_shared::{Shared, Worked};
+use ref_shared::{AwaitFault, Shared, Worked};
 use ref_world::{ALL_PARTS, Share};
 use std::alloc::Global;
 use std::marker::Brand;
@@ -83,9 +84,11 @@ fn wake_and_close<R: AllocGlobal + Wait + Clock, C: Ledger, A: Ledger, K: Ledger
     woke && ended
 }
 
-// What the three returned: whether the first had all that it waited for, how many times the second's body was called, if it was closed,
-// and what the third did.
-type Three = (bool, Option<u32>, (Work, Work, Work));
+// What who waits for h returned, and how many times the body was called of who waits for an entry, if it was closed.
+type Two = (Result<(), AwaitFault>, Option<u32>);
+
+// The same of these two, and what the third did.
+type Three = (Result<(), AwaitFault>, Option<u32>, (Work, Work, Work));
 
 fn two_wait<
     C: Ledger + Send + Sync,
@@ -98,13 +101,13 @@ fn two_wait<
     share: Share<C, A, K>,
     agent: &Flags,
     when: &Flags,
-) -> (bool, Option<u32>) {
-    let (is_through, bodies) = thread::join(
+) -> Two {
+    let (awaited, bodies) = thread::join(
         rt,
-        move || await_when_told(rt, shared, &[1], agent).is_ok(),
+        move || await_when_told(rt, shared, &[1], agent),
         move || wait_in_vain(rt, shared, share, when),
     );
-    (is_through, bodies)
+    (awaited, bodies)
 }
 
 fn three_wait<
@@ -185,7 +188,70 @@ fn a_send_wakes_a_worker_beside_others_who_wait(rt: HostRuntime) -> Result<(), F
     );
     let woken = try_sleepers::<Brand, Brand, Brand, _>(&rt, alloc, commits, added, taken)?;
     let (g, h) = (Ok(Worked::Did(0)), Ok(Worked::Did(1)));
-    let three = (true, Some(1), (g, g, h));
+    let three = (Ok(()), Some(1), (g, g, h));
     assert_eq!(rt; woken, (three, true, (Some(2), Some(4))));
+    Ok(())
+}
+
+// ---- At the end
+
+// Closes while one waits for h, whose action is held, and one for an entry; and returns whether both returned then, and not before.
+fn close_on_both<R: AllocGlobal + Wait + Clock, C: Ledger, A: Ledger, K: Ledger>(
+    rt: &R,
+    shared: &Shared<Core, C, A, K>,
+    agent: &Flags,
+    when: &Flags,
+) -> bool {
+    let were_there = meet(rt, agent) && meet(rt, when);
+    let early = agent.third.load(Ordering::SeqCst) || when.third.load(Ordering::SeqCst);
+    shared.close(rt);
+    let both = wait_for(rt, &agent.third) && wait_for(rt, &when.third);
+    if !both {
+        nudge(rt, rt.alloc(), shared);
+    }
+    were_there && !early && both
+}
+
+fn two_wait_and_close<
+    C: Ledger + Send + Sync,
+    A: Ledger + Send + Sync,
+    K: Ledger + Send + Sync,
+    R: AllocGlobal + Threads + Wait + Clock + Sync,
+>(rt: &R, shared: &Shared<Core, C, A, K>, share: Share<C, A, K>) -> (Two, bool) {
+    let (agent, when) = (Flags::new(), Flags::new());
+    let (agent, when) = (&agent, &when);
+    let (two, woke) = thread::join(
+        rt,
+        move || two_wait(rt, shared, share, agent, when),
+        move || close_on_both(rt, shared, agent, when),
+    );
+    (two, woke)
+}
+
+fn try_end<
+    C: Ledger + Send + Sync,
+    A: Ledger + Send + Sync,
+    K: Ledger + Send + Sync,
+    R: AllocGlobal + Threads + Wait + Clock + Sync,
+>(rt: &R, alloc: Global, commits: Blank, added: Blank, taken: Blank) -> Result<(Two, bool), Stop>
+    requires commits { IsBlank commits C.name C.parts }
+    requires added { IsBlank added A.name A.parts }
+    requires taken { IsBlank taken K.name K.parts }
+{
+    let (shared, mut share) = opened::<C, A, K>(alloc, two_agents(alloc)?, commits, added, taken)?;
+    commit_four(rt, alloc, &shared, &mut share)?;
+    Ok(two_wait_and_close(rt, &shared, share))
+}
+
+#[test]
+fn closing_wakes_all_who_wait(rt: HostRuntime) -> Result<(), Fail> {
+    let alloc = rt.alloc();
+    let (commits, added, taken) = (
+        Blank::new(ALL_PARTS),
+        Blank::new(ALL_PARTS),
+        Blank::new(ALL_PARTS),
+    );
+    let found = try_end::<Brand, Brand, Brand, _>(&rt, alloc, commits, added, taken)?;
+    assert_eq!(rt; found, ((Err(AwaitFault::Closed), Some(1)), true));
     Ok(())
 }

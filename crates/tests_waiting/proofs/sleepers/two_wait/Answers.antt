@@ -3,5 +3,5 @@ use Rattle.std.proofs.Crossing as std
 use Rattle.tests_threads.proofs.Crossing.{crosses}
 use Rattle.tests_waiting.proofs.sleepers.two_wait.Goals as goal
 
-pub join-is_through-requires-send-F : goal.join-is_through-requires-send-F
-join-is_through-requires-send-F g c κs within = search (crosses, std.crosses, sendable) depth 60
+pub join-awaited-requires-send-F : goal.join-awaited-requires-send-F
+join-awaited-requires-send-F g c κs within = search (crosses, std.crosses, sendable) depth 60

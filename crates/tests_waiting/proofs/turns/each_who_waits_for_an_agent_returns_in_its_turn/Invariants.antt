@@ -1,4 +1,4 @@
-use Rattle.tests_waiting.proofs.awaits.each_who_waits_for_an_agent_returns_in_its_turn.Given as goal
+use Rattle.tests_waiting.proofs.turns.each_who_waits_for_an_agent_returns_in_its_turn.Given as goal
 
 abbrev pub ghosts-try_turns-C-Ledger : goal.ghosts-try_turns-C-Ledger
 ghosts-try_turns-C-Ledger g a = record { name = a.commits.name; parts = a.commits.parts }
