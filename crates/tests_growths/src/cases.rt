@@ -35,6 +35,7 @@ pub(crate) const AFTER: &str = "
 #[derive(Clone, Copy, Drop, PartialEq)]
 pub(crate) enum SharedCall {
     Transact,
+    TransactWhen,
     Commit,
     /// A `work_once`, of which the action is counted.
     Run,
@@ -275,6 +276,14 @@ pub(crate) const CASES: &[Case] = &[
         before: "[finish]",
         call: Call::Shared(
             SharedCall::Transact,
+            "[begin 1] [1 alter a + 5] [1 send g + 1] [1 send i conj 1] [commit 1]",
+        ),
+    },
+    Case {
+        name: "Shared::transact_when",
+        before: "[finish]",
+        call: Call::Shared(
+            SharedCall::TransactWhen,
             "[begin 1] [1 alter a + 5] [1 send g + 1] [1 send i conj 1] [commit 1]",
         ),
     },

@@ -11,9 +11,11 @@ use ref_edn::Value;
 use ref_fun::codes::{CONJ, PLUS};
 use ref_fun::{Action, Core, FunTable};
 use ref_log::{Notice, Stamp};
-use ref_shared::{Gate, GatherFault, Shared, Spot, WatchSink, WorkFault, Worked};
+use ref_shared::{
+    Gate, GatherFault, Shared, Spot, TransactFault, WaitFault, WatchSink, WorkFault, Worked,
+};
 use ref_tx::{Tx, TxFault};
-use ref_world::{Share, Totals, World};
+use ref_world::{Receipt, Share, Totals, World};
 use std::alloc::{AllocError, Global};
 use std::sync::Wait;
 use std::sync::ledger::Ledger;
@@ -98,6 +100,21 @@ fn body(alloc: Global, funs: &FunTable, tx: &mut Tx<Core>) -> Result<(), TxFault
 // What a call answered, and whether a request was refused.
 type Answer = Result<(Value, bool), AllocError>;
 
+// What `transact` answers.
+fn transact_form(
+    alloc: Global,
+    answer: Result<((), Receipt), TransactFault<TxFault>>,
+    told: u64,
+) -> Result<Value, AllocError> {
+    match answer {
+        Ok(((), receipt)) => {
+            let point = vec![in alloc; number(receipt.point)?, number(told)?]?;
+            told_form(alloc, point, &receipt.notices)
+        }
+        Err(fault) => variant_form(alloc, &fault),
+    }
+}
+
 // `transact`, of which what follows the body is counted.
 fn transact<R: Input + Wait, C: Ledger, A: Ledger, K: Ledger>(
     rt: &R,
@@ -113,12 +130,31 @@ fn transact<R: Input + Wait, C: Ledger, A: Ledger, K: Ledger>(
     let work = |tx: &mut Tx<Core>| body(alloc, funs, tx);
     let answer = shared.transact(rt, alloc, funs, share, stamp, 3, &mut gate, &mut told, work);
     gate.refuser.end();
+    let said = transact_form(alloc, answer, told.count)?;
+    Ok((said, gate.refuser.was_refused()))
+}
+
+// `transact_when` with a body that is ready at once, of which what follows the body is counted.
+fn transact_when<R: Input + Wait, C: Ledger, A: Ledger, K: Ledger>(
+    rt: &R,
+    by: By,
+    shared: &Shared<Core, C, A, K>,
+    share: &mut Share<C, A, K>,
+    stamp: Stamp,
+    request: usize,
+) -> Answer {
+    let By { alloc, funs } = by;
+    let mut told = Told { count: 0 };
+    let mut gate = gate_from(rt, Spot::AfterBody, request);
+    let mut work = |tx: &mut Tx<Core>| body(alloc, funs, tx).map(Some);
+    let answer = shared.transact_when(
+        rt, alloc, funs, share, stamp, 3, &mut gate, &mut told, &mut work,
+    );
+    gate.refuser.end();
     let said = match answer {
-        Ok(((), receipt)) => {
-            let point = vec![in alloc; number(receipt.point)?, number(told.count)?]?;
-            told_form(alloc, point, &receipt.notices)?
-        }
-        Err(fault) => variant_form(alloc, &fault)?,
+        Ok(landed) => transact_form(alloc, Ok(landed), told.count)?,
+        Err(WaitFault::Transact(fault)) => transact_form(alloc, Err(fault), told.count)?,
+        Err(WaitFault::Closed) => form(alloc, ":closed")?,
     };
     Ok((said, gate.refuser.was_refused()))
 }
@@ -225,6 +261,7 @@ fn called<R: Input + Wait, C: Ledger, A: Ledger, K: Ledger>(
 ) -> Answer {
     match call {
         SharedCall::Transact => transact(rt, by, shared, share, stamp, request),
+        SharedCall::TransactWhen => transact_when(rt, by, shared, share, stamp, request),
         SharedCall::Commit => commit(rt, by, shared, share, stamp, opens, request),
         SharedCall::Await => wait(rt, by, shared, request),
         SharedCall::Run => work(rt, by, shared, Spot::BeforeAction, request),
