@@ -1,5 +1,5 @@
 //! A value, and the node that it is made of.
-ghost use Rattle.std.specs.Prelude.{◌≡◌, ◌↔◌, ◌≤◌, None, Some, IfNone, IfSome, IfOk, IfErr, OnOk, OnErr, IsTrue, max};
+ghost use Rattle.std.specs.Prelude.{◌≡◌, ◌↔◌, ◌≤◌, None, Some, IfNone, IfSome, IfOk, IfErr, OnOk, OnErr, IsTrue, IsUtf8, max, string_bytes};
 ghost use Rattle.ref_value.specs.Edn.{keyword as keyword_node, keyword_of, nesting, string as string_node, string_of, symbol as symbol_node, symbol_of, text_of};
 ghost use Rattle.ref_value.specs.Lawful.{IsLawful};
 ghost use Rattle.ref_value.specs.View.{edn};
@@ -7,7 +7,7 @@ ghost use Rattle.ref_value.specs.View.{edn};
 use crate::maps::Entries;
 use crate::names::{is_keyword, is_symbol};
 use crate::sets::Elements;
-use crate::texts::{ShortText, Text};
+use crate::texts::{MOST_IN_NODE, ShortText, Text};
 use crate::vectors::Items;
 use std::alloc::{AllocError, Global};
 use std::marker::Model;
@@ -93,14 +93,33 @@ impl Node {
         })
     }
 
+    /// The string of a `String`, which isn't copied where it is longer than 23 bytes.
+    pub fn string_of(alloc: Global, text: String) -> Result<Node, AllocError>
+        ensures { IfOk result (λ n. edn n ≡ string_node (string_bytes text)) }
+    {
+        Ok(match ShortText::of(&text) {
+            Some(text) => Node::ShortStr(text),
+            None => Node::Str(Text::of(alloc, text)?),
+        })
+    }
+
     /// A keyword of this name, the colon left out. One of up to 14 bytes takes no memory. Whether it is a name isn't asked:
     /// [`Value::of`] is the test.
     pub fn keyword(alloc: Global, name: &str) -> Result<Node, AllocError>
         ensures { IfOk result (λ n. edn n ≡ keyword_node name.now) }
     {
-        Ok(match ShortText::of(name) {
-            Some(name) => Node::ShortKeyword(name),
-            None => Node::Keyword(Text::copy_of(alloc, name)?),
+        Node::keyword_of_bytes(alloc, name.as_bytes())
+    }
+
+    /// The same of bytes that are known to be UTF-8.
+    pub fn keyword_of_bytes(alloc: Global, name: &[u8]) -> Result<Node, AllocError>
+        requires { IsUtf8 name.now }
+        ensures { IfOk result (λ n. edn n ≡ keyword_node name.now) }
+    {
+        Ok(if name.len() <= MOST_IN_NODE {
+            Node::ShortKeyword(ShortText::of_bytes(name))
+        } else {
+            Node::Keyword(Text::of_bytes(alloc, name)?)
         })
     }
 
@@ -108,9 +127,18 @@ impl Node {
     pub fn symbol(alloc: Global, name: &str) -> Result<Node, AllocError>
         ensures { IfOk result (λ n. edn n ≡ symbol_node name.now) }
     {
-        Ok(match ShortText::of(name) {
-            Some(name) => Node::ShortSymbol(name),
-            None => Node::Symbol(Text::copy_of(alloc, name)?),
+        Node::symbol_of_bytes(alloc, name.as_bytes())
+    }
+
+    /// The same of bytes that are known to be UTF-8.
+    pub fn symbol_of_bytes(alloc: Global, name: &[u8]) -> Result<Node, AllocError>
+        requires { IsUtf8 name.now }
+        ensures { IfOk result (λ n. edn n ≡ symbol_node name.now) }
+    {
+        Ok(if name.len() <= MOST_IN_NODE {
+            Node::ShortSymbol(ShortText::of_bytes(name))
+        } else {
+            Node::Symbol(Text::of_bytes(alloc, name)?)
         })
     }
 

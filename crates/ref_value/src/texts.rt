@@ -8,7 +8,7 @@ use std::marker::Model;
 use std::sync::Arc;
 
 // As many bytes as a node takes, less one for its kind and one for the length.
-const MOST_IN_NODE: usize = 14;
+pub(crate) const MOST_IN_NODE: usize = 14;
 
 // As many bytes as a `String` takes without its content, less one for the length.
 const MOST_SHORT: usize = 23;
