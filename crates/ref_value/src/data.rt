@@ -146,6 +146,7 @@ impl Node {
     pub fn as_string(&self) -> Option<&[u8]>
         ensures some { IfSome result (λ text. string_of (edn self.now) ≡ Some text.now) }
         ensures none { IfNone result (string_of (edn self.now) ≡ None) }
+        ensures utf8 { IfSome result (λ text. IsUtf8 text.now) }
     {
         match self {
             Node::Str(text) => Some(text.as_bytes()),
@@ -158,6 +159,7 @@ impl Node {
     pub fn as_keyword(&self) -> Option<&[u8]>
         ensures some { IfSome result (λ name. keyword_of (edn self.now) ≡ Some name.now) }
         ensures none { IfNone result (keyword_of (edn self.now) ≡ None) }
+        ensures utf8 { IfSome result (λ name. IsUtf8 name.now) }
     {
         match self {
             Node::Keyword(name) => Some(name.as_bytes()),
@@ -170,6 +172,7 @@ impl Node {
     pub fn as_symbol(&self) -> Option<&[u8]>
         ensures some { IfSome result (λ name. symbol_of (edn self.now) ≡ Some name.now) }
         ensures none { IfNone result (symbol_of (edn self.now) ≡ None) }
+        ensures utf8 { IfSome result (λ name. IsUtf8 name.now) }
     {
         match self {
             Node::Symbol(name) => Some(name.as_bytes()),

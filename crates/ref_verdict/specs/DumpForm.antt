@@ -20,7 +20,7 @@
 use Rattle.std.specs.Prelude.{ℕ, pos, ◌+◌, ◌-◌, ◌^◌, ◌==◌, ok_or, min, Bool, true, false, not, ◌&&◌, if◌then◌else◌, List, [], ◌∷◌, Option, None, Some, is_some, option_map, option_and_then, Result, Ok, Err}
 use Rattle.std.specs.Prelude as lists
 use Rattle.std.specs.List.{list_all}
-use Rattle.ref_value.specs.Edn.{Edn, nil, int, pairs_of}
+use Rattle.ref_value.specs.Edn.{Edn, nil, int, pairs_of, keyword_of}
 use Rattle.ref_value.specs.Edn as edn
 use Rattle.ref_value.specs.Names.{bytes_eq}
 use Rattle.ref_fun.specs.declared.actions.Action.{Action}
@@ -38,7 +38,7 @@ use Rattle.ref_agents.specs.declared.accounts.Handled.{Handled}
 use Rattle.ref_agents.specs.declared.accounts.Mark.{Mark}
 use Rattle.ref_agents.specs.declared.accounts.Mark.TheVariants as marks
 use Rattle.ref_forms.specs.Calls.{action_of, any, carrying, rule_of}
-use Rattle.ref_forms.specs.Plain.{all_said, are_known, both, elements_of, elements_within, keyword_of, list_said, number_of, stamp_number, tagged_of, under}
+use Rattle.ref_forms.specs.Plain.{all_said, are_known, both, elements_of, elements_within, list_said, number_of, stamp_number, tagged_of, under}
 use Rattle.ref_verdict.specs.Words.{added_key, agents_key, alter_tag, atoms_key, base_atoms_key, base_refs_key, commits_key, commute_tag, done_mark, dump_key, ensure_tag, entries_key, failed_mark, failed_status, folded_key, keys_of, made_atom_tag, made_ref_tag, passed_mark, point_key, ready_status, refs_key, reset_tag, set_tag, swap_tag, taken_key, tally_key, tx_tag}
 use Rattle.ref_verdict.specs.declared.reading.dumps.Changed.{Changed}
 use Rattle.ref_verdict.specs.declared.reading.dumps.Dump.{Dump}

@@ -152,10 +152,7 @@ pub fn int_at<C: Ledger, A: Ledger, K: Ledger, R: Wait>(
 pub type Told = (Who, bool, Option<i64>, Option<i64>);
 
 pub fn told_of(notice: &Notice) -> Told {
-    let is_k = match notice.key.node() {
-        Node::Keyword(name) => name.as_str() == "k",
-        _ => false,
-    };
+    let is_k = notice.key.node().as_keyword() == Some(b"k");
     (
         notice.who,
         is_k,

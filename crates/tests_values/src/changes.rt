@@ -54,7 +54,7 @@ fn change(alloc: Global, node: &mut Node, step: &Items) -> Result<Node, Fail> {
     let (Some(how), Some(x)) = (step.get(0), step.get(1)) else {
         return Err(Fail::from("not a step"));
     };
-    let Node::Symbol(how) = how.node() else {
+    let Some(how) = how.node().as_symbol() else {
         return Err(Fail::from("not a step"));
     };
     match node {
@@ -63,7 +63,7 @@ fn change(alloc: Global, node: &mut Node, step: &Items) -> Result<Node, Fail> {
             items.push(alloc, x.share()?)?;
             Ok(Node::Vector(made))
         }
-        Node::Set(elements) => Ok(Node::Set(change_set(alloc, elements, how.as_str(), x)?)),
+        Node::Set(elements) => Ok(Node::Set(change_set(alloc, elements, how, x)?)),
         Node::Map(entries) => Ok(Node::Map(change_map(alloc, entries, x, step.get(2))?)),
         _ => Err(Fail::from("not a collection")),
     }
