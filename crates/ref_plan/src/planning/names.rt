@@ -73,15 +73,19 @@ impl Hash for Name {
 }
 
 // The bytes of a name that is looked up. No owner is made for it.
-#[derive(Clone, Copy)]
+#[derive(Clone, Copy, PartialEq, Eq)]
 struct Wanted<'a> {
     bytes: &'a [u8],
 }
 
 impl<'a> Hash for Wanted<'a> {
     ghost use Rattle.std.specs.Hash as fed;
+    ghost use Rattle.std.specs.Cmp.Rules.{hashing};
+    ghost use Rattle.std.proofs.Common.{rules};
 
     ghost hash_input = { λ a. fed.str a.bytes.now };
+
+    ghost respects_eq = { Prim.search (hashing, rules) };
 
     fn hash<H: Hasher>(&self, state: &mut H) {
         state.write(self.bytes);
