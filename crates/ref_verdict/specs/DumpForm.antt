@@ -50,6 +50,7 @@ use Rattle.ref_verdict.specs.declared.reading.faults.DumpFault.{DumpFault}
 use Rattle.ref_verdict.specs.declared.reading.faults.DumpFault.TheVariants.{NotDump, BadVersion, BadPart, BadEntry}
 use Rattle.ref_verdict.specs.declared.reading.faults.Key.{Key}
 use Rattle.ref_verdict.specs.declared.reading.faults.Key.TheVariants as keys
+use Rattle.ref_log.specs.Limits.{most_entries}
 
 -- ---- references by number
 
@@ -357,7 +358,7 @@ parts_said version es =
     and_then (part_said es keys.BaseAtoms (values_said Some)) (λ base_atoms.
     and_then (part_said es keys.BaseRefs (values_said changed_of)) (λ base_refs.
     and_then (part_said es keys.Commits number_of) (λ commits.
-    and_then (part_said es keys.Entries (elements_within (2 ^ 62))) (λ forms.
+    and_then (part_said es keys.Entries (elements_within most_entries)) (λ forms.
     and_then (part_said es keys.Folded (folded_of version)) (λ folded.
     and_then (part_said es keys.Point number_of) (λ point.
     and_then (part_said es keys.Refs (values_said kept_of)) (λ refs.
