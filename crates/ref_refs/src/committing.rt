@@ -174,8 +174,8 @@ impl<M: Meaning> RefStore<M> {
         })
     }
 
-    /// Makes the changes of a prepared commit. It can't fail: where memory is refused to put them into their places, they are noted beside,
-    /// and put there later. A place that no open transaction can see is changed there; others are copied.
+    /// Makes the changes of a prepared commit. It can't fail: those that need memory which is refused are stored as notes, which each look-up
+    /// reads, and get to their places later. A place that no open transaction can see is changed there; others are copied.
     pub fn install(&mut self, alloc: Global, at: u64, refs: Changes, dones: &[Done])
         requires base { refs.base ≡ record { values = self.old.values; lasts = self.old.lasts } }
         requires new { 1 ≤ at }
