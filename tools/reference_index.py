@@ -50,6 +50,7 @@ WORDS = (
     ("`IsSome o`, `is_some o`, `is_none o`", "the option has a value; the test of that, and of the opposite"),
     ("`IfSome o (λ x. p)`, `IfNone o p`", "if the option has a value `x`, then `p`; if it has none, then `p`"),
     ("`option_copied o`", "an option of a reference as one of what the reference points to"),
+    ("`FitsInMemory T.row`", "a value of the type `T` takes less than 2^63 bytes, as each does of a type that is known"),
     ("`option_map f o`", "f of what the option has, or `None`"),
     ("`Result T E`, `Ok x`, `Err e`, `is_ok r`", "a result, and the test whether it is `Ok`"),
     ("`IfOk r (λ x. p)`, `IfErr r (λ e. p)`", "if the result is `Ok x`, then `p`; if it is `Err e`, then `p`"),

@@ -1,5 +1,5 @@
 -- What a store of agents shows, and what is always so in it.
-use Rattle.std.specs.Prelude.{◌≡◌, ◌≤◌, ◌^◌, ◌&&◌, ◌∷◌, ℕ, nat_lt, [], Bool, true, false, not, if◌then◌else◌, List, length, map, Option, None, Some, Ok, is_some, slice_get, slice_set}
+use Rattle.std.specs.Prelude.{◌≡◌, ◌≤◌, ◌&&◌, ◌∷◌, ℕ, nat_lt, [], Bool, true, false, not, if◌then◌else◌, List, length, map, Option, None, Some, Ok, is_some, slice_get, slice_set}
 use Rattle.std.specs.BTreeMap.{is_at}
 use Rattle.std.specs.Option.{option_map, option_or}
 use Rattle.std.specs.BTreeSet.{insert_key}
@@ -25,6 +25,7 @@ use Rattle.ref_agents.specs.declared.agents.ErrorMode.{ErrorMode}
 use Rattle.ref_agents.specs.declared.faults.AgentError.{AgentError}
 use Rattle.ref_agents.specs.declared.faults.SendFault.{SendFault}
 use Rattle.ref_agents.specs.declared.faults.SendFault.TheVariants as sends
+use Rattle.ref_log.specs.Limits.{most_references}
 
 -- the agents by number, the rule and the watches of each, and the points of the commits whose sends may not be taken yet
 pub record AgentsSeen : Type 0 where
@@ -65,7 +66,7 @@ values_of agents = map (λ agent. agent.value) agents
 -- action that waits are among the ones that are looked at when a job is taken.
 abbrev pub IsStore : Means → Accepts → List Agent → List Guard → List ℕ → Type 0
 IsStore means accepts agents guards waiting =
-    (length agents ≤ 2 ^ 20)
+    (length agents ≤ most_references)
     × (length guards ≡ length agents)
     × AreAccepted accepts guards (values_of agents)
     × AreAgents means agents

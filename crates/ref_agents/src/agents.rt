@@ -1,6 +1,7 @@
 //! The store of agents.
-ghost use Rattle.std.specs.Prelude.{◌≡◌, ◌≢◌, ◌≤◌, ◌↔◌, ◌^◌, [], IsTrue, None, Some, OnOk, OnErr, length, option_copied, slice_get};
+ghost use Rattle.std.specs.Prelude.{◌≡◌, ◌≢◌, ◌≤◌, ◌↔◌, [], IsTrue, None, Some, OnOk, OnErr, length, option_copied, slice_get};
 ghost use Rattle.ref_agents.specs.Agents.{AreAgents, account_at, error_at, value_at, with_mode};
+ghost use Rattle.ref_log.specs.Limits.{most_references};
 
 use crate::accounts::Account;
 use crate::faults::{AgentError, ModeFault};
@@ -83,7 +84,7 @@ impl<M: Meaning> AgentStore<M> {
     /// How many agents there are, at most 2^20.
     pub fn len(&self) -> usize
         ensures value { result ≡ length self.now.agents }
-        ensures bound { result ≤ 2 ^ 20 }
+        ensures bound { result ≤ most_references }
         // Each agent has a rule or none, and its watches.
         ensures guards { length self.now.guards ≡ length self.now.agents }
     {

@@ -1,9 +1,10 @@
 //! Making an agent.
 ghost use Rattle.ref_log.specs.Told.{Tells, TellsThenMemory};
-ghost use Rattle.std.specs.Prelude.{◌≡◌, ◌≢◌, ◌<◌, ◌^◌, true, IfOk, IfErr, OnErr, OnOk, length};
+ghost use Rattle.std.specs.Prelude.{◌≡◌, ◌≢◌, ◌<◌, true, IfOk, IfErr, OnErr, OnOk, length};
 ghost use Rattle.ref_fun.specs.Rule.{passes};
 ghost use Rattle.ref_log.specs.declared.faults.MakeFault.TheVariants.{BadTally, Memory, PointLimit};
 ghost use Rattle.ref_agents.specs.Make.{agent_refusal, with_agent};
+ghost use Rattle.ref_log.specs.Limits.{most_references};
 
 use crate::accounts::Account;
 use crate::agents::{Agent, AgentStore, ErrorMode};
@@ -44,7 +45,7 @@ impl<M: Meaning> AgentStore<M> {
     ) -> Result<(), MakeFault>
         ensures refused { Tells (agent_refusal M.accepts (F.knows funs.now).preds self.now start.now rule.now) result }
         // What `add` asks.
-        ensures room { OnOk result (length self.now.agents < 2 ^ 20) }
+        ensures room { OnOk result (length self.now.agents < most_references) }
         ensures accepted { OnOk result (passes M.accepts rule.now start.now ≡ true) }
         ensures told { IfErr result (λ f. f ≢ Memory) }
     {
@@ -59,7 +60,7 @@ impl<M: Meaning> AgentStore<M> {
         rule: Option<Rule>,
         mode: ErrorMode,
     ) -> Result<u32, AllocError>
-        requires room { length self.old.agents < 2 ^ 20 }
+        requires room { length self.old.agents < most_references }
         requires accepted { passes M.accepts rule start ≡ true }
         ensures number { IfOk result (λ g. g ≡ length self.old.agents) }
         ensures adds { OnOk result (self.new ≡ with_agent self.old start rule mode) }

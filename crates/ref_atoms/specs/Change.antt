@@ -2,7 +2,7 @@
 --
 -- Clojure's page on atoms: `swap!` sets an atom to the function of its value, `reset!` to a value regardless, and
 -- `compare-and-set!` to a value where the atom has the one that is given. Each asks the validator of the new value first.
-use Rattle.std.specs.Prelude.{◌≡◌, ℕ, ◌^◌, nat_lt, Bool, false, if◌then◌else◌, Option, None, Some, Result, Ok, Err, slice_get}
+use Rattle.std.specs.Prelude.{◌≡◌, ℕ, nat_lt, Bool, false, if◌then◌else◌, Option, None, Some, Result, Ok, Err, slice_get}
 use Rattle.std.specs.Option.{option_map, option_or}
 use Rattle.std.specs.Ordering.{eq_by_cmp}
 use Rattle.ref_value.specs.Edn.{Edn}
@@ -23,12 +23,13 @@ use Rattle.ref_atoms.specs.Atoms.{AtomsSeen}
 use Rattle.ref_atoms.specs.declared.changes.Change.{Change}
 use Rattle.ref_atoms.specs.declared.faults.AtomFault.{AtomFault}
 use Rattle.ref_atoms.specs.declared.faults.AtomFault.TheVariants.{NoSuchAtom, NoSuchFun, Refused, Invalid, PointLimit}
+use Rattle.ref_log.specs.Limits.{last_point}
 
 abbrev pub invalid : Accepts → Option Rule → Edn → Option AtomFault
 invalid accepts rule v = if passes accepts rule v then None else Some Invalid
 
 abbrev pub past_points : ℕ → Option AtomFault
-past_points at = if nat_lt (2 ^ 62) at then Some PointLimit else None
+past_points at = if nat_lt last_point at then Some PointLimit else None
 
 -- ---- swap and reset
 

@@ -1,6 +1,6 @@
 //! What is asked before an atom is changed.
 ghost use Rattle.ref_log.specs.Told.{Tells, TellsOrMemory, TellsThenMemory};
-ghost use Rattle.std.specs.Prelude.{◌≡◌, ◌≢◌, ◌<◌, ◌≤◌, ◌^◌, List, true, None, Some, Ok, IfOk, IfErr, IfSome, OnOk, is_some, length, slice_get, slice_set};
+ghost use Rattle.std.specs.Prelude.{◌≡◌, ◌≢◌, ◌<◌, ◌≤◌, List, true, None, Some, Ok, IfOk, IfErr, IfSome, OnOk, is_some, length, slice_get, slice_set};
 ghost use Rattle.ref_value.specs.Edn.{Edn};
 ghost use Rattle.ref_fun.specs.Rule.{unknown};
 ghost use Rattle.ref_log.specs.Guards.{AreAccepted, keys_at, rule_at};
@@ -11,6 +11,7 @@ ghost use Rattle.ref_log.specs.declared.notices.Who.TheVariants as who;
 ghost use Rattle.ref_log.specs.declared.operations.Op.TheVariants.{Set};
 ghost use Rattle.ref_atoms.specs.Change.{IsChangeOf, change_refusal, compare_refusal, compare_refusal_if_here, early_refusal, given_refusal, is_same, is_same_at, lacking, late_refusal};
 ghost use Rattle.ref_atoms.specs.declared.faults.AtomFault.TheVariants as faults;
+ghost use Rattle.ref_log.specs.Limits.{last_point};
 
 use crate::atoms::AtomStore;
 use crate::changes::{Change, Swapped};
@@ -41,7 +42,7 @@ impl<M: Meaning> AtomStore<M> {
             ≡ Ok (record { refs = refs; atoms = slice_set self.now.values a change.value })) }
         ensures sets { IfOk result (λ change. sets_atom change.entry ≡ true) }
         ensures here { OnOk result (a < length self.now.values) }
-        ensures limit { OnOk result (at ≤ 2 ^ 62) }
+        ensures limit { OnOk result (at ≤ last_point) }
         ensures accepted { IfOk result (λ change.
             AreAccepted M.accepts self.now.guards (slice_set self.now.values a change.value)) }
     {
@@ -75,7 +76,7 @@ impl<M: Meaning> AtomStore<M> {
             ≡ Ok (record { refs = refs; atoms = slice_set self.now.values a c.value }))) }
         ensures sets { IfOk result (λ change. IfSome change (λ c. sets_atom c.entry ≡ true)) }
         ensures here { OnOk result (a < length self.now.values) }
-        ensures limit { IfOk result (λ change. IfSome change (λ c. at ≤ 2 ^ 62)) }
+        ensures limit { IfOk result (λ change. IfSome change (λ c. at ≤ last_point)) }
         ensures accepted { IfOk result (λ change.
             IfSome change (λ c. AreAccepted M.accepts self.now.guards (slice_set self.now.values a c.value))) }
         ensures from { IfOk result (λ change. IfSome change (λ c. c.swapped.old ≡ old.now)) }
@@ -130,7 +131,7 @@ impl<M: Meaning> AtomStore<M> {
             (late_refusal M.accepts (rule_at self.now.guards a) at (place M.means op.now before.now)) result }
         ensures value { IfOk result (λ v. place M.means op.now before.now ≡ Ok v) }
         ensures accepted { IfOk result (λ v. AreAccepted M.accepts self.now.guards (slice_set self.now.values a v)) }
-        ensures limit { OnOk result (at ≤ 2 ^ 62) }
+        ensures limit { OnOk result (at ≤ last_point) }
         ensures given { OnOk result (given_refusal M.accepts (rule_at self.now.guards a) at op.now ≡ None) }
     {
         if let Op::Set(value) = op {
@@ -158,7 +159,7 @@ impl<M: Meaning> AtomStore<M> {
         requires { unknown (F.knows funs.now).preds (rule_at self.now.guards a) ≡ None }
         ensures refused { Tells (late_refusal M.accepts (rule_at self.now.guards a) at (Ok value.now)) result }
         ensures accepted { OnOk result (AreAccepted M.accepts self.now.guards (slice_set self.now.values a value.now)) }
-        ensures limit { OnOk result (at ≤ 2 ^ 62) }
+        ensures limit { OnOk result (at ≤ last_point) }
         ensures told { IfErr result (λ f. f ≢ faults.Memory) }
     {
         if !self.guards.accepts(funs, a, value) {
@@ -186,7 +187,7 @@ impl<M: Meaning> AtomStore<M> {
         ensures same { IfOk result (λ same. same ≡ is_same old.now before.now) }
         ensures from { IfOk result (λ same. same ≡ true → before.now ≡ old.now) }
         ensures accepted { OnOk result (AreAccepted M.accepts self.now.guards (slice_set self.now.values a new.now)) }
-        ensures limit { IfOk result (λ same. same ≡ true → at ≤ 2 ^ 62) }
+        ensures limit { IfOk result (λ same. same ≡ true → at ≤ last_point) }
         ensures told { IfErr result (λ f. f ≢ faults.Memory) }
     {
         if let Err(code) = self.guards.check_known(funs, a) {

@@ -1,10 +1,11 @@
 //! The store of atoms.
 ghost use Rattle.ref_log.specs.Told.{Tells};
-ghost use Rattle.std.specs.Prelude.{◌≡◌, ◌<◌, ◌≤◌, ◌↔◌, ◌^◌, [], false, not, IsTrue, IfOk, IfErr, OnErr, OnOk, length, option_copied, slice_get};
+ghost use Rattle.std.specs.Prelude.{◌≡◌, ◌<◌, ◌≤◌, ◌↔◌, [], false, not, IsTrue, IfOk, IfErr, OnErr, OnOk, length, option_copied, slice_get};
 ghost use Rattle.ref_log.specs.Guards.{AreAccepted, are_known, keys_at, rule_at, rule_refusal, with_rule, with_watch, without_watch};
 ghost use Rattle.ref_log.specs.Watches.{has_key};
 ghost use Rattle.ref_log.specs.declared.faults.WatchFault.TheVariants as watches;
 ghost use Rattle.ref_atoms.specs.Atoms.{with_guards};
+ghost use Rattle.ref_log.specs.Limits.{most_references};
 
 use ref_fun::{Functions, Meaning, Rule};
 use ref_log::{Guards, RuleFault, WatchFault};
@@ -23,10 +24,11 @@ pub struct AtomStore<M: Meaning> {
 }
 
 impl<M: Meaning> Model for AtomStore<M> {
-    ghost use Rattle.std.specs.Prelude.{◌≡◌, ◌≤◌, ◌^◌, length};
+    ghost use Rattle.std.specs.Prelude.{◌≡◌, ◌≤◌, length};
     ghost use Rattle.std.specs.Coded.{codes};
     ghost use Rattle.ref_value.specs.Code.{edn_code};
     ghost use Rattle.ref_log.specs.Guards.{AreAccepted};
+    ghost use Rattle.ref_log.specs.Limits.{most_references};
     ghost use Rattle.ref_atoms.specs.Atoms.{AtomsSeen};
 
     ghost Value = { AtomsSeen };
@@ -35,7 +37,7 @@ impl<M: Meaning> Model for AtomStore<M> {
 
     ghost view = { λ a. record { values = a.values.items; guards = a.guards } };
 
-    ghost invariant = { λ a. (length a.values.items ≤ 2 ^ 20) × (length a.guards ≡ length a.values.items)
+    ghost invariant = { λ a. (length a.values.items ≤ most_references) × (length a.guards ≡ length a.values.items)
         × AreAccepted M.accepts a.guards a.values.items };
 }
 
@@ -54,7 +56,7 @@ impl<M: Meaning> AtomStore<M> {
     /// How many atoms there are, at most 2^20.
     pub fn len(&self) -> usize
         ensures value { result ≡ length self.now.values }
-        ensures bound { result ≤ 2 ^ 20 }
+        ensures bound { result ≤ most_references }
         // Each atom has a rule or none, and its watches.
         ensures guards { length self.now.guards ≡ length self.now.values }
     {

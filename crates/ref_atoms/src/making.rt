@@ -1,10 +1,11 @@
 //! Making an atom.
 ghost use Rattle.ref_log.specs.Told.{Tells, TellsThenMemory};
-ghost use Rattle.std.specs.Prelude.{◌≡◌, ◌≢◌, ◌<◌, ◌≤◌, ◌^◌, true, false, IfOk, IfErr, OnErr, OnOk, length};
+ghost use Rattle.std.specs.Prelude.{◌≡◌, ◌≢◌, ◌<◌, ◌≤◌, true, false, IfOk, IfErr, OnErr, OnOk, length};
 ghost use Rattle.ref_fun.specs.Rule.{passes};
 ghost use Rattle.ref_log.specs.Make.{make_refusal};
 ghost use Rattle.ref_log.specs.declared.faults.MakeFault.TheVariants as makes;
 ghost use Rattle.ref_atoms.specs.Atoms.{with_atom};
+ghost use Rattle.ref_log.specs.Limits.{last_point, most_references};
 
 use crate::atoms::AtomStore;
 use ref_fun::{Functions, Meaning, Rule};
@@ -43,8 +44,8 @@ impl<M: Meaning> AtomStore<M> {
     ) -> Result<(), MakeFault>
         ensures refused { Tells (make_refusal M.accepts (F.knows funs.now).preds
             (length self.now.values) false at start.now rule.now) result }
-        ensures room { OnOk result (length self.now.values < 2 ^ 20) }
-        ensures limit { OnOk result (at ≤ 2 ^ 62) }
+        ensures room { OnOk result (length self.now.values < most_references) }
+        ensures limit { OnOk result (at ≤ last_point) }
         ensures accepted { OnOk result (passes M.accepts rule.now start.now ≡ true) }
         ensures told { IfErr result (λ f. f ≢ makes.Memory) }
     {
@@ -58,7 +59,7 @@ impl<M: Meaning> AtomStore<M> {
         start: Value,
         rule: Option<Rule>,
     ) -> Result<u32, AllocError>
-        requires room { length self.old.values < 2 ^ 20 }
+        requires room { length self.old.values < most_references }
         requires accepted { passes M.accepts rule start ≡ true }
         ensures number { IfOk result (λ a. a ≡ length self.old.values) }
         ensures adds { OnOk result (self.new ≡ with_atom self.old start rule) }

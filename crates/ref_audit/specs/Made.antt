@@ -12,6 +12,7 @@ use Rattle.ref_audit.specs.declared.kinds.Kind.{Kind}
 use Rattle.ref_audit.specs.declared.kinds.Kind.TheVariants as kinds
 use Rattle.ref_audit.specs.declared.words.Word.{Word}
 use Rattle.ref_audit.specs.declared.words.Word.TheVariants as words
+use Rattle.ref_log.specs.Limits.{most_references}
 
 -- The fault of a form that isn't made: that it nests too deep, which is so then, or out of memory.
 pub record IsMakeFault (depth : ℕ) (fault : DumpMakeFault) : Type 0 where
@@ -20,9 +21,9 @@ pub record IsMakeFault (depth : ℕ) (fault : DumpMakeFault) : Type 0 where
 
 -- A world has at most 2^20 references of a kind.
 pub record AreFew (world : WorldSeen) : Type 0 where
-  pub refs : length world.refs.values ≤ 1048576
-  pub atoms : length world.atoms.values ≤ 1048576
-  pub agents : length world.agents.agents ≤ 1048576
+  pub refs : length world.refs.values ≤ most_references
+  pub atoms : length world.atoms.values ≤ most_references
+  pub agents : length world.agents.agents ≤ most_references
 
 -- Values of a world's dump that are collections.
 pub record AreParts (world : WorldSeen) (parts : Parts) : Type 0 where

@@ -38,6 +38,7 @@ use Rattle.ref_verdict.specs.declared.reading.dumps.Dump.{Dump}
 use Rattle.ref_verdict.specs.declared.reading.dumps.Version.TheVariants.{Three}
 use Rattle.ref_verdict.specs.declared.reading.dumps.Kept.{Kept}
 use Rattle.ref_verdict.specs.declared.reading.dumps.KeptAgent.{KeptAgent}
+use Rattle.ref_log.specs.Limits.{last_point, most_entries, most_references}
 
 -- a number of 32 bits
 abbrev pub is_typed_number : ℕ → Bool
@@ -176,11 +177,11 @@ pub record IsTyped (w : WorldSeen) : Type 0 where
   pub agent_rules : (n : ℕ) → n < length w.agents.agents → is_typed_rule (rule_at w.agents.guards n) ≡ true
   pub tally : is_typed_tally w.base.tally ≡ true
   pub lasts : length w.base.last ≡ length w.base.refs
-  pub few_entries : length w.log ≤ 2 ^ 62
-  pub few_refs : length w.refs.values ≤ 2 ^ 20
-  pub few_atoms : length w.atoms.values ≤ 2 ^ 20
-  pub few_base_refs : length w.base.refs ≤ 2 ^ 20
-  pub few_base_atoms : length w.base.atoms ≤ 2 ^ 20
+  pub few_entries : length w.log ≤ most_entries
+  pub few_refs : length w.refs.values ≤ most_references
+  pub few_atoms : length w.atoms.values ≤ most_references
+  pub few_base_refs : length w.base.refs ≤ most_references
+  pub few_base_atoms : length w.base.atoms ≤ most_references
 
 -- ---- what is dumped
 
@@ -240,7 +241,7 @@ pub record IsTold (w : WorldSeen) : Type 0 where
   pub sets : list_all sets_atom w.log ≡ true
   pub folded : AreAgents core_means w.agents.agents
   pub tally : w.base.tally ≡ w.refs.tally
-  pub limit : point_of w ≤ 2 ^ 62
+  pub limit : point_of w ≤ last_point
   pub lasts : length w.base.last ≡ length w.base.refs
   pub few : AreFew w
   pub commits : w.books.commits ≡ w.base.commits + commits_of w.log

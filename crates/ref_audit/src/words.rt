@@ -4,7 +4,7 @@ ghost use Rattle.ref_value.specs.Edn.{keyword};
 ghost use Rattle.ref_value.specs.Names.{is_keyword};
 ghost use Rattle.ref_audit.specs.Made.{word_text};
 
-use ref_value::{Node, Text, Value};
+use ref_value::{Node, Value};
 use std::alloc::{AllocError, Global};
 
 /// A word of dumps.
@@ -87,7 +87,7 @@ fn keyword_of(alloc: Global, name: &str) -> Result<Value, AllocError>
     requires { is_keyword name.now ≡ true }
     ensures { IfOk result (λ v. v ≡ keyword name.now) }
 {
-    match Value::of(Node::Keyword(Text::copy_of(alloc, name)?)) {
+    match Value::of(Node::keyword(alloc, name)?) {
         Ok(value) => Ok(value),
         Err(_) => unreachable!(),
     }

@@ -6,10 +6,10 @@ use Rattle.std.specs.Ordering.{nat_cmp, int_cmp, ordering_then, ordering_reverse
 use Rattle.std.specs.declared.cmp.Ordering.TheVariants.{Less, Equal, Greater}
 use Rattle.std.specs.Cmp.Lexicographic.{slice_cmp}
 use Rattle.std.proofs.lemmas.Bool.Decides.{nat_tests}
-use Rattle.ref_value.specs.Edn.{Edn, nil, boolean, int, string, keyword, symbol, vector, map, set}
+use Rattle.ref_value.specs.Edn.{Edn, nil, boolean, int, string, keyword, symbol, vector, map, set, text_of}
 use Rattle.ref_value.specs.Order.{rank, edn_cmp}
 use Rattle.ref_value.specs.OrderLaws.{edn_cmp_total}
-use Rattle.ref_edn.specs.SortKeys.{AreBytes, spelled, text_of, int_key, sort_key}
+use Rattle.ref_edn.specs.SortKeys.{AreBytes, spelled, int_key, sort_key}
 
 less : (a b : ℕ) → a < b → nat_cmp a b ≡ Less
 less a b h = grind (arith, nat_tests)

@@ -1,5 +1,5 @@
 -- The bytes of a text by what they do, and the numbers that digits write.
-use Rattle.std.specs.Prelude.{ℕ, ℤ, suc, ◌+◌, ◌-◌, ◌*◌, Bool, ◌||◌, ◌&&◌, ◌==◌, List, [], ◌∷◌, cond, nat_lt, not, false, pos}
+use Rattle.std.specs.Prelude.{ℕ, ℤ, suc, ◌+◌, ◌-◌, ◌*◌, Bool, ◌||◌, ◌&&◌, ◌==◌, List, [], ◌∷◌, cond, not, false, pos}
 use Rattle.std.specs.List.{list_all}
 use Rattle.std.proofs.Math.IntN.{neg_ℤ}
 pub use Rattle.ref_value.specs.Letters.{is_one_of, is_digit, is_letter, begins_with_digit}

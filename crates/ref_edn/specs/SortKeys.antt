@@ -1,7 +1,7 @@
 -- A number that stands for most of a value in a sort: its kind, and an integer or the front of its text.
 use Rattle.std.specs.Prelude.{ℕ, zero, suc, ◌+◌, ◌-◌, ◌*◌, ◌≤◌, min, ℤ, pos, negsuc, List, [], ◌∷◌}
 use Rattle.std.specs.List.{AllByRecursion}
-use Rattle.ref_value.specs.Edn.{Edn, int, string, keyword, symbol}
+use Rattle.ref_value.specs.Edn.{Edn, int, text_of}
 use Rattle.ref_value.specs.Order.{rank}
 
 -- what k bytes spell behind n, the greatest first, with 0 where there are no more
@@ -9,13 +9,6 @@ abbrev pub spelled : ℕ → ℕ → List ℕ → ℕ
 spelled zero n bs = n
 spelled (suc k) n [] = spelled k (n * 256) []
 spelled (suc k) n (b ∷ bs) = spelled k (n * 256 + b) bs
-
--- the text of a string, a keyword or a symbol
-abbrev pub text_of : Edn → List ℕ
-text_of (string s) = s
-text_of (keyword s) = s
-text_of (symbol s) = s
-text_of v = []
 
 -- Behind the number of their kind there are 56 bits for integers, in order. Those that need more have the last number
 -- of their side, as have those that are the last with 56.

@@ -76,6 +76,7 @@ impl Known {
     {
         match self.value.node() {
             Node::Keyword(text) => text.as_bytes() == name,
+            Node::ShortKeyword(text) => text.as_bytes() == name,
             _ => false,
         }
     }
@@ -85,6 +86,7 @@ impl Known {
     {
         match self.value.node() {
             Node::Symbol(text) => text.as_bytes() == name,
+            Node::ShortSymbol(text) => text.as_bytes() == name,
             _ => false,
         }
     }
@@ -95,6 +97,7 @@ impl Known {
     {
         match self.value.node() {
             Node::Str(text) => text.as_bytes() == content,
+            Node::ShortStr(text) => text.as_bytes() == content,
             _ => false,
         }
     }
@@ -126,15 +129,25 @@ impl Known {
         }
     }
 
+    // Whether a further owner is counted. What lies in the node is copied.
+    fn is_counted(&self) -> bool {
+        !matches!(
+            self.value.node(),
+            Node::ShortStr(_) | Node::ShortKeyword(_) | Node::ShortSymbol(_)
+        )
+    }
+
     // The value once more, unless that was too often.
     fn again(&mut self) -> Result<Option<Value>, AllocError>
         ensures value { IfOk result (λ found. IfSome found (λ v. v ≡ self.old.value)) }
         ensures lawful { IfOk result (λ found. IfSome found IsLawful) }
     {
-        if self.shared >= MOST_SHARED {
-            return Ok(None);
+        if self.is_counted() {
+            if self.shared >= MOST_SHARED {
+                return Ok(None);
+            }
+            self.shared += 1;
         }
-        self.shared += 1;
         let value = self.value.share()?;
         let _node = value.node();
         Ok(Some(value))

@@ -33,6 +33,7 @@ pub use faults::ReadFault;
 pub use printer::print;
 pub use reader::{read_all, read_one};
 pub use ref_value::{
-    Elements, Entries, Items, Node, Text, Value, data, maps, names, order, sets, texts, vectors,
+    Elements, Entries, Items, Node, ShortText, Text, Value, data, maps, names, order, sets, texts,
+    vectors,
 };
 pub use streams::{Counted, Failed, InputFault, Sink, Source, read_to_end, write_all};

@@ -47,6 +47,9 @@ fn append(value: &Value, out: &mut Vec<u8>) -> Result<(), AllocError>
         Node::Str(s) => append_string(s.as_bytes(), out),
         Node::Keyword(s) => append_keyword(s.as_bytes(), out),
         Node::Symbol(s) => out.extend_from_slice(s.as_bytes()),
+        Node::ShortStr(s) => append_string(s.as_bytes(), out),
+        Node::ShortKeyword(s) => append_keyword(s.as_bytes(), out),
+        Node::ShortSymbol(s) => out.extend_from_slice(s.as_bytes()),
         Node::Vector(items) => append_vector(items, out),
         Node::Map(entries) => append_map(entries, out),
         Node::Set(elements) => append_set(elements, out),
@@ -202,10 +205,7 @@ fn append_set(elements: &Elements, out: &mut Vec<u8>) -> Result<(), AllocError>
 
 // How many bytes a text has that stands for itself; 0 for any other value.
 fn text_len(value: &Value) -> usize {
-    match value.node() {
-        Node::Str(s) | Node::Keyword(s) | Node::Symbol(s) => s.as_bytes().len(),
-        _ => 0,
-    }
+    value.node().text().len()
 }
 
 // Asks, at each 16th entry, for room for the keys of the next 16. A key's text lies anywhere in memory, and the processor

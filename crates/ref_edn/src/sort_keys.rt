@@ -1,8 +1,8 @@
 //! Values with a number by which most of them differ: what a sort looks at first.
 ghost use Rattle.std.specs.Prelude.{◌≡◌, get_or};
-ghost use Rattle.ref_value.specs.Edn.{Edn};
+ghost use Rattle.ref_value.specs.Edn.{Edn, text_of};
 ghost use Rattle.ref_value.specs.Order.{edn_cmp, rank as rank_of};
-ghost use Rattle.ref_edn.specs.SortKeys.{AreBytes, spelled, text_of, int_key as int_key_of, sort_key};
+ghost use Rattle.ref_edn.specs.SortKeys.{AreBytes, spelled, int_key as int_key_of, sort_key};
 ghost use Rattle.ref_value.specs.View.{edn};
 
 use ref_value::order::{compare, rank};
@@ -21,9 +21,9 @@ pub(crate) struct Keyed {
 
 impl Model for Keyed {
     ghost use Rattle.std.specs.Prelude.{◌≡◌};
-    ghost use Rattle.ref_value.specs.Edn.{Edn};
+    ghost use Rattle.ref_value.specs.Edn.{Edn, text_of};
     ghost use Rattle.ref_value.specs.Code.{edn_code};
-    ghost use Rattle.ref_edn.specs.SortKeys.{AreBytes, text_of, sort_key};
+    ghost use Rattle.ref_edn.specs.SortKeys.{AreBytes, sort_key};
 
     ghost Value = { Edn };
 
@@ -67,14 +67,7 @@ fn key_of(node: &Node) -> u64
 {
     match node {
         Node::Int(n) => int_key(*n),
-        Node::Str(text) | Node::Keyword(text) | Node::Symbol(text) => spell(
-            rank(node),
-            text.as_bytes(),
-        ),
-        Node::Nil | Node::Bool(_) | Node::Vector(_) | Node::Map(_) | Node::Set(_) => spell(
-            rank(node),
-            &[],
-        ),
+        _ => spell(rank(node), node.text()),
     }
 }
 

@@ -12,7 +12,7 @@ use crate::bytes::after;
 use crate::faults::{Kind, ReadError};
 use crate::interner::Interner;
 use memchr::memchr2;
-use ref_value::{Node, Text, Value};
+use ref_value::{Node, Value};
 use std::alloc::{AllocError, Global};
 
 // What a letter behind a backslash stands for.
@@ -137,8 +137,7 @@ fn plain_string(
     }
     match str::from_utf8(content) {
         Ok(text) => {
-            let text = Text::copy_of(alloc, text)?;
-            let value = Value::of_lawful(Node::Str(text));
+            let value = Value::of_lawful(Node::string(alloc, text)?);
             Ok(Some(interner.kept(content, value)?))
         }
         Err(_) => Ok(None),
@@ -169,8 +168,8 @@ pub(crate) fn string<'a>(
     let (bytes, rest) = body(alloc, inside)?;
     match String::from_utf8(bytes) {
         Ok(content) => {
-            let content = Text::of(alloc, content)?;
-            Ok((Value::of_lawful(Node::Str(content)), rest))
+            let node = Node::string_of(alloc, content)?;
+            Ok((Value::of_lawful(node), rest))
         }
         Err(_) => Err(ReadError::at(Kind::NotUtf8, text)),
     }

@@ -14,7 +14,7 @@ use crate::bytes::{after, is_delimiter, is_digit, token_end};
 use crate::faults::{Kind, ReadError};
 use crate::interner::Interner;
 use ref_value::names::{is_keyword, is_same, is_symbol};
-use ref_value::{Node, Text, Value};
+use ref_value::{Node, Value};
 use std::alloc::{AllocError, Global};
 
 fn are_digits(digits: &[u8]) -> bool
@@ -252,8 +252,8 @@ fn keyword(
     if !is_keyword(name) {
         return Ok(Err(Kind::BadName));
     }
-    let text = Text::of_bytes(alloc, name)?;
-    Ok(Ok(interner.kept(name, Value::of_lawful(Node::Keyword(text)))?))
+    let node = Node::keyword_of_bytes(alloc, name)?;
+    Ok(Ok(interner.kept(name, Value::of_lawful(node))?))
 }
 
 // The value of a symbol, or of a word that is a value of its own.
@@ -275,8 +275,8 @@ fn symbol(
     } else if is_same(word, b"false") {
         Value::of_lawful(Node::Bool(false))
     } else if is_symbol(word) {
-        let text = Text::of_bytes(alloc, word)?;
-        interner.kept(word, Value::of_lawful(Node::Symbol(text)))?
+        let node = Node::symbol_of_bytes(alloc, word)?;
+        interner.kept(word, Value::of_lawful(node))?
     } else {
         return Ok(Err(Kind::BadName));
     }))

@@ -16,7 +16,7 @@
 --
 -- RULE is `[P ARG ..]`. What a form doesn't say is None here.
 use Rattle.std.specs.Prelude.{ℕ, ◌+◌, Bool, true, false, if◌then◌else◌, nat_le, List, [], ◌∷◌, Option, None, Some, option_map, option_and_then}
-use Rattle.ref_value.specs.Edn.{Edn, symbol, vector, list_of, nesting}
+use Rattle.ref_value.specs.Edn.{Edn, symbol, vector, list_of, nesting, keyword_of}
 use Rattle.ref_value.specs.Names.{bytes_eq}
 use Rattle.ref_fun.specs.declared.actions.Action.{Action}
 use Rattle.ref_fun.specs.declared.rules.Rule.{Rule}
@@ -27,7 +27,7 @@ use Rattle.ref_agents.specs.declared.agents.ErrorMode.{ErrorMode}
 use Rattle.ref_agents.specs.declared.agents.ErrorMode.TheVariants as modes
 use Rattle.ref_start.specs.Names.{NamesSeen}
 use Rattle.ref_forms.specs.Calls.{action_said, any, mode_said, rule_of, rule_said, value_said}
-use Rattle.ref_forms.specs.Plain.{alone_said, and_said, elements_of, keyword_of, mark_said, number_of, one_said, only_if, stamp_number, then_said, two_said}
+use Rattle.ref_forms.specs.Plain.{alone_said, and_said, elements_of, mark_said, number_of, one_said, only_if, stamp_number, then_said, two_said}
 use Rattle.ref_forms.specs.References.{carrying_said, number_said, state_said}
 use Rattle.ref_forms.specs.declared.kinds.Kind.{Kind}
 use Rattle.ref_forms.specs.declared.kinds.Kind.TheVariants as kinds

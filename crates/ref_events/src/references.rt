@@ -48,7 +48,7 @@ fn numbered_in(mut parts: Iter<'_>) -> Option<Who>
     };
     let word = keyword_in(kind)?;
     let number = stamp_number_in(number)?;
-    who_at(word.as_bytes(), number)
+    who_at(word, number)
 }
 
 impl<'a> Naming for Numbered<'a> {
@@ -56,7 +56,7 @@ impl<'a> Naming for Numbered<'a> {
 
     fn who_in(&self, form: &Value) -> Result<Who, Wrong> {
         match form.node() {
-            Node::Symbol(_) => self.declared.who_in(form),
+            Node::Symbol(_) | Node::ShortSymbol(_) => self.declared.who_in(form),
             Node::Vector(parts) => match numbered_in(parts.iter()) {
                 Some(who) => Ok(who),
                 None => Err(Wrong::Form),

@@ -152,5 +152,5 @@ fn word_of(name: &[u8]) -> Option<ActWord>
 pub(crate) fn word_in(form: &Value) -> Option<ActWord>
     ensures { result ≡ word_said form.now }
 {
-    word_of(keyword_in(form)?.as_bytes())
+    word_of(keyword_in(form)?)
 }

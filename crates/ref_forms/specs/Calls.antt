@@ -2,7 +2,7 @@
 -- arguments: documents differ in it.
 use Rattle.std.specs.Prelude.{ℕ, nat_le, Bool, true, if◌then◌else◌, ◌&&◌, List, [], ◌∷◌, length, Option, None, Some, option_map, option_and_then, codes}
 use Rattle.std.specs.List.{list_all}
-use Rattle.ref_value.specs.Edn.{Edn, nil, vector, list_of}
+use Rattle.ref_value.specs.Edn.{Edn, nil, vector, list_of, keyword_of, symbol_of}
 use Rattle.ref_value.specs.Names.{bytes_eq}
 use Rattle.ref_fun.specs.Names.{code_in, core_names, is_function, is_predicate}
 use Rattle.ref_fun.specs.declared.actions.Action.{Action}
@@ -10,7 +10,7 @@ use Rattle.ref_fun.specs.declared.carries.Carry.{Carry}
 use Rattle.ref_fun.specs.declared.rules.Rule.{Rule}
 use Rattle.ref_agents.specs.declared.agents.ErrorMode.{ErrorMode}
 use Rattle.ref_agents.specs.declared.agents.ErrorMode.TheVariants as modes
-use Rattle.ref_forms.specs.Plain.{both, elements_of, keyword_of, only_if, symbol_of}
+use Rattle.ref_forms.specs.Plain.{both, elements_of, only_if}
 
 -- every value
 abbrev pub any : Edn → Bool

@@ -1,7 +1,7 @@
 -- What plain forms say: numbers, keywords, vectors. What a form doesn't say, or says in another way, is None.
 use Rattle.std.specs.Prelude.{ℕ, pos, ◌^◌, nat_le, nat_lt, if◌then◌else◌, Bool, true, false, List, [], ◌∷◌, length, Option, None, Some, is_some, option_map, option_and_then}
 use Rattle.std.specs.List.{list_all, list_any}
-use Rattle.ref_value.specs.Edn.{Edn, int, keyword, symbol, vector, map, list_of, pairs_of}
+use Rattle.ref_value.specs.Edn.{Edn, int, keyword, keyword_of, vector, map, list_of, pairs_of}
 use Rattle.ref_value.specs.Names.{bytes_eq}
 
 -- what two things say together
@@ -24,14 +24,6 @@ number_of x = None
 -- the number of a worker, an actor or a step
 abbrev pub stamp_number : Edn → Option ℕ
 stamp_number x = option_and_then (λ n. only_if (nat_lt n (2 ^ 32)) n) (number_of x)
-
-abbrev pub keyword_of : Edn → Option (List ℕ)
-keyword_of (keyword name) = Some name
-keyword_of x = None
-
-abbrev pub symbol_of : Edn → Option (List ℕ)
-symbol_of (symbol name) = Some name
-symbol_of x = None
 
 abbrev pub elements_of : Edn → Option (List Edn)
 elements_of (vector xs) = Some (list_of xs)

@@ -9,7 +9,7 @@ use crate::plain::{elements_in, symbol_in};
 use crate::wrong::Wrong;
 use ref_fun::{Action, Args, MOST_ARGUMENTS, Rule, is_function, is_predicate};
 use ref_value::vectors::Iter;
-use ref_value::{Node, Text, Value};
+use ref_value::{Node, Value};
 use std::alloc::Global;
 
 /// Which values a document takes, as arguments and elsewhere.
@@ -32,18 +32,18 @@ impl Values for AnyValue {
 }
 
 /// The code of the function of Core that has this name.
-pub fn function_named(name: &Text) -> Option<u32>
+pub fn function_named(name: &[u8]) -> Option<u32>
     ensures { result ≡ code_for is_function name.now }
 {
-    let code = ref_fun::code_of(name.as_bytes())?;
+    let code = ref_fun::code_of(name)?;
     if is_function(code) { Some(code) } else { None }
 }
 
 /// The code of the predicate of Core that has this name.
-pub fn predicate_named(name: &Text) -> Option<u32>
+pub fn predicate_named(name: &[u8]) -> Option<u32>
     ensures { result ≡ code_for is_predicate name.now }
 {
-    let code = ref_fun::code_of(name.as_bytes())?;
+    let code = ref_fun::code_of(name)?;
     if is_predicate(code) { Some(code) } else { None }
 }
 

@@ -36,5 +36,5 @@ pub fn mode_named(word: &[u8]) -> Option<ErrorMode>
 pub fn mode_in(form: &Value) -> Option<ErrorMode>
     ensures { result ≡ mode_said form.now }
 {
-    mode_named(keyword_in(form)?.as_bytes())
+    mode_named(keyword_in(form)?)
 }

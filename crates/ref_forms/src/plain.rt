@@ -1,10 +1,11 @@
 //! The plain forms: numbers, keywords, symbols, vectors.
-ghost use Rattle.std.specs.Prelude.{◌≡◌, ◌≤◌, ◌<◌, ◌^◌, None, Some, IfNone, IfSome, length};
+ghost use Rattle.std.specs.Prelude.{◌≡◌, ◌≤◌, ◌<◌, ◌^◌, None, Some, IfNone, IfSome, IsUtf8, length};
+ghost use Rattle.ref_value.specs.Edn.{keyword_of, symbol_of};
 ghost use Rattle.ref_value.specs.Names.{bytes_eq};
-ghost use Rattle.ref_forms.specs.Plain.{elements_of, elements_within, is_word, keyword_of, number_of, stamp_number, symbol_of, tagged_of};
+ghost use Rattle.ref_forms.specs.Plain.{elements_of, elements_within, is_word, number_of, stamp_number, tagged_of};
 
 use ref_value::vectors::Iter;
-use ref_value::{Items, Node, Text, Value};
+use ref_value::{Items, Node, Value};
 
 /// An integer of 0 or more.
 pub fn number_in(form: &Value) -> Option<u64>
@@ -29,26 +30,21 @@ pub fn stamp_number_in(form: &Value) -> Option<u32>
     }
 }
 
-/// The text of a keyword without its colon, or `None` for another value.
-pub fn keyword_in(form: &Value) -> Option<&Text>
+/// The bytes of a keyword's name, or `None` for another value.
+pub fn keyword_in(form: &Value) -> Option<&[u8]>
     ensures some { IfSome result (λ name. keyword_of form.now ≡ Some name.now) }
     ensures none { IfNone result (keyword_of form.now ≡ None) }
 {
-    match form.node() {
-        Node::Keyword(name) => Some(name),
-        _ => None,
-    }
+    form.node().as_keyword()
 }
 
-/// The text of a symbol, or `None` for another value.
-pub fn symbol_in(form: &Value) -> Option<&Text>
+/// The bytes of a symbol's name, or `None` for another value.
+pub fn symbol_in(form: &Value) -> Option<&[u8]>
     ensures some { IfSome result (λ name. symbol_of form.now ≡ Some name.now) }
     ensures none { IfNone result (symbol_of form.now ≡ None) }
+    ensures utf8 { IfSome result (λ name. IsUtf8 name.now) }
 {
-    match form.node() {
-        Node::Symbol(name) => Some(name),
-        _ => None,
-    }
+    form.node().as_symbol()
 }
 
 /// The elements of a vector, or `None` for another value.
@@ -77,7 +73,7 @@ pub fn elements_up_to(form: &Value, most: usize) -> Option<&Items>
 }
 
 /// The keyword that a vector begins with, and what follows it.
-pub fn tagged_in(form: &Value) -> Option<(&Text, Iter<'_>)>
+pub fn tagged_in(form: &Value) -> Option<(&[u8], Iter<'_>)>
     ensures some { IfSome result (λ t. tagged_of form.now ≡ Some (t.0.now, t.1)) }
     ensures none { IfNone result (tagged_of form.now ≡ None) }
 {
@@ -97,8 +93,8 @@ pub fn is_same(a: &[u8], b: &[u8]) -> bool
 pub fn is_word(form: &Value, word: &[u8]) -> bool
     ensures { result ≡ is_word word.now form.now }
 {
-    match form.node() {
-        Node::Keyword(name) => is_same(name.as_bytes(), word),
-        _ => false,
+    match keyword_in(form) {
+        Some(name) => is_same(name, word),
+        None => false,
     }
 }

@@ -13,3 +13,4 @@ pub mod Calls
 pub mod Args
 pub mod Table
 pub mod Actions
+pub mod Lists

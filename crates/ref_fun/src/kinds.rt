@@ -13,7 +13,7 @@ pub(crate) fn is_int(value: &Value) -> bool
 pub(crate) fn is_string(value: &Value) -> bool
     ensures { result ≡ is_string value.now }
 {
-    matches!(value.node(), Node::Str(_))
+    matches!(value.node(), Node::Str(_) | Node::ShortStr(_))
 }
 
 pub(crate) fn is_vector(value: &Value) -> bool

@@ -1,11 +1,13 @@
 //! Lists with several owners, and what can have several owners.
 ghost use Rattle.std.specs.Prelude.{◌≡◌, ◌≢◌, ◌<◌, ◌↔◌, [], ◌∷◌, ◌++◌, ◌^◌, IsTrue, length, IfOk, OnErr, OnOk, slice_get, slice_index_or, option_copied};
+ghost use Rattle.std.specs.Mem.{FitsInMemory};
 ghost use Rattle.std.specs.Slice.{IsItemAt};
 ghost use Rattle.std.specs.Iterator.{YieldsFirstRef, item_count};
 
 use ref_value::Value;
 use std::alloc::{AllocError, Global};
 use std::marker::Model;
+use std::slice;
 use std::sync::Arc;
 
 /// What can have one more owner.
@@ -26,23 +28,51 @@ pub fn share_all<T: Share>(alloc: Global, items: &[T]) -> Result<Vec<T>, AllocEr
     Ok(all)
 }
 
-/// The items of a `Vec`, which may have several owners. What the others have doesn't change. Contracts see a list.
+// A single item lies next to the count of its owners, so that it takes one block and not two.
+pub(crate) enum Inside<T> {
+    Empty,
+    One(Arc<Only<T>>),
+    Many(Arc<Vec<T>>),
+}
+
 #[derive(Drop)]
+pub(crate) struct Only<T> {
+    item: T,
+}
+
+// A function of its own, which each place that drops one calls; a derived one would be written out there.
+impl<T: Drop> Drop for Inside<T> {
+    fn drop(self) {
+        match self {
+            Inside::Empty => {}
+            Inside::One(_item) => {}
+            Inside::Many(_items) => {}
+        }
+    }
+}
+
+/// Items that may have several owners. What the others have doesn't change. No items take no block of memory, a single one takes one, and
+/// more take two. Contracts see a list.
 pub struct SharedVec<T> {
-    // No block is taken for no items.
-    inside: Option<Arc<Vec<T>>>,
+    inside: Inside<T>,
+}
+
+impl<T: Drop> Drop for SharedVec<T> {
+    fn drop(self) {
+        let SharedVec { inside: _inside } = self;
+    }
 }
 
 impl<T> Model for SharedVec<T> {
-    ghost use Rattle.std.specs.Prelude.{List, []};
+    ghost use Rattle.std.specs.Prelude.{List};
     ghost use Rattle.std.specs.Coded.{coded_list};
-    ghost use Rattle.std.specs.Option.{option_map_or};
+    ghost use Rattle.ref_fun.specs.Lists.{items_in};
 
     ghost Value = { List T };
 
     ghost coded = { coded_list T.code };
 
-    ghost view = { λ a. option_map_or (λ items. items.value.items) a.inside [] };
+    ghost view = { λ a. items_in a.inside };
 }
 
 impl<T: Drop> SharedVec<T> {
@@ -50,7 +80,9 @@ impl<T: Drop> SharedVec<T> {
     pub fn none() -> SharedVec<T>
         ensures { result ≡ [] }
     {
-        SharedVec { inside: None }
+        SharedVec {
+            inside: Inside::Empty,
+        }
     }
 
     /// The items that a `Vec` holds, which isn't copied. Where there are none it takes no memory.
@@ -62,7 +94,7 @@ impl<T: Drop> SharedVec<T> {
             return Ok(SharedVec::none());
         }
         Ok(SharedVec {
-            inside: Some(Arc::new(alloc, items)?),
+            inside: Inside::Many(Arc::new(alloc, items)?),
         })
     }
 
@@ -71,8 +103,9 @@ impl<T: Drop> SharedVec<T> {
         ensures { result ≡ length self.now }
     {
         match &self.inside {
-            Some(items) => items.len(),
-            None => 0,
+            Inside::Empty => 0,
+            Inside::One(_) => 1,
+            Inside::Many(items) => items.len(),
         }
     }
 
@@ -81,8 +114,9 @@ impl<T: Drop> SharedVec<T> {
         ensures { IsTrue result ↔ (self.now ≡ []) }
     {
         match &self.inside {
-            Some(items) => items.is_empty(),
-            None => true,
+            Inside::Empty => true,
+            Inside::One(_) => false,
+            Inside::Many(items) => items.is_empty(),
         }
     }
 
@@ -92,8 +126,9 @@ impl<T: Drop> SharedVec<T> {
         ensures { result.now ≡ slice_index_or self.now i result.now }
     {
         match &self.inside {
-            Some(items) => &items[i],
-            None => unreachable!(),
+            Inside::Empty => unreachable!(),
+            Inside::One(only) => &only.item,
+            Inside::Many(items) => &items[i],
         }
     }
 
@@ -103,18 +138,21 @@ impl<T: Drop> SharedVec<T> {
         ensures item { IsItemAt self.now i result }
     {
         match &self.inside {
-            Some(items) => items.get(i),
-            None => None,
+            Inside::Empty => None,
+            Inside::One(only) => { if i == 0 { Some(&only.item) } else { None } }
+            Inside::Many(items) => items.get(i),
         }
     }
 
     /// All items.
     pub fn as_slice(&self) -> &[T]
+        requires { FitsInMemory T.row }
         ensures { result.now ≡ self.now }
     {
         match &self.inside {
-            Some(items) => items.as_slice(),
-            None => &[],
+            Inside::Empty => &[],
+            Inside::One(only) => slice::from_ref(&only.item),
+            Inside::Many(items) => items.as_slice(),
         }
     }
 
@@ -134,39 +172,48 @@ impl<T: Drop> SharedVec<T> {
     pub fn share(&self) -> Result<SharedVec<T>, AllocError>
         ensures { IfOk result (λ xs. xs ≡ self.now) }
     {
-        match &self.inside {
-            Some(items) => Ok(SharedVec {
-                inside: Some(Arc::try_clone(items)?),
-            }),
-            None => Ok(SharedVec::none()),
-        }
+        let inside = match &self.inside {
+            Inside::Empty => Inside::Empty,
+            Inside::One(only) => Inside::One(Arc::try_clone(only)?),
+            Inside::Many(items) => Inside::Many(Arc::try_clone(items)?),
+        };
+        Ok(SharedVec { inside })
     }
 }
 
 impl<T: Share> SharedVec<T> {
-    /// Puts an item behind the others, in place where the list has no other owner. Else the items get one more owner each, in a
-    /// list of their own. Room is made for exactly one item, then for as many again as there are: a list of one or two takes no more
-    /// than it needs.
+    /// Puts an item behind the others, in place where the list has two or more and no other owner. Else the items get one more owner each,
+    /// in a list of their own. Room is made for exactly two items, then for as many again as there are.
     pub fn push(&mut self, alloc: Global, item: T) -> Result<(), AllocError>
         ensures ok { OnOk result (self.new ≡ self.old ++ item ∷ []) }
         ensures err { OnErr result (self.new ≡ self.old) }
     {
-        match &mut self.inside {
-            Some(items) => push_shared(alloc, items, item),
-            None => {
-                self.inside = Some(one(alloc, item)?);
-                Ok(())
+        match &self.inside {
+            Inside::Empty => {
+                self.inside = Inside::One(Arc::new(alloc, Only { item })?);
+                return Ok(());
             }
+            Inside::One(only) => {
+                let both = two(alloc, only.item.share()?, item)?;
+                self.inside = Inside::Many(both);
+                return Ok(());
+            }
+            Inside::Many(_) => {}
+        }
+        match &mut self.inside {
+            Inside::Many(items) => push_shared(alloc, items, item),
+            Inside::Empty | Inside::One(_) => unreachable!(),
         }
     }
 }
 
-// A list of one item, with room for no other.
-fn one<T: Drop>(alloc: Global, item: T) -> Result<Arc<Vec<T>>, AllocError>
-    ensures { IfOk result (λ items. items.value.items ≡ item ∷ []) }
+// A list of two items, with room for no other.
+fn two<T: Drop>(alloc: Global, first: T, second: T) -> Result<Arc<Vec<T>>, AllocError>
+    ensures { IfOk result (λ items. items.value.items ≡ first ∷ second ∷ []) }
 {
-    let mut items = Vec::with_capacity(alloc, 1)?;
-    items.push(item)?;
+    let mut items = Vec::with_capacity(alloc, 2)?;
+    items.push(first)?;
+    items.push(second)?;
     Ok(Arc::new(alloc, items)?)
 }
 

@@ -35,7 +35,15 @@ fn are_same<T: Same>(xs: &[T], ys: &[T]) -> bool
 
 impl<T: Same + Drop> Same for SharedVec<T> {
     fn is_same(&self, other: &SharedVec<T>) -> bool {
-        are_same(self.as_slice(), other.as_slice())
+        if self.len() != other.len() {
+            return false;
+        }
+        for i in 0..self.len() {
+            if !self.at(i).is_same(other.at(i)) {
+                return false;
+            }
+        }
+        true
     }
 }
 

@@ -1,5 +1,6 @@
--- To be read and believed: Told (what a refused call returns), Replay, Tally, Fold, Watches, Guards, Make, Faults.
+-- To be read and believed: Limits, Told (what a refused call returns), Replay, Tally, Fold, Watches, Guards, Make, Faults.
 -- Laws, TallyLaws, FoldLaws and Called are proved, for the owner of a log.
+pub mod Limits
 pub mod Told
 pub mod Faults
 pub mod Replay

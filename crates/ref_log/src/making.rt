@@ -1,9 +1,10 @@
 //! What a reference of each kind has to meet when it is made.
 ghost use Rattle.ref_log.specs.Told.{Tells};
-ghost use Rattle.std.specs.Prelude.{◌≡◌, ◌≢◌, ◌<◌, ◌≤◌, ◌^◌, true, IfErr, OnOk};
+ghost use Rattle.std.specs.Prelude.{◌≡◌, ◌≢◌, ◌<◌, ◌≤◌, true, IfErr, OnOk};
 ghost use Rattle.ref_fun.specs.Rule.{passes};
 ghost use Rattle.ref_log.specs.Make.{make_refusal};
 ghost use Rattle.ref_log.specs.declared.faults.MakeFault.TheVariants.{Memory};
+ghost use Rattle.ref_log.specs.Limits.{last_point, most_references};
 
 use crate::faults::MakeFault;
 use ref_fun::{Functions, Meaning, Rule, check_known, passes};
@@ -28,9 +29,9 @@ pub fn check_make<M: Meaning, F: Functions<M>>(
     ensures refused { Tells (make_refusal M.accepts
         (F.knows funs.now).preds count is_bad_tally at start.now rule.now) result }
     // What the making goes on with.
-    ensures room { OnOk result (count < 2 ^ 20) }
+    ensures room { OnOk result (count < most_references) }
     ensures accepted { OnOk result (passes M.accepts rule.now start.now ≡ true) }
-    ensures limit { OnOk result (at ≤ 2 ^ 62) }
+    ensures limit { OnOk result (at ≤ last_point) }
     ensures told { IfErr result (λ f. f ≢ Memory) }
 {
     if let Err(code) = check_known(funs, rule) {

@@ -146,10 +146,9 @@ module _ (table : Table) (names : NamesSeen) (k : Knows table names) where
       let somes : Some a ≡ Some b = sym (k.has name a p) ∙ k.has name b q in
       cc
 
-  pub told : {E : Type 0} (name : List ℕ) (answer : Result (Option Who) E) → IfOk answer (λ w. w ≡ found table name) → IfOk answer (λ w. IfSome w (λ who. IsNamed names who name))
-  told name (Ok None) e = tt
-  told name (Ok (Some w)) e = k.tells name w (sym e)
-  told name (Err f) e = tt
+  pub told : (name : List ℕ) (answer : Option Who) → answer ≡ found table name → IfSome answer (λ who. IsNamed names who name)
+  told name None e = tt
+  told name (Some w) e = k.tells name w (sym e)
 
 -- equal names
 pub with_refs : (table : Table) (refs refs' : List (List ℕ)) → refs ≡ refs' → Knows table (refs_alone refs) → Knows table (refs_alone refs')

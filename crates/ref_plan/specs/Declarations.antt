@@ -1,7 +1,7 @@
 -- How references are declared: `[NAME VALUE]`, then RULE where there is one, and then, for a ref, `:tally` where it is the tally, or,
 -- for an agent, `:fail` or `:continue`, its error mode. A rule accepts the value.
 use Rattle.std.specs.Prelude.{◌≡◌, ◌≤◌, ◌&&◌, ℕ, Bool, true, false, not, ◌||◌, List, [], ◌∷◌, Option, None, Some, count_by, option_and_then, option_map}
-use Rattle.ref_value.specs.Edn.{Edn, keyword}
+use Rattle.ref_value.specs.Edn.{Edn, keyword, keyword_of, symbol_of}
 use Rattle.ref_value.specs.Names.{bytes_eq}
 use Rattle.ref_agents.specs.declared.agents.ErrorMode.{ErrorMode}
 use Rattle.ref_agents.specs.declared.agents.ErrorMode.TheVariants.{Fail}
@@ -14,7 +14,7 @@ use Rattle.ref_start.specs.declared.starts.AtomStart.{AtomStart}
 use Rattle.ref_start.specs.declared.starts.RefStart.{RefStart}
 use Rattle.ref_start.specs.Names.{NamesSeen}
 use Rattle.ref_forms.specs.Calls.{mode_named, rule_said, value_said}
-use Rattle.ref_forms.specs.Plain.{both, elements_of, keyword_of, only_if, symbol_of}
+use Rattle.ref_forms.specs.Plain.{both, elements_of, only_if}
 use Rattle.ref_plan.specs.Limits.{is_shallow}
 use Rattle.ref_plan.specs.Named.{AreApart}
 use Rattle.ref_plan.specs.Words.{tally_word}

@@ -1,11 +1,10 @@
 -- Which reference a name names. Refs, atoms and agents share one name space.
 use Rattle.std.specs.Prelude.{◌≡◌, ℕ, suc, if◌then◌else◌, List, [], ◌∷◌, Option, None, Some, option_and_then, option_map, slice_get}
-use Rattle.ref_value.specs.Edn.{Edn}
+use Rattle.ref_value.specs.Edn.{Edn, symbol_of}
 use Rattle.ref_value.specs.Names.{bytes_eq}
 use Rattle.ref_start.specs.Names.{NamesSeen}
 use Rattle.ref_log.specs.declared.notices.Who.{Who}
 use Rattle.ref_log.specs.declared.notices.Who.TheVariants.{Ref, Atom, Agent}
-use Rattle.ref_forms.specs.Plain.{symbol_of}
 
 -- the name of a reference, if it is declared
 abbrev pub name_of : NamesSeen → Who → Option (List ℕ)

@@ -1,6 +1,6 @@
 -- What definitions say that the machine and the calls of a world share, in plain words: each is met exactly where what stands here is
 -- so. The functions of src/theorems.rt have these laws as contracts.
-use Rattle.std.specs.Prelude.{◌≡◌, ◌≢◌, ◌↔◌, ◌⊎◌, ℕ, pos, ◌<◌, ◌≤◌, ◌^◌, Bool, true, false, List, [], ◌∷◌, ◌++◌, length, slice_get, slice_set, Option, None, Some, Ok, Err, ◌+◌, slice_index_or, map}
+use Rattle.std.specs.Prelude.{◌≡◌, ◌≢◌, ◌↔◌, ◌⊎◌, ℕ, pos, ◌<◌, ◌≤◌, Bool, true, false, List, [], ◌∷◌, ◌++◌, length, slice_get, slice_set, Option, None, Some, Ok, Err, ◌+◌, slice_index_or, map}
 use Rattle.std.specs.List.{AllByRecursion}
 use Rattle.ref_value.specs.Edn.{Edn, int}
 use Rattle.ref_fun.specs.Calls.{Known}
@@ -30,6 +30,7 @@ use Rattle.ref_refs.specs.declared.faults.Alien.TheVariants as aliens
 use Rattle.ref_refs.specs.declared.faults.CommitFault.{CommitFault}
 use Rattle.ref_refs.specs.declared.faults.CommitFault.TheVariants as commits
 use Rattle.ref_refs.specs.declared.faults.Conflict as told
+use Rattle.ref_log.specs.Limits.{last_point}
 
 -- ---- operations
 
@@ -228,7 +229,7 @@ pub record CanCommit (means : Means) (accepts : Accepts) (knows : Known) (store 
   pub after : List Edn
   pub leads : Leads means tx.dones tx.dones store.values after
   pub rules : KeepsRules accepts store tx after
-  pub within : at ≤ 2 ^ 62
+  pub within : at ≤ last_point
   pub added : (sum : ℕ) → SumsTo store.tally 1 tx.dones sum → sum ≤ most_added
   pub taken : (sum : ℕ) → SumsTo store.tally 2 tx.dones sum → sum ≤ most_taken
 
@@ -326,8 +327,8 @@ module _ (means : Means) (accepts : Accepts) (knows : Known) (store : RefsSeen) 
   Why most_added most_taken (commits.Foreign (aliens.Value r)) = IsKnown × AreUnchanged store tx × IsSmallestOther store tx r
   Why most_added most_taken (commits.Refused r cause) = IsCurrent × RefusedOn means r cause tx.dones store.values
   Why most_added most_taken (commits.Invalid r) = IsCurrent × ((after : List Edn) × Leads means tx.dones tx.dones store.values after × IsSmallestInvalid accepts store tx after r)
-  Why most_added most_taken commits.PointLimit = IsMade × (2 ^ 62 < at)
-  Why most_added most_taken commits.BookFull = IsMade × (at ≤ 2 ^ 62)
+  Why most_added most_taken commits.PointLimit = IsMade × (last_point < at)
+  Why most_added most_taken commits.BookFull = IsMade × (at ≤ last_point)
       × (((sum : ℕ) × SumsTo store.tally 1 tx.dones sum × (most_added < sum)) ⊎ ((sum : ℕ) × SumsTo store.tally 2 tx.dones sum × (most_taken < sum)))
   Why most_added most_taken commits.Memory = ⊥
 

@@ -1,5 +1,5 @@
 -- When an atom is changed, in plain words.
-use Rattle.std.specs.Prelude.{◌≡◌, ◌≢◌, ◌↔◌, ◌⊎◌, ℕ, ◌<◌, ◌≤◌, ◌^◌, Bool, true, false, slice_get, Option, None, Some}
+use Rattle.std.specs.Prelude.{◌≡◌, ◌≢◌, ◌↔◌, ◌⊎◌, ℕ, ◌<◌, ◌≤◌, Bool, true, false, slice_get, Option, None, Some}
 use Rattle.ref_value.specs.Edn.{Edn}
 use Rattle.ref_fun.specs.Calls.{Known}
 use Rattle.ref_fun.specs.Meaning.{Means}
@@ -12,6 +12,7 @@ use Rattle.ref_atoms.specs.declared.faults.AtomFault.{AtomFault}
 use Rattle.ref_atoms.specs.declared.faults.AtomFault.TheVariants as atom_faults
 use Rattle.ref_play.specs.Plain.{HasRule, KnowsRuleOf, Makes, RefusesValue, RuleAccepts, RuledBy}
 use Rattle.ref_play.specs.PlainTx.{Calls, HasCalled}
+use Rattle.ref_log.specs.Limits.{last_point}
 
 -- A predicate of a rule doesn't accept a value.
 abbrev pub IsUnacceptable : Accepts → AtomsSeen → ℕ → Edn → Type 0
@@ -26,14 +27,14 @@ module _ (means : Means) (accepts : Accepts) (knows : Known) (atoms : AtomsSeen)
 
   -- The rule accepts the new value, and there is a point; or what stands against it, where nothing does that is asked before.
   abbrev pub ChangesSo : Option AtomFault → Type 0
-  ChangesSo None = (old new : Edn) × IsCallable old × Makes means op old new × RuleAccepts accepts atoms.guards a new × (at ≤ 2 ^ 62)
+  ChangesSo None = (old new : Edn) × IsCallable old × Makes means op old new × RuleAccepts accepts atoms.guards a new × (at ≤ last_point)
   ChangesSo (Some atom_faults.NoSuchAtom) = slice_get atoms.values a ≡ None
   ChangesSo (Some (atom_faults.NoSuchFun code)) =
       (slice_get atoms.values a ≢ None)
       × ((Calls code op × (knows.funs code ≡ false)) ⊎ (HasCalled knows.funs op × RuledBy atoms.guards code a × (knows.preds code ≡ false)))
   ChangesSo (Some (atom_faults.Refused cause)) = (old : Edn) × IsCallable old × RefusesValue means op old cause
   ChangesSo (Some atom_faults.Invalid) = (old new : Edn) × IsCallable old × Makes means op old new × IsUnacceptable accepts atoms a new
-  ChangesSo (Some atom_faults.PointLimit) = (old new : Edn) × IsCallable old × Makes means op old new × RuleAccepts accepts atoms.guards a new × (2 ^ 62 < at)
+  ChangesSo (Some atom_faults.PointLimit) = (old new : Edn) × IsCallable old × Makes means op old new × RuleAccepts accepts atoms.guards a new × (last_point < at)
   ChangesSo (Some atom_faults.Memory) = ⊥
 
 abbrev pub ChangesMean : Means → Accepts → Type 0
@@ -47,12 +48,12 @@ module _ (accepts : Accepts) (knows : ℕ → Bool) (atoms : AtomsSeen) (at a : 
   -- The rule is asked of the new value, whether the atom has the old one or not; a point is needed only where it has.
   abbrev pub ComparesSo : Option AtomFault → Type 0
   ComparesSo None =
-      (slice_get atoms.values a ≢ None) × KnowsRuleOf knows atoms.guards a × RuleAccepts accepts atoms.guards a new × (slice_get atoms.values a ≡ Some old → at ≤ 2 ^ 62)
+      (slice_get atoms.values a ≢ None) × KnowsRuleOf knows atoms.guards a × RuleAccepts accepts atoms.guards a new × (slice_get atoms.values a ≡ Some old → at ≤ last_point)
   ComparesSo (Some atom_faults.NoSuchAtom) = slice_get atoms.values a ≡ None
   ComparesSo (Some (atom_faults.NoSuchFun code)) = (slice_get atoms.values a ≢ None) × RuledBy atoms.guards code a × (knows code ≡ false)
   ComparesSo (Some atom_faults.Invalid) = (slice_get atoms.values a ≢ None) × KnowsRuleOf knows atoms.guards a × IsUnacceptable accepts atoms a new
   ComparesSo (Some atom_faults.PointLimit) =
-      (slice_get atoms.values a ≡ Some old) × KnowsRuleOf knows atoms.guards a × RuleAccepts accepts atoms.guards a new × (2 ^ 62 < at)
+      (slice_get atoms.values a ≡ Some old) × KnowsRuleOf knows atoms.guards a × RuleAccepts accepts atoms.guards a new × (last_point < at)
   ComparesSo (Some (atom_faults.Refused cause)) = ⊥
   ComparesSo (Some atom_faults.Memory) = ⊥
 

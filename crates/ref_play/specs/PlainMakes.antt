@@ -1,5 +1,5 @@
 -- When a reference is made, and when it can get another rule, in plain words.
-use Rattle.std.specs.Prelude.{◌≡◌, ◌≢◌, ◌↔◌, ◌⊎◌, ℕ, pos, ◌<◌, ◌≤◌, ◌^◌, Bool, true, false, length, Option, None, Some}
+use Rattle.std.specs.Prelude.{◌≡◌, ◌≢◌, ◌↔◌, ◌⊎◌, ℕ, pos, ◌<◌, ◌≤◌, Bool, true, false, length, Option, None, Some}
 use Rattle.ref_value.specs.Edn.{Edn, int}
 use Rattle.ref_fun.specs.Rule.{Accepts}
 use Rattle.ref_fun.specs.declared.rules.Rule.{Rule}
@@ -13,6 +13,7 @@ use Rattle.ref_refs.specs.Make as refs
 use Rattle.ref_refs.specs.Seen.{RefsSeen}
 use Rattle.ref_agents.specs.Agents.{AgentsSeen}
 use Rattle.ref_agents.specs.Make as agents
+use Rattle.ref_log.specs.Limits.{last_point, most_references}
 
 -- ---- a rule, or none
 
@@ -36,15 +37,15 @@ module _ (accepts : Accepts) (knows : ℕ → Bool) (count : ℕ) (BadTally : Ty
   -- There are fewer than 2^20 of its kind and it is no tally that can't be one, the rule accepts the value, and there is a point; or
   -- what stands against it, where nothing does that is asked before.
   abbrev pub HasRoom : Type 0
-  HasRoom = IsKnownRule knows rule × (count < 2 ^ 20) × (BadTally → ⊥)
+  HasRoom = IsKnownRule knows rule × (count < most_references) × (BadTally → ⊥)
 
   abbrev pub MakesSo : Option MakeFault → Type 0
-  MakesSo None = HasRoom × TakesValue accepts rule start × (at ≤ 2 ^ 62)
+  MakesSo None = HasRoom × TakesValue accepts rule start × (at ≤ last_point)
   MakesSo (Some (make_faults.NoSuchFun code)) = LacksRule knows rule code
-  MakesSo (Some make_faults.Full) = IsKnownRule knows rule × (2 ^ 20 ≤ count)
-  MakesSo (Some make_faults.BadTally) = IsKnownRule knows rule × (count < 2 ^ 20) × BadTally
+  MakesSo (Some make_faults.Full) = IsKnownRule knows rule × (most_references ≤ count)
+  MakesSo (Some make_faults.BadTally) = IsKnownRule knows rule × (count < most_references) × BadTally
   MakesSo (Some make_faults.Invalid) = HasRoom × RefusesIt accepts rule start
-  MakesSo (Some make_faults.PointLimit) = HasRoom × TakesValue accepts rule start × (2 ^ 62 < at)
+  MakesSo (Some make_faults.PointLimit) = HasRoom × TakesValue accepts rule start × (last_point < at)
   MakesSo (Some make_faults.Memory) = ⊥
 
 -- A ref can't be the tally where there is one, or where it doesn't start with an integer of 0 or more.

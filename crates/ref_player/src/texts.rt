@@ -1,5 +1,5 @@
 //! The play of a list of events, from its bytes to its lines.
-ghost use Rattle.std.specs.Prelude.{◌≡◌, ◌≢◌, IfErr, IfOk, IfSome, OnOk};
+ghost use Rattle.std.specs.Prelude.{◌+◌, ◌≡◌, ◌≢◌, IfErr, IfOk, IfSome, OnOk};
 ghost use Rattle.ref_edn.specs.Streams.{ConsumesUpTo};
 ghost use Rattle.ref_fun.specs.Calls.{HasCore};
 ghost use Rattle.ref_player.specs.Faults.{CountsReads, CountsWrites, IsOfText};
@@ -7,6 +7,7 @@ ghost use Rattle.ref_player.specs.Plays.{IsAtFault, IsPlay};
 ghost use Rattle.ref_player.specs.declared.faults.PlayFault.TheVariants as plays;
 ghost use Rattle.ref_workload.specs.Streams.{HasBrokenOff, HasWritten};
 ghost use Rattle.ref_workload.specs.declared.faults.RunFault.TheVariants as runs;
+ghost use Rattle.ref_workload.specs.Streams.{most_input};
 
 use crate::faults::PlayFault;
 use crate::plays::output_of;
@@ -31,7 +32,7 @@ pub fn play_events<F: Functions<Core>, I: Source, O: Sink>(
 ) -> Result<(), PlayFault>
     requires { HasCore (F.knows funs.now) }
     // It reads no further than one byte past what an input may have.
-    ensures taken { ConsumesUpTo (I.left reader.old) (I.left reader.new) 16777217 }
+    ensures taken { ConsumesUpTo (I.left reader.old) (I.left reader.new) (most_input + 1) }
     ensures ok { OnOk result (HasWritten IsPlay (I.left reader.old) (I.left reader.new) (O.written writer.old)
         (O.written writer.new)) }
     // The text, its value or its length is at fault, where the fault says so.

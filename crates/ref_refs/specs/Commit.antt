@@ -3,7 +3,7 @@
 -- A commit is asked for at a point, which comes right after the present one, by a caller that knows how many agents there are. What
 -- stands here speaks of the values and the last changes of all refs as they are before it, and of the transaction as a record:
 -- its read point, the values that it began with, its operations with their answers, and what it sends.
-use Rattle.std.specs.Prelude.{ℕ, ◌^◌, ◌==◌, nat_lt, Bool, true, false, not, ◌&&◌, ◌||◌, if◌then◌else◌, List, [], ◌∷◌, ◌++◌, find, length, slice_get, slice_set, Option, None, Some, Result, Ok, Err}
+use Rattle.std.specs.Prelude.{ℕ, ◌==◌, nat_lt, Bool, true, false, not, ◌&&◌, ◌||◌, if◌then◌else◌, List, [], ◌∷◌, ◌++◌, find, length, slice_get, slice_set, Option, None, Some, Result, Ok, Err}
 use Rattle.std.specs.List.{range_with_len}
 use Rattle.std.specs.Option.{option_map, option_or}
 use Rattle.std.specs.Ordering.{eq_by_cmp}
@@ -34,6 +34,7 @@ use Rattle.ref_refs.specs.Watches.{touched_refs}
 use Rattle.ref_refs.specs.declared.faults.Alien.TheVariants as aliens
 use Rattle.ref_refs.specs.declared.faults.CommitFault.{CommitFault}
 use Rattle.ref_refs.specs.declared.faults.CommitFault.TheVariants.{Foreign, Conflict, Refused, Invalid, PointLimit, BookFull, NoSuchFun}
+use Rattle.ref_log.specs.Limits.{last_point}
 
 abbrev pub or_fault : Option CommitFault → Option CommitFault → Option CommitFault
 or_fault (Some fault) later = Some fault
@@ -151,7 +152,7 @@ invalid accepts guards ds (Err fault) = None
 -- ---- the points end
 
 abbrev pub past_points : ℕ → Option CommitFault
-past_points at = if nat_lt (2 ^ 62) at then Some PointLimit else None
+past_points at = if nat_lt last_point at then Some PointLimit else None
 
 -- ---- a book is full
 

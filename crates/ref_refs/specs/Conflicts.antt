@@ -1,5 +1,5 @@
 -- What a conflict that is returned says of the transaction.
-use Rattle.std.specs.Prelude.{◌≡◌, ℕ, ◌<◌, ◌^◌, nat_lt, Bool, true, false, not, cond, ◌&&◌, ◌||◌, List, [], ◌∷◌, length, Option, None, Some, Result, Ok, Err, refl, slice_get, slice_set}
+use Rattle.std.specs.Prelude.{◌≡◌, ℕ, ◌<◌, nat_lt, Bool, true, false, not, cond, ◌&&◌, ◌||◌, List, [], ◌∷◌, length, Option, None, Some, Result, Ok, Err, refl, slice_get, slice_set}
 use Rattle.std.proofs.Common.{subst}
 use Rattle.std.proofs.lemmas.Bool.{and_parts, ltb-true}
 use Rattle.std.specs.List.{find, range_with_len}
@@ -24,6 +24,7 @@ use Rattle.ref_refs.specs.declared.faults.Alien.TheVariants as aliens
 use Rattle.ref_refs.specs.declared.faults.CommitFault.{CommitFault}
 use Rattle.ref_refs.specs.declared.faults.CommitFault.TheVariants.{Foreign, Conflict, Refused, Invalid, PointLimit, BookFull, Memory, NoSuchFun}
 use Rattle.ref_refs.specs.declared.faults.Conflict as told
+use Rattle.ref_log.specs.Limits.{last_point}
 
 -- A conflict of a transaction: on a ref that the transaction protects, with its read point, and a change of the ref after that.
 pub record IsConflictOf (tx : TxSeen) (c : told.Conflict) : Type 0 where
@@ -112,7 +113,7 @@ refusal-fits tx means accepts knows store at agents most_added most_taken =
     or-fits tx (early_refusal knows store at agents tx) _ early
     (or-fits tx (refused means tx.dones store.values) _ (refused-fits tx means tx.dones store.values)
     (or-fits tx (invalid accepts store.guards tx.dones after) _ (invalid-fits tx accepts store.guards tx.dones after)
-    (or-fits tx (past_points at) (full_book most_added most_taken store.tally tx.dones) (if-fits tx (nat_lt (2 ^ 62) at) (Some PointLimit) None tt tt)
+    (or-fits tx (past_points at) (full_book most_added most_taken store.tally tx.dones) (if-fits tx (nat_lt last_point at) (Some PointLimit) None tt tt)
     (if-fits tx (nat_lt most_added (moved_by_dones Added store.tally tx.dones) || nat_lt most_taken (moved_by_dones Taken store.tally tx.dones)) (Some BookFull) None tt tt))))
 
 -- A fault of a call other than out of memory is its reason.

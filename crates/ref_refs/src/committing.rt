@@ -1,6 +1,6 @@
 //! Committing a transaction.
 ghost use Rattle.ref_log.specs.Told.{Tells, TellsBack, TellsOrMemory};
-ghost use Rattle.std.specs.Prelude.{◌≡◌, ◌≢◌, ◌≤◌, ◌-◌, ◌+◌, ◌^◌, ◌==◌, ℕ, List, true, None, Some, Ok, IfOk, IfErr, OnOk, OnErr, length, slice_get};
+ghost use Rattle.std.specs.Prelude.{◌≡◌, ◌≢◌, ◌≤◌, ◌-◌, ◌+◌, ◌==◌, ℕ, List, true, None, Some, Ok, IfOk, IfErr, OnOk, OnErr, length, slice_get};
 ghost use Rattle.std.specs.List.{list_any};
 ghost use Rattle.std.specs.Option.{option_map};
 ghost use Rattle.ref_value.specs.Edn.{Edn};
@@ -15,6 +15,7 @@ ghost use Rattle.ref_refs.specs.Conflicts.{ConflictFits};
 ghost use Rattle.ref_refs.specs.Seen.{changed_at, are_unchanged_since};
 ghost use Rattle.ref_refs.specs.Watches.{notices, touched_refs};
 ghost use Rattle.ref_refs.specs.declared.faults.CommitFault.TheVariants as commits;
+ghost use Rattle.ref_log.specs.Limits.{last_point};
 
 use crate::checking::{
     check_agents, check_refs, check_served, first_changed, first_differing, fits_tally,
@@ -144,7 +145,7 @@ impl<M: Meaning> RefStore<M> {
             ≡ notices self.now.guards self.now.values p.refs.values (touched_refs tx.now.dones)) }
         ensures inner { IfOk result (λ p. (r : ℕ) → is_protected tx.now.dones r ≡ true
             → slice_get p.refs.values r ≡ inner_value M.means tx.now r) }
-        ensures limit { OnOk result (at ≤ 2 ^ 62) }
+        ensures limit { OnOk result (at ≤ last_point) }
         // What the books are to count, which they can take.
         ensures added { IfOk result (λ p. p.added ≡ moved_by_dones Added self.now.tally tx.now.dones) }
         ensures taken { IfOk result (λ p. p.taken ≡ moved_by_dones Taken self.now.tally tx.now.dones) }
@@ -173,12 +174,12 @@ impl<M: Meaning> RefStore<M> {
         })
     }
 
-    /// Makes the changes of a prepared commit. It can't fail: where memory is refused to put them into their places, they are noted beside,
-    /// and put there later. A place that no open transaction can see is changed there; others are copied.
+    /// Makes the changes of a prepared commit. It can't fail: those that need memory which is refused are stored as notes, which each look-up
+    /// reads, and get to their places later. A place that no open transaction can see is changed there; others are copied.
     pub fn install(&mut self, alloc: Global, at: u64, refs: Changes, dones: &[Done])
         requires base { refs.base ≡ record { values = self.old.values; lasts = self.old.lasts } }
         requires new { 1 ≤ at }
-        requires limit { at ≤ 2 ^ 62 }
+        requires limit { at ≤ last_point }
         requires last { are_unchanged_since self.old.lasts (at - 1) ≡ true }
         requires moved { (r : ℕ) → changed_at refs.lasts r ≡ changed_by self.old.lasts at dones.now r }
         requires all { length refs.lasts ≡ length self.old.lasts }

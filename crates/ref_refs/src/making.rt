@@ -1,10 +1,11 @@
 //! Making a ref.
 ghost use Rattle.ref_log.specs.Told.{Tells, TellsThenMemory};
-ghost use Rattle.std.specs.Prelude.{◌≡◌, ◌≢◌, ◌<◌, ◌≤◌, ◌^◌, ℕ, true, false, IfOk, IfErr, OnErr, OnOk, length};
+ghost use Rattle.std.specs.Prelude.{◌≡◌, ◌≢◌, ◌<◌, ◌≤◌, ℕ, true, false, IfOk, IfErr, OnErr, OnOk, length};
 ghost use Rattle.ref_fun.specs.Rule.{passes};
 ghost use Rattle.ref_log.specs.declared.faults.MakeFault.TheVariants as makes;
 ghost use Rattle.ref_refs.specs.Make.{is_bad_tally, made_at, make_refusal, with_ref};
 ghost use Rattle.ref_refs.specs.Seen.{are_unchanged_since, changed_at};
+ghost use Rattle.ref_log.specs.Limits.{last_point, most_references};
 
 use crate::checking::is_count;
 use crate::current::Refs;
@@ -53,10 +54,10 @@ impl<M: Meaning> RefStore<M> {
         ensures refused { Tells (make_refusal M.accepts
             (F.knows funs.now).preds self.now at start.now rule.now tally) result }
         // What `add` asks.
-        ensures room { OnOk result (length self.now.values < 2 ^ 20) }
+        ensures room { OnOk result (length self.now.values < most_references) }
         ensures tally { OnOk result (is_bad_tally self.now start.now tally ≡ false) }
         ensures accepted { OnOk result (passes M.accepts rule.now start.now ≡ true) }
-        ensures limit { OnOk result (at ≤ 2 ^ 62) }
+        ensures limit { OnOk result (at ≤ last_point) }
         ensures told { IfErr result (λ f. f ≢ makes.Memory) }
     {
         let is_bad = tally && (self.tally.is_some() || !is_count(start));
@@ -73,10 +74,10 @@ impl<M: Meaning> RefStore<M> {
         tally: bool,
     ) -> Result<u32, AllocError>
         requires last { are_unchanged_since self.old.lasts at ≡ true }
-        requires room { length self.old.values < 2 ^ 20 }
+        requires room { length self.old.values < most_references }
         requires tally { is_bad_tally self.old start tally ≡ false }
         requires accepted { passes M.accepts rule start ≡ true }
-        requires limit { at ≤ 2 ^ 62 }
+        requires limit { at ≤ last_point }
         ensures number { IfOk result (λ r. r ≡ length self.old.values) }
         ensures adds { OnOk result (self.new ≡ with_ref self.old at start rule tally) }
         ensures lasts { OnOk result ((r : ℕ) → changed_at self.new.lasts r ≡ made_at self.old at r) }

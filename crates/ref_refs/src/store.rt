@@ -1,12 +1,13 @@
 //! The store of refs.
 ghost use Rattle.ref_log.specs.Told.{Tells};
-ghost use Rattle.std.specs.Prelude.{◌≡◌, ◌≤◌, ◌<◌, ◌^◌, ◌↔◌, [], IsTrue, true, false, not, None, IfOk, IfErr, OnErr, OnOk, length, option_copied, slice_get};
+ghost use Rattle.std.specs.Prelude.{◌≡◌, ◌≤◌, ◌<◌, ◌↔◌, [], IsTrue, true, false, not, None, IfOk, IfErr, OnErr, OnOk, length, option_copied, slice_get};
 ghost use Rattle.ref_fun.specs.Integers.{int_of};
 ghost use Rattle.ref_log.specs.Guards.{AreAccepted, are_known, keys_at, rule_at, rule_refusal, with_rule, with_watch, without_watch};
 ghost use Rattle.ref_log.specs.Tally.{IsTally, tally_value};
 ghost use Rattle.ref_log.specs.Watches.{has_key};
 ghost use Rattle.ref_log.specs.declared.faults.WatchFault.TheVariants as watches;
 ghost use Rattle.ref_refs.specs.Seen.{changed_at, are_unchanged_since, with_guards};
+ghost use Rattle.ref_log.specs.Limits.{most_references};
 
 use crate::checking::are_unchanged_since;
 use crate::current::Refs;
@@ -30,10 +31,11 @@ pub struct RefStore<M: Meaning> {
 }
 
 impl<M: Meaning> Model for RefStore<M> {
-    ghost use Rattle.std.specs.Prelude.{◌≡◌, ◌≤◌, ◌^◌, length};
+    ghost use Rattle.std.specs.Prelude.{◌≡◌, ◌≤◌, length};
     ghost use Rattle.std.specs.Coded.{codes};
     ghost use Rattle.ref_value.specs.Code.{edn_code};
     ghost use Rattle.ref_log.specs.Guards.{AreAccepted};
+    ghost use Rattle.ref_log.specs.Limits.{most_references};
     ghost use Rattle.ref_log.specs.Tally.{IsTally, tally_value};
     ghost use Rattle.ref_refs.specs.Seen.{RefsSeen};
 
@@ -44,7 +46,7 @@ impl<M: Meaning> Model for RefStore<M> {
     ghost view = { λ a. record { values = a.refs.values; lasts = a.refs.lasts; tally = a.tally; guards = a.guards } };
 
     ghost invariant = { λ a. (length a.refs.lasts ≡ length a.refs.values) × (length a.guards ≡ length a.refs.values)
-        × (length a.refs.values ≤ 2 ^ 20) × AreAccepted M.accepts a.guards a.refs.values
+        × (length a.refs.values ≤ most_references) × AreAccepted M.accepts a.guards a.refs.values
         × IsTally a.tally a.refs.values (tally_value a.tally a.refs.values) };
 }
 
@@ -64,7 +66,7 @@ impl<M: Meaning> RefStore<M> {
     /// How many refs there are, at most 2^20.
     pub fn len(&self) -> usize
         ensures value { result ≡ length self.now.values }
-        ensures bound { result ≤ 2 ^ 20 }
+        ensures bound { result ≤ most_references }
         // Each ref has a last change, a rule or none, and its watches.
         ensures lasts { length self.now.lasts ≡ length self.now.values }
         ensures guards { length self.now.guards ≡ length self.now.values }

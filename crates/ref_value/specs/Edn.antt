@@ -1,5 +1,5 @@
 -- EDN data: what a value is, without where it lies in memory.
-use Rattle.std.specs.Prelude.{ℕ, ℤ, Bool, List, [], ◌∷◌, suc, max, ◌≡◌, refl}
+use Rattle.std.specs.Prelude.{ℕ, ℤ, Bool, List, [], ◌∷◌, Option, None, Some, suc, max, ◌≡◌, refl}
 use Rattle.std.proofs.Common.{ap}
 
 -- Texts are their UTF-8 bytes; a keyword's is its name without the colon. A map's entries and a set's elements stand
@@ -70,3 +70,25 @@ abbrev mutual
   pub entries_depth : Entries → ℕ
   entries_depth no_entries = 0
   entries_depth (entry k x es) = max (max (nesting k) (nesting x)) (entries_depth es)
+
+-- ---- texts
+
+-- the text of a string, and the names of a keyword and of a symbol
+abbrev pub string_of : Edn → Option (List ℕ)
+string_of (string s) = Some s
+string_of x = None
+
+abbrev pub keyword_of : Edn → Option (List ℕ)
+keyword_of (keyword s) = Some s
+keyword_of x = None
+
+abbrev pub symbol_of : Edn → Option (List ℕ)
+symbol_of (symbol s) = Some s
+symbol_of x = None
+
+-- that of any of the three
+abbrev pub text_of : Edn → List ℕ
+text_of (string s) = s
+text_of (keyword s) = s
+text_of (symbol s) = s
+text_of x = []

@@ -5,7 +5,7 @@ use Rattle.std.proofs.Common.{arith}
 use Rattle.ref_value.specs.Edn.{nesting}
 use Rattle.ref_value.specs.View.{edn}
 use Rattle.ref_value.specs.declared.data.Node.{Node}
-use Rattle.ref_value.specs.declared.data.Node.TheVariants.{Nil, Bool, Int, Str, Keyword, Symbol, Vector, Map, Set}
+use Rattle.ref_value.specs.declared.data.Node.TheVariants.{Nil, Bool, Int, Str, Keyword, Symbol, Vector, Map, Set, ShortStr, ShortKeyword, ShortSymbol}
 use Rattle.ref_value.specs.declared.data.Value.TheDeep.{deep-Node}
 
 pub falls : (n : Node) → max (deep-Node n) 0 ≤ 300 * nesting (edn n)
@@ -18,3 +18,6 @@ falls (Symbol b) = omega arith
 falls (Vector v) = omega arith
 falls (Map v) = omega arith
 falls (Set v) = omega arith
+falls (ShortStr b) = omega arith
+falls (ShortKeyword b) = omega arith
+falls (ShortSymbol b) = omega arith

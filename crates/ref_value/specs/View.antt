@@ -1,7 +1,7 @@
 -- What a node is as EDN data.
 use Rattle.ref_value.specs.Edn.{Edn, nil, boolean, int, string, keyword, symbol, vector, map, set, items_of, entries_of}
 use Rattle.ref_value.specs.declared.data.Node.{Node}
-use Rattle.ref_value.specs.declared.data.Node.TheVariants.{Nil, Bool, Int, Str, Keyword, Symbol, Vector, Map, Set}
+use Rattle.ref_value.specs.declared.data.Node.TheVariants.{Nil, Bool, Int, Str, Keyword, Symbol, Vector, Map, Set, ShortStr, ShortKeyword, ShortSymbol}
 
 abbrev pub edn : Node → Edn
 edn Nil = nil
@@ -13,3 +13,6 @@ edn (Symbol s) = symbol s
 edn (Vector xs) = vector (items_of xs)
 edn (Map es) = map (entries_of es)
 edn (Set xs) = set (items_of xs)
+edn (ShortStr s) = string s
+edn (ShortKeyword s) = keyword s
+edn (ShortSymbol s) = symbol s

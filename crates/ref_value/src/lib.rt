@@ -9,7 +9,7 @@
 //! | [`Value`] | a datum, always lawful: names are names, members in order and none twice, at most 64 levels |
 //! | [`Node`] | what a value is made of, which it lends; `Value::of` takes a node exactly where it is lawful |
 //! | [`Items`], [`Entries`], [`Elements`] | the members of a vector, of a map and of a set |
-//! | [`Text`] | the text of a string, a keyword or a symbol |
+//! | [`ShortText`], [`Text`] | the text of a string, a keyword or a symbol: one of up to 14 bytes in the node, and any in a block |
 //! | [`names`], [`order`] | which texts are names; the value order, `Eq` and `Ord` |
 //!
 //! | Costs, of n members | Steps |
@@ -36,5 +36,5 @@ pub mod vectors;
 pub use data::{Node, Value};
 pub use maps::Entries;
 pub use sets::Elements;
-pub use texts::Text;
+pub use texts::{ShortText, Text};
 pub use vectors::Items;

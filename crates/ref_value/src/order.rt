@@ -19,9 +19,9 @@ pub fn rank(node: &Node) -> u8
         Node::Nil => 0,
         Node::Bool(_) => 1,
         Node::Int(_) => 2,
-        Node::Str(_) => 3,
-        Node::Keyword(_) => 4,
-        Node::Symbol(_) => 5,
+        Node::Str(_) | Node::ShortStr(_) => 3,
+        Node::Keyword(_) | Node::ShortKeyword(_) => 4,
+        Node::Symbol(_) | Node::ShortSymbol(_) => 5,
         Node::Vector(_) => 6,
         Node::Map(_) => 7,
         Node::Set(_) => 8,
@@ -36,9 +36,17 @@ pub fn compare(a: &Value, b: &Value) -> Ordering
     match (a.node(), b.node()) {
         (Node::Bool(x), Node::Bool(y)) => x.cmp(y),
         (Node::Int(x), Node::Int(y)) => x.cmp(y),
-        (Node::Str(x), Node::Str(y)) => x.as_bytes().cmp(y.as_bytes()),
-        (Node::Keyword(x), Node::Keyword(y)) => x.as_bytes().cmp(y.as_bytes()),
-        (Node::Symbol(x), Node::Symbol(y)) => x.as_bytes().cmp(y.as_bytes()),
+        (x @ (Node::Str(_) | Node::ShortStr(_)), y @ (Node::Str(_) | Node::ShortStr(_))) => x
+            .text()
+            .cmp(y.text()),
+        (
+            x @ (Node::Keyword(_) | Node::ShortKeyword(_)),
+            y @ (Node::Keyword(_) | Node::ShortKeyword(_)),
+        ) => x.text().cmp(y.text()),
+        (
+            x @ (Node::Symbol(_) | Node::ShortSymbol(_)),
+            y @ (Node::Symbol(_) | Node::ShortSymbol(_)),
+        ) => x.text().cmp(y.text()),
         (Node::Vector(x), Node::Vector(y)) => compare_items(x, y),
         (Node::Map(x), Node::Map(y)) => compare_entries(x, y),
         (Node::Set(x), Node::Set(y)) => compare_elements(x, y),

@@ -19,7 +19,7 @@ use Rattle.ref_log.specs.declared.sends.Sent.{Sent}
 use Rattle.ref_agents.specs.declared.accounts.Handled.{Handled}
 use Rattle.ref_agents.specs.declared.accounts.Mark.{Mark}
 use Rattle.ref_forms.specs.Calls.{action_of, any, carrying, args_said, code_for, code_of, rule_of, rule_said}
-use Rattle.ref_forms.specs.Plain.{all_said, and_said, both, elements_of, elements_within, list_said, number_of, only_if, symbol_of, tagged_of}
+use Rattle.ref_forms.specs.Plain.{all_said, and_said, both, elements_of, elements_within, list_said, number_of, only_if, tagged_of}
 use Rattle.ref_forms.specs.Plain.{under}
 use Rattle.ref_verdict.specs.DumpForm.{agent_of, agent_said, agent_with, alter_said, and_entry, call_said, carries_of, carrying_handled_said, commute_said, done_of, done_said, ensure_said, entries_from, entry_of, entry_said, handled_of, handled_said, kept_of, kept_said, made_atom_said, made_ref_said, mark_of, part_said, plain_handled_said, queued_of, reference_of, reset_said, sent_of, set_said, stamp_of, status_of, swap_said, transaction_of, tx_said, key_word, values_said}
 use Rattle.ref_verdict.specs.OfCore.{is_account_of_core, is_agent_rule_of_core, is_entry_of_core, is_handled_of_core, is_kept_of_core, is_op_of_core, is_rule_of_core}

@@ -20,7 +20,7 @@
 use Rattle.std.specs.Prelude.{ℕ, pos, ◌+◌, ◌-◌, ◌^◌, ◌==◌, ok_or, min, Bool, true, false, not, ◌&&◌, if◌then◌else◌, List, [], ◌∷◌, Option, None, Some, is_some, option_map, option_and_then, Result, Ok, Err}
 use Rattle.std.specs.Prelude as lists
 use Rattle.std.specs.List.{list_all}
-use Rattle.ref_value.specs.Edn.{Edn, nil, int, pairs_of}
+use Rattle.ref_value.specs.Edn.{Edn, nil, int, pairs_of, keyword_of}
 use Rattle.ref_value.specs.Edn as edn
 use Rattle.ref_value.specs.Names.{bytes_eq}
 use Rattle.ref_fun.specs.declared.actions.Action.{Action}
@@ -38,7 +38,7 @@ use Rattle.ref_agents.specs.declared.accounts.Handled.{Handled}
 use Rattle.ref_agents.specs.declared.accounts.Mark.{Mark}
 use Rattle.ref_agents.specs.declared.accounts.Mark.TheVariants as marks
 use Rattle.ref_forms.specs.Calls.{action_of, any, carrying, rule_of}
-use Rattle.ref_forms.specs.Plain.{all_said, are_known, both, elements_of, elements_within, keyword_of, list_said, number_of, stamp_number, tagged_of, under}
+use Rattle.ref_forms.specs.Plain.{all_said, are_known, both, elements_of, elements_within, list_said, number_of, stamp_number, tagged_of, under}
 use Rattle.ref_verdict.specs.Words.{added_key, agents_key, alter_tag, atoms_key, base_atoms_key, base_refs_key, commits_key, commute_tag, done_mark, dump_key, ensure_tag, entries_key, failed_mark, failed_status, folded_key, keys_of, made_atom_tag, made_ref_tag, passed_mark, point_key, ready_status, refs_key, reset_tag, set_tag, swap_tag, taken_key, tally_key, tx_tag}
 use Rattle.ref_verdict.specs.declared.reading.dumps.Changed.{Changed}
 use Rattle.ref_verdict.specs.declared.reading.dumps.Dump.{Dump}
@@ -50,6 +50,7 @@ use Rattle.ref_verdict.specs.declared.reading.faults.DumpFault.{DumpFault}
 use Rattle.ref_verdict.specs.declared.reading.faults.DumpFault.TheVariants.{NotDump, BadVersion, BadPart, BadEntry}
 use Rattle.ref_verdict.specs.declared.reading.faults.Key.{Key}
 use Rattle.ref_verdict.specs.declared.reading.faults.Key.TheVariants as keys
+use Rattle.ref_log.specs.Limits.{most_entries}
 
 -- ---- references by number
 
@@ -357,7 +358,7 @@ parts_said version es =
     and_then (part_said es keys.BaseAtoms (values_said Some)) (λ base_atoms.
     and_then (part_said es keys.BaseRefs (values_said changed_of)) (λ base_refs.
     and_then (part_said es keys.Commits number_of) (λ commits.
-    and_then (part_said es keys.Entries (elements_within (2 ^ 62))) (λ forms.
+    and_then (part_said es keys.Entries (elements_within most_entries)) (λ forms.
     and_then (part_said es keys.Folded (folded_of version)) (λ folded.
     and_then (part_said es keys.Point number_of) (λ point.
     and_then (part_said es keys.Refs (values_said kept_of)) (λ refs.

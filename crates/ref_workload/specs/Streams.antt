@@ -10,6 +10,10 @@ use Rattle.ref_edn.specs.Streams.{AppendsPart, counted}
 use Rattle.ref_workload.specs.declared.faults.RunFault.{RunFault}
 use Rattle.ref_workload.specs.declared.faults.RunFault.TheVariants as faults
 
+-- how many bytes an input may have
+abbrev pub most_input : ℕ
+most_input = 16777216
+
 -- What was left to read is all of a text, and nothing is left any more; and an output that this text gives was written
 -- in this way.
 pub record Wrote (Writes : Option (List ℕ) → Option (List ℕ) → List ℕ → Type 0) (Gives : List ℕ → List ℕ → Type 0) (before after old new : Option (List ℕ)) : Type 0 where
@@ -17,7 +21,7 @@ pub record Wrote (Writes : Option (List ℕ) → Option (List ℕ) → List ℕ 
   pub output : List ℕ
   pub whole : IfSome before (λ all. text ≡ all)
   pub at_end : IsAtEnd after
-  pub short : length text ≤ 16777216
+  pub short : length text ≤ most_input
   pub gives : Gives text output
   pub written : Writes old new output
 
@@ -42,7 +46,7 @@ IsNotEdn {T = T} Belongs IsFault text fault = (fault ≢ reads.Memory) × ((valu
 
 -- what a fault of reading says of the text that was there to read
 abbrev pub IsInputAtFault : {T : Type 0} → (List ℕ → T → Type 0) → (List ℕ → ReadFault → Type 0) → List ℕ → RunFault → Type 0
-IsInputAtFault Belongs IsFault text faults.InputTooLong = 16777216 < length text
+IsInputAtFault Belongs IsFault text faults.InputTooLong = most_input < length text
 IsInputAtFault Belongs IsFault text (faults.NotEdn fault) = IsNotEdn Belongs IsFault text fault
 IsInputAtFault Belongs IsFault text fault = Unit {0}
 

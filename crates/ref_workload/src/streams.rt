@@ -1,8 +1,9 @@
 //! An input that is read whole, and an output that is written whole.
-ghost use Rattle.std.specs.Prelude.{◌≡◌, ◌<◌, ◌≤◌, IfOk, IfErr, IfSome, OnOk, OnErr, length, vec_len};
+ghost use Rattle.std.specs.Prelude.{◌+◌, ◌≡◌, ◌<◌, ◌≤◌, IfOk, IfErr, IfSome, OnOk, OnErr, length, vec_len};
 ghost use Rattle.std.specs.Io.KnownBytes.{Appends, IsAtEnd};
 ghost use Rattle.ref_edn.specs.Streams.{AppendsPart, ConsumesUpTo, Counts};
 ghost use Rattle.ref_workload.specs.Streams.{CountsReads, IsOfInput};
+ghost use Rattle.ref_workload.specs.Streams.{most_input};
 
 use crate::faults::RunFault;
 use ref_edn::{Failed, InputFault, Sink, Source, read_to_end, write_all};
@@ -15,11 +16,11 @@ pub const MOST_INPUT: usize = 16_777_216;
 pub fn read_input<R: Source>(alloc: Global, reader: &mut R) -> Result<Vec<u8>, RunFault>
     ensures all { IfOk result (λ text. IfSome (R.left reader.old) (λ all. text.items ≡ all)) }
     ensures end { OnOk result (IsAtEnd (R.left reader.new)) }
-    ensures short { IfOk result (λ text. vec_len text ≤ 16777216) }
+    ensures short { IfOk result (λ text. vec_len text ≤ most_input) }
     ensures kinds { IfErr result IsOfInput }
     ensures too_long { IfErr result (λ f. f ≡ RunFault.InputTooLong
-        → IfSome (R.left reader.old) (λ all. 16777216 < length all)) }
-    ensures taken { ConsumesUpTo (R.left reader.old) (R.left reader.new) 16777217 }
+        → IfSome (R.left reader.old) (λ all. most_input < length all)) }
+    ensures taken { ConsumesUpTo (R.left reader.old) (R.left reader.new) (most_input + 1) }
     ensures reads { CountsReads (R.failures reader.old) (R.failures reader.new) result }
 {
     match read_to_end(alloc, reader, MOST_INPUT) {

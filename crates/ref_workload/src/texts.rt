@@ -11,6 +11,7 @@ ghost use Rattle.ref_verdict.specs.declared.reports.Verdict.TheVariants as verdi
 ghost use Rattle.ref_workload.specs.Run.{IsAtFault, IsOfPlan, IsOfText, IsPlanRun, IsRun};
 ghost use Rattle.ref_workload.specs.Streams.{CountsReads, CountsWrites, HasBrokenOff, HasWritten};
 ghost use Rattle.ref_world.specs.Shares.{IsBlank};
+ghost use Rattle.ref_workload.specs.Streams.{most_input};
 
 use crate::faults::RunFault;
 use crate::progress::Progress;
@@ -58,7 +59,7 @@ where
     O: Sink,
     requires { HasCore (F.knows funs.now) }
     // It reads no further than one byte past what a workload may have.
-    ensures taken { ConsumesUpTo (I.left reader.old) (I.left reader.new) 16777217 }
+    ensures taken { ConsumesUpTo (I.left reader.old) (I.left reader.new) (most_input + 1) }
     ensures ok { IfOk result (λ verdict. (verdict ≡ verdicts.Ok)
         × HasWritten (IsRun options.dump) (I.left reader.old) (I.left reader.new) (O.written writer.old)
         (O.written writer.new)) }

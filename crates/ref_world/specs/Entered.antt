@@ -1,5 +1,5 @@
 -- A world with an entry more.
-use Rattle.std.proofs.Common.{◌≡◌, ℕ, ◌&&◌, ◌+◌, ◌≤◌, ◌^◌, ◌∷◌, ◌++◌, [], Bool, Ordering, Less, Equal, Greater, cond, not, nat_lt, true, false, List, length, Ok, slice_set, refl, ap, sym, subst, ◌∙◌, arith}
+use Rattle.std.proofs.Common.{◌≡◌, ℕ, ◌&&◌, ◌+◌, ◌≤◌, ◌∷◌, ◌++◌, [], Bool, Ordering, Less, Equal, Greater, cond, not, nat_lt, true, false, List, length, Ok, slice_set, refl, ap, sym, subst, ◌∙◌, arith}
 use Rattle.std.specs.List.{list_all}
 use Rattle.std.proofs.lemmas.List.Folds.{list_all-append}
 use Rattle.std.proofs.lemmas.Bool.{and_from, and_parts, le-ltb, ltb-false, not-true}
@@ -17,6 +17,7 @@ use Rattle.ref_log.specs.declared.sends.Sent.{Sent}
 use Rattle.ref_log.specs.declared.states.Base.{Base}
 use Rattle.ref_refs.specs.Seen.{RefsSeen, are_unchanged_since, changed_at}
 use Rattle.ref_world.specs.World.{HasLastChanges, IsWorld, are_past, values_now, with_tally}
+use Rattle.ref_log.specs.Limits.{last_point}
 
 length_more : (log : List Entry) (e : Entry) → length (log ++ e ∷ []) ≡ length log + 1
 length_more [] e = refl
@@ -100,7 +101,7 @@ module _ (means : Means) (base : Base) (log : List Entry) (refs : RefsSeen) (ato
       → ((r : ℕ) → changed_at after.lasts r ≡ cond (is_changed_by (length refs.values) e r) (point_after base log + 1) (changed_at refs.lasts r))
       → are_unchanged_since after.lasts (point_after base log + 1) ≡ true
       → are_past (point_after base log + 1) held_after ≡ true
-      → point_after base log + 1 ≤ 2 ^ 62
+      → point_after base log + 1 ≤ last_point
       → sets_atom e ≡ true
       → IsWorld means (with_tally after.tally base) (log ++ e ∷ []) after atoms_after held_after
   entered e after atoms_after held_after next moved since held limit sets = record {
@@ -109,7 +110,7 @@ module _ (means : Means) (base : Base) (log : List Entry) (refs : RefsSeen) (ato
     tally = refl;
     since = subst (λ p. are_unchanged_since after.lasts p ≡ true) (point_more base log e) since;
     held = subst (λ p. are_past p held_after ≡ true) (point_more base log e) held;
-    limit = subst (λ p. p ≤ 2 ^ 62) (point_more base log e) limit;
+    limit = subst (λ p. p ≤ last_point) (point_more base log e) limit;
     lasts = is.lasts;
     sets = list_all-append sets_atom log (e ∷ []) ∙ and_from (list_all sets_atom log) (sets_atom e && true) is.sets (and_from (sets_atom e) true sets refl);
   }
@@ -120,7 +121,7 @@ module _ (means : Means) (base : Base) (log : List Entry) (refs : RefsSeen) (ato
       → ((r : ℕ) → changed_at after.lasts r ≡ cond (is_changed_by (length refs.values) e r) (point_after base log + 1) (changed_at refs.lasts r))
       → are_unchanged_since after.lasts (point_after base log + 1) ≡ true
       → are_past (point_after base log + 1) held_after ≡ true
-      → point_after base log + 1 ≤ 2 ^ 62
+      → point_after base log + 1 ≤ last_point
       → sets_atom e ≡ true
       → after.tally ≡ refs.tally
       → IsWorld means base (log ++ e ∷ []) after atoms_after held_after
@@ -132,7 +133,7 @@ module _ (means : Means) (base : Base) (log : List Entry) (refs : RefsSeen) (ato
       → ((refs : List Edn) → step means (point_after base log + 1) e (record { refs = refs; atoms = atoms.values }) ≡ Ok (record { refs = refs; atoms = slice_set atoms.values a v }))
       → atoms_after.values ≡ slice_set atoms.values a v
       → ((n r : ℕ) → is_changed_by n e r ≡ false)
-      → point_after base log + 1 ≤ 2 ^ 62
+      → point_after base log + 1 ≤ last_point
       → sets_atom e ≡ true
       → IsWorld means base (log ++ e ∷ []) refs atoms_after unreleased
   atom_entered e atoms_after a v next set leaves limit sets =

@@ -22,6 +22,7 @@ use Rattle.ref_refs.specs.Seen.{RefsSeen, are_unchanged_since, changed_at}
 use Rattle.ref_refs.specs.declared.faults.CommitFault.{CommitFault}
 use Rattle.ref_tx.specs.Seen.{TxSeen}
 use Rattle.ref_world.specs.Seen.{BooksSeen, WorldSeen}
+use Rattle.ref_log.specs.Limits.{last_point}
 
 -- the values of all refs and atoms now
 abbrev pub values_now : RefsSeen → AtomsSeen → PlainState
@@ -56,7 +57,7 @@ pub record IsWorld (means : Means) (base : Base) (log : List Entry) (refs : Refs
   pub tally : base.tally ≡ refs.tally
   pub since : are_unchanged_since refs.lasts (point_after base log) ≡ true
   pub held : are_past (point_after base log) unreleased ≡ true
-  pub limit : point_after base log ≤ 2 ^ 62
+  pub limit : point_after base log ≤ last_point
   pub lasts : length base.last ≡ length base.refs
   pub sets : list_all sets_atom log ≡ true
 

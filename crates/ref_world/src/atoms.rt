@@ -1,6 +1,6 @@
 //! The calls that change one atom.
 ghost use Rattle.ref_log.specs.Told.{TellsOrMemory, TellsThenMemory};
-ghost use Rattle.std.specs.Prelude.{◌≡◌, ◌≤◌, ◌<◌, ◌^◌, ◌+◌, ℕ, List, true, false, [], Option, Some, Ok, IfOk, IfErr, OnErr, OnOk, length, slice_get, slice_set};
+ghost use Rattle.std.specs.Prelude.{◌≡◌, ◌≤◌, ◌<◌, ◌+◌, ℕ, List, true, false, [], Option, Some, Ok, IfOk, IfErr, OnErr, OnOk, length, slice_get, slice_set};
 ghost use Rattle.ref_value.specs.Edn.{Edn};
 ghost use Rattle.ref_log.specs.Guards.{AreAccepted, keys_at};
 ghost use Rattle.ref_atoms.specs.Atoms.{with_value};
@@ -13,6 +13,7 @@ ghost use Rattle.ref_log.specs.declared.notices.Who.TheVariants as who;
 ghost use Rattle.ref_log.specs.declared.operations.Op.TheVariants.{Alter, Set};
 ghost use Rattle.ref_world.specs.Shares.{with_receipt};
 ghost use Rattle.ref_world.specs.World.{IsUncounted, point_of, values_now, with_entry};
+ghost use Rattle.ref_log.specs.Limits.{last_point};
 
 use crate::shares::{LogReceipt, Share};
 use crate::worlds::World;
@@ -152,7 +153,7 @@ impl<M: Meaning, C: Ledger, A: Ledger, K: Ledger> World<M, C, A, K> {
         requires here { a < length self.old.atoms.values }
         requires accepted { AreAccepted M.accepts self.old.atoms.guards
             (slice_set self.old.atoms.values a change.value) }
-        requires limit { point_of self.old + 1 ≤ 2 ^ 62 }
+        requires limit { point_of self.old + 1 ≤ last_point }
         requires step { (refs : List Edn) → step M.means (point_of self.old + 1) change.entry
             (record { refs = refs; atoms = self.old.atoms.values })
             ≡ Ok (record { refs = refs; atoms = slice_set self.old.atoms.values a change.value }) }

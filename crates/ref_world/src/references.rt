@@ -1,10 +1,11 @@
 //! What can be asked of each kind of reference: its value, its rule and its watches.
 ghost use Rattle.ref_log.specs.Told.{Tells};
-ghost use Rattle.std.specs.Prelude.{◌≡◌, ◌≢◌, ◌≤◌, ◌^◌, ◌↔◌, true, false, not, None, IfOk, IfErr, OnErr, OnOk, option_copied, length};
+ghost use Rattle.std.specs.Prelude.{◌≡◌, ◌≢◌, ◌≤◌, ◌↔◌, true, false, not, None, IfOk, IfErr, OnErr, OnOk, option_copied, length};
 ghost use Rattle.ref_log.specs.Watches.{has_key};
 ghost use Rattle.ref_log.specs.declared.faults.WatchFault.TheVariants as watches;
 ghost use Rattle.ref_world.specs.References.{are_known, is_accepted_at, keys_at, rule_at, rule_refusal, value_at, with_rule, with_watch, without_watch};
 ghost use Rattle.ref_world.specs.World.{IsReplayed};
+ghost use Rattle.ref_log.specs.Limits.{most_references};
 
 use crate::worlds::World;
 use ref_fun::{Functions, Meaning, Rule};
@@ -19,7 +20,7 @@ impl<M: Meaning, C: Ledger, A: Ledger, K: Ledger> World<M, C, A, K> {
         ensures value { result ≡ length self.now.refs.values }
         // Each of them has a last change.
         ensures lasts { length self.now.refs.lasts ≡ result }
-        ensures bound { result ≤ 2 ^ 20 }
+        ensures bound { result ≤ most_references }
     {
         self.refs.len()
     }
@@ -27,7 +28,7 @@ impl<M: Meaning, C: Ledger, A: Ledger, K: Ledger> World<M, C, A, K> {
     /// How many atoms there are, at most 2^20.
     pub fn atom_count(&self) -> usize
         ensures value { result ≡ length self.now.atoms.values }
-        ensures bound { result ≤ 2 ^ 20 }
+        ensures bound { result ≤ most_references }
     {
         self.atoms.len()
     }
@@ -35,7 +36,7 @@ impl<M: Meaning, C: Ledger, A: Ledger, K: Ledger> World<M, C, A, K> {
     /// How many agents there are, at most 2^20.
     pub fn agent_count(&self) -> usize
         ensures value { result ≡ length self.now.agents.agents }
-        ensures bound { result ≤ 2 ^ 20 }
+        ensures bound { result ≤ most_references }
     {
         self.agents.len()
     }

@@ -1,7 +1,8 @@
 //! What a world's log was at one point.
-ghost use Rattle.std.specs.Prelude.{◌≡◌, ◌≤◌, ◌^◌, true, IfOk, length};
+ghost use Rattle.std.specs.Prelude.{◌≡◌, ◌≤◌, true, IfOk, length};
 ghost use Rattle.std.specs.Result.{is_ok};
 ghost use Rattle.ref_log.specs.Replay.{point_after, replay};
+ghost use Rattle.ref_log.specs.Limits.{last_point};
 
 use crate::worlds::World;
 use ref_fun::Meaning;
@@ -25,9 +26,10 @@ pub struct View<M: Meaning> {
 }
 
 impl<M: Meaning> Model for View<M> {
-    ghost use Rattle.std.specs.Prelude.{◌≡◌, ◌≤◌, ◌^◌, length};
+    ghost use Rattle.std.specs.Prelude.{◌≡◌, ◌≤◌, length};
     ghost use Rattle.std.specs.Coded.{codes};
     ghost use Rattle.ref_value.specs.Code.{edn_code};
+    ghost use Rattle.ref_log.specs.Limits.{last_point};
     ghost use Rattle.ref_log.specs.Replay.{point_after};
     ghost use Rattle.ref_world.specs.Seen.{ViewSeen};
     ghost use Rattle.ref_world.specs.World.{HasReplay};
@@ -38,7 +40,7 @@ impl<M: Meaning> Model for View<M> {
 
     ghost view = { λ a. record { base = a.base.value; log = a.log } };
 
-    ghost invariant = { λ a. HasReplay M.means a.base.value a.log × (point_after a.base.value a.log ≤ 2 ^ 62)
+    ghost invariant = { λ a. HasReplay M.means a.base.value a.log × (point_after a.base.value a.log ≤ last_point)
         × (length a.base.value.last ≡ length a.base.value.refs) };
 }
 
@@ -57,7 +59,7 @@ impl<M: Meaning> View<M> {
         ensures log { result.now ≡ self.now.log }
         // They have a replay on the base.
         ensures replayed { is_ok (replay M.means self.now.base self.now.log) ≡ true }
-        ensures limit { point_after self.now.base self.now.log ≤ 2 ^ 62 }
+        ensures limit { point_after self.now.base self.now.log ≤ last_point }
     {
         &self.log
     }
@@ -65,7 +67,7 @@ impl<M: Meaning> View<M> {
     /// The point of the last entry.
     pub fn point(&self) -> u64
         ensures value { result ≡ point_after self.now.base self.now.log }
-        ensures limit { result ≤ 2 ^ 62 }
+        ensures limit { result ≤ last_point }
     {
         self.base.point + self.log.len() as u64
     }

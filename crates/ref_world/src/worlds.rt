@@ -1,5 +1,5 @@
 //! The world and what can be asked of it.
-ghost use Rattle.std.specs.Prelude.{◌≡◌, ◌≢◌, ◌≤◌, ◌^◌, ◌+◌, [], true, length, None, Some, Ok, IfOk, IfErr, OnOk};
+ghost use Rattle.std.specs.Prelude.{◌≡◌, ◌≢◌, ◌≤◌, ◌+◌, [], true, length, None, Some, Ok, IfOk, IfErr, OnOk};
 ghost use Rattle.std.specs.List.{list_all};
 ghost use Rattle.ref_log.specs.Replay.{sets_atom};
 ghost use Rattle.ref_log.specs.Tally.{IsMoved, commits_of, fits_entry, moved_of};
@@ -10,6 +10,7 @@ ghost use Rattle.ref_world.specs.Starts as starts;
 ghost use Rattle.ref_world.specs.Starts.{first_refusal, start_refusal};
 ghost use Rattle.ref_world.specs.Shares.{IsBlank, all_parts, forgotten, whole};
 ghost use Rattle.ref_world.specs.World.{HasLastChanges, are_past, most_booked, point_of};
+ghost use Rattle.ref_log.specs.Limits.{last_point};
 
 use crate::books::Books;
 use crate::declared::{base_of, declared_agents, declared_atoms, declared_refs, start_of};
@@ -135,7 +136,7 @@ impl<M: Meaning, C: Ledger, A: Ledger, K: Ledger> World<M, C, A, K> {
     /// The present point: how many entries there ever were, at most 2^62.
     pub fn point(&self) -> u64
         ensures value { result ≡ point_of self.now }
-        ensures limit { result ≤ 2 ^ 62 }
+        ensures limit { result ≤ last_point }
         // The point of each ref's last change is that of the last entry which made or touched it.
         ensures lasts { HasLastChanges self.now.base self.now.log self.now.refs }
         ensures tally { self.now.base.tally ≡ self.now.refs.tally }

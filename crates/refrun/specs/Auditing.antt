@@ -16,6 +16,7 @@ use Rattle.ref_history.specs.Values.{has_point}
 use Rattle.ref_workload.specs.Streams.{IsFaultOfOne, IsNotEdn}
 use Rattle.refrun.specs.declared.faults.AuditRunFault.{AuditRunFault}
 use Rattle.refrun.specs.declared.faults.AuditRunFault.TheVariants as faults
+use Rattle.ref_workload.specs.Streams.{most_input}
 
 -- The text is a dump, this is the verdict on it, and the output is the verdict's line.
 pub record IsAuditOf (verdict : Verdict) (text output : List ℕ) : Type 0 where
@@ -32,7 +33,7 @@ IsAudit text output = (verdict : Verdict) × IsAuditOf verdict text output
 
 -- what a fault says of the text that was there to read
 abbrev pub IsAtFault : List ℕ → AuditRunFault → Type 0
-IsAtFault text faults.InputTooLong = 16777216 < length text
+IsAtFault text faults.InputTooLong = most_input < length text
 IsAtFault text (faults.NotEdn fault) = IsNotEdn IsText IsFaultOfOne text fault
 IsAtFault text (faults.Dump fault) = (fault ≢ dumps.Memory) × ((value : Edn) × IsText text value × (dump_of value ≡ Err fault))
 IsAtFault text (faults.NoPoint point) = (value : Edn) × (dump : Dump) × IsText text value × (dump_of value ≡ Ok dump) × (has_point dump point ≡ false)

@@ -1,10 +1,11 @@
 //! The audit of a dump's text.
-ghost use Rattle.std.specs.Prelude.{◌≡◌, ◌≢◌, ◌<◌, ◌≤◌, IfOk, IfErr, IfSome, OnOk, OnErr, length, vec_len};
+ghost use Rattle.std.specs.Prelude.{◌+◌, ◌≡◌, ◌≢◌, ◌<◌, ◌≤◌, IfOk, IfErr, IfSome, OnOk, OnErr, length, vec_len};
 ghost use Rattle.std.specs.Io.KnownBytes.{Appends, IsAtEnd};
 ghost use Rattle.ref_edn.specs.Streams.{AppendsPart, ConsumesUpTo, Counts};
 ghost use Rattle.ref_fun.specs.Calls.{HasCore};
 ghost use Rattle.ref_workload.specs.Streams.{HasBrokenOff, HasWritten};
 ghost use Rattle.refrun.specs.Auditing.{CountsReads, CountsWrites, IsAtFault, IsAudit, IsAuditOf, IsOfInput, IsOfText};
+ghost use Rattle.ref_workload.specs.Streams.{most_input};
 
 use crate::faults::AuditRunFault;
 use ref_audit::{Verdict, audit, line_of};
@@ -23,7 +24,7 @@ pub fn audit_text<F: Functions<Core>, R: Source, W: Sink>(
     writer: &mut W,
 ) -> Result<Verdict, AuditRunFault>
     requires { HasCore (F.knows funs.now) }
-    ensures taken { ConsumesUpTo (R.left reader.old) (R.left reader.new) 16777217 }
+    ensures taken { ConsumesUpTo (R.left reader.old) (R.left reader.new) (most_input + 1) }
     ensures ok { IfOk result (λ verdict.
         HasWritten (IsAuditOf verdict) (R.left reader.old) (R.left reader.new) (W.written writer.old)
         (W.written writer.new)) }
@@ -65,11 +66,11 @@ fn audit_of<F: Functions<Core>>(
 pub(crate) fn read_dump<R: Source>(alloc: Global, reader: &mut R) -> Result<Vec<u8>, AuditRunFault>
     ensures all { IfOk result (λ text. IfSome (R.left reader.old) (λ all. text.items ≡ all)) }
     ensures end { OnOk result (IsAtEnd (R.left reader.new)) }
-    ensures short { IfOk result (λ text. vec_len text ≤ 16777216) }
+    ensures short { IfOk result (λ text. vec_len text ≤ most_input) }
     ensures kinds { IfErr result IsOfInput }
     ensures too_long { IfErr result (λ f. f ≡ AuditRunFault.InputTooLong
-        → IfSome (R.left reader.old) (λ all. 16777216 < length all)) }
-    ensures taken { ConsumesUpTo (R.left reader.old) (R.left reader.new) 16777217 }
+        → IfSome (R.left reader.old) (λ all. most_input < length all)) }
+    ensures taken { ConsumesUpTo (R.left reader.old) (R.left reader.new) (most_input + 1) }
     ensures reads { CountsReads (R.failures reader.old) (R.failures reader.new) result }
 {
     match read_to_end(alloc, reader, MOST_INPUT) {

@@ -1,9 +1,10 @@
 //! Whether a text is a workload.
-ghost use Rattle.std.specs.Prelude.{◌≡◌, ◌≢◌, IfErr, IfSome, OnOk};
+ghost use Rattle.std.specs.Prelude.{◌+◌, ◌≡◌, ◌≢◌, IfErr, IfSome, OnOk};
 ghost use Rattle.ref_edn.specs.Streams.{ConsumesUpTo};
 ghost use Rattle.ref_workload.specs.Run.{IsAtFault, IsOfText};
 ghost use Rattle.ref_workload.specs.Streams.{CountsReads, CountsWrites, HasBrokenOff, HasWritten};
 ghost use Rattle.refrun.specs.Checking.{IsCheckOf, IsOfChecking, writes_workload};
+ghost use Rattle.ref_workload.specs.Streams.{most_input};
 
 use ref_edn::{Sink, Source, read_one};
 use ref_workload::RunFault;
@@ -23,7 +24,7 @@ pub fn check_text<R: Source, W: Sink>(
     writer: &mut W,
 ) -> Result<(), RunFault>
     // It reads no further than one byte past what a workload may have.
-    ensures taken { ConsumesUpTo (R.left reader.old) (R.left reader.new) 16777217 }
+    ensures taken { ConsumesUpTo (R.left reader.old) (R.left reader.new) (most_input + 1) }
     ensures ok { OnOk result (HasWritten IsCheckOf (R.left reader.old) (R.left reader.new) (W.written writer.old)
         (W.written writer.new)) }
     // The text, its value or its length is at fault, where the fault says so.

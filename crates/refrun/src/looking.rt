@@ -1,5 +1,5 @@
 //! What is shown of a dump's text.
-ghost use Rattle.std.specs.Prelude.{◌≡◌, ◌≢◌, ◌<◌, ◌^◌, false, IfOk, IfErr, IfSome, OnOk};
+ghost use Rattle.std.specs.Prelude.{◌+◌, ◌≡◌, ◌≢◌, ◌<◌, ◌^◌, false, IfOk, IfErr, IfSome, OnOk};
 ghost use Rattle.ref_edn.specs.Streams.{ConsumesUpTo};
 ghost use Rattle.ref_fun.specs.Calls.{HasCore};
 ghost use Rattle.ref_history.specs.Looks.{looked};
@@ -9,6 +9,7 @@ ghost use Rattle.ref_verdict.specs.OfCore.{IsOfCore};
 ghost use Rattle.ref_workload.specs.Streams.{HasBrokenOff, HasWritten};
 ghost use Rattle.refrun.specs.Auditing.{CountsReads, CountsWrites, IsAtFault, IsOfShown, IsOfText};
 ghost use Rattle.refrun.specs.Looking.{IsLook, IsLookOf, IsPageOf, Shows, verdict_of};
+ghost use Rattle.ref_workload.specs.Streams.{most_input};
 
 use crate::auditing::{read_dump, write_text};
 use crate::faults::AuditRunFault;
@@ -33,7 +34,7 @@ pub fn look_text<F: Functions<Core>, R: Source, W: Sink>(
     writer: &mut W,
 ) -> Result<Verdict, AuditRunFault>
     requires { HasCore (F.knows funs.now) }
-    ensures taken { ConsumesUpTo (R.left reader.old) (R.left reader.new) 16777217 }
+    ensures taken { ConsumesUpTo (R.left reader.old) (R.left reader.new) (most_input + 1) }
     ensures ok { IfOk result (λ verdict.
         HasWritten (IsLookOf names.now look verdict) (R.left reader.old) (R.left reader.new) (W.written writer.old)
         (W.written writer.new)) }
@@ -63,7 +64,7 @@ pub fn draw_text<R: Source, W: Sink>(
     reader: &mut R,
     writer: &mut W,
 ) -> Result<(), AuditRunFault>
-    ensures taken { ConsumesUpTo (R.left reader.old) (R.left reader.new) 16777217 }
+    ensures taken { ConsumesUpTo (R.left reader.old) (R.left reader.new) (most_input + 1) }
     ensures ok { OnOk result (HasWritten IsPageOf (R.left reader.old) (R.left reader.new) (W.written writer.old)
         (W.written writer.new)) }
     // The text, its value or its length is at fault, where the fault says so.

@@ -1,9 +1,10 @@
 //! The names of references, from the workload that was run.
-ghost use Rattle.std.specs.Prelude.{◌≡◌, [], IfOk, IfErr, IfSome};
+ghost use Rattle.std.specs.Prelude.{◌+◌, ◌≡◌, [], IfOk, IfErr, IfSome};
 ghost use Rattle.ref_edn.specs.Streams.{ConsumesUpTo};
 ghost use Rattle.ref_workload.specs.Run.{IsAtFault};
 ghost use Rattle.refrun.specs.Checking.{IsOfChecking};
 ghost use Rattle.refrun.specs.Naming.{AreNamesOf};
+ghost use Rattle.ref_workload.specs.Streams.{most_input};
 
 use ref_audit::Names;
 use ref_edn::{Source, read_one};
@@ -23,7 +24,7 @@ pub fn no_names(alloc: Global) -> Names
 
 /// Reads a workload to its end, and returns the names of the references that it declares. Nothing is run.
 pub fn names_of_text<R: Source>(alloc: Global, reader: &mut R) -> Result<Names, RunFault>
-    ensures taken { ConsumesUpTo (R.left reader.old) (R.left reader.new) 16777217 }
+    ensures taken { ConsumesUpTo (R.left reader.old) (R.left reader.new) (most_input + 1) }
     ensures ok { IfOk result (λ names. IfSome (R.left reader.old) (λ text. AreNamesOf text names)) }
     ensures fault { IfErr result (λ f. IfSome (R.left reader.old) (λ text. IsAtFault text f)) }
     ensures kinds { IfErr result IsOfChecking }

@@ -1,9 +1,10 @@
 //! The elements of a text, each on a line.
-ghost use Rattle.std.specs.Prelude.{◌≡◌, ◌≢◌, IfOk, IfErr, IfSome, OnOk};
+ghost use Rattle.std.specs.Prelude.{◌+◌, ◌≡◌, ◌≢◌, IfOk, IfErr, IfSome, OnOk};
 ghost use Rattle.ref_edn.specs.Grammar.{AreTexts};
 ghost use Rattle.ref_edn.specs.Streams.{ConsumesUpTo};
 ghost use Rattle.refrun.specs.Printing.{IsOfElements, IsOfPrinting, IsPrintOf, printed_lines};
 ghost use Rattle.ref_workload.specs.Streams.{CountsReads, CountsWrites, HasBrokenOff, HasWritten, IsFaultOfAll, IsInputAtFault};
+ghost use Rattle.ref_workload.specs.Streams.{most_input};
 
 use ref_edn::{Sink, Source, print, read_all};
 use ref_value::Value;
@@ -22,7 +23,7 @@ pub fn print_text<R: Source, W: Sink>(
     writer: &mut W,
 ) -> Result<(), RunFault>
     // It reads no further than one byte past what a text may have.
-    ensures taken { ConsumesUpTo (R.left reader.old) (R.left reader.new) 16777217 }
+    ensures taken { ConsumesUpTo (R.left reader.old) (R.left reader.new) (most_input + 1) }
     ensures ok { OnOk result (HasWritten IsPrintOf (R.left reader.old) (R.left reader.new) (W.written writer.old)
         (W.written writer.new)) }
     // The text or its length is at fault, where the fault says so.

@@ -1,9 +1,10 @@
 //! What a command does with its input, and the status that the program ends with.
-ghost use Rattle.std.specs.Prelude.{◌≡◌, IfOk, IfErr};
+ghost use Rattle.std.specs.Prelude.{◌+◌, ◌≡◌, IfOk, IfErr};
 ghost use Rattle.ref_edn.specs.Streams.{ConsumesUpTo};
 ghost use Rattle.ref_fun.specs.Calls.{HasCore};
 ghost use Rattle.refrun.specs.Serving.{Ends, IsActDone, IsFaultOfAct, IsLeftByAct, status_after, verdict_status};
 ghost use Rattle.refrun.specs.Tasks.{CountsReads, CountsWrites};
+ghost use Rattle.ref_workload.specs.Streams.{most_input};
 
 use crate::checking::check_text;
 use crate::commands::{Act, Wanted};
@@ -44,7 +45,7 @@ where
     requires { HasCore (F.knows funs.now) }
     // It reads no further than one byte past what an input may have.
     ensures taken { ConsumesUpTo (⟦<Remembering<I> as Source>⟧.left reader.old)
-        (⟦<Remembering<I> as Source>⟧.left reader.new) 16777217 }
+        (⟦<Remembering<I> as Source>⟧.left reader.new) (most_input + 1) }
     ensures ends { Ends names.now wanted (⟦<Remembering<I> as Source>⟧.left reader.old)
         (⟦<Remembering<I> as Source>⟧.left reader.new)
         (⟦<Watching<O> as Sink>⟧.written writer.old) (⟦<Watching<O> as Sink>⟧.written writer.new) result }
@@ -73,7 +74,7 @@ where
     I: Source,
     O: Sink,
     requires { HasCore (F.knows funs.now) }
-    ensures taken { ConsumesUpTo (I.left reader.old) (I.left reader.new) 16777217 }
+    ensures taken { ConsumesUpTo (I.left reader.old) (I.left reader.new) (most_input + 1) }
     ensures ok { IfOk result (λ verdict. IsActDone names.now act verdict (I.left reader.old) (I.left reader.new)
         (O.written writer.old) (O.written writer.new)) }
     ensures fault { IfErr result (λ f. IsFaultOfAct act (I.left reader.old) f) }

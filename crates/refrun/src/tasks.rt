@@ -1,8 +1,9 @@
 //! What is done by a table of all functions and predicates of Core.
-ghost use Rattle.std.specs.Prelude.{◌≡◌, IfOk, IfErr};
+ghost use Rattle.std.specs.Prelude.{◌+◌, ◌≡◌, IfOk, IfErr};
 ghost use Rattle.ref_edn.specs.Streams.{ConsumesUpTo};
 ghost use Rattle.ref_fun.specs.Calls.{HasCore};
 ghost use Rattle.refrun.specs.Tasks.{CountsReads, CountsWrites, IsDone, IsFaultOf, IsLeft, play_fault_of};
+ghost use Rattle.ref_workload.specs.Streams.{most_input};
 
 use crate::auditing::audit_text;
 use crate::faults::Fault;
@@ -61,7 +62,7 @@ where
     O: Sink,
     requires { HasCore (F.knows funs.now) }
     // It reads no further than one byte past what an input may have.
-    ensures taken { ConsumesUpTo (I.left reader.old) (I.left reader.new) 16777217 }
+    ensures taken { ConsumesUpTo (I.left reader.old) (I.left reader.new) (most_input + 1) }
     ensures ok { IfOk result (λ verdict. IsDone names.now task verdict (I.left reader.old) (I.left reader.new)
         (O.written writer.old) (O.written writer.new)) }
     ensures fault { IfErr result (λ f. IsFaultOf task (I.left reader.old) f) }

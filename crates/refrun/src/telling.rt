@@ -1,11 +1,12 @@
 //! Progress of a run while it lasts.
-ghost use Rattle.std.specs.Prelude.{◌≡◌, ◌≢◌, IfOk, IfErr, IfSome};
+ghost use Rattle.std.specs.Prelude.{◌+◌, ◌≡◌, ◌≢◌, IfOk, IfErr, IfSome};
 ghost use Rattle.std.specs.Thread.{IsSync};
 ghost use Rattle.ref_edn.specs.Streams.{ConsumesUpTo};
 ghost use Rattle.ref_fun.specs.Calls.{HasCore};
 ghost use Rattle.ref_verdict.specs.declared.reports.Verdict.TheVariants as verdicts;
 ghost use Rattle.ref_workload.specs.Run.{IsAtFault, IsOfText, IsRun};
 ghost use Rattle.ref_workload.specs.Streams.{CountsReads, CountsWrites, HasBrokenOff, HasWritten};
+ghost use Rattle.ref_workload.specs.Streams.{most_input};
 
 use ref_audit::Verdict;
 use ref_edn::{Sink, Source};
@@ -45,7 +46,7 @@ where
     O: Sink,
     requires { HasCore (F.knows funs.now) }
     // It reads no further than one byte past what a workload may have.
-    ensures taken { ConsumesUpTo (I.left reader.old) (I.left reader.new) 16777217 }
+    ensures taken { ConsumesUpTo (I.left reader.old) (I.left reader.new) (most_input + 1) }
     ensures ok { IfOk result (λ verdict. (verdict ≡ verdicts.Ok)
         × HasWritten (IsRun options.dump) (I.left reader.old) (I.left reader.new) (O.written writer.old)
         (O.written writer.new)) }

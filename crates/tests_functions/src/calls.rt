@@ -14,10 +14,7 @@ pub struct Call {
 }
 
 fn code_named(name: &Value) -> Option<u32> {
-    match name.node() {
-        Node::Symbol(name) => code_of(name.as_bytes()),
-        _ => None,
-    }
+    code_of(name.node().as_symbol()?)
 }
 
 // The arguments that stand behind the name and the state.

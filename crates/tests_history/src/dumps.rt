@@ -5,7 +5,7 @@ ghost use Rattle.ref_verdict.specs.OfCore.{IsOfCore};
 
 use ref_edn::read_one;
 use ref_start::Names;
-use ref_value::{Node, Text, Value};
+use ref_value::{Text, Value};
 use ref_verdict::read_dump;
 use ref_verdict::reading::dumps::Dump;
 use std::alloc::Global;
@@ -50,9 +50,9 @@ pub(crate) fn dump_of(alloc: Global, text: &str) -> Result<Dump, Fail>
 fn symbols(alloc: Global, text: &str) -> Result<Vec<Text>, Fail> {
     let mut names = Vec::new(alloc);
     for word in text.split_whitespace() {
-        match read_one(alloc, word.as_bytes())?.node() {
-            Node::Symbol(name) => names.push(name.share()?)?,
-            _ => return Err(Fail::from("no symbol")),
+        match read_one(alloc, word.as_bytes())?.node().as_symbol() {
+            Some(name) => names.push(Text::of_bytes(alloc, name)?)?,
+            None => return Err(Fail::from("no symbol")),
         }
     }
     Ok(names)

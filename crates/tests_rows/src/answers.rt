@@ -3,7 +3,7 @@
 ghost use Rattle.std.specs.Prelude.{◌≡◌, ◌≤◌, ◌^◌, pos, IfOk, IsOkAnd, OnErr};
 ghost use Rattle.ref_value.specs.Edn.{boolean, int, keyword};
 
-use ref_edn::{Node, Text, Value};
+use ref_edn::{Node, Value};
 use std::alloc::{AllocError, Global};
 
 /// A value that is returned.
@@ -13,8 +13,7 @@ pub type Form = Result<Value, AllocError>;
 pub fn word(alloc: Global, word: &str) -> Form
     ensures { IfOk result (λ v. v ≡ keyword word.now) }
 {
-    let word = Text::copy_of(alloc, word)?;
-    Value::of(Node::Keyword(word)).map_err(|_| AllocError)
+    Value::of(Node::keyword(alloc, word)?).map_err(|_| AllocError)
 }
 
 pub fn number(n: u64) -> Form

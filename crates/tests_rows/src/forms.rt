@@ -75,10 +75,7 @@ pub fn members(alloc: Global, form: &Value) -> Result<Vec<Value>, AllocError> {
 
 pub fn word_at(call: &[Value], i: usize) -> &str {
     match call.get(i) {
-        Some(value) => match value.node() {
-            Node::Symbol(name) => name.as_str(),
-            _ => "",
-        },
+        Some(value) => str::from_utf8(value.node().as_symbol().unwrap_or(b"")).unwrap_or(""),
         None => "",
     }
 }

@@ -27,7 +27,7 @@ pub fn vector(alloc: Global, values: Vec<Value>) -> Form {
 pub fn variant_form<F: Debug>(alloc: Global, variant: &F) -> Form {
     let mut parts = Vec::new(alloc);
     for part in parts_of(alloc, variant)? {
-        let is_word = matches!(part.node(), Node::Keyword(_));
+        let is_word = part.node().as_keyword().is_some();
         if !is_word || parts.last() != Some(&part) {
             parts.push(part)?;
         }

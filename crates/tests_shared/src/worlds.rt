@@ -4,7 +4,8 @@ ghost use Rattle.ref_world.specs.Shares.{IsBlank};
 
 use crate::numbers::int_of;
 use ref_agents::ErrorMode;
-use ref_edn::{Node, Value, read_all, read_one};
+use ref_edn::names::is_same;
+use ref_edn::{Value, read_all, read_one};
 use ref_fun::codes::{AT_LEAST, PLUS};
 use ref_fun::{Action, Args, Core, CoreFunctions, Rule};
 use ref_log::{Entry, Notice, Stamp, Who};
@@ -152,9 +153,9 @@ pub fn int_at<C: Ledger, A: Ledger, K: Ledger, R: Wait>(
 pub type Told = (Who, bool, Option<i64>, Option<i64>);
 
 pub fn told_of(notice: &Notice) -> Told {
-    let is_k = match notice.key.node() {
-        Node::Keyword(name) => name.as_str() == "k",
-        _ => false,
+    let is_k = match notice.key.node().as_keyword() {
+        Some(name) => is_same(name, b"k"),
+        None => false,
     };
     (
         notice.who,

@@ -1,5 +1,6 @@
 //! Vectors, sets and maps with one member more or less: what they are then, how deep, and that
 //! other owners still have theirs.
+use ref_edn::names::is_same;
 use ref_edn::{Elements, Entries, Items, Node, Value, read_all, read_one};
 use std::alloc::{AllocError, Global};
 use std::test::Fail;
@@ -9,13 +10,13 @@ use tests_tables::{Row, right, rows, same, text_of, value};
 fn change_set(
     alloc: Global,
     elements: &mut Elements,
-    how: &str,
+    how: &[u8],
     x: &Value,
 ) -> Result<Elements, Fail> {
     if !elements.ascends() {
         return Err(Fail::from("not in order"));
     }
-    if how == "insert" {
+    if is_same(how, b"insert") {
         let made = elements.with(alloc, x.share()?)?;
         elements.insert(alloc, x.share()?)?;
         Ok(made)
@@ -54,7 +55,7 @@ fn change(alloc: Global, node: &mut Node, step: &Items) -> Result<Node, Fail> {
     let (Some(how), Some(x)) = (step.get(0), step.get(1)) else {
         return Err(Fail::from("not a step"));
     };
-    let Node::Symbol(how) = how.node() else {
+    let Some(how) = how.node().as_symbol() else {
         return Err(Fail::from("not a step"));
     };
     match node {
@@ -63,7 +64,7 @@ fn change(alloc: Global, node: &mut Node, step: &Items) -> Result<Node, Fail> {
             items.push(alloc, x.share()?)?;
             Ok(Node::Vector(made))
         }
-        Node::Set(elements) => Ok(Node::Set(change_set(alloc, elements, how.as_str(), x)?)),
+        Node::Set(elements) => Ok(Node::Set(change_set(alloc, elements, how, x)?)),
         Node::Map(entries) => Ok(Node::Map(change_map(alloc, entries, x, step.get(2))?)),
         _ => Err(Fail::from("not a collection")),
     }

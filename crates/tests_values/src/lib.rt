@@ -6,6 +6,8 @@
 mod changes;
 pub mod drawing;
 #[cfg(test)]
+mod lengths;
+#[cfg(test)]
 mod members;
 #[cfg(test)]
 mod nesting;

@@ -12,7 +12,7 @@ use crate::faults::DumpMakeFault;
 use ref_fun::{Rule, name_of};
 use ref_log::{Entry, share_all};
 use ref_pvec::PVec;
-use ref_value::{Items, Node, Text, Value};
+use ref_value::{Items, Node, Value};
 use std::alloc::{AllocError, Global};
 
 // What has a form in a dump.
@@ -69,7 +69,7 @@ fn symbol_of(alloc: Global, name: &str) -> Result<Value, AllocError>
     requires { is_symbol name.now ≡ true }
     ensures { IfOk result (λ v. v ≡ symbol name.now) }
 {
-    match Value::of(Node::Symbol(Text::copy_of(alloc, name)?)) {
+    match Value::of(Node::symbol(alloc, name)?) {
         Ok(value) => Ok(value),
         Err(_) => unreachable!(),
     }

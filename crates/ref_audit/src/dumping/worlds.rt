@@ -4,6 +4,7 @@ ghost use Rattle.ref_value.specs.Edn.{nesting};
 ghost use Rattle.ref_world.specs.References.{guards_of, values_of};
 ghost use Rattle.ref_audit.specs.Dumped.{agents_form, lesser, unnamed, values_form};
 ghost use Rattle.ref_audit.specs.Made.{AreFew, IsMakeFault, who_of};
+ghost use Rattle.ref_log.specs.Limits.{most_references};
 
 use crate::dumping::agents::agent;
 use crate::dumping::forms::vector_of;
@@ -25,7 +26,7 @@ pub(crate) fn values_now<C: Ledger, A: Ledger, K: Ledger>(
     world: &World<Core, C, A, K>,
     kind: Kind,
 ) -> Result<Value, DumpMakeFault>
-    requires { length (values_of world.now (who_of kind 0)) ≤ 1048576 }
+    requires { length (values_of world.now (who_of kind 0)) ≤ most_references }
     ensures made { IfOk result (λ v. v
         ≡ values_form (guards_of world.now (who_of kind 0)) (values_of world.now (who_of kind 0))) }
     ensures fault { IfErr result (IsMakeFault

@@ -4,6 +4,7 @@ ghost use Rattle.ref_agents.specs.Agents.{account_at, values_of};
 ghost use Rattle.ref_log.specs.Guards as guards;
 ghost use Rattle.ref_world.specs.References.{rule_at, value_at};
 ghost use Rattle.ref_audit.specs.OwnDump.{account_fact, is_small_rule, rule_fact};
+ghost use Rattle.ref_log.specs.Limits.{most_references};
 
 use crate::own_audit::parts::{tell_account, tell_args};
 use ref_fun::{Core, Rule};
@@ -31,7 +32,7 @@ fn tell_reference<C: Ledger, A: Ledger, K: Ledger>(world: &World<Core, C, A, K>,
 }
 
 pub(crate) fn tell_refs<C: Ledger, A: Ledger, K: Ledger>(world: &World<Core, C, A, K>)
-    requires { length world.now.refs.values ≤ 1048576 }
+    requires { length world.now.refs.values ≤ most_references }
     ensures { (n : ℕ) → rule_fact (slice_get world.now.refs.values n) (guards.rule_at world.now.refs.guards n) ≡ true }
 {
     for r in 0..MOST_REFERENCES as u32 {
@@ -42,7 +43,7 @@ pub(crate) fn tell_refs<C: Ledger, A: Ledger, K: Ledger>(world: &World<Core, C, 
 }
 
 pub(crate) fn tell_atoms<C: Ledger, A: Ledger, K: Ledger>(world: &World<Core, C, A, K>)
-    requires { length world.now.atoms.values ≤ 1048576 }
+    requires { length world.now.atoms.values ≤ most_references }
     ensures { (n : ℕ) → rule_fact (slice_get world.now.atoms.values n) (guards.rule_at world.now.atoms.guards n) ≡ true }
 {
     for a in 0..MOST_REFERENCES as u32 {
@@ -53,7 +54,7 @@ pub(crate) fn tell_atoms<C: Ledger, A: Ledger, K: Ledger>(world: &World<Core, C,
 }
 
 pub(crate) fn tell_agents<C: Ledger, A: Ledger, K: Ledger>(world: &World<Core, C, A, K>)
-    requires { length world.now.agents.agents ≤ 1048576 }
+    requires { length world.now.agents.agents ≤ most_references }
     ensures { (n : ℕ) → rule_fact (slice_get (values_of world.now.agents.agents) n)
         (guards.rule_at world.now.agents.guards n) ≡ true }
 {
@@ -79,7 +80,7 @@ fn tell_account_of<C: Ledger, A: Ledger, K: Ledger>(world: &World<Core, C, A, K>
 }
 
 pub(crate) fn tell_accounts<C: Ledger, A: Ledger, K: Ledger>(world: &World<Core, C, A, K>)
-    requires { length world.now.agents.agents ≤ 1048576 }
+    requires { length world.now.agents.agents ≤ most_references }
     ensures { (g : ℕ) → account_fact (account_at world.now.agents.agents g) ≡ true }
 {
     for g in 0..MOST_REFERENCES as u32 {

@@ -3,6 +3,7 @@ ghost use Rattle.std.specs.Prelude.{◌≡◌, ◌≤◌, length, map, IfOk, opt
 ghost use Rattle.ref_world.specs.References.{guards_of, values_of};
 ghost use Rattle.ref_audit.specs.Made.{AreFew, who_of};
 ghost use Rattle.ref_audit.specs.OwnDump.{agents_seen, dump_seen, kepts_seen};
+ghost use Rattle.ref_log.specs.Limits.{most_references};
 
 use crate::kinds::Kind;
 use ref_agents::{Account, Handled};
@@ -65,7 +66,7 @@ fn kepts_seen<C: Ledger, A: Ledger, K: Ledger>(
     world: &World<Core, C, A, K>,
     kind: Kind,
 ) -> Result<SharedVec<Kept>, AllocError>
-    requires { length (values_of world.now (who_of kind 0)) ≤ 1048576 }
+    requires { length (values_of world.now (who_of kind 0)) ≤ most_references }
     ensures { IfOk result (λ all. all
         ≡ kepts_seen (guards_of world.now (who_of kind 0)) (values_of world.now (who_of kind 0))) }
 {

@@ -1,7 +1,7 @@
 //! How names are hashed, so that nobody can choose them by their hashes.
 
 use ref_forms::plain::{elements_in, symbol_in};
-use ref_value::{Items, Text, Value};
+use ref_value::{Items, Value};
 use std::hash::{BuildHasher, DefaultHasher, Hash};
 
 /// What each hasher of a name begins with: one that took in all names that a workload declares, by SipHash. Where one name is another,
@@ -35,11 +35,11 @@ impl NameHashing {
 fn take_in(begun: &mut DefaultHasher, forms: &Items) {
     for i in 0..forms.len() {
         if let Some(name) = name_in(forms.at(i)) {
-            name.as_bytes().hash(begun);
+            name.hash(begun);
         }
     }
 }
 
-fn name_in(form: &Value) -> Option<&Text> {
+fn name_in(form: &Value) -> Option<&[u8]> {
     symbol_in(elements_in(form)?.iter().next()?)
 }

@@ -9,7 +9,7 @@ ghost use Rattle.ref_plan.specs.Named.{AreApart, IsNamed, who_named, who_of};
 ghost use Rattle.ref_plan.specs.Tables.{Knows, found};
 
 use crate::planning::hashing::NameHashing;
-use indexmap::IndexMap;
+use indexmap::{Equivalent, IndexMap};
 use ref_forms::plain::symbol_in;
 use ref_forms::{Naming, Values, Wrong};
 use ref_log::Who;
@@ -72,6 +72,46 @@ impl Hash for Name {
     }
 }
 
+// The bytes of a name that is looked up. No owner is made for it.
+#[derive(Clone, Copy, PartialEq, Eq)]
+struct Wanted<'a> {
+    bytes: &'a [u8],
+}
+
+impl<'a> Hash for Wanted<'a> {
+    ghost use Rattle.std.specs.Hash as fed;
+    ghost use Rattle.std.specs.Cmp.Rules.{hashing};
+    ghost use Rattle.std.proofs.Common.{rules};
+
+    ghost hash_input = { λ a. fed.str a.bytes.now };
+
+    ghost respects_eq = { Prim.search (hashing, rules) };
+
+    fn hash<H: Hasher>(&self, state: &mut H) {
+        state.write(self.bytes);
+        state.write_u8(0xff);
+    }
+}
+
+impl<'a> Equivalent<Name> for Wanted<'a> {
+    ghost use Rattle.std.specs.Prelude.{nat_eq};
+    ghost use Rattle.std.specs.Hash as fed;
+    ghost use Rattle.std.specs.Cmp.Rules.{hashing};
+    ghost use Rattle.std.specs.Cmp.Lexicographic.{pointwise};
+    ghost use Rattle.std.proofs.Common.{rules};
+    ghost use Rattle.std.proofs.lemmas.Cmp.{nat_list_eq_equiv};
+
+    ghost equivalent = { λ q k. pointwise nat_eq q.bytes.now k };
+
+    ghost respects_hash = { Prim.search (hashing, rules) };
+
+    ghost respects_eq = { λ q x y. nat_list_eq_equiv.congr q.bytes.now x y };
+
+    fn equivalent(&self, key: &Name) -> bool {
+        self.bytes == key.text.as_bytes()
+    }
+}
+
 /// References by their names. Contracts see a list of names, each with its reference.
 #[derive(Drop)]
 pub struct NameTable {
@@ -114,13 +154,10 @@ impl NameTable {
     }
 
     /// The reference of a name, and None for a name that isn't there.
-    pub fn find(&self, name: &Text) -> Result<Option<Who>, AllocError>
-        ensures { IfOk result (λ who. who ≡ found self.now name.now) }
+    pub fn find(&self, name: &[u8]) -> Option<Who>
+        ensures { result ≡ found self.now name.now }
     {
-        let name = Name {
-            text: name.share()?,
-        };
-        Ok(self.references.get(&name).copied())
+        self.references.get(Wanted { bytes: name }).copied()
     }
 }
 
@@ -152,19 +189,19 @@ impl Declared {
     }
 
     // The reference of a name, and None for a name that isn't there.
-    fn find(&self, name: &Text) -> Result<Option<Who>, AllocError>
-        ensures named { IfOk result (λ found. IfSome found (λ who. IsNamed self.now who name.now)) }
-        ensures only { IfOk result (λ found. (who : Reference) → IsNamed self.now who name.now → found ≡ Some who) }
+    fn find(&self, name: &[u8]) -> Option<Who>
+        ensures named { IfSome result (λ who. IsNamed self.now who name.now) }
+        ensures only { (who : Reference) → IsNamed self.now who name.now → result ≡ Some who }
     {
         self.table.find(name)
     }
 
     // The reference of a name.
     #[tactic(auto, using(crate::proofs::Named::found_is_named))]
-    fn named(&self, name: &Text) -> Result<Who, Wrong>
+    fn named(&self, name: &[u8]) -> Result<Who, Wrong>
         ensures { Reads (who_named self.now name.now) result }
     {
-        match self.find(name)? {
+        match self.find(name) {
             Some(who) => Ok(who),
             None => Err(Wrong::Name),
         }

@@ -80,7 +80,7 @@ fn operation(
     ensures { Reads (op_of version declared.now form.now) result }
 {
     match tagged_in(form) {
-        Some((word, parts)) => operation_of(alloc, version, declared, word.as_bytes(), parts),
+        Some((word, parts)) => operation_of(alloc, version, declared, word, parts),
         None => Err(Wrong::Form),
     }
 }

@@ -71,15 +71,15 @@ fn rule_in(alloc: Global, form: &Value) -> Result<Rule, Wrong>
 }
 
 // A rule and a mark, either of which may be left out.
-fn tail_in(alloc: Global, mut parts: Iter<'_>) -> Result<(Option<Rule>, Option<&Text>), Wrong>
+fn tail_in(alloc: Global, mut parts: Iter<'_>) -> Result<(Option<Rule>, Option<&[u8]>), Wrong>
     ensures ok { IfOk result (λ t. tail_said parts.entry ≡ Some (t.0, option_copied t.1)) }
     ensures wrong { IfErr result (λ w. w ≢ Wrong.Memory → tail_said parts.entry ≡ None) }
 {
     match (parts.next(), parts.next(), parts.next()) {
         (None, _, _) => Ok((None, None)),
-        (Some(x), None, _) => match x.node() {
-            Node::Keyword(mark) => Ok((None, Some(mark))),
-            _ => Ok((Some(rule_in(alloc, x)?), None)),
+        (Some(x), None, _) => match keyword_in(x) {
+            Some(mark) => Ok((None, Some(mark))),
+            None => Ok((Some(rule_in(alloc, x)?), None)),
         },
         (Some(rule), Some(mark), None) => match keyword_in(mark) {
             Some(mark) => Ok((Some(rule_in(alloc, rule)?), Some(mark))),
@@ -92,14 +92,14 @@ fn tail_in(alloc: Global, mut parts: Iter<'_>) -> Result<(Option<Rule>, Option<&
 // `[NAME VALUE RULE MARK]`.
 #[derive(Drop)]
 struct Reference<'a> {
-    name: &'a Text,
+    name: Text,
     value: Value,
     rule: Option<Rule>,
-    mark: Option<&'a Text>,
+    mark: Option<&'a [u8]>,
 }
 
 fn parts_in(alloc: Global, mut parts: Iter<'_>) -> Result<Reference<'_>, Wrong>
-    ensures ok { IfOk result (λ r. parts_declare parts.entry ≡ Some (declaration r.name.now r.value r.rule (option_copied r.mark))) }
+    ensures ok { IfOk result (λ r. parts_declare parts.entry ≡ Some (declaration r.name r.value r.rule (option_copied r.mark))) }
     ensures wrong { IfErr result (λ w. w ≢ Wrong.Memory → parts_declare parts.entry ≡ None) }
 {
     let (Some(name), Some(value)) = (parts.next(), parts.next()) else {
@@ -113,7 +113,7 @@ fn parts_in(alloc: Global, mut parts: Iter<'_>) -> Result<Reference<'_>, Wrong>
     }
     let (rule, mark) = tail_in(alloc, parts)?;
     Ok(Reference {
-        name,
+        name: Text::of_bytes(alloc, name)?,
         value: value.share()?,
         rule,
         mark,
@@ -121,7 +121,7 @@ fn parts_in(alloc: Global, mut parts: Iter<'_>) -> Result<Reference<'_>, Wrong>
 }
 
 fn reference_in(alloc: Global, form: &Value) -> Result<Reference<'_>, Wrong>
-    ensures ok { IfOk result (λ r. declaration_of form.now ≡ Some (declaration r.name.now r.value r.rule (option_copied r.mark))) }
+    ensures ok { IfOk result (λ r. declaration_of form.now ≡ Some (declaration r.name r.value r.rule (option_copied r.mark))) }
     ensures wrong { IfErr result (λ w. w ≢ Wrong.Memory → declaration_of form.now ≡ None) }
 {
     match elements_in(form) {
@@ -151,12 +151,12 @@ fn is_count(value: &Value) -> bool
 }
 
 // Whether the mark of a ref says that it is the tally.
-fn tally_in(mark: Option<&Text>) -> Option<bool>
+fn tally_in(mark: Option<&[u8]>) -> Option<bool>
     ensures { result ≡ tally_said (option_copied mark.entry) }
 {
     match mark {
         None => Some(false),
-        Some(word) if is_same(word.as_bytes(), b"tally") => Some(true),
+        Some(word) if is_same(word, b"tally") => Some(true),
         Some(_) => None,
     }
 }
@@ -182,7 +182,7 @@ pub fn ref_in(
     let Some(tally) = tally_in(reference.mark) else {
         return Err(Refused::Form);
     };
-    if !table.add(reference.name, who)? {
+    if !table.add(&reference.name, who)? {
         return Err(Refused::Taken);
     }
     if tally && (has_tally || !is_count(&reference.value)) {
@@ -192,7 +192,7 @@ pub fn ref_in(
         return Err(Refused::Start);
     }
     Ok((
-        reference.name.share()?,
+        reference.name,
         RefStart {
             value: reference.value,
             rule: reference.rule,
@@ -220,14 +220,14 @@ pub fn atom_in(
     if reference.mark.is_some() {
         return Err(Refused::Form);
     }
-    if !table.add(reference.name, who)? {
+    if !table.add(&reference.name, who)? {
         return Err(Refused::Taken);
     }
     if !accepts(&reference.rule, &reference.value) {
         return Err(Refused::Start);
     }
     Ok((
-        reference.name.share()?,
+        reference.name,
         AtomStart {
             value: reference.value,
             rule: reference.rule,
@@ -236,12 +236,12 @@ pub fn atom_in(
 }
 
 // The error mode that the mark of an agent says.
-fn mode_marked(mark: Option<&Text>) -> Option<ErrorMode>
+fn mode_marked(mark: Option<&[u8]>) -> Option<ErrorMode>
     ensures { result ≡ mode_marked (option_copied mark.entry) }
 {
     match mark {
         None => Some(ErrorMode::Fail),
-        Some(word) => mode_named(word.as_bytes()),
+        Some(word) => mode_named(word),
     }
 }
 
@@ -264,14 +264,14 @@ pub fn agent_in(
     let Some(mode) = mode_marked(reference.mark) else {
         return Err(Refused::Form);
     };
-    if !table.add(reference.name, who)? {
+    if !table.add(&reference.name, who)? {
         return Err(Refused::Taken);
     }
     if !accepts(&reference.rule, &reference.value) {
         return Err(Refused::Start);
     }
     Ok((
-        reference.name.share()?,
+        reference.name,
         AgentStart {
             value: reference.value,
             rule: reference.rule,

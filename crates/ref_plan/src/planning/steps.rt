@@ -69,7 +69,7 @@ fn step(alloc: Global, version: Version, declared: &Declared, form: &Value) -> R
     ensures { Reads (step_of version declared.now form.now) result }
 {
     match tagged_in(form) {
-        Some((word, parts)) => step_of(alloc, version, declared, word.as_bytes(), parts),
+        Some((word, parts)) => step_of(alloc, version, declared, word, parts),
         None => Err(Wrong::Form),
     }
 }

@@ -395,6 +395,9 @@ fn are_same_texts(a: &Value, b: &Value) -> bool
     ensures { IsTrue result → a.now ≡ b.now }
 {
     match (a.node(), b.node()) {
+        (Node::ShortKeyword(x), Node::ShortKeyword(y)) => x.is_same(y),
+        (Node::ShortStr(x), Node::ShortStr(y)) => x.is_same(y),
+        (Node::ShortSymbol(x), Node::ShortSymbol(y)) => x.is_same(y),
         (Node::Keyword(x), Node::Keyword(y)) => x.is_same(y),
         (Node::Str(x), Node::Str(y)) => x.is_same(y),
         (Node::Symbol(x), Node::Symbol(y)) => x.is_same(y),

@@ -150,7 +150,7 @@ fn mark_named(mark: &[u8]) -> Option<Mark>
 fn mark_in(form: &Value) -> Option<Mark>
     ensures { result ≡ mark_of form.now }
 {
-    mark_named(keyword_in(form)?.as_bytes())
+    mark_named(keyword_in(form)?)
 }
 
 // `F [ARG ..] MARK`

@@ -124,7 +124,7 @@ impl FromForm for Done {
 
     fn from_form(alloc: Global, _version: Version, form: &Value) -> Result<Done, Wrong> {
         match tagged_in(form) {
-            Some((tag, parts)) => done_in(alloc, tag.as_bytes(), parts),
+            Some((tag, parts)) => done_in(alloc, tag, parts),
             None => Err(Wrong::Form),
         }
     }
@@ -278,7 +278,7 @@ pub(crate) fn entry_in(alloc: Global, version: Version, form: &Value) -> Result<
     ensures { Reads (entry_of version form.now) result }
 {
     match tagged_in(form) {
-        Some((tag, parts)) => tagged_entry_in(alloc, version, tag.as_bytes(), parts),
+        Some((tag, parts)) => tagged_entry_in(alloc, version, tag, parts),
         None => Err(Wrong::Form),
     }
 }

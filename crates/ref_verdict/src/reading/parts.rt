@@ -8,6 +8,7 @@ ghost use Rattle.ref_verdict.specs.Early.{is_said, parts_fault};
 ghost use Rattle.ref_verdict.specs.Reading.{Told, fault_at};
 ghost use Rattle.ref_verdict.specs.declared.reading.faults.DumpFault.TheVariants.{BadPart};
 ghost use Rattle.ref_verdict.specs.declared.reading.faults.Key.TheVariants as keys;
+ghost use Rattle.ref_log.specs.Limits.{most_entries};
 
 use crate::reading::actions::reference_in;
 use crate::reading::dumps::Version;
@@ -293,10 +294,10 @@ pub(crate) fn tally_part(entries: &Entries) -> Result<Option<u32>, DumpFault>
 /// The forms of the entries.
 pub(crate) fn entry_forms(entries: &Entries) -> Result<&Items, DumpFault>
     ensures ok { IfOk result (λ forms.
-        part_said entries.now keys.Entries (elements_within (2 ^ 62)) ≡ Ok forms.now) }
-    ensures limit { IfOk result (λ forms. length forms.now ≤ 2 ^ 62) }
+        part_said entries.now keys.Entries (elements_within most_entries) ≡ Ok forms.now) }
+    ensures limit { IfOk result (λ forms. length forms.now ≤ most_entries) }
     ensures err { IfErr result (λ fault.
-        part_said entries.now keys.Entries (elements_within (2 ^ 62)) ≡ Err fault) }
+        part_said entries.now keys.Entries (elements_within most_entries) ≡ Err fault) }
 {
     let Some(form) = form_of(entries, Key::Entries) else {
         return Err(DumpFault::BadPart(Key::Entries));

@@ -72,7 +72,7 @@ fn status_named(status: &[u8]) -> Option<bool>
 fn status_in(form: &Value) -> Option<bool>
     ensures { result ≡ status_of form.now }
 {
-    status_named(keyword_in(form)?.as_bytes())
+    status_named(keyword_in(form)?)
 }
 
 // `START HANDLED QUEUE VALUE STATUS RULE`

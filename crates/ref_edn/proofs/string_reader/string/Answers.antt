@@ -1,4 +1,4 @@
-use Rattle.std.proofs.Common.{sym, ap, subst, rules}
+use Rattle.std.proofs.Common.{ap, arith, subst}
 use Rattle.std.specs.Prelude.{IsUtf8}
 use Rattle.std.proofs.lemmas.Str.{IsUtf8-string_bytes}
 use Rattle.ref_value.specs.Lawful.{IsLawful}
@@ -8,13 +8,12 @@ use Rattle.ref_edn.proofs.string_reader.string.Goals as goal
 pub of_lawful-requires : goal.of_lawful-requires
 of_lawful-requires c =
     let u = IsUtf8-string_bytes c.in-Ok.content in
-    let e = c.in_ok-content-in-Ok.ensures in
-    record { parts = subst IsUtf8 (sym e) u; shallow = search rules }
+    rw c.in_ok-node-in-Ok.ensures (record { parts = u; shallow = omega arith })
 
 pub returns-in-Ok-clause-value : goal.returns-in-Ok-clause-value
 returns-in-Ok-clause-value c =
     let u = IsUtf8-string_bytes c.in-Ok.content in
-    let e = c.in_ok-content-in-Ok.ensures in
+    let e = c.in_ok-node-in-Ok.ensures in
     let bytes = ap (λ v. v.items) c.in-Ok.ensures.ok in
     let read = c.in_ok-bytes.ensures.value in
     rw (c.of_lawful.ensures, e, bytes) (string_read c.args.text.now _ _ (rw c.after-inside.ensures at read) (subst IsUtf8 bytes u))
