@@ -61,8 +61,9 @@ def is_built(name):
 
 
 def adopt_from_gate(program, below):
-    """Takes the libraries that the gate left. It stores no stamp with them; but a program that is newer than they are was built from
-    them, and libraries that are newer than their sources were built from these. Returns their names."""
+    """Takes the libraries and the program that the gate left. It stores no stamp with them; but a program that is newer than its
+    libraries and its sources was built from them, and libraries that are newer than their sources were built from these. Returns the
+    names of the libraries."""
     made = TOP / "crates" / program / "out" / program
     adopted = []
     for name in repository.lowest_first(repository.with_those_below([program], below) - {program}, below):
@@ -73,6 +74,10 @@ def adopt_from_gate(program, below):
             stamp.write_text(crate(name).stamp(), encoding="utf-8")
         if crate(name).is_built():
             adopted.append(name)
+    if not is_built(program) and made.is_file() and set(below[program]) <= set(adopted):
+        libraries = [TOP / "crates" / name / "out" / "rlib" / f"{name}.rlib" for name in adopted]
+        if newest(libraries) <= made.stat().st_mtime and newest(repository.sources(program)) < made.stat().st_mtime:
+            Path(f"{made}.stamp").write_text(crate(program).stamp() + RTLIB.sum_of(str(made)), encoding="utf-8")
     return adopted
 
 

@@ -98,7 +98,7 @@ impl<'a, C: Ledger, A: Ledger, K: Ledger> Bank<'a, C, A, K> {
         requires added { IsBlank added A.name A.parts }
         requires taken { IsBlank taken K.name K.parts }
     {
-        let Ok((world, share)) = World::new(alloc, funs, start(alloc)?, commits, added, taken)
+        let Ok((world, share)) = World::new(alloc, funs, &start(alloc)?, commits, added, taken)
         else {
             return Err(AllocError);
         };

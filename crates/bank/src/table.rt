@@ -2,6 +2,7 @@
 //!
 //! A closure may not leave the function that makes it but by a loan, so what makes the table also runs the business.
 ghost use Rattle.std.specs.Prelude.{◌≤◌, length};
+ghost use Rattle.ref_fun.specs.Limits.{most_arguments};
 
 use crate::{Trouble, business};
 use ref_edn::Value;
@@ -20,7 +21,7 @@ pub(crate) fn run_by_core<R: AllocGlobal + Print>(rt: &R) -> Result<(), Trouble>
         let run: Fun = match Box::new(
             alloc,
             move |alloc: Global, state: &Value, args: &[Value]| -> Result<Value, FunFault>
-                requires { length args.now ≤ 8 }
+                requires { length args.now ≤ most_arguments }
             { core_fun(alloc, code, state, args) },
         ) {
             Ok(run) => run,

@@ -62,7 +62,7 @@ fn begin<C: Ledger, A: Ledger, K: Ledger>(
     requires added { IsBlank added A.name A.parts }
     requires taken { IsBlank taken K.name K.parts }
 {
-    match World::<BoxOffice, C, A, K>::new(alloc, &Acts, start(alloc)?, commits, added, taken) {
+    match World::<BoxOffice, C, A, K>::new(alloc, &Acts, &start(alloc)?, commits, added, taken) {
         Ok(begun) => Ok(begun),
         Err(_) => Err(Trouble),
     }

@@ -28,6 +28,7 @@ use Rattle.ref_world.specs.Seen.{WorldSeen}
 use Rattle.ref_verdict.specs.Words.{added_key, agents_key, atoms_key, base_atoms_key, base_refs_key, commits_key, dump_key, entries_key, folded_key, point_key, refs_key, taken_key, tally_key, tx_tag, reset_tag, swap_tag, made_ref_tag, made_atom_tag, set_tag, alter_tag, commute_tag, ensure_tag, done_mark, failed_mark, passed_mark, ready_status, failed_status, number_form, vector_form, name_form, action_forms, carries_form, rule_form}
 use Rattle.ref_audit.specs.declared.faults.DumpMakeFault.{DumpMakeFault}
 use Rattle.ref_audit.specs.declared.faults.DumpMakeFault.TheVariants as faults
+use Rattle.ref_value.specs.Limits.{most_nested}
 
 -- ---- entries
 
@@ -205,7 +206,7 @@ unnamed world = lesser (least unnamed_in_entry world.log) (least unnamed_in_agen
 
 -- It is a value only where it isn't deeper than values are.
 abbrev pub depth_refusal : Edn → Option DumpMakeFault
-depth_refusal form = if nat_lt 64 (nesting form) then Some faults.TooDeep else None
+depth_refusal form = if nat_lt most_nested (nesting form) then Some faults.TooDeep else None
 
 abbrev pub unnamed_refusal : WorldSeen → Option DumpMakeFault
 unnamed_refusal world = option_map faults.Unnamed (unnamed world)

@@ -13,10 +13,11 @@ use Rattle.ref_audit.specs.declared.kinds.Kind.TheVariants as kinds
 use Rattle.ref_audit.specs.declared.words.Word.{Word}
 use Rattle.ref_audit.specs.declared.words.Word.TheVariants as words
 use Rattle.ref_log.specs.Limits.{most_references}
+use Rattle.ref_value.specs.Limits.{most_nested}
 
 -- The fault of a form that isn't made: that it nests too deep, which is so then, or out of memory.
 pub record IsMakeFault (depth : ℕ) (fault : DumpMakeFault) : Type 0 where
-  pub deep : fault ≡ TooDeep → 64 < depth
+  pub deep : fault ≡ TooDeep → most_nested < depth
   pub named : (code : ℕ) → fault ≢ Unnamed code
 
 -- A world has at most 2^20 references of a kind.

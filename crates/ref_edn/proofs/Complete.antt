@@ -19,6 +19,7 @@ use Rattle.ref_edn.proofs.Turns.{skip_is, read_is, single_is, discards, vectors,
 use Rattle.ref_edn.proofs.CollectionTurns.{items_turn, pairs_turn}
 use Rattle.ref_edn.proofs.Unsorted.{set_of_items, map_of_pairs}
 use Rattle.ref_edn.proofs.Extents.{blank_shorter, element_shorter}
+use Rattle.ref_value.specs.Limits.{most_nested}
 
 -- ---- what stands at the front
 
@@ -273,7 +274,7 @@ mutual
 
 -- ---- whole texts
 
-first_again : (text : List ℕ) (x : Edn × List ℕ) → Begins text → read 64 text ≡ Ok x → first text ≡ Ok x
+first_again : (text : List ℕ) (x : Edn × List ℕ) → Begins text → read most_nested text ≡ Ok x → first text ≡ Ok x
 first_again [] x b e = absurd b
 first_again (b ∷ text) x h e = e
 
@@ -288,10 +289,10 @@ one_again text x t =
     let p = blank_again t.before (begins_solid t.start b) t.utf8 (length text) (omega arith) in
     let q = element_again t.element p.1 in
     let r = blank_again t.behind tt q.1 (length t.after) (omega arith) in
-    let read_so : (skip 64 text >>= λ start. first start >>= λ y. skip 64 y.1 >>= λ rest. last y.0 rest) ≡ Ok x = rw (skip_is, p.0, first_again t.start (x, t.after) b q.0, skip_is, r.0) refl in
-    checked_again text (skip 64 text >>= λ start. first start >>= λ y. skip 64 y.1 >>= λ rest. last y.0 rest) t.utf8 ∙ read_so
+    let read_so : (skip most_nested text >>= λ start. first start >>= λ y. skip most_nested y.1 >>= λ rest. last y.0 rest) ≡ Ok x = rw (skip_is, p.0, first_again t.start (x, t.after) b q.0, skip_is, r.0) refl in
+    checked_again text (skip most_nested text >>= λ start. first start >>= λ y. skip most_nested y.1 >>= λ rest. last y.0 rest) t.utf8 ∙ read_so
 
-all_step_again : (inner : List ℕ → Result (List Edn) Fault) (start after : List ℕ) (x : Edn) (xs : List Edn) → Begins start → read 64 start ≡ Ok (x, after) → inner after ≡ Ok xs → all_step inner start ≡ Ok (x ∷ xs)
+all_step_again : (inner : List ℕ → Result (List Edn) Fault) (start after : List ℕ) (x : Edn) (xs : List Edn) → Begins start → read most_nested start ≡ Ok (x, after) → inner after ≡ Ok xs → all_step inner start ≡ Ok (x ∷ xs)
 all_step_again inner [] after x xs b e f = absurd b
 all_step_again inner (c ∷ start) after x xs b e f = rw (e, f) refl
 

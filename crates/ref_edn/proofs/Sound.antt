@@ -21,6 +21,7 @@ use Rattle.ref_edn.proofs.Sorting.{sorts_of, entries_sorts_of}
 use Rattle.ref_edn.proofs.CollectionTurns.{Next, items_after, items_turn, items_last, pairs_turn, pairs_last}
 use Rattle.ref_edn.proofs.Unsorted.{items_of_set, pairs_of_map}
 use Rattle.ref_edn.proofs.Extents.{blank_shorter, element_shorter}
+use Rattle.ref_value.specs.Limits.{most_nested}
 
 both_true : (a b : Bool) → (a && b) ≡ true → (a ≡ true) × (b ≡ true)
 both_true true true e = (refl, refl)
@@ -254,9 +255,9 @@ mutual
 
 -- ---- whole texts
 
-first_takes : (text : List ℕ) (x : Edn × List ℕ) → first text ≡ Ok x → Element 64 text x.0 x.1
+first_takes : (text : List ℕ) (x : Edn × List ℕ) → first text ≡ Ok x → Element most_nested text x.0 x.1
 first_takes [] x e = absurd cc
-first_takes (b ∷ text) x e = read_takes 64 (b ∷ text) x e
+first_takes (b ∷ text) x e = read_takes most_nested (b ∷ text) x e
 
 last_takes : (x : Edn) (rest : List ℕ) (y : Edn) → last x rest ≡ Ok y → (rest ≡ []) × (x ≡ y)
 last_takes x [] y e = (refl, ok_is x y e)
@@ -270,27 +271,27 @@ checked_takes text r x e =
 pub one_takes : (text : List ℕ) (x : Edn) → one text ≡ Ok x → IsText text x
 unfolding one
 one_takes text x e =
-    let c = checked_takes text (skip 64 text >>= λ start. first start >>= λ y. skip 64 y.1 >>= λ rest. last y.0 rest) x e in
-    let s = bind_ok (skip 64 text) (λ start. first start >>= λ y. skip 64 y.1 >>= λ rest. last y.0 rest) x c.1 in
-    let y = bind_ok (first s.0) (λ y. skip 64 y.1 >>= λ rest. last y.0 rest) x s.2 in
-    let r = bind_ok (skip 64 y.0.1) (λ rest. last y.0.0 rest) x y.2 in
+    let c = checked_takes text (skip most_nested text >>= λ start. first start >>= λ y. skip most_nested y.1 >>= λ rest. last y.0 rest) x e in
+    let s = bind_ok (skip most_nested text) (λ start. first start >>= λ y. skip most_nested y.1 >>= λ rest. last y.0 rest) x c.1 in
+    let y = bind_ok (first s.0) (λ y. skip most_nested y.1 >>= λ rest. last y.0 rest) x s.2 in
+    let r = bind_ok (skip most_nested y.0.1) (λ rest. last y.0.0 rest) x y.2 in
     let l = last_takes y.0.0 r.0 x r.2 in
     record {
       utf8 = c.0;
       start = s.0;
       after = y.0.1;
-      before = skip_takes 64 text s.0 s.1;
-      element = subst (λ (z : Edn). Element 64 s.0 z y.0.1) l.1 (first_takes s.0 y.0 y.1);
-      behind = subst (λ (z : List ℕ). Blank 64 y.0.1 z) l.0 (skip_takes 64 y.0.1 r.0 r.1);
+      before = skip_takes most_nested text s.0 s.1;
+      element = subst (λ (z : Edn). Element most_nested s.0 z y.0.1) l.1 (first_takes s.0 y.0 y.1);
+      behind = subst (λ (z : List ℕ). Blank most_nested y.0.1 z) l.0 (skip_takes most_nested y.0.1 r.0 r.1);
     }
 
-all_step_takes : (inner : List ℕ → Result (List Edn) Fault) (text start : List ℕ) → ((after : List ℕ) (xs : List Edn) → length after < length text → inner after ≡ Ok xs → Series after xs) → (xs : List Edn) → Blank 64 text start
+all_step_takes : (inner : List ℕ → Result (List Edn) Fault) (text start : List ℕ) → ((after : List ℕ) (xs : List Edn) → length after < length text → inner after ≡ Ok xs → Series after xs) → (xs : List Edn) → Blank most_nested text start
     → all_step inner start ≡ Ok xs → Series text xs
 all_step_takes inner text [] how xs before e = subst (Series text) (ok_is [] xs e) (ended before)
 all_step_takes inner text (b ∷ start) how xs before e =
-    let x = bind_ok (read 64 (b ∷ start)) (λ x. inner x.1 >>= λ ys. Ok (x.0 ∷ ys)) xs e in
+    let x = bind_ok (read most_nested (b ∷ start)) (λ x. inner x.1 >>= λ ys. Ok (x.0 ∷ ys)) xs e in
     let ys = bind_ok (inner x.0.1) (λ ys. Ok (x.0.0 ∷ ys)) xs x.2 in
-    let first = read_takes 64 (b ∷ start) x.0 x.1 in
+    let first = read_takes most_nested (b ∷ start) x.0 x.1 in
     let shorter : length x.0.1 < length text = omega (arith, element_shorter first, blank_shorter before) in
     subst (Series text) (ok_is (x.0.0 ∷ ys.0) xs ys.2) (next before first (how x.0.1 ys.0 shorter ys.1))
 
@@ -298,11 +299,11 @@ all_step_takes inner text (b ∷ start) how xs before e =
 all_with_takes : (turns : ℕ) (text : List ℕ) (xs : List Edn) → length text ≤ turns → all_with turns text ≡ Ok xs → Series text xs
 unfolding all_with
 all_with_takes zero text xs enough e =
-    let s = bind_ok (skip 64 text) (λ start. all_step (λ at. Ok []) start) xs e in
-    all_step_takes (λ at. Ok []) text s.0 (λ after ys shorter h. absurd (omega arith)) xs (skip_takes 64 text s.0 s.1) s.2
+    let s = bind_ok (skip most_nested text) (λ start. all_step (λ at. Ok []) start) xs e in
+    all_step_takes (λ at. Ok []) text s.0 (λ after ys shorter h. absurd (omega arith)) xs (skip_takes most_nested text s.0 s.1) s.2
 all_with_takes (suc turns) text xs enough e =
-    let s = bind_ok (skip 64 text) (λ start. all_step (all_with turns) start) xs e in
-    all_step_takes (all_with turns) text s.0 (λ after ys shorter h. all_with_takes turns after ys (omega arith) h) xs (skip_takes 64 text s.0 s.1) s.2
+    let s = bind_ok (skip most_nested text) (λ start. all_step (all_with turns) start) xs e in
+    all_step_takes (all_with turns) text s.0 (λ after ys shorter h. all_with_takes turns after ys (omega arith) h) xs (skip_takes most_nested text s.0 s.1) s.2
 
 pub all_takes : (text : List ℕ) (xs : List Edn) → all text ≡ Ok xs → AreTexts text xs
 unfolding all

@@ -7,6 +7,7 @@ use Rattle.ref_edn.specs.Faults.{◌>>=◌, Fails}
 use Rattle.ref_edn.specs.ReadParts.{series_at}
 use Rattle.ref_edn.specs.Reading.{skip, read, all_step, all_with}
 use Rattle.ref_edn.proofs.Turns.{fails_so}
+use Rattle.ref_value.specs.Limits.{most_nested}
 
 -- what was read before, and what is still read
 abbrev pub with_found : List Edn → Result (List Edn) Fault → Result (List Edn) Fault
@@ -29,33 +30,33 @@ pub series_start : (text : List ℕ) → ReadsSeries [] text (series_at text)
 unfolding series_at
 series_start text = record { turns = length text; enough = omega arith; same = with_none (all_with (length text) text) }
 
-some_turns : (turns : ℕ) (rest : List ℕ) → (more : List ℕ → Result (List Edn) Fault) × (all_with turns rest ≡ (skip 64 rest >>= λ start. all_step more start))
+some_turns : (turns : ℕ) (rest : List ℕ) → (more : List ℕ → Result (List Edn) Fault) × (all_with turns rest ≡ (skip most_nested rest >>= λ start. all_step more start))
 unfolding all_with
 some_turns zero rest = (λ at. Ok [], refl)
 some_turns (suc turns) rest = (all_with turns, refl)
 
 module _ (found : List Edn) (rest : List ℕ) (total : Result (List Edn) Fault) (r : ReadsSeries found rest total) where
-  pub series_skip_fails : (e : ReadError) → Fails e (skip 64 rest) → Fails e total
+  pub series_skip_fails : (e : ReadError) → Fails e (skip most_nested rest) → Fails e total
   series_skip_fails e failed =
       let p = some_turns r.turns rest in
-      fails_so e (skip 64 rest) total (λ f at. let fault : all_with r.turns rest ≡ Err f = p.1 ∙ rw at refl in sym r.same ∙ ap (with_found found) fault) failed
+      fails_so e (skip most_nested rest) total (λ f at. let fault : all_with r.turns rest ≡ Err f = p.1 ∙ rw at refl in sym r.same ∙ ap (with_found found) fault) failed
 
-  pub series_ends : (start : List ℕ) → skip 64 rest ≡ Ok start → length start ≡ 0 → total ≡ Ok found
+  pub series_ends : (start : List ℕ) → skip most_nested rest ≡ Ok start → length start ≡ 0 → total ≡ Ok found
   series_ends (b ∷ start) at none = absurd (omega arith)
   series_ends [] at none =
       let p = some_turns r.turns rest in
       let ends : all_with r.turns rest ≡ Ok [] = p.1 ∙ rw at refl in
       sym r.same ∙ ap (with_found found) ends ∙ rw append-nil refl
 
-  pub series_fails : (start : List ℕ) (e : ReadError) → skip 64 rest ≡ Ok start → 0 < length start → Fails e (read 64 start) → Fails e total
+  pub series_fails : (start : List ℕ) (e : ReadError) → skip most_nested rest ≡ Ok start → 0 < length start → Fails e (read most_nested start) → Fails e total
   series_fails [] e at some failed = absurd (omega arith)
   series_fails (b ∷ start) e at some failed =
       let p = some_turns r.turns rest in
-      fails_so e (read 64 (b ∷ start)) total
+      fails_so e (read most_nested (b ∷ start)) total
       (λ f read_so. let fault : all_with r.turns rest ≡ Err f = p.1 ∙ rw (at, read_so) refl in sym r.same ∙ ap (with_found found) fault)
       failed
 
-  pub series_more : (start : List ℕ) (x : Edn) (behind : List ℕ) → skip 64 rest ≡ Ok start → 0 < length start → read 64 start ≡ Ok (x, behind) → length behind < length rest → ReadsSeries (found ++ x ∷ []) behind total
+  pub series_more : (start : List ℕ) (x : Edn) (behind : List ℕ) → skip most_nested rest ≡ Ok start → 0 < length start → read most_nested start ≡ Ok (x, behind) → length behind < length rest → ReadsSeries (found ++ x ∷ []) behind total
   unfolding all_with
   series_more [] x behind at some read_so shorter = absurd (omega arith)
   series_more (b ∷ start) x behind at some read_so shorter = by r.turns r.enough r.same

@@ -7,6 +7,7 @@ use Rattle.ref_value.specs.Edn.{Edn, nil, boolean, int, string, keyword, symbol,
 use Rattle.ref_edn.specs.Bytes.{is_space, is_delimiter, is_integer, integer_value}
 use Rattle.ref_value.specs.Names.{is_keyword, is_symbol, nil_text, true_text, false_text}
 use Rattle.ref_value.specs.Order.{elements_ascend, keys_ascend}
+use Rattle.ref_value.specs.Limits.{most_nested}
 
 -- a token, and the value that it writes
 pub data Token : List ℕ → Edn → Type 0 where
@@ -102,14 +103,14 @@ pub record IsText (text : List ℕ) (x : Edn) : Type 0 where
   pub utf8 : IsUtf8 text
   pub start : List ℕ
   pub after : List ℕ
-  pub before : Blank 64 text start
-  pub element : Element 64 start x after
-  pub behind : Blank 64 after []
+  pub before : Blank most_nested text start
+  pub element : Element most_nested start x after
+  pub behind : Blank most_nested after []
 
 -- elements with blanks round them, up to the end
 pub data Series : List ℕ → List Edn → Type 0 where
-  ended : {text : List ℕ} → Blank 64 text [] → Series text []
-  next : {text start after : List ℕ} {x : Edn} {xs : List Edn} → Blank 64 text start → Element 64 start x after → Series after xs → Series text (x ∷ xs)
+  ended : {text : List ℕ} → Blank most_nested text [] → Series text []
+  next : {text start after : List ℕ} {x : Edn} {xs : List Edn} → Blank most_nested text start → Element most_nested start x after → Series after xs → Series text (x ∷ xs)
 
 -- The text is these elements, one after another.
 pub record AreTexts (text : List ℕ) (xs : List Edn) : Type 0 where

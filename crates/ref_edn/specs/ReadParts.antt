@@ -11,6 +11,7 @@ use Rattle.ref_edn.specs.declared.faults.ReadFault.TheVariants as faults
 use Rattle.ref_edn.specs.Faults.{◌>>=◌, fault, public_fault}
 use Rattle.ref_edn.specs.ReadTokens.{starts_token, token_at, string_at}
 use Rattle.ref_edn.specs.Reading.{is_discard, opens_set, skip, read, items_with, set_with, map_with, value_step, vector_with, mapping_with, collection_with, first, last, all_with}
+use Rattle.ref_value.specs.Limits.{most_nested}
 
 -- what stands behind whitespace
 abbrev pub after_spaces : List ℕ → List ℕ
@@ -78,7 +79,7 @@ pairs_with room (suc turns) text = next_at room 125 text >>= λ k. pairs_step ro
 
 -- the one element of a text, and all of them, where the text is known to be UTF-8
 unfoldable pub whole_at : List ℕ → Result Edn Fault
-whole_at text = skip 64 text >>= λ start. first start >>= λ x. skip 64 x.1 >>= λ rest. last x.0 rest
+whole_at text = skip most_nested text >>= λ start. first start >>= λ x. skip most_nested x.1 >>= λ rest. last x.0 rest
 
 unfoldable pub series_at : List ℕ → Result (List Edn) Fault
 series_at text = all_with (length text) text

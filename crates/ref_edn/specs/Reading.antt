@@ -14,6 +14,7 @@ use Rattle.ref_edn.specs.Bytes.{is_space, is_close}
 use Rattle.ref_edn.specs.Grammar.{from_newline}
 use Rattle.ref_edn.specs.Faults.{◌>>=◌, fault}
 use Rattle.ref_edn.specs.ReadTokens.{starts_token, token_at, string_at}
+use Rattle.ref_value.specs.Limits.{most_nested}
 
 abbrev pub is_discard : ℕ → List ℕ → Bool
 is_discard b [] = false
@@ -103,7 +104,7 @@ unfoldable mutual
 
 abbrev pub first : List ℕ → Result (Edn × List ℕ) Fault
 first [] = fault Nothing []
-first (b ∷ rest) = read 64 (b ∷ rest)
+first (b ∷ rest) = read most_nested (b ∷ rest)
 
 abbrev pub last : Edn → List ℕ → Result Edn Fault
 last x [] = Ok x
@@ -115,16 +116,16 @@ checked text read = cond (is_utf8 text) read (fault NotUtf8 (drop (utf8_valid_le
 
 -- one element, with blanks round it
 unfoldable pub one : List ℕ → Result Edn Fault
-one text = checked text (skip 64 text >>= λ start. first start >>= λ x. skip 64 x.1 >>= λ rest. last x.0 rest)
+one text = checked text (skip most_nested text >>= λ start. first start >>= λ x. skip most_nested x.1 >>= λ rest. last x.0 rest)
 
 -- elements, with blanks round them
 abbrev pub all_step : (List ℕ → Result (List Edn) Fault) → List ℕ → Result (List Edn) Fault
 all_step more [] = Ok []
-all_step more (b ∷ text) = read 64 (b ∷ text) >>= λ x. more x.1 >>= λ xs. Ok (x.0 ∷ xs)
+all_step more (b ∷ text) = read most_nested (b ∷ text) >>= λ x. more x.1 >>= λ xs. Ok (x.0 ∷ xs)
 
 unfoldable pub all_with : ℕ → List ℕ → Result (List Edn) Fault
-all_with zero text = skip 64 text >>= λ start. all_step (λ at. Ok []) start
-all_with (suc turns) text = skip 64 text >>= λ start. all_step (all_with turns) start
+all_with zero text = skip most_nested text >>= λ start. all_step (λ at. Ok []) start
+all_with (suc turns) text = skip most_nested text >>= λ start. all_step (all_with turns) start
 
 unfoldable pub all : List ℕ → Result (List Edn) Fault
 all text = checked text (all_with (length text) text)

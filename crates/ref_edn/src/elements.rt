@@ -13,6 +13,7 @@ ghost use Rattle.ref_value.specs.Order.{elements_ascend, keys_ascend};
 ghost use Rattle.ref_edn.specs.Sorting.{inserts, inserts_entries};
 ghost use Rattle.ref_edn.specs.ReadParts.{single_at, discarded_at, vector_at, mapping_at, collection_at, items_at, set_at, map_at, next_at, value_at};
 ghost use Rattle.ref_edn.specs.Reading.{skip as skip_of, read as read_of};
+ghost use Rattle.ref_value.specs.Limits.{most_nested};
 
 use crate::blanks::{after_spaces, is_discard, line_end, may_be_blank, opens_set};
 use crate::bytes::{after, is_close, starts_token};
@@ -62,7 +63,7 @@ pub(crate) fn skip<'a>(
     text: &'a [u8],
     room: u8,
 ) -> Result<&'a [u8], ReadError>
-    requires { room ≤ 64 }
+    requires { room ≤ most_nested }
     ensures value { Gives (λ r. r.now) result (skip_of room text.now) }
     ensures shorter { IfOk result (λ r. length r.now ≤ length text.now) }
 {
@@ -86,7 +87,7 @@ fn pass<'a>(
     text: &'a [u8],
     room: u8,
 ) -> Result<&'a [u8], ReadError>
-    requires { room ≤ 64 }
+    requires { room ≤ most_nested }
     ensures value { Gives (λ r. r.now) result (skip_of room text.now) }
     ensures shorter { IfOk result (λ r. length r.now ≤ length text.now) }
 {
@@ -112,7 +113,7 @@ fn discarded<'a>(
     text: &'a [u8],
     room: u8,
 ) -> Result<&'a [u8], ReadError>
-    requires room { room ≤ 64 }
+    requires room { room ≤ most_nested }
     requires two { 2 ≤ length text.now }
     ensures value { Gives (λ r. r.now) result (discarded_at room text.now) }
     ensures shorter { IfOk result (λ r. length r.now < length text.now) }
@@ -134,7 +135,7 @@ pub(crate) fn read<'a>(
     text: &'a [u8],
     room: u8,
 ) -> Result<(Value, &'a [u8]), ReadError>
-    requires { room ≤ 64 }
+    requires { room ≤ most_nested }
     ensures value { Gives (λ r. (r.0, r.1.now)) result (read_of room text.now) }
     ensures shorter { IfOk result (λ r. length r.1.now < length text.now) }
 {
@@ -163,7 +164,7 @@ fn vector<'a>(
     room: u8,
     close: u8,
 ) -> Result<(Value, &'a [u8]), ReadError>
-    requires room { room ≤ 64 }
+    requires room { room ≤ most_nested }
     requires some { 0 < length text.now }
     ensures value { Gives (λ r. (r.0, r.1.now)) result (vector_at room close text.now) }
     ensures shorter { IfOk result (λ r. length r.1.now < length text.now) }
@@ -190,7 +191,7 @@ fn mapping<'a>(
     text: &'a [u8],
     room: u8,
 ) -> Result<(Value, &'a [u8]), ReadError>
-    requires room { room ≤ 64 }
+    requires room { room ≤ most_nested }
     requires some { 0 < length text.now }
     ensures value { Gives (λ r. (r.0, r.1.now)) result (mapping_at room text.now) }
     ensures shorter { IfOk result (λ r. length r.1.now < length text.now) }
@@ -215,7 +216,7 @@ fn collection<'a>(
     text: &'a [u8],
     room: u8,
 ) -> Result<(Value, &'a [u8]), ReadError>
-    requires room { room ≤ 64 }
+    requires room { room ≤ most_nested }
     requires two { 2 ≤ length text.now }
     ensures value { Gives (λ r. (r.0, r.1.now)) result (collection_at room text.now) }
     ensures shorter { IfOk result (λ r. length r.1.now < length text.now) }
@@ -244,7 +245,7 @@ fn next<'a>(
     room: u8,
     close: u8,
 ) -> Result<(&'a [u8], Option<Value>, &'a [u8]), ReadError>
-    requires { room ≤ 64 }
+    requires { room ≤ most_nested }
     ensures value { Gives (λ r. (r.0.now, r.1, r.2.now)) result (next_at room close text.now) }
     ensures shorter { IfOk result (λ r. length r.2.now < length r.0.now) }
     ensures start { IfOk result (λ r. length r.0.now ≤ length text.now) }
@@ -269,7 +270,7 @@ fn value<'a>(
     text: &'a [u8],
     room: u8,
 ) -> Result<(Value, &'a [u8]), ReadError>
-    requires { room ≤ 64 }
+    requires { room ≤ most_nested }
     ensures value { Gives (λ r. (r.0, r.1.now)) result (value_at room text.now) }
     ensures shorter { IfOk result (λ r. length r.1.now < length text.now) }
 {
@@ -292,7 +293,7 @@ fn items<'a>(
     room: u8,
     close: u8,
 ) -> Result<(Vec<Value>, &'a [u8]), ReadError>
-    requires { room ≤ 64 }
+    requires { room ≤ most_nested }
     ensures value { Gives (λ r. (r.0.items, r.1.now)) result (items_at room close text.now) }
     ensures shorter { IfOk result (λ r. length r.1.now < length text.now) }
 {
@@ -318,7 +319,7 @@ fn marked_elements<'a>(
     room: u8,
     found: &mut Vec<(Keyed, Reverse<usize>)>,
 ) -> Result<&'a [u8], ReadError>
-    requires room { room ≤ 64 }
+    requires room { room ≤ most_nested }
     requires empty { found.old.items ≡ [] }
     ensures falls { Falls found.new.items }
     ensures twice { 0 < first_twice [] found.new.items
@@ -346,7 +347,7 @@ fn elements<'a>(
     text: &'a [u8],
     room: u8,
 ) -> Result<(Vec<Value>, &'a [u8]), ReadError>
-    requires { room ≤ 64 }
+    requires { room ≤ most_nested }
     ensures value { Gives (λ r. (r.0.items, r.1.now)) result (set_at room text.now) }
     ensures ascends { IfOk result (λ r. IsTrue (elements_ascend (items_of r.0.items))) }
     ensures shorter { IfOk result (λ r. length r.1.now < length text.now) }
@@ -371,7 +372,7 @@ fn marked_entries<'a>(
     room: u8,
     found: &mut Vec<((Keyed, Reverse<usize>), Value)>,
 ) -> Result<&'a [u8], ReadError>
-    requires room { room ≤ 64 }
+    requires room { room ≤ most_nested }
     requires empty { found.old.items ≡ [] }
     ensures falls { Falls (keys_of found.new.items) }
     ensures twice { 0 < first_twice [] (keys_of found.new.items)
@@ -409,7 +410,7 @@ fn entries<'a>(
     text: &'a [u8],
     room: u8,
 ) -> Result<(Vec<(Value, Value)>, &'a [u8]), ReadError>
-    requires { room ≤ 64 }
+    requires { room ≤ most_nested }
     ensures value { Gives (λ r. (r.0.items, r.1.now)) result (map_at room text.now) }
     ensures ascends { IfOk result (λ r. IsTrue (keys_ascend (entries_of r.0.items))) }
     ensures shorter { IfOk result (λ r. length r.1.now < length text.now) }

@@ -53,6 +53,7 @@ use Rattle.ref_events.specs.declared.words.TxWord.{TxWord}
 use Rattle.ref_events.specs.declared.words.TxWord.TheVariants as txs
 use Rattle.ref_events.specs.declared.words.WorldWord.{WorldWord}
 use Rattle.ref_events.specs.declared.words.WorldWord.TheVariants as worlds
+use Rattle.ref_fun.specs.Limits.{most_nested_result}
 
 -- ---- references
 
@@ -191,8 +192,8 @@ act_said names stamp (words.Making word) parts = making_said word parts
 -- ---- events
 
 -- how deep an event may be nested, so that a value in it is nested no deeper than a workload's
-abbrev pub most_nested : ℕ
-most_nested = 49
+abbrev pub most_nested_event : ℕ
+most_nested_event = most_nested_result + 1
 
 abbrev pub word_said : Edn → Option ActWord
 word_said x = option_and_then (word_named act_words) (keyword_of x)
@@ -208,7 +209,7 @@ parts_said names n parts = None
 
 -- what a form says as the event of this number
 abbrev pub event_said : NamesSeen → ℕ → Edn → Option Event
-event_said names n x = option_and_then (λ y. option_and_then (parts_said names n) (elements_of y)) (only_if (nat_le (nesting x) most_nested) x)
+event_said names n x = option_and_then (λ y. option_and_then (parts_said names n) (elements_of y)) (only_if (nat_le (nesting x) most_nested_event) x)
 
 -- what these forms say, the first as the event of this number, where all of them say something
 abbrev pub events_said : NamesSeen → ℕ → List Edn → Option (List Event)

@@ -14,7 +14,7 @@ use Rattle.ref_start.specs.declared.starts.AtomStart.{AtomStart}
 use Rattle.ref_start.specs.declared.starts.RefStart.{RefStart}
 use Rattle.ref_forms.specs.Plain.{are_known, forms_under, is_vector_or_none, map_said, under}
 use Rattle.ref_plan.specs.Declarations.{AreReferences}
-use Rattle.ref_plan.specs.Limits.{most_references}
+use Rattle.ref_plan.specs.Limits.{most_declared}
 use Rattle.ref_plan.specs.Words.{agents_word, atoms_word, refs_word, version_word}
 use Rattle.ref_play.specs.declared.events.Event.{Event}
 use Rattle.ref_events.specs.Acts.{events_said}
@@ -42,9 +42,9 @@ pub record HasVectors (entries : List (Edn × Edn)) : Type 0 where
 
 -- There are no more references of a kind and no more events than may be.
 pub record HasFew (entries : List (Edn × Edn)) : Type 0 where
-  pub refs : length (forms_under entries refs_word) ≤ most_references
-  pub atoms : length (forms_under entries atoms_word) ≤ most_references
-  pub agents : length (forms_under entries agents_word) ≤ most_references
+  pub refs : length (forms_under entries refs_word) ≤ most_declared
+  pub atoms : length (forms_under entries atoms_word) ≤ most_declared
+  pub agents : length (forms_under entries agents_word) ≤ most_declared
   pub events : length (forms_under entries events_word) ≤ most_events
 
 -- The entries have the keys of a list of events, the version, and no more of anything than may be.

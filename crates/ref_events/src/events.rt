@@ -1,7 +1,7 @@
 //! The events of a list.
 ghost use Rattle.std.specs.Prelude.{◌≡◌, ◌≢◌, ◌≤◌, None, Some, IfErr, IfOk, length, nat_le};
 ghost use Rattle.ref_value.specs.Edn.{nesting};
-ghost use Rattle.ref_events.specs.Acts.{event_said, events_said, most_nested, parts_said};
+ghost use Rattle.ref_events.specs.Acts.{event_said, events_said, most_nested_event, parts_said};
 ghost use Rattle.ref_events.specs.Documents.{most_events};
 ghost use Rattle.ref_forms.specs.Reading.{Reads};
 
@@ -11,6 +11,7 @@ use crate::references::Numbered;
 use crate::words::word_in;
 use ref_forms::Wrong;
 use ref_forms::plain::{elements_in, stamp_number_in};
+use ref_fun::MOST_NESTED_RESULT;
 use ref_log::Stamp;
 use ref_play::Event;
 use ref_value::vectors::Iter;
@@ -18,12 +19,12 @@ use ref_value::{Items, Value};
 use std::alloc::Global;
 
 /// How deep an event may be nested: a value in it is nested no deeper than one of a workload.
-pub const MOST_NESTED: u8 = 49;
+pub const MOST_NESTED_EVENT: u8 = MOST_NESTED_RESULT + 1;
 
 fn is_shallow(form: &Value) -> bool
-    ensures { result ≡ nat_le (nesting form.now) most_nested }
+    ensures { result ≡ nat_le (nesting form.now) most_nested_event }
 {
-    form.depth() <= MOST_NESTED
+    form.depth() <= MOST_NESTED_EVENT
 }
 
 // `ACTOR ACT ARG ..`, as the event of this number.

@@ -3,7 +3,7 @@ ghost use Rattle.std.specs.Bool.{OnFalse, OnTrue};
 ghost use Rattle.std.specs.Option.{option_copied};
 ghost use Rattle.std.specs.Prelude.{◌≡◌, ◌≢◌, ◌≤◌, IfErr, IfOk, IfNone, IfSome, length};
 ghost use Rattle.ref_forms.specs.Plain.{elements, forms_under};
-ghost use Rattle.ref_plan.specs.Limits.{most_references};
+ghost use Rattle.ref_plan.specs.Limits.{most_declared};
 ghost use Rattle.ref_plan.specs.Words.{agents_word, atoms_word, refs_word};
 ghost use Rattle.ref_events.specs.Documents.{HasParts, HasVectors, IsScript, ScriptSeen, most_events};
 ghost use Rattle.ref_events.specs.Words.{events_word};
@@ -12,7 +12,7 @@ use crate::events::events_in;
 use crate::faults::ScriptFault;
 use crate::references::Numbered;
 use ref_forms::maps::{are_known, count, forms_of, map_in, vector_under};
-use ref_plan::planning::declarations::{MOST_REFERENCES, declarations};
+use ref_plan::planning::declarations::{MOST_DECLARED, declarations};
 use ref_plan::planning::parts::version_of;
 use ref_play::Event;
 use ref_start::{Names, Start};
@@ -114,18 +114,18 @@ fn vectors_in<'a>(entries: &'a Entries) -> Option<Parts<'a>>
 }
 
 fn are_few(parts: &Parts<'_>) -> bool
-    ensures refs { OnTrue result (length (elements (option_copied parts.now.refs)) ≤ most_references) }
-    ensures atoms { OnTrue result (length (elements (option_copied parts.now.atoms)) ≤ most_references) }
-    ensures agents { OnTrue result (length (elements (option_copied parts.now.agents)) ≤ most_references) }
+    ensures refs { OnTrue result (length (elements (option_copied parts.now.refs)) ≤ most_declared) }
+    ensures atoms { OnTrue result (length (elements (option_copied parts.now.atoms)) ≤ most_declared) }
+    ensures agents { OnTrue result (length (elements (option_copied parts.now.agents)) ≤ most_declared) }
     ensures events { OnTrue result (length (elements (option_copied parts.now.events)) ≤ most_events) }
-    ensures no { OnFalse result (length (elements (option_copied parts.now.refs)) ≤ most_references
-        → length (elements (option_copied parts.now.atoms)) ≤ most_references
-        → length (elements (option_copied parts.now.agents)) ≤ most_references
+    ensures no { OnFalse result (length (elements (option_copied parts.now.refs)) ≤ most_declared
+        → length (elements (option_copied parts.now.atoms)) ≤ most_declared
+        → length (elements (option_copied parts.now.agents)) ≤ most_declared
         → length (elements (option_copied parts.now.events)) ≤ most_events → ⊥) }
 {
-    count(parts.refs) <= MOST_REFERENCES
-        && count(parts.atoms) <= MOST_REFERENCES
-        && count(parts.agents) <= MOST_REFERENCES
+    count(parts.refs) <= MOST_DECLARED
+        && count(parts.atoms) <= MOST_DECLARED
+        && count(parts.agents) <= MOST_DECLARED
         && count(parts.events) <= MOST_EVENTS
 }
 

@@ -4,7 +4,7 @@ use crate::forms::{Form, Sort, first_form};
 use crate::nearest::{Nearest, with_hint};
 use crate::writing::Writing;
 use ref_events::scripts::MOST_EVENTS;
-use ref_plan::planning::declarations::MOST_REFERENCES;
+use ref_plan::planning::declarations::MOST_DECLARED;
 use ref_plan::planning::parts::{MOST_POOL, MOST_WORKERS};
 use ref_plan::planning::steps::MOST_STEPS;
 use std::alloc::AllocError;
@@ -345,9 +345,9 @@ fn write_part_too_long(
 
 fn write_references_too_many(writing: &mut Writing<'_>) -> Result<bool, AllocError> {
     Ok(
-        write_part_too_long(writing, "refs", MOST_REFERENCES, "refs are allowed")?
-            || write_part_too_long(writing, "atoms", MOST_REFERENCES, "atoms are allowed")?
-            || write_part_too_long(writing, "agents", MOST_REFERENCES, "agents are allowed")?,
+        write_part_too_long(writing, "refs", MOST_DECLARED, "refs are allowed")?
+            || write_part_too_long(writing, "atoms", MOST_DECLARED, "atoms are allowed")?
+            || write_part_too_long(writing, "agents", MOST_DECLARED, "agents are allowed")?,
     )
 }
 

@@ -6,8 +6,7 @@ use crate::functions::{predicate_of, write_no_predicate};
 use crate::nearest::{Nearest, with_hint};
 use crate::words::{CARRYING, MOST_WORDS, Sentence, Slot, TRANSACTION, Word};
 use crate::writing::Writing;
-use ref_fun::MOST_ARGUMENTS;
-use ref_plan::planning::names::MOST_NESTED;
+use ref_fun::{MOST_ARGUMENTS, MOST_NESTED_RESULT};
 use std::alloc::AllocError;
 
 /// A form with its word, and what stands behind that.
@@ -115,7 +114,7 @@ pub(crate) const DEEP: &str = "this value is nested more than 48 deep";
 
 /// Whether a value is nested deeper than a workload allows.
 pub(crate) fn is_deep(form: &Form<'_>) -> bool {
-    form.depth() > usize::from(MOST_NESTED)
+    form.depth() > usize::from(MOST_NESTED_RESULT)
 }
 
 /// Says what is wrong with the form of a rule, and whether something is. An unknown predicate is asked for by `is_known`.

@@ -8,6 +8,7 @@ use Rattle.ref_forms.specs.Calls.{any, args_said, rule_of, rule_said}
 use Rattle.ref_forms.specs.Plain.{all_said, and_said, elements_of, map_said, only_if}
 use Rattle.ref_forms.specs.declared.wrong.Wrong.{Wrong}
 use Rattle.ref_forms.specs.declared.wrong.Wrong.TheVariants.{Memory}
+use Rattle.ref_fun.specs.Limits.{most_arguments}
 
 pub elements_of_vector : (xs : List Edn) → elements_of (vector (items_of xs)) ≡ Some xs
 elements_of_vector xs = ap Some (list_of-items_of xs)
@@ -45,7 +46,7 @@ args_said_many is_value xs many =
 pub args_said_wrong : (is_value : Edn → Bool) (xs : List Edn) → list_all is_value xs ≡ false → args_said is_value xs ≡ None
 args_said_wrong is_value xs wrong = only_false _ xs (false_behind (nat_le (length xs) 8) (list_all is_value xs) wrong)
 
-pub args_said_right : (is_value : Edn → Bool) (xs : List Edn) → length xs ≤ 8 → list_all is_value xs ≡ true → args_said is_value xs ≡ Some xs
+pub args_said_right : (is_value : Edn → Bool) (xs : List Edn) → length xs ≤ most_arguments → list_all is_value xs ≡ true → args_said is_value xs ≡ Some xs
 args_said_right is_value xs few right =
     let b : nat_le (length xs) 8 ≡ true = grind (arith, nat_tests) in
     only_true _ xs (and_true (nat_le (length xs) 8) (list_all is_value xs) b right)
@@ -54,7 +55,7 @@ all_any : (xs : List Edn) → list_all any xs ≡ true
 all_any [] = refl
 all_any (x ∷ xs) = all_any xs
 
-pub args_said_few : (xs : List Edn) → length xs ≤ 8 → args_said any xs ≡ Some xs
+pub args_said_few : (xs : List Edn) → length xs ≤ most_arguments → args_said any xs ≡ Some xs
 args_said_few xs few = args_said_right any xs few (all_any xs)
 
 -- ---- forms that are read one after another

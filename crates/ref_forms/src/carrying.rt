@@ -2,6 +2,7 @@
 ghost use Rattle.std.specs.Prelude.{◌≡◌, ◌≢◌, None, Some, IfErr, IfOk, OnOk, length, ◌≤◌};
 ghost use Rattle.ref_forms.specs.Reading.{Reads};
 ghost use Rattle.ref_forms.specs.References.{carries_said, carry_said, carrying_said};
+ghost use Rattle.ref_fun.specs.Limits.{most_carries};
 
 use crate::calls::Values;
 use crate::kinds::Kind;
@@ -38,7 +39,7 @@ fn carries_in<D: Naming + Values>(
     forms: Iter<'_>,
 ) -> Result<Vec<Carry>, Wrong>
     ensures ok { IfOk result (λ carries. carries_said (D.named document.now) D.is_value forms.entry ≡ Some carries.items) }
-    ensures few { IfOk result (λ carries. length carries.items ≤ 8) }
+    ensures few { IfOk result (λ carries. length carries.items ≤ most_carries) }
     ensures wrong { IfErr result (λ w. w ≢ Wrong.Memory → carries_said (D.named document.now) D.is_value forms.entry ≡ None) }
 {
     let mut carries = Vec::new(alloc);

@@ -13,6 +13,7 @@ use Rattle.ref_fun.specs.declared.faults.CallFault.{CallFault}
 use Rattle.ref_fun.specs.declared.faults.CallFault.TheVariants as calls
 use Rattle.ref_fun.specs.declared.faults.AddFault.{AddFault}
 use Rattle.ref_fun.specs.declared.faults.AddFault.TheVariants as adds
+use Rattle.ref_fun.specs.Limits.{most_functions}
 
 -- The functions and the predicates that a table has, by their codes.
 pub record Known : Type 0 where
@@ -71,14 +72,14 @@ tested has accepted = if has then Some accepted else None
 
 -- ---- a closure more
 
--- Whether a table takes a closure, where its code is taken or not and there are so many of its kind. It takes at most 64
+-- Whether a table takes a closure, where its code is taken or not and there are so many of its kind. It takes so many
 -- of a kind, and reports a taken code first.
 abbrev pub HasRoom : Bool → ℕ → Type 0
-HasRoom taken count = (taken ≡ false) × (count < 64)
+HasRoom taken count = (taken ≡ false) × (count < most_functions)
 
 abbrev pub AddFaultComes : Bool → ℕ → AddFault → Type 0
 AddFaultComes taken count adds.Taken = taken ≡ true
-AddFaultComes taken count adds.Full = (taken ≡ false) × (count ≡ 64)
+AddFaultComes taken count adds.Full = (taken ≡ false) × (count ≡ most_functions)
 AddFaultComes taken count adds.Memory = HasRoom taken count
 
 -- ---- a table of Core

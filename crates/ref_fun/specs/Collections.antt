@@ -4,10 +4,11 @@ use Rattle.ref_value.specs.Edn.{Edn, nil, vector, map, set, items_of, list_of, e
 use Rattle.ref_value.specs.Collections.{elements_with, elements_without, entries_with, entries_without}
 use Rattle.ref_fun.specs.declared.faults.Cause.{Cause}
 use Rattle.ref_fun.specs.declared.faults.Cause.TheVariants.{WrongKind, WrongArity, Overflow, TooDeep}
+use Rattle.ref_fun.specs.Limits.{most_nested_result}
 
 -- a value, where at most 48 collections are open at its deepest place
 abbrev pub shallow : Edn → Result Edn Cause
-shallow v = if nat_lt 48 (nesting v) then Err TooDeep else Ok v
+shallow v = if nat_lt most_nested_result (nesting v) then Err TooDeep else Ok v
 
 -- Whether a call is refused for the number or the kinds of what it is called on, which is known before it takes memory.
 abbrev pub is_early : Result Edn Cause → Bool

@@ -38,6 +38,7 @@ impl Model for Args {
     ghost use Rattle.ref_value.specs.Edn.{Edn};
     ghost use Rattle.ref_value.specs.Code.{edn_code};
     ghost use Rattle.ref_fun.specs.Args.{held};
+    ghost use Rattle.ref_fun.specs.Limits.{most_arguments};
 
     ghost Value = { List Edn };
 
@@ -45,7 +46,7 @@ impl Model for Args {
 
     ghost view = { λ a. held a.values };
 
-    ghost invariant = { λ a. length (held a.values) ≤ 8 };
+    ghost invariant = { λ a. length (held a.values) ≤ most_arguments };
 }
 
 impl Args {
@@ -60,7 +61,7 @@ impl Args {
 
     /// The arguments that a `Vec` holds, which isn't copied. For none and for one it takes no memory.
     pub fn of(alloc: Global, values: Vec<Value>) -> Result<Args, AllocError>
-        requires { vec_len values ≤ 8 }
+        requires { vec_len values ≤ most_arguments }
         ensures value { IfOk result (λ a. a ≡ values.items) }
         ensures memory { OnErr result (values.items ≢ []) }
     {
@@ -79,7 +80,7 @@ impl Args {
     /// The arguments in order, as a function takes them.
     pub fn as_slice(&self) -> &[Value]
         ensures value { result.now ≡ self.now }
-        ensures few { length result.now ≤ 8 }
+        ensures few { length result.now ≤ most_arguments }
     {
         match &self.values {
             Held::One(value) => slice::from_ref(value),

@@ -1,8 +1,9 @@
 //! What an action carries.
 ghost use Rattle.std.specs.Prelude.{◌≡◌, ◌≢◌, ◌≤◌, [], length, vec_len, IfOk, OnErr};
+ghost use Rattle.ref_fun.specs.Limits.{most_carries};
 
 use crate::arguments::Args;
-use crate::lists::{Share, SharedVec};
+use crate::lists::{Shareable, SharedVec};
 use std::alloc::{AllocError, Global};
 use std::marker::Model;
 
@@ -17,7 +18,7 @@ pub struct Carry {
     pub args: Args,
 }
 
-impl Share for Carry {
+impl Shareable for Carry {
     fn share(&self) -> Result<Carry, AllocError> {
         Ok(Carry {
             g: self.g,
@@ -38,6 +39,7 @@ impl Model for Carries {
     ghost use Rattle.std.specs.Coded.{coded_list, codes};
     ghost use Rattle.ref_value.specs.Code.{edn_code};
     ghost use Rattle.ref_fun.specs.declared.carries.Carry.{Carry};
+    ghost use Rattle.ref_fun.specs.Limits.{most_carries};
 
     ghost Value = { List Carry };
 
@@ -45,7 +47,7 @@ impl Model for Carries {
 
     ghost view = { λ a. a.sends };
 
-    ghost invariant = { λ a. length a.sends ≤ 8 };
+    ghost invariant = { λ a. length a.sends ≤ most_carries };
 }
 
 impl Carries {
@@ -60,7 +62,7 @@ impl Carries {
 
     /// The sends that a `Vec` holds, which isn't copied. Where there are none it takes no memory.
     pub fn of(alloc: Global, sends: Vec<Carry>) -> Result<Carries, AllocError>
-        requires { vec_len sends ≤ 8 }
+        requires { vec_len sends ≤ most_carries }
         ensures value { IfOk result (λ a. a ≡ sends.items) }
         ensures memory { OnErr result (sends.items ≢ []) }
     {
@@ -71,7 +73,7 @@ impl Carries {
     /// The sends in order.
     pub fn as_slice(&self) -> &[Carry]
         ensures value { result.now ≡ self.now }
-        ensures few { length result.now ≤ 8 }
+        ensures few { length result.now ≤ most_carries }
     {
         self.sends.as_slice()
     }

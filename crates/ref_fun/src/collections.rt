@@ -11,13 +11,14 @@ ghost use Rattle.ref_value.specs.View.{edn};
 ghost use Rattle.ref_fun.specs.Collections.{is_early, shallow, conj, with_elements, assoc, are_pairs, with_pairs, dissoc, disj};
 ghost use Rattle.ref_fun.specs.Meaning.{Answers};
 ghost use Rattle.ref_fun.specs.declared.faults.FunFault.TheVariants.{Memory};
+ghost use Rattle.ref_value.specs.Limits.{most_nested};
 
 use crate::faults::{Cause, FunFault};
 use ref_value::{Elements, Entries, Items, Node, Value};
 use std::alloc::{AllocError, Global};
 
-/// How many collections may be open at a place of what a function makes.
-const MOST_NESTED: u8 = 48;
+/// How many collections may be open at a place of what a function of Core makes.
+pub const MOST_NESTED_RESULT: u8 = 48;
 
 /// The arguments appended to a vector, or put into a set.
 #[tactic(auto, using(crate::proofs::Kept::conj_vector, crate::proofs::Kept::conj_set))]
@@ -114,7 +115,7 @@ fn assoc_entries(alloc: Global, entries: &Entries, args: &[Value]) -> Result<Val
 
 fn map_of(entries: Entries) -> Value
     requires ascends { IsTrue (keys_ascend (entries_of entries)) }
-    requires depth { entries_depth (entries_of entries) < 64 }
+    requires depth { entries_depth (entries_of entries) < most_nested }
     ensures { result ≡ map (entries_of entries) }
 {
     // The type says that keys and values are lawful.
@@ -124,7 +125,7 @@ fn map_of(entries: Entries) -> Value
 
 fn set_of(elements: Elements) -> Value
     requires ascends { IsTrue (elements_ascend (items_of elements)) }
-    requires depth { items_depth (items_of elements) < 64 }
+    requires depth { items_depth (items_of elements) < most_nested }
     ensures { result ≡ set (items_of elements) }
 {
     // The type says that the elements are lawful.
@@ -135,7 +136,7 @@ fn set_of(elements: Elements) -> Value
 fn shallow_vector(items: Items) -> Result<Value, Cause>
     ensures { result ≡ shallow (vector (items_of items)) }
 {
-    if items.deepest() >= MOST_NESTED {
+    if items.deepest() >= MOST_NESTED_RESULT {
         return Err(Cause::TooDeep);
     }
     Ok(lawful(Node::Vector(items)))
@@ -145,7 +146,7 @@ fn shallow_map(entries: Entries) -> Result<Value, Cause>
     requires { IsTrue (keys_ascend (entries_of entries)) }
     ensures { result ≡ shallow (map (entries_of entries)) }
 {
-    if entries.deepest() >= MOST_NESTED {
+    if entries.deepest() >= MOST_NESTED_RESULT {
         return Err(Cause::TooDeep);
     }
     Ok(lawful(Node::Map(entries)))
@@ -155,7 +156,7 @@ fn shallow_set(elements: Elements) -> Result<Value, Cause>
     requires { IsTrue (elements_ascend (items_of elements)) }
     ensures { result ≡ shallow (set (items_of elements)) }
 {
-    if elements.deepest() >= MOST_NESTED {
+    if elements.deepest() >= MOST_NESTED_RESULT {
         return Err(Cause::TooDeep);
     }
     Ok(lawful(Node::Set(elements)))

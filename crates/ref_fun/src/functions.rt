@@ -3,6 +3,7 @@ ghost use Rattle.std.specs.Prelude.{◌≡◌, ◌≤◌, true, IfErr, length};
 ghost use Rattle.ref_fun.specs.Core.{core_means, takes_memory};
 ghost use Rattle.ref_fun.specs.Meaning.{Answers};
 ghost use Rattle.ref_fun.specs.declared.faults.FunFault.TheVariants.{Memory};
+ghost use Rattle.ref_fun.specs.Limits.{most_arguments};
 
 use crate::codes;
 use crate::collections::{assoc, conj, disj, dissoc};
@@ -15,7 +16,7 @@ use std::alloc::Global;
 /// time and in memory, and what it answers shares the rest with the state. The others take constant time for each argument.
 #[tactic(auto, unfolding(crate::specs::Core::core_means))]
 pub fn core_fun(alloc: Global, code: u32, state: &Value, args: &[Value]) -> Result<Value, FunFault>
-    requires { length args.now ≤ 8 }
+    requires { length args.now ≤ most_arguments }
     ensures answers { Answers (core_means code args.now state.now) result }
     // A function of integers takes no memory, and no function does that is called on a wrong number or kind of things.
     ensures memory { IfErr result (λ f. f ≡ Memory → takes_memory code (core_means code args.now state.now) ≡ true) }

@@ -11,14 +11,14 @@ use std::slice;
 use std::sync::Arc;
 
 /// What can have one more owner.
-pub trait Share: Drop {
+pub trait Shareable: Drop {
     /// One more owner. It takes no memory; only the count of owners can refuse.
     fn share(&self) -> Result<Self, AllocError>
         ensures { IfOk result (λ x. x ≡ self.now) };
 }
 
 /// One more owner of each of these.
-pub fn share_all<T: Share>(alloc: Global, items: &[T]) -> Result<Vec<T>, AllocError>
+pub fn share_all<T: Shareable>(alloc: Global, items: &[T]) -> Result<Vec<T>, AllocError>
     ensures { IfOk result (λ all. all.items ≡ items.now) }
 {
     let mut all = Vec::with_capacity(alloc, items.len())?;
@@ -181,7 +181,7 @@ impl<T: Drop> SharedVec<T> {
     }
 }
 
-impl<T: Share> SharedVec<T> {
+impl<T: Shareable> SharedVec<T> {
     /// Puts an item behind the others, in place where the list has two or more and no other owner. Else the items get one more owner each,
     /// in a list of their own. Room is made for exactly two items, then for as many again as there are.
     pub fn push(&mut self, alloc: Global, item: T) -> Result<(), AllocError>
@@ -218,7 +218,11 @@ fn two<T: Drop>(alloc: Global, first: T, second: T) -> Result<Arc<Vec<T>>, Alloc
 }
 
 // Puts an item behind the others.
-fn push_shared<T: Share>(alloc: Global, items: &mut Arc<Vec<T>>, item: T) -> Result<(), AllocError>
+fn push_shared<T: Shareable>(
+    alloc: Global,
+    items: &mut Arc<Vec<T>>,
+    item: T,
+) -> Result<(), AllocError>
     ensures ok { OnOk result (items.new.value.items ≡ items.old.value.items ++ item ∷ []) }
     ensures err { OnErr result (items.new.value.items ≡ items.old.value.items) }
 {
@@ -230,7 +234,7 @@ fn push_shared<T: Share>(alloc: Global, items: &mut Arc<Vec<T>>, item: T) -> Res
 }
 
 // Replaces items that have other owners by as many of their own.
-fn unshare<T: Share>(alloc: Global, items: &mut Arc<Vec<T>>) -> Result<(), AllocError>
+fn unshare<T: Shareable>(alloc: Global, items: &mut Arc<Vec<T>>) -> Result<(), AllocError>
     ensures { items.new.value.items ≡ items.old.value.items }
 {
     if let Some(_) = Arc::get_mut(items) {
@@ -253,7 +257,7 @@ fn push_doubling<T: Drop>(items: &mut Vec<T>, item: T) -> Result<(), AllocError>
     Ok(())
 }
 
-impl Share for Value {
+impl Shareable for Value {
     fn share(&self) -> Result<Value, AllocError> {
         Value::share(self)
     }

@@ -5,6 +5,7 @@ ghost use Rattle.std.specs.Coded.{Π_prop, →_prop};
 ghost use Rattle.ref_fun.specs.Calls.{Answers-prop};
 ghost use Rattle.ref_fun.specs.Core.{core_means, core_accepts};
 ghost use Rattle.ref_fun.specs.Meaning.{Answers};
+ghost use Rattle.ref_fun.specs.Limits.{most_arguments};
 
 use crate::faults::FunFault;
 use ref_value::Value;
@@ -22,7 +23,7 @@ pub type Pred = Box<dyn Fn(&Value, &[Value]) -> bool + Send + Sync>;
 pub struct StoredFun {
     code: u32,
     run: Fun,
-    ghost callable: { (alloc : _) (state : _) (args : _) → length args.now ≤ 8 → Fun.pre run alloc state args },
+    ghost callable: { (alloc : _) (state : _) (args : _) → length args.now ≤ most_arguments → Fun.pre run alloc state args },
     ghost answers: { (alloc : _) (state : _) (args : _) (result : _) → Fun.post run alloc state args result
         → Answers (core_means code args.now state.now) result } by { Π_prop (λ _. Π_prop (λ _. Π_prop (λ _. Π_prop (λ _. →_prop (Answers-prop _ _))))) },
 }
@@ -33,7 +34,7 @@ pub struct StoredFun {
 pub struct StoredPred {
     code: u32,
     run: Pred,
-    ghost callable: { (state : _) (args : _) → length args.now ≤ 8 → Pred.pre run state args },
+    ghost callable: { (state : _) (args : _) → length args.now ≤ most_arguments → Pred.pre run state args },
     ghost answers: { (state : _) (args : _) (result : _) → Pred.post run state args result
         → result ≡ core_accepts code args.now state.now },
 }
@@ -43,7 +44,7 @@ impl StoredFun {
 
     /// The closure under this code. Who makes the closure proves what the type guarantees of it.
     pub fn new(code: u32, run: Fun) -> StoredFun
-        requires callable { (alloc : _) (state : _) (args : _) → length args.now ≤ 8 → Fun.pre run alloc state args }
+        requires callable { (alloc : _) (state : _) (args : _) → length args.now ≤ most_arguments → Fun.pre run alloc state args }
         requires answers { (alloc : _) (state : _) (args : _) (r : _) → Fun.post run alloc state args r
             → Answers (core_means code args.now state.now) r }
         ensures { fun_code result ≡ code }
@@ -64,7 +65,7 @@ impl StoredFun {
         state: &Value,
         args: &[Value],
     ) -> Result<Value, FunFault>
-        requires { length args.now ≤ 8 }
+        requires { length args.now ≤ most_arguments }
         ensures { Answers (core_means (fun_code self.now) args.now state.now) result }
     {
         (self.run)(alloc, state, args)
@@ -76,7 +77,7 @@ impl StoredPred {
 
     /// The closure under this code. Who makes the closure proves what the type guarantees of it.
     pub fn new(code: u32, run: Pred) -> StoredPred
-        requires callable { (state : _) (args : _) → length args.now ≤ 8 → Pred.pre run state args }
+        requires callable { (state : _) (args : _) → length args.now ≤ most_arguments → Pred.pre run state args }
         requires answers { (state : _) (args : _) (r : _) → Pred.post run state args r
             → r ≡ core_accepts code args.now state.now }
         ensures { pred_code result ≡ code }
@@ -92,7 +93,7 @@ impl StoredPred {
     }
 
     pub(crate) fn call(&self, state: &Value, args: &[Value]) -> bool
-        requires { length args.now ≤ 8 }
+        requires { length args.now ≤ most_arguments }
         ensures { result ≡ core_accepts (pred_code self.now) args.now state.now }
     {
         (self.run)(state, args)

@@ -3,6 +3,7 @@ ghost use Rattle.std.specs.Prelude.{◌≡◌, ◌≤◌, length, is_some, map, 
 ghost use Rattle.std.specs.BTreeMap.{keys, btree_map_len};
 ghost use Rattle.std.specs.Bool.{OnFalse, OnTrue};
 ghost use Rattle.ref_fun.specs.Calls.{AddFaultComes, CallAnswers, HasCore, HasRoom, Known, tested};
+ghost use Rattle.ref_fun.specs.Limits.{most_arguments, most_functions};
 
 use crate::faults::{AddFault, CallFault};
 use crate::meanings::{Core, Meaning};
@@ -33,12 +34,12 @@ pub trait Functions<M: Meaning> {
         state: &Value,
         args: &[Value],
     ) -> Result<Value, CallFault>
-        requires { length args.now ≤ 8 }
+        requires { length args.now ≤ most_arguments }
         ensures { CallAnswers ((knows self.now).funs code) code (M.means code args.now state.now) result };
 
     /// Asks the predicate of a code, if there is one. It takes no memory.
     fn test(&self, code: u32, state: &Value, args: &[Value]) -> Option<bool>
-        requires { length args.now ≤ 8 }
+        requires { length args.now ≤ most_arguments }
         ensures { result ≡ tested ((knows self.now).preds code) (M.accepts code args.now state.now) };
 }
 
@@ -67,8 +68,8 @@ pub struct FunTable {
     preds: BTreeMap<u32, StoredPred>,
     ghost funs_paired: { map (λ e. e.1.code) funs.entries ≡ keys funs },
     ghost preds_paired: { map (λ e. e.1.code) preds.entries ≡ keys preds },
-    ghost funs_limited: { btree_map_len funs ≤ 64 },
-    ghost preds_limited: { btree_map_len preds ≤ 64 },
+    ghost funs_limited: { btree_map_len funs ≤ most_functions },
+    ghost preds_limited: { btree_map_len preds ≤ most_functions },
 }
 
 impl FunTable {

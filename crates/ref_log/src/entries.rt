@@ -1,7 +1,7 @@
 //! What a log is made of.
 use crate::operations::{Done, Op};
 use crate::sends::Sent;
-use ref_fun::{Share, SharedVec};
+use ref_fun::{Shareable, SharedVec};
 use ref_value::Value;
 use std::alloc::AllocError;
 
@@ -45,7 +45,7 @@ pub struct Transaction {
     pub sends: SharedVec<Sent>,
 }
 
-impl Share for Transaction {
+impl Shareable for Transaction {
     fn share(&self) -> Result<Transaction, AllocError> {
         Ok(Transaction {
             stamp: self.stamp,
@@ -56,7 +56,7 @@ impl Share for Transaction {
     }
 }
 
-impl Share for Entry {
+impl Shareable for Entry {
     fn share(&self) -> Result<Entry, AllocError> {
         match self {
             Entry::Trans(transaction) => Ok(Entry::Trans(transaction.share()?)),

@@ -19,7 +19,7 @@
 //! | [`Guard`], [`Guards`], [`Watches`] | the rule and the watches of one reference, and of all of a kind |
 //! | [`Who`], [`Notice`], [`Sent`] | a reference, the notice for a watch, what a transaction sends |
 //! | [`MakeFault`], [`RuleFault`], [`WatchFault`], [`AuditFault`] | why a call that all kinds have is refused, and why entries have no replay |
-//! | [`SharedVec`], [`Share`], [`Same`] | of `ref_fun`: a list with several owners, what can have one more, and what can be compared whole, as two entries |
+//! | [`SharedVec`], [`Shareable`], [`Same`] | of `ref_fun`: a list with several owners, what can have one more, and what can be compared whole, as two entries |
 //!
 //! A replay costs time and memory linear in the references and operations. It promises nothing about how fast: it is what
 //! faster code is held against.
@@ -52,7 +52,7 @@ pub use lists::vector_of;
 pub use making::{LAST_POINT, MOST_REFERENCES, check_make};
 pub use notices::{Notice, Who};
 pub use operations::{Done, Op, protected_refs};
-pub use ref_fun::{Args, Same, Share, SharedVec, share_all};
+pub use ref_fun::{Args, Same, Shareable, SharedVec, share_all};
 pub use replay::replay_plain;
 pub use sends::Sent;
 pub use states::{Base, PlainState};

@@ -7,7 +7,7 @@ ghost use Rattle.ref_log.specs.Replay.{PlaceAnswers, codes_of, is_commute, is_en
 ghost use Rattle.ref_log.specs.Tally.{fits_side, fits_tally, is_count};
 
 use crate::counting::Side;
-use ref_fun::{Args, CallFault, Functions, Meaning, Share};
+use ref_fun::{Args, CallFault, Functions, Meaning, Shareable};
 use ref_value::{Node, Value};
 use std::alloc::{AllocError, Global};
 use std::collections::BTreeSet;
@@ -118,7 +118,7 @@ impl Op {
     }
 }
 
-impl Share for Done {
+impl Shareable for Done {
     fn share(&self) -> Result<Done, AllocError> {
         Ok(Done {
             r: self.r,

@@ -1,5 +1,5 @@
 //! What a transaction sends.
-use ref_fun::{Action, Share};
+use ref_fun::{Action, Shareable};
 use std::alloc::AllocError;
 
 /// An action that is sent to the agent of this number.
@@ -9,7 +9,7 @@ pub struct Sent {
     pub action: Action,
 }
 
-impl Share for Sent {
+impl Shareable for Sent {
     fn share(&self) -> Result<Sent, AllocError> {
         Ok(Sent {
             agent: self.agent,

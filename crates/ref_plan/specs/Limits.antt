@@ -1,10 +1,11 @@
 -- How much of anything a workload may have.
 use Rattle.std.specs.Prelude.{ℕ, nat_le, Bool}
 use Rattle.ref_value.specs.Edn.{Edn, nesting}
+use Rattle.ref_fun.specs.Limits.{most_nested_result}
 
 -- references of a kind
-abbrev pub most_references : ℕ
-most_references = 4096
+abbrev pub most_declared : ℕ
+most_declared = 4096
 
 abbrev pub most_workers : ℕ
 most_workers = 64
@@ -22,8 +23,5 @@ abbrev pub most_pool : ℕ
 most_pool = 16
 
 -- The values of a workload may nest as deep as the result of a function.
-abbrev pub most_nested : ℕ
-most_nested = 48
-
 abbrev pub is_shallow : Edn → Bool
-is_shallow x = nat_le (nesting x) most_nested
+is_shallow x = nat_le (nesting x) most_nested_result

@@ -14,7 +14,7 @@ use Rattle.std.specs.List.{list_all}
 use Rattle.ref_value.specs.Edn.{Edn, int}
 use Rattle.ref_forms.specs.Plain.{all_said, are_known, elements_of, elements_within, forms_under, is_vector_or_none, map_said, only_if, under}
 use Rattle.ref_plan.specs.Declarations.{AreReferences}
-use Rattle.ref_plan.specs.Limits.{most_pool, most_references, most_steps, most_workers}
+use Rattle.ref_plan.specs.Limits.{most_pool, most_declared, most_steps, most_workers}
 use Rattle.ref_plan.specs.Plan.{PlanSeen}
 use Rattle.ref_plan.specs.Steps.{worker_of}
 use Rattle.ref_plan.specs.declared.versions.Version.{Version}
@@ -50,9 +50,9 @@ pub record HasVectors (entries : List (Edn × Edn)) : Type 0 where
 
 -- There are no more references of a kind and no more workers than may be.
 pub record HasFew (entries : List (Edn × Edn)) : Type 0 where
-  pub refs : length (forms_under entries refs_word) ≤ most_references
-  pub atoms : length (forms_under entries atoms_word) ≤ most_references
-  pub agents : length (forms_under entries agents_word) ≤ most_references
+  pub refs : length (forms_under entries refs_word) ≤ most_declared
+  pub atoms : length (forms_under entries atoms_word) ≤ most_declared
+  pub agents : length (forms_under entries agents_word) ≤ most_declared
   pub workers : length (forms_under entries workers_word) ≤ most_workers
 
 abbrev pub version_form : Version → Edn

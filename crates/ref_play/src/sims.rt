@@ -49,7 +49,7 @@ impl<M: Meaning, C: Ledger, A: Ledger, K: Ledger> Sim<M, C, A, K> {
     pub fn new<F: Functions<M>>(
         alloc: Global,
         funs: &F,
-        start: Start,
+        start: &Start,
         commits: Blank,
         added: Blank,
         taken: Blank,
@@ -57,22 +57,22 @@ impl<M: Meaning, C: Ledger, A: Ledger, K: Ledger> Sim<M, C, A, K> {
         requires commits { IsBlank commits C.name C.parts }
         requires added { IsBlank added A.name A.parts }
         requires taken { IsBlank taken K.name K.parts }
-        ensures ok { OnOk result (start_refusal M.accepts (F.knows funs.now).preds start ≡ None) }
-        ensures refs { IfOk result (λ s. starts.declared_refs M.accepts (F.knows funs.now).preds start.refs.items
+        ensures ok { OnOk result (start_refusal M.accepts (F.knows funs.now).preds start.now ≡ None) }
+        ensures refs { IfOk result (λ s. starts.declared_refs M.accepts (F.knows funs.now).preds start.now.refs.items
             ≡ Ok s.world.refs) }
-        ensures atoms { IfOk result (λ s. starts.declared_atoms M.accepts (F.knows funs.now).preds start.atoms.items
+        ensures atoms { IfOk result (λ s. starts.declared_atoms M.accepts (F.knows funs.now).preds start.now.atoms.items
             ≡ Ok s.world.atoms) }
         ensures agents { IfOk result (λ s. starts.declared_agents M.accepts
-            (F.knows funs.now).preds start.agents.items ≡ Ok s.world.agents) }
+            (F.knows funs.now).preds start.now.agents.items ≡ Ok s.world.agents) }
         ensures base { IfOk result (λ s. s.world.base ≡ starts.base_of s.world.refs s.world.atoms) }
         ensures log { IfOk result (λ s. s.world.log ≡ []) }
         ensures books { IfOk result (λ s. s.world.books ≡ starts.books_of s.world.refs) }
         ensures share { IfOk result (λ s. s.share ≡ whole) }
         ensures actors { IfOk result (λ s. (a : ℕ) → (txs_of s.slots a ≡ None) × (jobs_of s.jobs a ≡ None)) }
         ensures fault { IfErr result (λ e. e.1 ≢ makes.Memory
-            → start_refusal M.accepts (F.knows funs.now).preds start ≡ Some e) }
+            → start_refusal M.accepts (F.knows funs.now).preds start.now ≡ Some e) }
         ensures memory { IfErr result (λ e. e.1 ≡ makes.Memory
-            → first_refusal M.accepts (F.knows funs.now).preds start ≡ None) }
+            → first_refusal M.accepts (F.knows funs.now).preds start.now ≡ None) }
     {
         let (world, share) = World::new(alloc, funs, start, commits, added, taken)?;
         Ok(Sim {

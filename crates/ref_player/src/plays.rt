@@ -31,7 +31,7 @@ use std::sync::ledger::{Blank, Ledger};
 fn begin<F: Functions<Core>, C: Ledger, A: Ledger, K: Ledger>(
     alloc: Global,
     funs: &F,
-    start: Start,
+    start: &Start,
     commits: Blank,
     added: Blank,
     taken: Blank,
@@ -39,7 +39,7 @@ fn begin<F: Functions<Core>, C: Ledger, A: Ledger, K: Ledger>(
     requires commits { IsBlank commits C.name C.parts }
     requires added { IsBlank added A.name A.parts }
     requires taken { IsBlank taken K.name K.parts }
-    ensures begins { IfOk result (Begins (F.knows funs.now) start.refs.items start.atoms.items start.agents.items) }
+    ensures begins { IfOk result (Begins (F.knows funs.now) start.now.refs.items start.now.atoms.items start.now.agents.items) }
     ensures inner { IfErr result IsOfPlan }
 {
     match Sim::new(alloc, funs, start, commits, added, taken) {
@@ -151,7 +151,7 @@ pub fn output_of<F: Functions<Core>, C: Ledger, A: Ledger, K: Ledger>(
         events,
         forms,
     } = script.into_parts();
-    let sim = begin::<F, C, A, K>(alloc, funs, start, commits, added, taken)?;
+    let sim = begin::<F, C, A, K>(alloc, funs, &start, commits, added, taken)?;
     let played = play(alloc, funs, sim, events.as_slice())?;
     text_of(alloc, funs, &names, &forms, &played)
 }

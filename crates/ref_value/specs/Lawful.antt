@@ -5,6 +5,7 @@ use Rattle.std.specs.Int.{w64}
 use Rattle.ref_value.specs.Edn.{Edn, nil, boolean, int, string, keyword, symbol, vector, map, set, Items, no_items, item, Entries, no_entries, entry, nesting}
 use Rattle.ref_value.specs.Names.{is_keyword, is_symbol}
 use Rattle.ref_value.specs.Order.{elements_ascend, keys_ascend}
+use Rattle.ref_value.specs.Limits.{most_nested}
 
 abbrev mutual
   pub HasLawfulParts : Edn → Type 0
@@ -29,4 +30,4 @@ abbrev mutual
 -- A value.
 pub record IsLawful (x : Edn) : Type 0 where
   pub parts : HasLawfulParts x
-  pub shallow : nesting x ≤ 64
+  pub shallow : nesting x ≤ most_nested

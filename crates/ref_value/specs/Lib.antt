@@ -1,7 +1,8 @@
--- To be read and believed: Edn (values), Lawful, Names, Letters, Order, Collections, View, Texts.
+-- To be read and believed: Edn (values), Limits, Lawful, Names, Letters, Order, Collections, View, Texts.
 -- OrderLaws, AscendLaws and SortedLists are proved laws. The others are for private functions and proofs: Code, Most, Falls and, for
 -- the tree of members, Deepest, Members, Chunks, Trees, TreeCode, TreeFalls, Moves, Sides.
 pub mod Edn
+pub mod Limits
 pub mod Code
 pub mod View
 pub mod Texts

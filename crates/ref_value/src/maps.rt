@@ -6,6 +6,7 @@ ghost use Rattle.ref_value.specs.Edn.{Edn, entries_of, entries_depth};
 ghost use Rattle.ref_value.specs.Lawful.{AreLawfulEntries};
 ghost use Rattle.ref_value.specs.Order.{edn_cmp, keys_ascend};
 ghost use Rattle.ref_value.specs.Moves.{HavePassed};
+ghost use Rattle.ref_value.specs.Limits.{most_nested};
 
 use crate::data::Value;
 use crate::order::compare;
@@ -52,7 +53,7 @@ impl Model for Entries {
 #[tactic(auto, using(crate::proofs::Depths::entries_depth_at))]
 pub(crate) fn deepest_of(pairs: &[(Value, Value)]) -> u8
     ensures value { result ≡ entries_depth (entries_of pairs.now) }
-    ensures bound { result ≤ 64 }
+    ensures bound { result ≤ most_nested }
     ensures lawful { AreLawfulEntries (entries_of pairs.now) }
 {
     let mut most = 0;
@@ -129,7 +130,7 @@ impl Entries {
     /// The depth of the deepest key or value, 0 where there is none. Constant time.
     pub fn deepest(&self) -> u8
         ensures value { result ≡ entries_depth (entries_of self.now) }
-        ensures bound { result ≤ 64 }
+        ensures bound { result ≤ most_nested }
         ensures lawful { AreLawfulEntries (entries_of self.now) }
     {
         self.tree.deepest()

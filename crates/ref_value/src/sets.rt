@@ -1,18 +1,18 @@
 //! The elements of a set.
 ghost use Rattle.std.specs.Prelude.{◌≡◌, ◌≤◌, ◌<◌, ◌↔◌, ◌^◌, [], true, false, IsTrue, length, IfOk, IfErr, OnOk, OnErr, insert, remove, slice_index_or, slice_get, option_copied};
-ghost use Rattle.std.specs.Iterator.{YieldsFirstRef, item_count};
 ghost use Rattle.std.specs.Slice.{IsItemAt};
 ghost use Rattle.ref_value.specs.Collections.{has_element, elements_with, elements_without, ChangesElement, IsFoundAt, IsGapAt};
 ghost use Rattle.ref_value.specs.Edn.{Edn, items_of, items_depth};
 ghost use Rattle.ref_value.specs.Lawful.{AreLawful};
 ghost use Rattle.ref_value.specs.Order.{edn_cmp, elements_ascend};
 ghost use Rattle.ref_value.specs.Moves.{HavePassed};
+ghost use Rattle.ref_value.specs.Limits.{most_nested};
 
 use crate::data::Value;
 use crate::order::compare;
 use crate::sequence::chunks::Member;
 use crate::sequence::trees::Tree;
-use crate::sequence::walks::Walk;
+use crate::vectors::Iter;
 use std::alloc::{AllocError, Global};
 use std::cmp::Ordering;
 use std::marker::Model;
@@ -119,7 +119,7 @@ impl Elements {
     #[tactic(auto, using(crate::proofs::Pairing::singles_deepest))]
     pub fn deepest(&self) -> u8
         ensures value { result ≡ items_depth (items_of self.now) }
-        ensures bound { result ≤ 64 }
+        ensures bound { result ≤ most_nested }
         ensures lawful { AreLawful (items_of self.now) }
     {
         self.tree.deepest()
@@ -263,51 +263,6 @@ impl Elements {
         let tree = Tree::of_values(alloc, true, values)?;
         let _height = tree.height();
         Ok(Elements { tree })
-    }
-}
-
-/// The elements from a place on. Contracts see those that are left.
-#[derive(Drop)]
-pub struct Iter<'a> {
-    walk: Walk<'a>,
-}
-
-impl<'a> Model for Iter<'a> {
-    ghost use Rattle.std.specs.Prelude.{List};
-    ghost use Rattle.std.specs.Coded.{coded_list};
-    ghost use Rattle.ref_value.specs.Edn.{Edn};
-    ghost use Rattle.ref_value.specs.Code.{edn_code};
-    ghost use Rattle.ref_value.specs.Members.{singles};
-
-    ghost Value = { List Edn };
-
-    ghost coded = { coded_list edn_code };
-
-    ghost view = { λ a. singles a.walk };
-}
-
-impl<'a> Iter<'a> {
-    // Goes past what comes next in both and is the same: as many as one glance shows.
-    #[tactic(auto, using(crate::proofs::Passing::singles_passed))]
-    pub(crate) fn pass_same(&mut self, other: &mut Iter<'_>)
-        ensures { HavePassed self.old other.old self.new other.new }
-    {
-        self.walk.pass_same(&mut other.walk);
-    }
-}
-
-impl<'a> Iterator for Iter<'a> {
-    type Item = &'a Value;
-
-    ghost next_gives = { YieldsFirstRef (λ s. s) };
-
-    ghost remaining = { item_count (λ s. s) };
-
-    fn next(&mut self) -> Option<&'a Value> {
-        match self.walk.next() {
-            Some((x, _)) => Some(x),
-            None => None,
-        }
     }
 }
 

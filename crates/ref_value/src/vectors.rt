@@ -5,6 +5,7 @@ ghost use Rattle.std.specs.Iterator.{YieldsFirstRef, item_count};
 ghost use Rattle.ref_value.specs.Edn.{Edn, items_of, items_depth};
 ghost use Rattle.ref_value.specs.Lawful.{AreLawful};
 ghost use Rattle.ref_value.specs.Moves.{HavePassed};
+ghost use Rattle.ref_value.specs.Limits.{most_nested};
 
 use crate::data::Value;
 use crate::sequence::chunks::Member;
@@ -52,7 +53,7 @@ pub(crate) fn larger(a: u8, b: u8) -> u8
 #[tactic(auto, using(crate::proofs::Depths::items_depth_at))]
 pub(crate) fn deepest_of(values: &[Value]) -> u8
     ensures value { result ≡ items_depth (items_of values.now) }
-    ensures bound { result ≤ 64 }
+    ensures bound { result ≤ most_nested }
     ensures lawful { AreLawful (items_of values.now) }
 {
     let mut most = 0;
@@ -152,7 +153,7 @@ impl Items {
     #[tactic(auto, using(crate::proofs::Pairing::singles_deepest))]
     pub fn deepest(&self) -> u8
         ensures value { result ≡ items_depth (items_of self.now) }
-        ensures bound { result ≤ 64 }
+        ensures bound { result ≤ most_nested }
         ensures lawful { AreLawful (items_of self.now) }
     {
         self.tree.deepest()
@@ -181,10 +182,10 @@ impl Items {
     }
 }
 
-/// The elements from a place on. Contracts see those that are left.
+/// The elements of a vector or of a set, from a place on. Contracts see those that are left.
 #[derive(Drop)]
 pub struct Iter<'a> {
-    walk: Walk<'a>,
+    pub(crate) walk: Walk<'a>,
 }
 
 impl<'a> Model for Iter<'a> {

@@ -11,7 +11,7 @@ ghost use Rattle.ref_world.specs.Starts.{declared_agents, declared_atoms, declar
 use crate::faults::{RunFault, Stop};
 use crate::order::{are_in_order, have_reasons, is_orderly};
 use crate::progress::Progress;
-use crate::running::{Run, run_threads, share_start};
+use crate::running::{Run, run_threads};
 use ref_audit::Refusal;
 use ref_fun::{Core, Functions};
 use ref_log::{MakeFault, SharedVec, Who};
@@ -149,8 +149,7 @@ fn open_world<F: Functions<Core>, C: Ledger, A: Ledger, K: Ledger>(
     ensures log { IfOk result (λ r. r.0.log ≡ []) }
     ensures share { IfOk result (λ r. r.1 ≡ whole) }
 {
-    let start = share_start(alloc, plan.start())?;
-    match World::new(alloc, funs, start, commits, added, taken) {
+    match World::new(alloc, funs, plan.start(), commits, added, taken) {
         Ok(opened) => Ok(opened),
         Err((_, MakeFault::Memory)) => Err(Stop::Memory),
         Err((_, _)) => Err(Stop::Internal),

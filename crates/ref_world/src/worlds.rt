@@ -80,7 +80,7 @@ impl<M: Meaning, C: Ledger, A: Ledger, K: Ledger> World<M, C, A, K> {
     pub fn new<F: Functions<M>>(
         alloc: Global,
         funs: &F,
-        start: Start,
+        start: &Start,
         commits: Blank,
         added: Blank,
         taken: Blank,
@@ -88,21 +88,21 @@ impl<M: Meaning, C: Ledger, A: Ledger, K: Ledger> World<M, C, A, K> {
         requires commits { IsBlank commits C.name C.parts }
         requires added { IsBlank added A.name A.parts }
         requires taken { IsBlank taken K.name K.parts }
-        ensures ok { OnOk result (start_refusal M.accepts (F.knows funs.now).preds start ≡ None) }
-        ensures refs { IfOk result (λ r. starts.declared_refs M.accepts (F.knows funs.now).preds start.refs.items
+        ensures ok { OnOk result (start_refusal M.accepts (F.knows funs.now).preds start.now ≡ None) }
+        ensures refs { IfOk result (λ r. starts.declared_refs M.accepts (F.knows funs.now).preds start.now.refs.items
             ≡ Ok r.0.refs) }
-        ensures atoms { IfOk result (λ r. starts.declared_atoms M.accepts (F.knows funs.now).preds start.atoms.items
+        ensures atoms { IfOk result (λ r. starts.declared_atoms M.accepts (F.knows funs.now).preds start.now.atoms.items
             ≡ Ok r.0.atoms) }
         ensures agents { IfOk result (λ r. starts.declared_agents M.accepts
-            (F.knows funs.now).preds start.agents.items ≡ Ok r.0.agents) }
+            (F.knows funs.now).preds start.now.agents.items ≡ Ok r.0.agents) }
         ensures base { IfOk result (λ r. r.0.base ≡ starts.base_of r.0.refs r.0.atoms) }
         ensures log { IfOk result (λ r. r.0.log ≡ []) }
         ensures books { IfOk result (λ r. r.0.books ≡ starts.books_of r.0.refs) }
         ensures share { IfOk result (λ r. r.1 ≡ whole) }
         ensures fault { IfErr result (λ e. e.1 ≢ makes.Memory
-            → start_refusal M.accepts (F.knows funs.now).preds start ≡ Some e) }
+            → start_refusal M.accepts (F.knows funs.now).preds start.now ≡ Some e) }
         ensures memory { IfErr result (λ e. e.1 ≡ makes.Memory
-            → first_refusal M.accepts (F.knows funs.now).preds start ≡ None) }
+            → first_refusal M.accepts (F.knows funs.now).preds start.now ≡ None) }
     {
         let refs = declared_refs(alloc, funs, &start.refs)?;
         let atoms = declared_atoms(alloc, funs, &start.atoms)?;

@@ -64,7 +64,7 @@ fn open<C: Ledger, A: Ledger, K: Ledger>(
     requires added { IsBlank added A.name A.parts }
     requires taken { IsBlank taken K.name K.parts }
 {
-    match World::new(alloc, &CoreFunctions, start(alloc)?, commits, added, taken) {
+    match World::new(alloc, &CoreFunctions, &start(alloc)?, commits, added, taken) {
         Ok((world, share)) => Ok((Shared::new(world), share)),
         Err(_) => Err(Trouble),
     }

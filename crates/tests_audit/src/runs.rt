@@ -132,7 +132,7 @@ fn run_in<C: Ledger, A: Ledger, K: Ledger>(
     requires taken { IsBlank taken K.name K.parts }
 {
     let (mut world, mut share) = World::<Core, C, A, K>::new(
-        alloc, funs, start, commits, added, taken,
+        alloc, funs, &start, commits, added, taken,
     )?;
     take_steps(alloc, funs, &mut world, &mut share, steps)?;
     look_at(alloc, &world, names, refused, &verdict)

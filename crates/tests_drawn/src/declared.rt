@@ -93,7 +93,7 @@ fn refusal<C: Ledger, A: Ledger, K: Ledger, M: Memory>(
     requires taken { IsBlank taken K.name K.parts }
 {
     player.memory.begin();
-    let made = World::<Core, C, A, K>::new(player.alloc, &table, start, commits, added, taken);
+    let made = World::<Core, C, A, K>::new(player.alloc, &table, &start, commits, added, taken);
     player.memory.end();
     match made {
         Ok(_made) => None,

@@ -116,7 +116,7 @@ fn made<C: Ledger, A: Ledger, K: Ledger, M: Memory>(
         model,
         table,
     } = drawn;
-    match World::new(player.alloc, &table, start, commits, added, taken) {
+    match World::new(player.alloc, &table, &start, commits, added, taken) {
         Ok((world, share)) => Ok(Side {
             number,
             world,

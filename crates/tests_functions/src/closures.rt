@@ -2,6 +2,7 @@
 ghost use Rattle.std.specs.Prelude.{◌≡◌, ◌≤◌, length};
 ghost use Rattle.ref_fun.specs.Core.{core_accepts, core_means};
 ghost use Rattle.ref_fun.specs.Meaning.{Answers};
+ghost use Rattle.ref_fun.specs.Limits.{most_arguments};
 
 use crate::calls::{Call, call_of};
 use crate::equal::equal;
@@ -110,7 +111,7 @@ fn add_fun(
     let run: Fun = Box::new(
         alloc,
         move |a: Global, state: &Value, args: &[Value]| -> Result<Value, FunFault>
-            requires { length args.now ≤ 8 }
+            requires { length args.now ≤ most_arguments }
             ensures { Answers (core_means code args.now state.now) result }
         { core_fun(a, code, state, args) },
     )?;
@@ -128,7 +129,7 @@ fn add_pred(
     let run: Pred = Box::new(
         alloc,
         move |state: &Value, args: &[Value]| -> bool
-            requires { length args.now ≤ 8 }
+            requires { length args.now ≤ most_arguments }
             ensures { result ≡ core_accepts code args.now state.now }
         { core_test(code, state, args) },
     )?;

@@ -111,7 +111,7 @@ pub(crate) fn opened<'a, R: AllocGlobal + Input, C: Ledger, A: Ledger, K: Ledger
 {
     let alloc = rt.alloc();
     let start = declared(alloc, starts_of(alloc, &read(alloc, STARTS)?)?)?;
-    match World::<Core, C, A, K>::new(alloc, tables.all.funs, start, commits, added, taken) {
+    match World::<Core, C, A, K>::new(alloc, tables.all.funs, &start, commits, added, taken) {
         Ok((world, share)) => {
             Stage::with_nothing_open(alloc, Refuser::new(rt), Whole { world, share })
         }

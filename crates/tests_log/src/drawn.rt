@@ -2,7 +2,7 @@
 use crate::drawing::draw;
 use ref_edn::{Node, Value};
 use ref_fun::{Cause, Core};
-use ref_log::{Base, Entry, PlainState, Share, SharedVec, Transaction, replay_plain};
+use ref_log::{Base, Entry, PlainState, Shareable, SharedVec, Transaction, replay_plain};
 use ref_pvec::PVec;
 use ref_refs::CommitFault;
 use ref_tx::{Snapshot, Tx, TxFault};

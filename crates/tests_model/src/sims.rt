@@ -285,7 +285,7 @@ fn play_in<C: Ledger, A: Ledger, K: Ledger>(
     } = first_world(player)?;
     let actors = drawn_actors(player)?;
     let mut cast = Cast { model, actors };
-    match Sim::<Core, C, A, K>::new(player.alloc, &table, start, commits, added, taken) {
+    match Sim::<Core, C, A, K>::new(player.alloc, &table, &start, commits, added, taken) {
         Ok(sim) => play_to_end(player, sim, &mut cast, came),
         Err(_refused) => Err(Stop::Differs("the new world")),
     }

@@ -387,7 +387,7 @@ fn run_in<C: Ledger, A: Ledger, K: Ledger>(
     requires taken { IsBlank taken K.name K.parts }
 {
     let (start, end) = (start_of(alloc, row)?, end_of(alloc, row)?);
-    match Sim::<Core, C, A, K>::new(alloc, &Table::FULL, start, commits, added, taken) {
+    match Sim::<Core, C, A, K>::new(alloc, &Table::FULL, &start, commits, added, taken) {
         Ok(sim) => check_row(alloc, sim, row, end, lists),
         Err(refused) => check_refused(alloc, row, refused),
     }

@@ -4,6 +4,7 @@
 ghost use Rattle.std.specs.Prelude.{◌≡◌, ◌≤◌, length};
 ghost use Rattle.ref_fun.specs.Core.{core_accepts, core_means};
 ghost use Rattle.ref_fun.specs.Meaning.{Answers};
+ghost use Rattle.ref_fun.specs.Limits.{most_arguments};
 
 use crate::subjects::By;
 use ref_edn::Value;
@@ -50,7 +51,7 @@ pub fn with_tables<W: ByTables>(
         let run: Fun = Box::new(
             alloc,
             move |a: Global, state: &Value, args: &[Value]| -> Result<Value, FunFault>
-                requires { length args.now ≤ 8 }
+                requires { length args.now ≤ most_arguments }
                 ensures { Answers (core_means code args.now state.now) result }
             { core_fun(a, code, state, args) },
         )?;
@@ -67,7 +68,7 @@ pub fn with_tables<W: ByTables>(
         let run: Pred = Box::new(
             alloc,
             move |state: &Value, args: &[Value]| -> bool
-                requires { length args.now ≤ 8 }
+                requires { length args.now ≤ most_arguments }
                 ensures { result ≡ core_accepts code args.now state.now }
             { core_test(code, state, args) },
         )?;

@@ -76,7 +76,7 @@ fn with_world<C: Ledger, A: Ledger, K: Ledger, V: Visit>(
     let Ok(start) = declared(alloc, starts) else {
         return Err((Who::Ref(0), MakeFault::Memory));
     };
-    let (world, share) = World::<Core, C, A, K>::new(alloc, funs, start, commits, added, taken)?;
+    let (world, share) = World::<Core, C, A, K>::new(alloc, funs, &start, commits, added, taken)?;
     Ok(visit.visit(tables, Whole { world, share }))
 }
 

@@ -117,7 +117,7 @@ fn two_agents_made<C: Ledger, A: Ledger, K: Ledger>(
     requires taken { IsBlank taken K.name K.parts }
 {
     let start = two_agents(alloc)?;
-    done(World::<Core, C, A, K>::new(alloc, &CoreFunctions, start, commits, added, taken))
+    done(World::<Core, C, A, K>::new(alloc, &CoreFunctions, &start, commits, added, taken))
 }
 
 // The world of two agents: a ref with a watch; h, which goes on after an error, with an action that its function refuses; and an action

@@ -120,7 +120,7 @@ pub fn opened<C: Ledger, A: Ledger, K: Ledger>(
     let (world, share) = done(World::<Core, C, A, K>::new(
         alloc,
         &CoreFunctions,
-        start,
+        &start,
         commits,
         added,
         taken,

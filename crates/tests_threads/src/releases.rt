@@ -329,7 +329,7 @@ fn try_carried<
     let (mut world, _share) = done(World::<Core, C, A, K>::new(
         alloc,
         &CoreFunctions,
-        start,
+        &start,
         commits,
         added,
         taken,

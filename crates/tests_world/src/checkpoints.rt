@@ -138,7 +138,7 @@ fn opened<P: Play, C: Ledger, A: Ledger, K: Ledger>(
     match World::<Core, C, A, K>::new(
         alloc,
         &CoreFunctions,
-        start(alloc, tally)?,
+        &start(alloc, tally)?,
         commits,
         added,
         taken,

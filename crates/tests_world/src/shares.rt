@@ -175,7 +175,14 @@ fn tried<C: Ledger, A: Ledger, K: Ledger>(
     requires added { IsBlank added A.name A.parts }
     requires taken { IsBlank taken K.name K.parts }
 {
-    match World::<Core, C, A, K>::new(alloc, &CoreFunctions, start(alloc)?, commits, added, taken) {
+    match World::<Core, C, A, K>::new(
+        alloc,
+        &CoreFunctions,
+        &start(alloc)?,
+        commits,
+        added,
+        taken,
+    ) {
         Ok((mut world, mut share)) => used(alloc, &mut world, &mut share),
         Err(_) => Ok(None),
     }
@@ -250,7 +257,14 @@ fn tried_forgetting<C: Ledger, A: Ledger, K: Ledger>(
     requires added { IsBlank added A.name A.parts }
     requires taken { IsBlank taken K.name K.parts }
 {
-    match World::<Core, C, A, K>::new(alloc, &CoreFunctions, start(alloc)?, commits, added, taken) {
+    match World::<Core, C, A, K>::new(
+        alloc,
+        &CoreFunctions,
+        &start(alloc)?,
+        commits,
+        added,
+        taken,
+    ) {
         Ok((mut world, mut share)) => Ok(Some(forget_two(alloc, &mut world, &mut share)?)),
         Err(_) => Ok(None),
     }

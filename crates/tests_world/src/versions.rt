@@ -250,7 +250,14 @@ fn tried<C: Ledger, A: Ledger, K: Ledger>(
     requires added { IsBlank added A.name A.parts }
     requires taken { IsBlank taken K.name K.parts }
 {
-    match World::<Core, C, A, K>::new(alloc, &CoreFunctions, start(alloc)?, commits, added, taken) {
+    match World::<Core, C, A, K>::new(
+        alloc,
+        &CoreFunctions,
+        &start(alloc)?,
+        commits,
+        added,
+        taken,
+    ) {
         Ok((mut world, mut share)) => Ok(Some(keep_all(alloc, &mut world, &mut share)?)),
         Err(_) => Ok(None),
     }

@@ -3,6 +3,7 @@ ghost use Rattle.std.specs.Prelude.{◌≡◌, ◌≤◌, length, pos};
 ghost use Rattle.market.specs.Acts.{act_accepts, act_adds, act_means, act_of, act_takes, all_acts, closed, done, is_group, is_left};
 ghost use Rattle.ref_edn.specs.Edn.{int};
 ghost use Rattle.ref_fun.specs.Meaning.{Answers};
+ghost use Rattle.ref_fun.specs.Limits.{most_arguments};
 
 use ref_edn::{Node, Value};
 use ref_fun::{CallFault, Cause, FunFault, Functions, Meaning, core_fun};
@@ -55,7 +56,7 @@ impl Act {
     }
 
     fn run(self, alloc: Global, state: &Value, args: &[Value]) -> Result<Value, FunFault>
-        requires { length args.now ≤ 8 }
+        requires { length args.now ≤ most_arguments }
         ensures { Answers (done self args.now state.now) result }
     {
         match self {

@@ -6,6 +6,7 @@ ghost use Rattle.ref_value.specs.Order.{keys_ascend};
 ghost use Rattle.ref_audit.specs.Dumped.{agents_form, base_refs_form, dump_entries, dumped, entry_form, folded_form, tally_form, values_form};
 ghost use Rattle.ref_audit.specs.Made.{AreFew, AreParts, IsMakeFault, word_text};
 ghost use Rattle.ref_verdict.specs.Words.{number_form, vector_form};
+ghost use Rattle.ref_value.specs.Limits.{most_nested};
 
 use crate::dumping::forms::{number, vector_of_entries, vector_of_values};
 use crate::dumping::references::{base_refs, folded, tally};
@@ -99,7 +100,7 @@ pub(crate) fn entries_of<C: Ledger, A: Ledger, K: Ledger>(
 pub(crate) fn map_of(alloc: Global, entries: Vec<(Value, Value)>) -> Result<Value, DumpMakeFault>
     requires { keys_ascend (edn.entries_of entries.items) ≡ true }
     ensures made { IfOk result (λ v. v ≡ edn.map (edn.entries_of entries.items)) }
-    ensures shallow { OnOk result (nesting (edn.map (edn.entries_of entries.items)) ≤ 64) }
+    ensures shallow { OnOk result (nesting (edn.map (edn.entries_of entries.items)) ≤ most_nested) }
     ensures fault { IfErr result (IsMakeFault (nesting (edn.map (edn.entries_of entries.items)))) }
 {
     let entries = Entries::of(alloc, entries)?;

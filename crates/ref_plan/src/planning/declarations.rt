@@ -5,7 +5,7 @@ ghost use Rattle.ref_start.specs.declared.starts.AgentStart.{AgentStart as AnyAg
 ghost use Rattle.ref_start.specs.declared.starts.AtomStart.{AtomStart as AnyAtom};
 ghost use Rattle.ref_start.specs.declared.starts.RefStart.{RefStart as AnyRef};
 ghost use Rattle.ref_plan.specs.Declarations.{AreDeclared, AreReferences, agent_of, atom_of, ref_of};
-ghost use Rattle.ref_plan.specs.Limits.{most_references};
+ghost use Rattle.ref_plan.specs.Limits.{most_declared};
 ghost use Rattle.ref_plan.specs.Named.{AreApart};
 ghost use Rattle.ref_plan.specs.Tables.{Knows, refs_alone, refs_and_atoms};
 
@@ -19,7 +19,7 @@ use ref_value::{Items, Text};
 use std::alloc::Global;
 
 /// How many references of a kind a workload may declare.
-pub const MOST_REFERENCES: usize = 4096;
+pub const MOST_DECLARED: usize = 4096;
 
 fn plan_fault(refused: Refused, who: Who) -> PlanFault
     ensures { result ≢ PlanFault.Memory → refused ≢ Refused.Memory }
@@ -46,7 +46,7 @@ pub fn refs(
     forms: &Items,
     table: &mut NameTable,
 ) -> Result<(Vec<Text>, Vec<RefStart>), PlanFault>
-    requires few { length forms.now ≤ most_references }
+    requires few { length forms.now ≤ most_declared }
     requires empty { table.old ≡ [] }
     ensures ok { IfOk result (λ r. AreDeclared ref_of forms.now r.0.items r.1.items) }
     ensures one_tally { IfOk result (λ r. count_by (λ s. s.tally) r.1.items ≤ 1) }
@@ -77,7 +77,7 @@ pub fn atoms(
     forms: &Items,
     table: &mut NameTable,
 ) -> Result<(Vec<Text>, Vec<AtomStart>), PlanFault>
-    requires { length forms.now ≤ most_references }
+    requires { length forms.now ≤ most_declared }
     ensures ok { IfOk result (λ r. AreDeclared atom_of forms.now r.0.items r.1.items) }
     ensures known { IfOk result (λ r. (refs : List (List ℕ))
         → Knows table.old (refs_alone refs) → Knows table.new (refs_and_atoms refs r.0.items)) }
@@ -106,7 +106,7 @@ pub fn agents(
     forms: &Items,
     table: &mut NameTable,
 ) -> Result<(Vec<Text>, Vec<AgentStart>), PlanFault>
-    requires { length forms.now ≤ most_references }
+    requires { length forms.now ≤ most_declared }
     ensures ok { IfOk result (λ r. AreDeclared agent_of forms.now r.0.items r.1.items) }
     ensures known { IfOk result (λ r. (refs atoms : List (List ℕ))
         → Knows table.old (refs_and_atoms refs atoms)
@@ -137,9 +137,9 @@ pub fn declarations(
     atom_forms: &Items,
     agent_forms: &Items,
 ) -> Result<(Declared, Start), PlanFault>
-    requires few_refs { length ref_forms.now ≤ most_references }
-    requires few_atoms { length atom_forms.now ≤ most_references }
-    requires few_agents { length agent_forms.now ≤ most_references }
+    requires few_refs { length ref_forms.now ≤ most_declared }
+    requires few_atoms { length atom_forms.now ≤ most_declared }
+    requires few_agents { length agent_forms.now ≤ most_declared }
     ensures ok { IfOk result (λ r. AreReferences ref_forms.now atom_forms.now agent_forms.now r.0
         r.1.refs.items r.1.atoms.items r.1.agents.items) }
     ensures none { IfErr result (λ f. f ≢ PlanFault.Memory

@@ -12,15 +12,13 @@ use crate::planning::hashing::NameHashing;
 use indexmap::{Equivalent, IndexMap};
 use ref_forms::plain::symbol_in;
 use ref_forms::{Naming, Values, Wrong};
+use ref_fun::MOST_NESTED_RESULT;
 use ref_log::Who;
 use ref_start::Names;
 use ref_value::{Text, Value};
 use std::alloc::{AllocError, Global};
 use std::hash::{Hash, Hasher};
 use std::marker::Model;
-
-/// How deep a value of a workload may be nested.
-pub const MOST_NESTED: u8 = 48;
 
 /// The name of a reference. Contracts see its bytes.
 #[derive(Drop)]
@@ -233,6 +231,6 @@ impl Values for Declared {
     ghost is_value = { is_shallow };
 
     fn takes(form: &Value) -> bool {
-        form.depth() <= MOST_NESTED
+        form.depth() <= MOST_NESTED_RESULT
     }
 }

@@ -5,12 +5,12 @@ ghost use Rattle.std.specs.Option.{option_copied};
 ghost use Rattle.std.specs.Prelude.{◌≡◌, ◌≢◌, ◌≤◌, ℕ, ℤ, IfErr, IfOk, IfNone, IfSome, None, OnErr, Some, length, true};
 ghost use Rattle.ref_value.specs.Edn.{int};
 ghost use Rattle.ref_forms.specs.Plain.{elements, forms_under, under};
-ghost use Rattle.ref_plan.specs.Limits.{most_references, most_workers};
+ghost use Rattle.ref_plan.specs.Limits.{most_declared, most_workers};
 ghost use Rattle.ref_plan.specs.Words.{agents_word, atoms_word, pool_word, refs_word, version_word, workers_word};
 ghost use Rattle.ref_plan.specs.Workload.{HasParts, HasVectors, is_short_vector, is_vector, pool_in_range, pool_said};
 
 use crate::plan_faults::PlanFault;
-use crate::planning::declarations::MOST_REFERENCES;
+use crate::planning::declarations::MOST_DECLARED;
 use crate::planning::steps::MOST_STEPS;
 use crate::versions::{Version, version_numbered};
 use ref_forms::maps::{are_known, count, under, vector_under};
@@ -124,18 +124,18 @@ fn found_in<'a>(entries: &'a Entries) -> Option<Found<'a>>
 
 // Whether there are no more references of a kind and no more workers than may be.
 fn are_few(found: &Found<'_>) -> bool
-    ensures refs { OnTrue result (length (elements (option_copied found.now.refs)) ≤ most_references) }
-    ensures atoms { OnTrue result (length (elements (option_copied found.now.atoms)) ≤ most_references) }
-    ensures agents { OnTrue result (length (elements (option_copied found.now.agents)) ≤ most_references) }
+    ensures refs { OnTrue result (length (elements (option_copied found.now.refs)) ≤ most_declared) }
+    ensures atoms { OnTrue result (length (elements (option_copied found.now.atoms)) ≤ most_declared) }
+    ensures agents { OnTrue result (length (elements (option_copied found.now.agents)) ≤ most_declared) }
     ensures workers { OnTrue result (length (elements (option_copied found.now.workers)) ≤ most_workers) }
-    ensures no { OnFalse result (length (elements (option_copied found.now.refs)) ≤ most_references
-        → length (elements (option_copied found.now.atoms)) ≤ most_references
-        → length (elements (option_copied found.now.agents)) ≤ most_references
+    ensures no { OnFalse result (length (elements (option_copied found.now.refs)) ≤ most_declared
+        → length (elements (option_copied found.now.atoms)) ≤ most_declared
+        → length (elements (option_copied found.now.agents)) ≤ most_declared
         → length (elements (option_copied found.now.workers)) ≤ most_workers → ⊥) }
 {
-    count(found.refs) <= MOST_REFERENCES
-        && count(found.atoms) <= MOST_REFERENCES
-        && count(found.agents) <= MOST_REFERENCES
+    count(found.refs) <= MOST_DECLARED
+        && count(found.atoms) <= MOST_DECLARED
+        && count(found.agents) <= MOST_DECLARED
         && count(found.workers) <= MOST_WORKERS
 }
 

@@ -6,21 +6,24 @@ use crate::sequence::chunks::{Chunk, WIDTH};
 use crate::sequence::trees::{Limb, Tree, fork, leaf};
 use std::alloc::{AllocError, Global};
 
-fn three(alloc: Global, a: &Tree, b: &Tree, c: &Tree) -> Result<Tree, AllocError>
+// `a (b c)`
+fn fork_right(alloc: Global, a: &Tree, b: &Tree, c: &Tree) -> Result<Tree, AllocError>
     ensures { IfOk result (λ t. t.0 ≡ a.now.0 ++ (b.now.0 ++ c.now.0)) }
 {
     let right = fork(alloc, b.share()?, c.share()?)?;
     fork(alloc, a.share()?, right)
 }
 
-fn three_left(alloc: Global, a: &Tree, b: &Tree, c: &Tree) -> Result<Tree, AllocError>
+// `(a b) c`
+fn fork_left(alloc: Global, a: &Tree, b: &Tree, c: &Tree) -> Result<Tree, AllocError>
     ensures { IfOk result (λ t. t.0 ≡ (a.now.0 ++ b.now.0) ++ c.now.0) }
 {
     let left = fork(alloc, a.share()?, b.share()?)?;
     fork(alloc, left, c.share()?)
 }
 
-fn four(alloc: Global, a: &Tree, b: &Tree, c: &Tree, d: &Tree) -> Result<Tree, AllocError>
+// `(a b) (c d)`
+fn fork_twice(alloc: Global, a: &Tree, b: &Tree, c: &Tree, d: &Tree) -> Result<Tree, AllocError>
     ensures { IfOk result (λ t. t.0 ≡ (a.now.0 ++ b.now.0) ++ (c.now.0 ++ d.now.0)) }
 {
     let left = fork(alloc, a.share()?, b.share()?)?;
@@ -28,38 +31,58 @@ fn four(alloc: Global, a: &Tree, b: &Tree, c: &Tree, d: &Tree) -> Result<Tree, A
     fork(alloc, left, right)
 }
 
-// A fork of these, where the left side is the higher one.
+// A fork of these, where the left side is the higher one: once to the right, or once to the left and once to the right.
 #[tactic(auto, using(crate::proofs::Pieces::append_assoc_named))]
-fn leaned_right(alloc: Global, left: &Tree, right: &Tree) -> Result<Tree, AllocError>
+fn rotated_right(alloc: Global, left: &Tree, right: &Tree) -> Result<Tree, AllocError>
     ensures { IfOk result (λ t. t.0 ≡ left.now.0 ++ right.now.0) }
 {
-    let Limb::Fork(_, _, _, _, a, b) = &*left.limb else {
+    let Limb::Fork {
+        left: a,
+        right: b,
+        ..
+    } = &*left.limb
+    else {
         return Err(AllocError);
     };
     if b.height() <= a.height() {
-        return three(alloc, a, b, right);
+        return fork_right(alloc, a, b, right);
     }
-    let Limb::Fork(_, _, _, _, c, d) = &*b.limb else {
+    let Limb::Fork {
+        left: c,
+        right: d,
+        ..
+    } = &*b.limb
+    else {
         return Err(AllocError);
     };
-    four(alloc, a, c, d, right)
+    fork_twice(alloc, a, c, d, right)
 }
 
 // A fork of these, where the right side is the higher one.
 #[tactic(auto, using(crate::proofs::Pieces::append_assoc_named))]
-fn leaned_left(alloc: Global, left: &Tree, right: &Tree) -> Result<Tree, AllocError>
+fn rotated_left(alloc: Global, left: &Tree, right: &Tree) -> Result<Tree, AllocError>
     ensures { IfOk result (λ t. t.0 ≡ left.now.0 ++ right.now.0) }
 {
-    let Limb::Fork(_, _, _, _, a, b) = &*right.limb else {
+    let Limb::Fork {
+        left: a,
+        right: b,
+        ..
+    } = &*right.limb
+    else {
         return Err(AllocError);
     };
     if a.height() <= b.height() {
-        return three_left(alloc, left, a, b);
+        return fork_left(alloc, left, a, b);
     }
-    let Limb::Fork(_, _, _, _, c, d) = &*a.limb else {
+    let Limb::Fork {
+        left: c,
+        right: d,
+        ..
+    } = &*a.limb
+    else {
         return Err(AllocError);
     };
-    four(alloc, left, c, d, b)
+    fork_twice(alloc, left, c, d, b)
 }
 
 // One leaf, where these are two that leave half of it free.
@@ -97,7 +120,7 @@ impl Tree {
     fn mended(&self, alloc: Global) -> Option<Tree>
         ensures { IfSome result (λ t. t.0 ≡ self.now.0) }
     {
-        let Limb::Fork(_, _, _, _, left, right) = &*self.limb else {
+        let Limb::Fork { left, right, .. } = &*self.limb else {
             return None;
         };
         if let Some(tree) = merged(alloc, left, right) {
@@ -105,10 +128,10 @@ impl Tree {
         }
         let (a, b) = (left.height(), right.height());
         if a > b.saturating_add(1) {
-            return leaned_right(alloc, left, right).ok();
+            return rotated_right(alloc, left, right).ok();
         }
         if b > a.saturating_add(1) {
-            return leaned_left(alloc, left, right).ok();
+            return rotated_left(alloc, left, right).ok();
         }
         if left.len() == 0 {
             return right.share().ok();

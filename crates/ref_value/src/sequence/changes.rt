@@ -89,7 +89,7 @@ impl Tree {
                     Some(chunk)
                 }
             }
-            Limb::Fork(_, _, _, _, _, _) => None,
+            Limb::Fork { .. } => None,
         }
     }
 
@@ -147,7 +147,14 @@ impl Tree {
             Limb::Leaf(deepest, _, chunk) => {
                 insert_in(deepest, chunk, i, member)?;
             }
-            Limb::Fork(deepest, _, height, len, left, right) => {
+            Limb::Fork {
+                deepest,
+                height,
+                len,
+                left,
+                right,
+                ..
+            } => {
                 let Some(more) = len.checked_add(1) else {
                     return Err(AllocError);
                 };
@@ -192,7 +199,12 @@ impl Tree {
             Limb::Leaf(deepest, _, chunk) => {
                 replace_in(deepest, chunk, i, key, x)?;
             }
-            Limb::Fork(deepest, _, _, _, left, right) => {
+            Limb::Fork {
+                deepest,
+                left,
+                right,
+                ..
+            } => {
                 let before = left.len();
                 if i < before {
                     left.replace(alloc, i, key, x)?;
@@ -222,7 +234,14 @@ impl Tree {
             Limb::Leaf(deepest, _, chunk) => {
                 remove_in(deepest, chunk, i)?;
             }
-            Limb::Fork(deepest, _, height, len, left, right) => {
+            Limb::Fork {
+                deepest,
+                height,
+                len,
+                left,
+                right,
+                ..
+            } => {
                 // The type says that it fits.
                 let _height = *height;
                 let before = left.len();

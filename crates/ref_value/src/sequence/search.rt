@@ -63,7 +63,12 @@ impl Tree {
     {
         match &*self.limb {
             Limb::Leaf(_, _, chunk) => search_in(chunk, key),
-            Limb::Fork(_, _, _, len, left, right) => {
+            Limb::Fork {
+                len,
+                left,
+                right,
+                ..
+            } => {
                 // The type says that it fits.
                 let _len = *len;
                 if right.is_behind(key) {

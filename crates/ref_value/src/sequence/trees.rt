@@ -28,7 +28,14 @@ pub(crate) struct Tree {
 #[derive(Drop)]
 pub(super) enum Limb {
     Leaf(u8, bool, Chunk),
-    Fork(u8, bool, u8, usize, Tree, Tree),
+    Fork {
+        deepest: u8,
+        mark: bool,
+        height: u8,
+        len: usize,
+        left: Tree,
+        right: Tree,
+    },
 }
 
 impl Model for Tree {
@@ -78,7 +85,17 @@ pub(super) fn fork(alloc: Global, left: Tree, right: Tree) -> Result<Tree, Alloc
     let deepest = larger(left.deepest(), right.deepest());
     let mark = left.mark();
     Ok(Tree {
-        limb: Arc::new(alloc, Limb::Fork(deepest, mark, height, len, left, right))?,
+        limb: Arc::new(
+            alloc,
+            Limb::Fork {
+                deepest,
+                mark,
+                height,
+                len,
+                left,
+                right,
+            },
+        )?,
     })
 }
 
@@ -201,7 +218,7 @@ impl Tree {
     {
         match &*self.limb {
             Limb::Leaf(_, _, chunk) => chunk.len(),
-            Limb::Fork(_, _, _, len, _, _) => *len,
+            Limb::Fork { len, .. } => *len,
         }
     }
 
@@ -210,7 +227,7 @@ impl Tree {
     {
         match &*self.limb {
             Limb::Leaf(_, _, _) => 0,
-            Limb::Fork(_, _, height, _, _, _) => *height,
+            Limb::Fork { height, .. } => *height,
         }
     }
 
@@ -219,7 +236,7 @@ impl Tree {
     {
         match &*self.limb {
             Limb::Leaf(_, mark, _) => *mark,
-            Limb::Fork(_, mark, _, _, _, _) => *mark,
+            Limb::Fork { mark, .. } => *mark,
         }
     }
 
@@ -229,7 +246,7 @@ impl Tree {
     {
         match &*self.limb {
             Limb::Leaf(deepest, _, _) => *deepest,
-            Limb::Fork(deepest, _, _, _, _, _) => *deepest,
+            Limb::Fork { deepest, .. } => *deepest,
         }
     }
 
@@ -249,7 +266,7 @@ impl Tree {
     {
         match &*self.limb {
             Limb::Leaf(_, _, chunk) => chunk.pair_at(i),
-            Limb::Fork(_, _, _, _, left, right) => {
+            Limb::Fork { left, right, .. } => {
                 let before = left.len();
                 if i < before {
                     left.pair_at(i)
@@ -269,7 +286,7 @@ impl Tree {
     {
         match &*self.limb {
             Limb::Leaf(_, _, chunk) => chunk.run_from(i),
-            Limb::Fork(_, _, _, _, left, right) => {
+            Limb::Fork { left, right, .. } => {
                 let before = left.len();
                 if i < before {
                     left.run_from(i)
@@ -290,11 +307,15 @@ impl Tree {
         match &*self.limb {
             Limb::Leaf(_, _, chunk) => match &*other.limb {
                 Limb::Leaf(_, _, others) => chunk.same_first(others),
-                Limb::Fork(_, _, _, _, _, _) => 0,
+                Limb::Fork { .. } => 0,
             },
-            Limb::Fork(_, _, _, _, left, right) => match &*other.limb {
+            Limb::Fork { left, right, .. } => match &*other.limb {
                 Limb::Leaf(_, _, _) => 0,
-                Limb::Fork(_, _, _, _, other_left, other_right) => {
+                Limb::Fork {
+                    left: other_left,
+                    right: other_right,
+                    ..
+                } => {
                     let n = left.same_first(other_left);
                     if n < left.len() {
                         return n;
@@ -315,16 +336,21 @@ impl Tree {
     {
         let limb = match &*self.limb {
             Limb::Leaf(deepest, mark, chunk) => Limb::Leaf(*deepest, *mark, chunk.copied(alloc)?),
-            Limb::Fork(deepest, mark, height, len, left, right) => {
-                Limb::Fork(
-                    *deepest,
-                    *mark,
-                    *height,
-                    *len,
-                    left.share()?,
-                    right.share()?,
-                )
-            }
+            Limb::Fork {
+                deepest,
+                mark,
+                height,
+                len,
+                left,
+                right,
+            } => Limb::Fork {
+                deepest: *deepest,
+                mark: *mark,
+                height: *height,
+                len: *len,
+                left: left.share()?,
+                right: right.share()?,
+            },
         };
         Ok(Tree {
             limb: Arc::new(alloc, limb)?,

@@ -85,7 +85,7 @@ fn play_in<R: Input + Print, C: Ledger, A: Ledger, K: Ledger>(
 {
     let alloc = tables.all.alloc;
     let start = declared(alloc, starts_of(alloc, &read(alloc, STARTS)?)?)?;
-    match Sim::<Core, C, A, K>::new(alloc, tables.all.funs, start, commits, added, taken) {
+    match Sim::<Core, C, A, K>::new(alloc, tables.all.funs, &start, commits, added, taken) {
         Ok(sim) => {
             end(free, tables, sim);
             Ok(())
