@@ -4,7 +4,7 @@ use Rattle.std.specs.Prelude.{option_map, option_and_then, ok_or, ◌+◌, ◌-�
 use Rattle.std.specs.List.{list_all}
 use Rattle.ref_value.specs.Edn.{Edn}
 use Rattle.ref_value.specs.Edn as edn
-use Rattle.ref_value.specs.Edn.{list_of}
+use Rattle.ref_value.specs.Edn.{list_of, symbol_of}
 use Rattle.ref_value.specs.Names.{bytes_eq}
 use Rattle.ref_fun.specs.declared.actions.Action.{Action}
 use Rattle.ref_fun.specs.declared.rules.Rule.{Rule}

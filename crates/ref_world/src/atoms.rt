@@ -19,7 +19,7 @@ use crate::shares::{LogReceipt, Share};
 use crate::worlds::World;
 use ref_atoms::{AtomFault, Cas, Change, Swapped};
 use ref_fun::{Args, Functions, Meaning};
-use ref_log::{Op, Share as _};
+use ref_log::{Op, Shareable as _};
 use ref_value::Value;
 use std::alloc::{AllocError, Global};
 use std::sync::ledger::Ledger;

@@ -19,7 +19,7 @@ use crate::shares::{LogReceipt, Share};
 use crate::worlds::World;
 use ref_agents::AgentStore;
 use ref_fun::{Functions, Meaning};
-use ref_log::{Entry, Notice, Sent, Share as _, Stamp};
+use ref_log::{Entry, Notice, Sent, Shareable as _, Stamp};
 use ref_pvec::PVec;
 use ref_refs::{CommitFault, Landed, Prepared};
 use ref_tx::Tx;

@@ -8,7 +8,7 @@ ghost use Rattle.ref_workload.specs.Streams.{most_input};
 
 use ref_audit::Names;
 use ref_edn::{Source, read_one};
-use ref_fun::Share;
+use ref_fun::Shareable;
 use ref_value::Text;
 use ref_workload::RunFault;
 use ref_workload::plan::plan;

@@ -86,8 +86,9 @@ fn check_less(alloc: Global, a: &Value, b: &Value, name: &str) -> Result<(), Fai
 
 // The front with a greater last letter.
 fn greater(alloc: Global, len: usize) -> Result<String, Fail> {
-    let mut text = String::from_str(alloc, LETTERS.get(..len - 1).unwrap_or(""))?;
-    text.push_str(GREATER.get(len - 1..len).unwrap_or(""))?;
+    let before = len.saturating_sub(1);
+    let mut text = String::from_str(alloc, LETTERS.get(..before).unwrap_or(""))?;
+    text.push_str(GREATER.get(before..len).unwrap_or(""))?;
     Ok(text)
 }
 
@@ -107,7 +108,7 @@ fn check_length(alloc: Global, kind: Kind, len: usize) -> Result<(), Fail> {
 
 fn check_order(alloc: Global, kind: Kind, len: usize) -> Result<(), Fail> {
     let (text, greater) = (LETTERS.get(..len).unwrap_or(""), greater(alloc, len)?);
-    let shorter = LETTERS.get(..len - 1).unwrap_or("");
+    let shorter = LETTERS.get(..len.saturating_sub(1)).unwrap_or("");
     let small = [chosen(alloc, kind, text)?, in_block(alloc, kind, text)?];
     let large = [
         chosen(alloc, kind, &greater)?,

@@ -22,6 +22,10 @@ first_none (Some fault) later none = none
 same_refusal : {n n' m m' k k' l l' : ℕ} (refusal : ℕ → ℕ → ℕ → ℕ → Option CommitFault) → n ≡ n' → m ≡ m' → k ≡ k' → l ≡ l' → refusal n m k l ≡ refusal n' m' k' l'
 same_refusal {n' = n'} {m = m} {m' = m'} {k = k} {k' = k'} {l = l} refusal a b c d = ap (λ x. refusal x m k l) a ∙ (ap (λ x. refusal n' x k l) b ∙ (ap (λ x. refusal n' m' x l) c ∙ ap (refusal n' m' k') d))
 
+-- Nothing that is asked before memory refuses, at what the calls found and so at what the world has.
+early_still : {p p' n n' : ℕ} (early : ℕ → ℕ → Option CommitFault) → p ≡ p' → n ≡ n' → early p n ≡ None → early p' n' ≡ None
+early_still {p' = p'} {n = n} early a b none = ap (early p') (sym b) ∙ (ap (λ p. early p n) (sym a) ∙ none)
+
 pub invariant_of-self-2 : goal.invariant_of-self-2
 invariant_of-self-2 g c =
     let means = g.M.Meaning.means in
@@ -75,27 +79,37 @@ returns-clause-refused g c =
     let same = same_refusal refusal point agents up down in
     rw (← c.self.view_is) (sym same ∙ none)
 
+pub returns-in_default-clause-refused : goal.returns-in_default-clause-refused
+returns-in_default-clause-refused g c =
+    let w = c.self.inside in
+    let point : c.point-at.result ≡ point_after w.base.value w.log = c.point-at.ensures.value ∙ ap point_of (sym c.self.view_is) in
+    let early : ℕ → ℕ → Option CommitFault = λ p n. early_refusal (g.F.Functions.knows c.args.funs.now) w.refs (p + 1) n c.args.tx in
+    let before = first_none (early c.point-at.result c.len-agents.result) _ c.in-Ok.ensures.refused in
+    (λ other. absurd (other refl), λ memory. rw (← c.self.view_is) (early_still early point c.len-agents.ensures.value before))
+
+pub returns-then-is_err-clause-refused : goal.returns-then-is_err-clause-refused
+returns-then-is_err-clause-refused g c =
+    let w = c.self.inside in
+    let point : c.point-at.result ≡ point_after w.base.value w.log = c.point-at.ensures.value ∙ ap point_of (sym c.self.view_is) in
+    let early : ℕ → ℕ → Option CommitFault = λ p n. early_refusal (g.F.Functions.knows c.args.funs.now) w.refs (p + 1) n c.args.tx in
+    let before = first_none (early c.point-at.result c.len-agents.result) _ c.in-Ok.ensures.refused in
+    (λ other. absurd (other refl), λ memory. rw (← c.self.view_is) (early_still early point c.len-agents.ensures.value before))
+
 pub returns-then-is_err-2-clause-refused : goal.returns-then-is_err-2-clause-refused
 returns-then-is_err-2-clause-refused g c =
     let w = c.self.inside in
     let point : c.point-at.result ≡ point_after w.base.value w.log = c.point-at.ensures.value ∙ ap point_of (sym c.self.view_is) in
-    let agents : c.len-agents.result ≡ length w.agents.agents = c.len-agents.ensures.value in
-    let knows = g.F.Functions.knows c.args.funs.now in
-    let none : commit_refusal g.M.Meaning.means g.M.Meaning.accepts knows w.refs (c.point-at.result + 1) c.len-agents.result c.room-most_added.result c.room-most_taken.result c.args.tx ≡ None = c.in-Ok.ensures.refused in
-    let early : ℕ → ℕ → Option CommitFault = λ p n. early_refusal knows w.refs (p + 1) n c.args.tx in
-    let before = first_none (early c.point-at.result c.len-agents.result) _ none in
-    (λ other. absurd (other refl), λ memory. rw (← c.self.view_is) (ap (early (point_after w.base.value w.log)) (sym agents) ∙ (ap (λ p. early p c.len-agents.result) (sym point) ∙ before)))
-
-pub returns-in-Err-clause-conflict : goal.returns-in-Err-clause-conflict
-returns-in-Err-clause-conflict g c = told-fits c.args.tx _ _ c.in-Err.fault c.in-Err.ensures.refused (refusal-fits c.args.tx g.M.Meaning.means g.M.Meaning.accepts (g.F.Functions.knows c.args.funs.now) c.self.inside.refs (c.point-at.result + 1) c.len-agents.result c.room-most_added.result c.room-most_taken.result)
+    let early : ℕ → ℕ → Option CommitFault = λ p n. early_refusal (g.F.Functions.knows c.args.funs.now) w.refs (p + 1) n c.args.tx in
+    let before = first_none (early c.point-at.result c.len-agents.result) _ c.in-Ok.ensures.refused in
+    (λ other. absurd (other refl), λ memory. rw (← c.self.view_is) (early_still early point c.len-agents.ensures.value before))
 
 pub returns-in_default-share-clause-refused : goal.returns-in_default-share-clause-refused
 returns-in_default-share-clause-refused g c =
     let w = c.self.inside in
     let point : c.point-at.result ≡ point_after w.base.value w.log = c.point-at.ensures.value ∙ ap point_of (sym c.self.view_is) in
-    let agents : c.len-agents.result ≡ length w.agents.agents = c.len-agents.ensures.value in
-    let knows = g.F.Functions.knows c.args.funs.now in
-    let none : commit_refusal g.M.Meaning.means g.M.Meaning.accepts knows w.refs (c.point-at.result + 1) c.len-agents.result c.room-most_added.result c.room-most_taken.result c.args.tx ≡ None = c.in-Ok.ensures.refused in
-    let early : ℕ → ℕ → Option CommitFault = λ p n. early_refusal knows w.refs (p + 1) n c.args.tx in
-    let before = first_none (early c.point-at.result c.len-agents.result) _ none in
-    (λ other. absurd (other refl), λ memory. rw (← c.self.view_is) (ap (early (point_after w.base.value w.log)) (sym agents) ∙ (ap (λ p. early p c.len-agents.result) (sym point) ∙ before)))
+    let early : ℕ → ℕ → Option CommitFault = λ p n. early_refusal (g.F.Functions.knows c.args.funs.now) w.refs (p + 1) n c.args.tx in
+    let before = first_none (early c.point-at.result c.len-agents.result) _ c.in-Ok.ensures.refused in
+    (λ other. absurd (other refl), λ memory. rw (← c.self.view_is) (early_still early point c.len-agents.ensures.value before))
+
+pub returns-in-Err-clause-conflict : goal.returns-in-Err-clause-conflict
+returns-in-Err-clause-conflict g c = told-fits c.args.tx _ _ c.in-Err.fault c.in-Err.ensures.refused (refusal-fits c.args.tx g.M.Meaning.means g.M.Meaning.accepts (g.F.Functions.knows c.args.funs.now) c.self.inside.refs (c.point-at.result + 1) c.len-agents.result c.room-most_added.result c.room-most_taken.result)
