@@ -1,5 +1,6 @@
 //! The arguments of a function.
 ghost use Rattle.std.specs.Prelude.{◌≡◌, ◌≢◌, ◌≤◌, ◌∷◌, [], length, vec_len, IfOk, OnErr};
+ghost use Rattle.ref_fun.specs.Limits.{most_arguments};
 
 use crate::lists::SharedVec;
 use ref_value::Value;

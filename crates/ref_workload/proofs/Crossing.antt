@@ -17,7 +17,7 @@ use Rattle.ref_plan.specs.contracts.plans.PlannedOp as PlannedOp
 use Rattle.ref_plan.specs.contracts.plans.Step as Step
 use Rattle.ref_workload.specs.contracts.progress.Progress as Progress
 use Rattle.ref_workload.specs.contracts.running.workers.Ended as Ended
-use Rattle.ref_workload.specs.contracts.running.workers.Job as Job
+use Rattle.ref_workload.specs.contracts.running.workers.WorkerStart as WorkerStart
 use Rattle.ref_workload.specs.contracts.running.workers.Run as Run
 
 ruleset plain = (std.crosses, knot.crosses, sendable)
@@ -120,8 +120,8 @@ module _ (C A K : RattleType) (gC : Ledger.Ghosts C.Denot) (gA : Ledger.Ghosts A
   ended_send = declared_send (Ended.the_type C A K gC gA gK)
       (search (shared_crosses, plain) depth 60, (search (refusal_send, plain) depth 60, (search plain depth 60, tt)))
 
-  pub job_send : (G : RattleType) → IsSend G → IsSend (Job.the_row C A K G gC gA gK)
-  job_send G y = declared_send (Job.the_type C A K G gC gA gK)
+  pub start_send : (G : RattleType) → IsSend G → IsSend (WorkerStart.the_row C A K G gC gA gK)
+  start_send G y = declared_send (WorkerStart.the_type C A K G gC gA gK)
       (search plain depth 60, (search (shared_crosses, plain) depth 60, (search (y, plain) depth 60, tt)))
 
-pub ruleset crosses = (shared_crosses, run_sync, ended_send, job_send)
+pub ruleset crosses = (shared_crosses, run_sync, ended_send, start_send)

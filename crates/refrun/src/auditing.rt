@@ -37,7 +37,7 @@ pub fn audit_text<F: Functions<Core>, R: Source, W: Sink>(
     ensures reads { CountsReads (R.failures reader.old) (R.failures reader.new) result }
     ensures writes { CountsWrites (W.failures writer.old) (W.failures writer.new) result }
 {
-    let input = read_dump(alloc, reader)?;
+    let input = read_text(alloc, reader)?;
     let (line, verdict) = audit_of(alloc, funs, &input)?;
     write_text(writer, &line)?;
     Ok(verdict)
@@ -63,7 +63,7 @@ fn audit_of<F: Functions<Core>>(
 }
 
 /// Reads a dump to its end, or to one byte more than it may have.
-pub(crate) fn read_dump<R: Source>(alloc: Global, reader: &mut R) -> Result<Vec<u8>, AuditRunFault>
+pub(crate) fn read_text<R: Source>(alloc: Global, reader: &mut R) -> Result<Vec<u8>, AuditRunFault>
     ensures all { IfOk result (λ text. IfSome (R.left reader.old) (λ all. text.items ≡ all)) }
     ensures end { OnOk result (IsAtEnd (R.left reader.new)) }
     ensures short { IfOk result (λ text. vec_len text ≤ most_input) }

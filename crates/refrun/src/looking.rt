@@ -11,7 +11,7 @@ ghost use Rattle.refrun.specs.Auditing.{CountsReads, CountsWrites, IsAtFault, Is
 ghost use Rattle.refrun.specs.Looking.{IsLook, IsLookOf, IsPageOf, Shows, verdict_of};
 ghost use Rattle.ref_workload.specs.Streams.{most_input};
 
-use crate::auditing::{read_dump, write_text};
+use crate::auditing::{read_text, write_text};
 use crate::faults::AuditRunFault;
 use ref_audit::{Names, Verdict, line_of};
 use ref_edn::{Sink, Source, read_one};
@@ -48,7 +48,7 @@ pub fn look_text<F: Functions<Core>, R: Source, W: Sink>(
     ensures reads { CountsReads (R.failures reader.old) (R.failures reader.new) result }
     ensures writes { CountsWrites (W.failures writer.old) (W.failures writer.new) result }
 {
-    let input = read_dump(alloc, reader)?;
+    let input = read_text(alloc, reader)?;
     let (text, verdict) = look_of(alloc, funs, names, look, &input)?;
     write_text(writer, &text)?;
     Ok(verdict)
@@ -77,7 +77,7 @@ pub fn draw_text<R: Source, W: Sink>(
     ensures reads { CountsReads (R.failures reader.old) (R.failures reader.new) result }
     ensures writes { CountsWrites (W.failures writer.old) (W.failures writer.new) result }
 {
-    let input = read_dump(alloc, reader)?;
+    let input = read_text(alloc, reader)?;
     let page = page_of(alloc, names, part, &input)?;
     write_text(writer, &page)
 }

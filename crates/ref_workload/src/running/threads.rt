@@ -2,7 +2,7 @@
 ghost use Rattle.std.specs.Thread.{IsSend, IsSync};
 
 use crate::faults::Stop;
-use crate::running::workers::{Ended, Job, Run, serve, work};
+use crate::running::workers::{Ended, Run, WorkerStart, serve, work};
 use ref_audit::Refusal;
 use ref_fun::{Core, Functions};
 use ref_shared::Gate;
@@ -35,8 +35,8 @@ where
 {
     let alloc = run.alloc;
     // What the threads begin with, and the room for their handles, is there before the first of them is made.
-    let (jobs, rest) = make_jobs(alloc, run.workers.len(), share, gates)?;
-    let mut workers = Vec::with_capacity(alloc, jobs.len())?;
+    let (starts, rest) = make_starts(alloc, run.workers.len(), share, gates)?;
+    let mut workers = Vec::with_capacity(alloc, starts.len())?;
     let mut pool = Vec::with_capacity(alloc, rest.len())?;
     let mut refused = Vec::new(alloc);
     let ended = thread::scope(
@@ -47,7 +47,7 @@ where
         {
             let mut started = start_pool(scope, rt, run, rest, &mut pool);
             if started.is_ok() {
-                started = start_workers(scope, rt, run, jobs, &mut workers);
+                started = start_workers(scope, rt, run, starts, &mut workers);
             }
             let worked = join_workers(rt, share, &mut refused, workers);
             run.shared.close(rt);
@@ -60,28 +60,28 @@ where
 }
 
 // What the workers are started with, a gate each, and the gates that are left, which are the pool's.
-fn make_jobs<C: Ledger, A: Ledger, K: Ledger, G: Drop>(
+fn make_starts<C: Ledger, A: Ledger, K: Ledger, G: Drop>(
     alloc: Global,
     workers: usize,
     share: &mut Share<C, A, K>,
     gates: Vec<G>,
-) -> Result<(Vec<Job<C, A, K, G>>, Vec<G>), Stop> {
-    let mut jobs = Vec::with_capacity(alloc, workers)?;
+) -> Result<(Vec<WorkerStart<C, A, K, G>>, Vec<G>), Stop> {
+    let mut starts = Vec::with_capacity(alloc, workers)?;
     let mut rest = Vec::with_capacity(alloc, gates.len())?;
     let mut worker = 0u32;
     for gate in gates {
-        if jobs.len() < workers {
-            add_job(&mut jobs, share, worker, gate)?;
+        if starts.len() < workers {
+            add_start(&mut starts, share, worker, gate)?;
             worker = worker.saturating_add(1);
         } else if rest.push(gate).is_err() {
             return Err(Stop::Memory);
         }
     }
-    Ok((jobs, rest))
+    Ok((starts, rest))
 }
 
-fn add_job<C: Ledger, A: Ledger, K: Ledger, G: Drop>(
-    jobs: &mut Vec<Job<C, A, K, G>>,
+fn add_start<C: Ledger, A: Ledger, K: Ledger, G: Drop>(
+    starts: &mut Vec<WorkerStart<C, A, K, G>>,
     share: &mut Share<C, A, K>,
     worker: u32,
     gate: G,
@@ -89,12 +89,12 @@ fn add_job<C: Ledger, A: Ledger, K: Ledger, G: Drop>(
     let Some(part) = share.split(WORKER_PARTS) else {
         return Err(Stop::Internal);
     };
-    let job = Job {
+    let start = WorkerStart {
         worker,
         share: part,
         gate,
     };
-    match jobs.push(job) {
+    match starts.push(start) {
         Ok(()) => Ok(()),
         Err(_) => Err(Stop::Memory),
     }
@@ -127,12 +127,12 @@ where
     Ok(())
 }
 
-// Starts a thread for each job. One that can't be made ends it, and leaves those that were started.
+// Starts a thread for each. One that can't be made ends it, and leaves those that were started.
 fn start_workers<'s, E, F, C, A, K, R, G>(
     scope: &Scope<'s, E>,
     rt: &'s R,
     run: &'s Run<'s, F, C, A, K>,
-    jobs: Vec<Job<C, A, K, G>>,
+    starts: Vec<WorkerStart<C, A, K, G>>,
     workers: &mut Vec<JoinHandle<Ended<C, A, K>>>,
 ) -> Result<(), Stop>
 where
@@ -143,8 +143,8 @@ where
     R: Wait + Sync + 's,
     G: Gate + Send + Drop + 's,
 {
-    for job in jobs {
-        let Ok(handle) = scope.spawn(move || work(rt, run, job)) else {
+    for start in starts {
+        let Ok(handle) = scope.spawn(move || work(rt, run, start)) else {
             return Err(Stop::Memory);
         };
         if workers.push(handle).is_err() {

@@ -26,7 +26,7 @@ pub(crate) struct Run<'a, F: Functions<Core>, C: Ledger, A: Ledger, K: Ledger> {
 
 /// What a worker is started with.
 #[derive(Drop)]
-pub(crate) struct Job<C: Ledger, A: Ledger, K: Ledger, G> {
+pub(crate) struct WorkerStart<C: Ledger, A: Ledger, K: Ledger, G> {
     pub(crate) worker: u32,
     pub(crate) share: Share<C, A, K>,
     pub(crate) gate: G,
@@ -44,13 +44,13 @@ pub(crate) struct Ended<C: Ledger, A: Ledger, K: Ledger> {
 pub(crate) fn work<F: Functions<Core>, C: Ledger, A: Ledger, K: Ledger, R: Wait, G: Gate + Drop>(
     rt: &R,
     run: &Run<'_, F, C, A, K>,
-    job: Job<C, A, K, G>,
+    start: WorkerStart<C, A, K, G>,
 ) -> Ended<C, A, K> {
-    let Job {
+    let WorkerStart {
         worker,
         mut share,
         mut gate,
-    } = job;
+    } = start;
     let mut refused = Vec::new(run.alloc);
     let ran = run_steps(rt, run, worker, &mut share, &mut gate, &mut refused);
     Ended {
