@@ -7,10 +7,12 @@ sum       an integer, and `+` of 1 in each step
 vector    a vector, which gets one element more by `conj` in each step
 map       a map, which gets a new key by `assoc` in each step, the keys in random order from a fixed seed
 set       a set, which gets a new element by `conj` in each step, those keys in that order
+keywords  a map, which gets a new key by `assoc` in each step, keywords of 8 letters in random order from a fixed seed
 """
 import argparse
 import os
 import random
+import string
 import subprocess
 import sys
 import tempfile
@@ -22,6 +24,7 @@ SHAPES = {
     "vector": ("[]", lambda steps: (f"conj {i}" for i in range(steps))),
     "map": ("{}", lambda steps: (f"assoc {key} {i}" for i, key in enumerate(keys(steps)))),
     "set": ("#{}", lambda steps: (f"conj {key}" for key in keys(steps))),
+    "keywords": ("{}", lambda steps: (f"assoc {key} {i}" for i, key in enumerate(keywords(steps)))),
 }
 # A worker has no more.
 MOST_STEPS = 10_000
@@ -33,6 +36,13 @@ class Refused(Exception):
 
 def keys(steps):
     return random.Random(1).sample(range(10 * steps), steps)
+
+
+def keywords(steps):
+    drawn, made = random.Random(2), {}
+    while len(made) < steps:
+        made[":" + "".join(drawn.choices(string.ascii_lowercase, k=8))] = None
+    return made
 
 
 def workload(shape, steps):

@@ -24,7 +24,8 @@ pub(crate) fn commit<M: Meaning, C: Ledger, A: Ledger, K: Ledger, F: Functions<M
     actor: u32,
     stamp: Stamp,
 ) -> Reply
-    ensures { (s : SimSeen) → Serves M.means M.accepts (F.knows funs.now) (record s { world = world.old; share = share.old; slots = actors.old }) actor (acts.Commit stamp) result
+    ensures { (s : SimSeen) → Serves M.means M.accepts (F.knows funs.now)
+        (record s { world = world.old; share = share.old; slots = actors.old }) actor (acts.Commit stamp) result
         (record s { world = world.new; share = share.new; slots = actors.new }) }
 {
     let Some(tx) = actors.take(actor) else {
@@ -53,7 +54,8 @@ pub(crate) fn swap<M: Meaning, C: Ledger, A: Ledger, K: Ledger, F: Functions<M>>
     code: u32,
     args: &Args,
 ) -> Reply
-    ensures { (s : SimSeen) (actor : ℕ) → Serves M.means M.accepts (F.knows funs.now) (record s { world = world.old; share = share.old }) actor (acts.Swap n code args.now) result
+    ensures { (s : SimSeen) (actor : ℕ) → Serves M.means M.accepts (F.knows funs.now)
+        (record s { world = world.old; share = share.old }) actor (acts.Swap n code args.now) result
         (record s { world = world.new; share = share.new }) }
 {
     let Ok(args) = args.share() else {
@@ -74,7 +76,8 @@ pub(crate) fn reset<M: Meaning, C: Ledger, A: Ledger, K: Ledger, F: Functions<M>
     n: u32,
     value: &Value,
 ) -> Reply
-    ensures { (s : SimSeen) (actor : ℕ) → Serves M.means M.accepts (F.knows funs.now) (record s { world = world.old; share = share.old }) actor (acts.Reset n value.now) result
+    ensures { (s : SimSeen) (actor : ℕ) → Serves M.means M.accepts (F.knows funs.now)
+        (record s { world = world.old; share = share.old }) actor (acts.Reset n value.now) result
         (record s { world = world.new; share = share.new }) }
 {
     let Ok(value) = value.share() else {
@@ -96,7 +99,8 @@ pub(crate) fn compare_and_set<M: Meaning, C: Ledger, A: Ledger, K: Ledger, F: Fu
     old: &Value,
     new: &Value,
 ) -> Reply
-    ensures { (s : SimSeen) (actor : ℕ) → Serves M.means M.accepts (F.knows funs.now) (record s { world = world.old; share = share.old }) actor (acts.CompareAndSet n old.now new.now) result
+    ensures { (s : SimSeen) (actor : ℕ) → Serves M.means M.accepts (F.knows funs.now)
+        (record s { world = world.old; share = share.old }) actor (acts.CompareAndSet n old.now new.now) result
         (record s { world = world.new; share = share.new }) }
 {
     let Ok(new) = new.share() else {
@@ -117,7 +121,8 @@ pub(crate) fn make_ref<M: Meaning, C: Ledger, A: Ledger, K: Ledger, F: Functions
     rule: &Option<Rule>,
     tally: bool,
 ) -> Reply
-    ensures { (s : SimSeen) (actor : ℕ) → Serves M.means M.accepts (F.knows funs.now) (record s { world = world.old }) actor (acts.MakeRef value.now rule.now tally) result
+    ensures { (s : SimSeen) (actor : ℕ) → Serves M.means M.accepts (F.knows funs.now) (record s { world = world.old })
+        actor (acts.MakeRef value.now rule.now tally) result
         (record s { world = world.new }) }
 {
     let Ok(value) = value.share() else {
@@ -140,7 +145,8 @@ pub(crate) fn make_atom<M: Meaning, C: Ledger, A: Ledger, K: Ledger, F: Function
     value: &Value,
     rule: &Option<Rule>,
 ) -> Reply
-    ensures { (s : SimSeen) (actor : ℕ) → Serves M.means M.accepts (F.knows funs.now) (record s { world = world.old }) actor (acts.MakeAtom value.now rule.now) result
+    ensures { (s : SimSeen) (actor : ℕ) → Serves M.means M.accepts (F.knows funs.now) (record s { world = world.old })
+        actor (acts.MakeAtom value.now rule.now) result
         (record s { world = world.new }) }
 {
     let Ok(value) = value.share() else {
@@ -162,7 +168,8 @@ pub(crate) fn checkpoint<M: Meaning, C: Ledger, A: Ledger, K: Ledger, F: Functio
     world: &mut World<M, C, A, K>,
     point: u64,
 ) -> Reply
-    ensures { (s : SimSeen) (actor : ℕ) → Serves M.means M.accepts (F.knows funs.now) (record s { world = world.old }) actor (acts.Checkpoint point) result
+    ensures { (s : SimSeen) (actor : ℕ) → Serves M.means M.accepts (F.knows funs.now) (record s { world = world.old })
+        actor (acts.Checkpoint point) result
         (record s { world = world.new }) }
 {
     match world.checkpoint(alloc, funs, point) {

@@ -21,7 +21,8 @@ pub(crate) fn set_validator<M: Meaning, C: Ledger, A: Ledger, K: Ledger, F: Func
     who: Who,
     rule: &Option<Rule>,
 ) -> Reply
-    ensures { (s : SimSeen) (actor : ℕ) → Serves M.means M.accepts (F.knows funs.now) (record s { world = world.old }) actor (acts.SetValidator who rule.now) result
+    ensures { (s : SimSeen) (actor : ℕ) → Serves M.means M.accepts (F.knows funs.now) (record s { world = world.old })
+        actor (acts.SetValidator who rule.now) result
         (record s { world = world.new }) }
 {
     let Ok(rule) = share_rule(rule) else {
@@ -40,7 +41,8 @@ pub(crate) fn add_watch<M: Meaning, C: Ledger, A: Ledger, K: Ledger>(
     who: Who,
     key: &Value,
 ) -> Reply
-    ensures { (s : SimSeen) (knows : Known) (actor : ℕ) → Serves M.means M.accepts knows (record s { world = world.old }) actor (acts.AddWatch who key.now) result
+    ensures { (s : SimSeen) (knows : Known) (actor : ℕ) → Serves M.means M.accepts knows
+        (record s { world = world.old }) actor (acts.AddWatch who key.now) result
         (record s { world = world.new }) }
 {
     let Ok(key) = key.share() else {
@@ -58,7 +60,8 @@ pub(crate) fn remove_watch<M: Meaning, C: Ledger, A: Ledger, K: Ledger>(
     who: Who,
     key: &Value,
 ) -> Reply
-    ensures { (s : SimSeen) (knows : Known) (actor : ℕ) → Serves M.means M.accepts knows (record s { world = world.old }) actor (acts.RemoveWatch who key.now) result
+    ensures { (s : SimSeen) (knows : Known) (actor : ℕ) → Serves M.means M.accepts knows
+        (record s { world = world.old }) actor (acts.RemoveWatch who key.now) result
         (record s { world = world.new }) }
 {
     Reply::RemoveWatch(world.remove_watch(who, key))
@@ -69,7 +72,8 @@ pub(crate) fn value_of<M: Meaning, C: Ledger, A: Ledger, K: Ledger>(
     world: &World<M, C, A, K>,
     who: Who,
 ) -> Reply
-    ensures { (s : SimSeen) → ReadsValue (present (record s { world = world.now })) who result [] (present (record s { world = world.now })) }
+    ensures { (s : SimSeen) → ReadsValue (present (record s { world = world.now })) who result []
+        (present (record s { world = world.now })) }
 {
     let Some(value) = world.value_of(who) else {
         return Reply::ValueOf(Ok(None));
@@ -85,7 +89,8 @@ pub(crate) fn error_of<M: Meaning, C: Ledger, A: Ledger, K: Ledger>(
     world: &World<M, C, A, K>,
     g: u32,
 ) -> Reply
-    ensures { (s : SimSeen) → ReadsError (present (record s { world = world.now })) g result [] (present (record s { world = world.now })) }
+    ensures { (s : SimSeen) → ReadsError (present (record s { world = world.now })) g result []
+        (present (record s { world = world.now })) }
 {
     Reply::ErrorOf(world.error_of(g))
 }

@@ -20,7 +20,8 @@ pub(crate) fn send<M: Meaning, C: Ledger, A: Ledger, K: Ledger>(
     g: u32,
     action: &Action,
 ) -> Reply
-    ensures acts { (s : SimSeen) → Sends (present (record s { world = world.old })) g action.now result [] (present (record s { world = world.new })) }
+    ensures acts { (s : SimSeen) → Sends (present (record s { world = world.old })) g action.now result []
+        (present (record s { world = world.new })) }
     ensures rest { world.new ≡ with_agents world.old world.new.agents }
 {
     let Ok(action) = action.share() else {
@@ -37,7 +38,8 @@ pub(crate) fn release<M: Meaning, C: Ledger, A: Ledger, K: Ledger>(
     world: &mut World<M, C, A, K>,
     point: u64,
 ) -> Reply
-    ensures acts { (s : SimSeen) → Releases (present (record s { world = world.old })) point result [] (present (record s { world = world.new })) }
+    ensures acts { (s : SimSeen) → Releases (present (record s { world = world.old })) point result []
+        (present (record s { world = world.new })) }
     ensures rest { world.new ≡ with_agents world.old world.new.agents }
 {
     Reply::Release(world.release(point))
@@ -48,7 +50,8 @@ pub(crate) fn release_carried<M: Meaning, C: Ledger, A: Ledger, K: Ledger>(
     world: &mut World<M, C, A, K>,
     g: u32,
 ) -> Reply
-    ensures acts { (s : SimSeen) → ReleasesCarried (present (record s { world = world.old })) g result [] (present (record s { world = world.new })) }
+    ensures acts { (s : SimSeen) → ReleasesCarried (present (record s { world = world.old })) g result []
+        (present (record s { world = world.new })) }
     ensures rest { world.new ≡ with_agents world.old world.new.agents }
 {
     Reply::ReleaseCarried(world.release_carried(g))
@@ -63,7 +66,8 @@ pub(crate) fn restart<M: Meaning, C: Ledger, A: Ledger, K: Ledger, F: Functions<
     state: &Value,
     clear: bool,
 ) -> Reply
-    ensures acts { (s : SimSeen) → Restarts M.accepts (F.knows funs.now) (present (record s { world = world.old })) g state.now clear result []
+    ensures acts { (s : SimSeen) → Restarts M.accepts (F.knows funs.now) (present (record s { world = world.old })) g
+        state.now clear result []
         (present (record s { world = world.new })) }
     ensures rest { world.new ≡ with_agents world.old world.new.agents }
 {
@@ -82,7 +86,8 @@ pub(crate) fn set_error_mode<M: Meaning, C: Ledger, A: Ledger, K: Ledger>(
     g: u32,
     mode: ErrorMode,
 ) -> Reply
-    ensures acts { (s : SimSeen) → SetsMode (present (record s { world = world.old })) g mode result [] (present (record s { world = world.new })) }
+    ensures acts { (s : SimSeen) → SetsMode (present (record s { world = world.old })) g mode result []
+        (present (record s { world = world.new })) }
     ensures rest { world.new ≡ with_agents world.old world.new.agents }
 {
     match world.set_error_mode(g, mode) {
@@ -100,7 +105,8 @@ pub(crate) fn make_agent<M: Meaning, C: Ledger, A: Ledger, K: Ledger, F: Functio
     rule: &Option<Rule>,
     mode: ErrorMode,
 ) -> Reply
-    ensures acts { (s : SimSeen) → MakesAgent M.accepts (F.knows funs.now) (present (record s { world = world.old })) value.now rule.now mode result []
+    ensures acts { (s : SimSeen) → MakesAgent M.accepts (F.knows funs.now) (present (record s { world = world.old }))
+        value.now rule.now mode result []
         (present (record s { world = world.new })) }
     ensures rest { world.new ≡ with_agents world.old world.new.agents }
 {

@@ -28,7 +28,9 @@ pub(crate) fn serve<M: Meaning, C: Ledger, A: Ledger, K: Ledger, F: Functions<M>
     event: &Event,
 ) -> Reply
     requires { AreHeld M.means world.old.agents.agents (jobs_of jobs.old) }
-    ensures { Serves M.means M.accepts (F.knows funs.now) (record { world = world.old; share = share.old; slots = actors.old; jobs = jobs.old }) event.now.actor event.now.act result
+    ensures { Serves M.means M.accepts (F.knows funs.now)
+        (record { world = world.old; share = share.old; slots = actors.old; jobs = jobs.old }) event.now.actor
+        event.now.act result
         (record { world = world.new; share = share.new; slots = actors.new; jobs = jobs.new }) }
 {
     let actor = event.actor;

@@ -153,7 +153,8 @@ impl<M: Meaning, C: Ledger, A: Ledger, K: Ledger> Sim<M, C, A, K> {
 
 // What is always so of a world.
 fn always_so<M: Meaning, C: Ledger, A: Ledger, K: Ledger>(world: &World<M, C, A, K>)
-    ensures world { IsWorld M.means world.now.base world.now.log world.now.refs world.now.atoms world.now.agents.unreleased }
+    ensures world { IsWorld M.means world.now.base world.now.log world.now.refs world.now.atoms
+        world.now.agents.unreleased }
     ensures count { length world.now.refs.lasts ≡ length world.now.refs.values }
 {
     let _ = world.point();

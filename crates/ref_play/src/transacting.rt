@@ -41,7 +41,8 @@ pub(crate) fn begin<M: Meaning, C: Ledger, A: Ledger, K: Ledger>(
 
 // The in-transaction value of a ref.
 pub(crate) fn deref<M: Meaning>(actors: &Actors<M>, actor: u32, r: u32) -> Reply
-    ensures { (s : SimSeen) → Derefs M.means (present (record s { slots = actors.now })) actor r result [] (present (record s { slots = actors.now })) }
+    ensures { (s : SimSeen) → Derefs M.means (present (record s { slots = actors.now })) actor r result []
+        (present (record s { slots = actors.now })) }
 {
     let Some(tx) = actors.tx(actor) else {
         return Reply::NoTx;
@@ -64,7 +65,8 @@ pub(crate) fn ref_set<M: Meaning>(
     r: u32,
     value: &Value,
 ) -> Reply
-    ensures { (s : SimSeen) (knows : Known) → Operates M.means knows (present (record s { slots = actors.old })) actor r (ops.Set value.now) replies.RefSet result []
+    ensures { (s : SimSeen) (knows : Known) → Operates M.means knows (present (record s { slots = actors.old })) actor
+        r (ops.Set value.now) replies.RefSet result []
         (present (record s { slots = actors.new })) }
 {
     let Ok(value) = value.share() else {
@@ -91,7 +93,8 @@ pub(crate) fn alter<M: Meaning, F: Functions<M>>(
     code: u32,
     args: &Args,
 ) -> Reply
-    ensures { (s : SimSeen) → Operates M.means (F.knows funs.now) (present (record s { slots = actors.old })) actor r (ops.Alter code args.now) replies.Alter result []
+    ensures { (s : SimSeen) → Operates M.means (F.knows funs.now) (present (record s { slots = actors.old })) actor r
+        (ops.Alter code args.now) replies.Alter result []
         (present (record s { slots = actors.new })) }
 {
     let Ok(args) = args.share() else {
@@ -118,7 +121,8 @@ pub(crate) fn commute<M: Meaning, F: Functions<M>>(
     code: u32,
     args: &Args,
 ) -> Reply
-    ensures { (s : SimSeen) → Operates M.means (F.knows funs.now) (present (record s { slots = actors.old })) actor r (ops.Commute code args.now) replies.Commute result []
+    ensures { (s : SimSeen) → Operates M.means (F.knows funs.now) (present (record s { slots = actors.old })) actor r
+        (ops.Commute code args.now) replies.Commute result []
         (present (record s { slots = actors.new })) }
 {
     let Ok(args) = args.share() else {
@@ -137,7 +141,8 @@ pub(crate) fn commute<M: Meaning, F: Functions<M>>(
 
 // Protects a ref.
 pub(crate) fn ensure<M: Meaning>(alloc: Global, actors: &mut Actors<M>, actor: u32, r: u32) -> Reply
-    ensures { (s : SimSeen) (knows : Known) → Operates M.means knows (present (record s { slots = actors.old })) actor r ops.Ensure replies.Ensure result []
+    ensures { (s : SimSeen) (knows : Known) → Operates M.means knows (present (record s { slots = actors.old })) actor
+        r ops.Ensure replies.Ensure result []
         (present (record s { slots = actors.new })) }
 {
     let Some(mut tx) = actors.take(actor) else {
@@ -157,7 +162,8 @@ pub(crate) fn send_in_tx<M: Meaning, F: Functions<M>>(
     g: u32,
     action: &Action,
 ) -> Reply
-    ensures { (s : SimSeen) → SendsInTx (F.knows funs.now) (present (record s { slots = actors.old })) actor g action.now result []
+    ensures { (s : SimSeen) → SendsInTx (F.knows funs.now) (present (record s { slots = actors.old })) actor g
+        action.now result []
         (present (record s { slots = actors.new })) }
 {
     let Ok(action) = action.share() else {
@@ -182,7 +188,8 @@ pub(crate) fn require<M: Meaning, F: Functions<M>>(
     r: u32,
     rule: &Rule,
 ) -> Reply
-    ensures { (s : SimSeen) → Requires M.means M.accepts (F.knows funs.now) (present (record s { slots = actors.now })) actor r rule.now result []
+    ensures { (s : SimSeen) → Requires M.means M.accepts (F.knows funs.now)
+        (present (record s { slots = actors.now })) actor r rule.now result []
         (present (record s { slots = actors.now })) }
 {
     let Some(tx) = actors.tx(actor) else {
@@ -196,7 +203,8 @@ pub(crate) fn require<M: Meaning, F: Functions<M>>(
 
 // The point at which the actor's transaction began.
 pub(crate) fn read_point<M: Meaning>(actors: &Actors<M>, actor: u32) -> Reply
-    ensures { (s : SimSeen) → ReadsPoint (present (record s { slots = actors.now })) actor result [] (present (record s { slots = actors.now })) }
+    ensures { (s : SimSeen) → ReadsPoint (present (record s { slots = actors.now })) actor result []
+        (present (record s { slots = actors.now })) }
 {
     let Some(tx) = actors.tx(actor) else {
         return Reply::NoTx;
@@ -206,7 +214,8 @@ pub(crate) fn read_point<M: Meaning>(actors: &Actors<M>, actor: u32) -> Reply
 
 // Drops the actor's transaction.
 pub(crate) fn abort<M: Meaning>(actors: &mut Actors<M>, actor: u32) -> Reply
-    ensures { (s : SimSeen) → Aborts (present (record s { slots = actors.old })) actor result [] (present (record s { slots = actors.new })) }
+    ensures { (s : SimSeen) → Aborts (present (record s { slots = actors.old })) actor result []
+        (present (record s { slots = actors.new })) }
 {
     let Some(_tx) = actors.take(actor) else {
         return Reply::NoTx;

@@ -50,7 +50,8 @@ pub(crate) fn run<M: Meaning, F: Functions<M>>(
     jobs: &mut Jobs<M>,
     actor: u32,
 ) -> Reply
-    ensures { (s : SimSeen) → Runs M.means (F.knows funs.now) (present (record s { jobs = jobs.old })) actor result [] (present (record s { jobs = jobs.new })) }
+    ensures { (s : SimSeen) → Runs M.means (F.knows funs.now) (present (record s { jobs = jobs.old })) actor result []
+        (present (record s { jobs = jobs.new })) }
 {
     let Some(held) = jobs.take(actor) else {
         return Reply::NoJob;
@@ -118,7 +119,8 @@ pub(crate) fn finish<M: Meaning, C: Ledger, A: Ledger, K: Ledger, F: Functions<M
     actor: u32,
 ) -> Reply
     requires { AreHeld M.means world.old.agents.agents (jobs_of jobs.old) }
-    ensures acts { (s : SimSeen) → Finishes M.accepts (F.knows funs.now) (present (record s { world = world.old; jobs = jobs.old })) actor result []
+    ensures acts { (s : SimSeen) → Finishes M.accepts (F.knows funs.now)
+        (present (record s { world = world.old; jobs = jobs.old })) actor result []
         (present (record s { world = world.new; jobs = jobs.new })) }
     ensures rest { world.new ≡ with_agents world.old world.new.agents }
 {

@@ -39,7 +39,8 @@ fn begin<F: Functions<Core>, C: Ledger, A: Ledger, K: Ledger>(
     requires commits { IsBlank commits C.name C.parts }
     requires added { IsBlank added A.name A.parts }
     requires taken { IsBlank taken K.name K.parts }
-    ensures begins { IfOk result (Begins (F.knows funs.now) start.now.refs.items start.now.atoms.items start.now.agents.items) }
+    ensures begins { IfOk result (Begins (F.knows funs.now) start.now.refs.items start.now.atoms.items
+        start.now.agents.items) }
     ensures inner { IfErr result IsOfPlan }
 {
     match Sim::new(alloc, funs, start, commits, added, taken) {

@@ -144,8 +144,10 @@ fn open_world<F: Functions<Core>, C: Ledger, A: Ledger, K: Ledger>(
     requires added { IsBlank added A.name A.parts }
     requires taken { IsBlank taken K.name K.parts }
     ensures refs { IfOk result (λ r. declared_refs core_accepts (F.knows funs.now).preds plan.now.refs ≡ Ok r.0.refs) }
-    ensures atoms { IfOk result (λ r. declared_atoms core_accepts (F.knows funs.now).preds plan.now.atoms ≡ Ok r.0.atoms) }
-    ensures agents { IfOk result (λ r. declared_agents core_accepts (F.knows funs.now).preds plan.now.agents ≡ Ok r.0.agents) }
+    ensures atoms { IfOk result (λ r. declared_atoms core_accepts (F.knows funs.now).preds plan.now.atoms
+        ≡ Ok r.0.atoms) }
+    ensures agents { IfOk result (λ r. declared_agents core_accepts (F.knows funs.now).preds plan.now.agents
+        ≡ Ok r.0.agents) }
     ensures log { IfOk result (λ r. r.0.log ≡ []) }
     ensures share { IfOk result (λ r. r.1 ≡ whole) }
 {
@@ -219,7 +221,8 @@ fn check<C: Ledger, A: Ledger, K: Ledger>(
     ensures reasons { OnOk result (HaveReasons plan.now.workers refused.now) }
     ensures inner { IfErr result IsOfPlan }
     // A run of the plan is never reported as none.
-    ensures internal { result ≡ Err RunFault.Internal → IsOrderly plan.now world.now refused.now → AreInOrder refused.now
+    ensures internal { result ≡ Err RunFault.Internal → IsOrderly plan.now world.now refused.now
+        → AreInOrder refused.now
         → HaveReasons plan.now.workers refused.now → ⊥ }
 {
     if !are_in_order(refused) || !have_reasons(plan.workers(), refused) {

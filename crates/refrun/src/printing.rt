@@ -27,7 +27,8 @@ pub fn print_text<R: Source, W: Sink>(
     ensures ok { OnOk result (HasWritten IsPrintOf (R.left reader.old) (R.left reader.new) (W.written writer.old)
         (W.written writer.new)) }
     // The text or its length is at fault, where the fault says so.
-    ensures fault { IfErr result (λ f. IfSome (R.left reader.old) (λ text. IsInputAtFault AreTexts IsFaultOfAll text f)) }
+    ensures fault { IfErr result (λ f. IfSome (R.left reader.old)
+        (λ text. IsInputAtFault AreTexts IsFaultOfAll text f)) }
     ensures kinds { IfErr result IsOfPrinting }
     ensures write { IfErr result (λ f. f ≡ RunFault.Write
         → HasBrokenOff IsPrintOf (R.left reader.old) (R.left reader.new) (W.written writer.old)

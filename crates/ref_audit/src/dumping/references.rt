@@ -68,7 +68,8 @@ pub(crate) fn value_now(
     by: Option<&Rule>,
 ) -> Result<Value, DumpMakeFault>
     ensures made { IfOk result (λ v. v ≡ vector_form (value.now ∷ rule_form (option_copied by.entry) ∷ [])) }
-    ensures fault { IfErr result (IsMakeFault (nesting (vector_form (value.now ∷ rule_form (option_copied by.entry) ∷ [])))) }
+    ensures fault { IfErr result (IsMakeFault (nesting (vector_form
+        (value.now ∷ rule_form (option_copied by.entry) ∷ [])))) }
 {
     let value = value.share()?;
     let rule = rule(alloc, by)?;

@@ -44,7 +44,8 @@ pub(crate) fn tell_refs<C: Ledger, A: Ledger, K: Ledger>(world: &World<Core, C, 
 
 pub(crate) fn tell_atoms<C: Ledger, A: Ledger, K: Ledger>(world: &World<Core, C, A, K>)
     requires { length world.now.atoms.values ≤ most_references }
-    ensures { (n : ℕ) → rule_fact (slice_get world.now.atoms.values n) (guards.rule_at world.now.atoms.guards n) ≡ true }
+    ensures { (n : ℕ) → rule_fact (slice_get world.now.atoms.values n) (guards.rule_at world.now.atoms.guards n)
+        ≡ true }
 {
     for a in 0..MOST_REFERENCES as u32 {
         if !tell_reference(world, Who::Atom(a)) {

@@ -33,8 +33,10 @@ fn after_done(op: &PlannedOp, dones: &[Done], at: usize) -> Option<usize>
     requires { at ≤ length dones.now }
     ensures within { IfSome result (λ next. next ≤ length dones.now) }
     ensures made { (more : List PlannedOp) → IfSome result (λ next.
-        (asked (drop at dones.now) ≡ filter_map op_named (op.now ∷ more)) ↔ (asked (drop next dones.now) ≡ filter_map op_named more)) }
-    ensures missing { (more : List PlannedOp) → IsNone result → asked (drop at dones.now) ≢ filter_map op_named (op.now ∷ more) }
+        (asked (drop at dones.now) ≡ filter_map op_named (op.now ∷ more))
+        ↔ (asked (drop next dones.now) ≡ filter_map op_named more)) }
+    ensures missing { (more : List PlannedOp) → IsNone result
+        → asked (drop at dones.now) ≢ filter_map op_named (op.now ∷ more) }
 {
     let PlannedOp::On(r, op) = op else {
         return Some(at);
@@ -63,8 +65,10 @@ fn after_send(op: &PlannedOp, sends: &[Sent], at: usize) -> Option<usize>
     requires { at ≤ length sends.now }
     ensures within { IfSome result (λ next. next ≤ length sends.now) }
     ensures made { (more : List PlannedOp) → IfSome result (λ next.
-        (drop at sends.now ≡ filter_map send_named (op.now ∷ more)) ↔ (drop next sends.now ≡ filter_map send_named more)) }
-    ensures missing { (more : List PlannedOp) → IsNone result → drop at sends.now ≢ filter_map send_named (op.now ∷ more) }
+        (drop at sends.now ≡ filter_map send_named (op.now ∷ more))
+        ↔ (drop next sends.now ≡ filter_map send_named more)) }
+    ensures missing { (more : List PlannedOp) → IsNone result
+        → drop at sends.now ≢ filter_map send_named (op.now ∷ more) }
 {
     let PlannedOp::Send(named) = op else {
         return Some(at);
