@@ -184,8 +184,7 @@ impl<M: Meaning, C: Ledger, A: Ledger, K: Ledger> World<M, C, A, K> {
         // No entry changes the tally in another way than by `+` and `-`, and it holds its start plus what was added less what was
         // taken.
         ensures lawful { list_all (fits_entry self.now.refs.tally) self.now.log ≡ true }
-        ensures tally { IsMoved self.now.refs.tally self.now.refs.values self.now.books.start result
-            self.now.books.taken }
+        ensures tally { IsMoved self.now.refs.tally self.now.refs.values self.now.books.start result self.now.books.taken }
     {
         self.books.added
     }
@@ -217,8 +216,7 @@ impl<M: Meaning, C: Ledger, A: Ledger, K: Ledger> World<M, C, A, K> {
           taken = self.old.books.taken;
         } }
         ensures whole { share.old.parts ≡ all_parts
-            → (result.commits ≡ share.old.commits) × (result.added ≡ share.old.added)
-            × (result.taken ≡ share.old.taken) }
+            → (result.commits ≡ share.old.commits) × (result.added ≡ share.old.added) × (result.taken ≡ share.old.taken) }
         ensures world { self.new ≡ self.old }
         ensures share { share.new ≡ share.old }
     {
