@@ -5,11 +5,16 @@ use denote.Param.Send.{IsSend, IsSync, sendable}
 use denote.Param.SendFields.{declared_send, declared_sync}
 use Rattle.std.proofs.Crossing as std
 use Rattle.std.specs.declared.sync.ledger.Ledger as Ledger
-use Rattle.ref_shared.proofs.Crossing.{crosses as shared_crosses}
+use Rattle.ref_shared.proofs.Crossing.{shared_sync}
+use Rattle.ref_world.proofs.Crossing.{share_send}
 use Rattle.market.specs.contracts.stalls.Market as Market
 use Rattle.market.specs.contracts.tickets.office.Office as Office
 use Rattle.market.specs.contracts.customers.Visit as Visit
 use Rattle.market.specs.contracts.customers.Custom as Custom
+
+-- What is lent and given to the threads of a shared world. The set of ref_shared also has worlds and views, which cost a search more
+-- than it may take.
+ruleset shared_crosses = (share_send, shared_sync)
 
 module _ (κ : NamedLft) (F C A K : RattleType) (gC : Ledger.Ghosts C.Denot) (gA : Ledger.Ghosts A.Denot) (gK : Ledger.Ghosts K.Denot) where
   pub market_sync : IsSync F → IsSync (Market.the_row κ F C A K gC gA gK)

@@ -11,14 +11,18 @@ use Rattle.ref_value.proofs.data.Value.TheLaws.TheKnot as knot
 use Rattle.ref_fun.proofs.lists.SharedVec.TheSendSync as lists
 use Rattle.ref_audit.specs.contracts.reports.Reason as Reason
 use Rattle.ref_audit.specs.contracts.reports.Refusal as Refusal
-use Rattle.ref_world.proofs.Crossing.{action_send, action_sync, op_send, op_sync, rule_send, rule_sync, sent_send, sent_sync, value_send, value_sync}
-use Rattle.ref_shared.proofs.Crossing.{crosses as shared_crosses}
+use Rattle.ref_world.proofs.Crossing.{action_send, action_sync, op_send, op_sync, rule_send, rule_sync, sent_send, sent_sync, share_send, value_send, value_sync}
+use Rattle.ref_shared.proofs.Crossing.{shared_sync}
 use Rattle.ref_plan.specs.contracts.plans.PlannedOp as PlannedOp
 use Rattle.ref_plan.specs.contracts.plans.Step as Step
 use Rattle.ref_workload.specs.contracts.progress.Progress as Progress
 use Rattle.ref_workload.specs.contracts.running.workers.Ended as Ended
 use Rattle.ref_workload.specs.contracts.running.workers.WorkerStart as WorkerStart
 use Rattle.ref_workload.specs.contracts.running.workers.Run as Run
+
+-- What is lent and given to the threads of a shared world. The set of ref_shared also has worlds and views, which cost a search more
+-- than it may take.
+ruleset shared_crosses = (share_send, shared_sync)
 
 ruleset plain = (std.crosses, knot.crosses, sendable)
 

@@ -5,10 +5,15 @@ use denote.Param.Send.{IsSend, IsSync, sendable}
 use denote.Param.SendFields.{declared_send, declared_sync}
 use Rattle.std.proofs.Crossing as std
 use Rattle.std.specs.declared.sync.ledger.Ledger as Ledger
-use Rattle.ref_shared.proofs.Crossing.{crosses as shared_crosses}
+use Rattle.ref_shared.proofs.Crossing.{shared_sync}
+use Rattle.ref_world.proofs.Crossing.{share_send}
 use Rattle.service.specs.contracts.counts.Done as Done
 use Rattle.service.specs.contracts.selling.Shift as Shift
 use Rattle.service.specs.contracts.shop.Shop as Shop
+
+-- What is lent and given to the threads of a shared world. The set of ref_shared also has worlds and views, which cost a search more
+-- than it may take.
+ruleset shared_crosses = (share_send, shared_sync)
 
 ruleset plain = (std.crosses, sendable)
 

@@ -1,10 +1,10 @@
 use denote.Param.Send.{sendable}
 use Rattle.std.proofs.Crossing as std
-use Rattle.ref_shared.proofs.Crossing.{crosses}
+use Rattle.tests_threads.proofs.Crossing.{shared_crosses}
 use Rattle.tests_threads.proofs.threads.two_hundred.Goals as goal
 
 pub join-mine-requires-send-F : goal.join-mine-requires-send-F
-join-mine-requires-send-F g c κs within = search (crosses, std.crosses, sendable) depth 60
+join-mine-requires-send-F g c κs within = search (shared_crosses, std.crosses, sendable) depth 60
 
 pub join-mine-requires-send-A : goal.join-mine-requires-send-A
-join-mine-requires-send-A g c κs within = search (crosses, std.crosses, sendable) depth 60
+join-mine-requires-send-A g c κs within = search (shared_crosses, std.crosses, sendable) depth 60
