@@ -14,7 +14,7 @@ use Rattle.market.specs.contracts.customers.Custom as Custom
 
 -- What is lent and given to the threads of a shared world. The set of ref_shared also has worlds and views, which cost a search more
 -- than it may take.
-ruleset shared_crosses = (share_send, shared_sync)
+pub ruleset shared_crosses = (share_send, shared_sync)
 
 module _ (κ : NamedLft) (F C A K : RattleType) (gC : Ledger.Ghosts C.Denot) (gA : Ledger.Ghosts A.Denot) (gK : Ledger.Ghosts K.Denot) where
   pub market_sync : IsSync F → IsSync (Market.the_row κ F C A K gC gA gK)

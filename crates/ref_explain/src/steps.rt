@@ -7,10 +7,13 @@ use crate::nearest::{Nearest, with_hint};
 use crate::sentences::{Said, said_in, write_bad_form};
 use crate::words::{Sentence, Slot};
 use crate::writing::Writing;
-use ref_events::events::MOST_NESTED_EVENT;
 use ref_forms::Kind;
+use ref_fun::MOST_NESTED_RESULT;
 use ref_plan::planning::operations::MOST_OPERATIONS;
 use std::alloc::AllocError;
+
+// How deep an event may be nested: one deeper than a value in it.
+const MOST_NESTED_EVENT: usize = MOST_NESTED_RESULT as usize + 1;
 
 /// What of a step is wrong.
 #[derive(Clone, Copy, Debug, PartialEq, Eq)]
@@ -272,7 +275,7 @@ pub(crate) fn write_event_fault(
         return Ok(());
     };
     let names = names_of(writing.alloc, writing.text)?;
-    if form.depth() > usize::from(MOST_NESTED_EVENT) {
+    if form.depth() > MOST_NESTED_EVENT {
         writing.mark_start(&form, "this event is nested more than 49 deep")?;
     } else if !write_bad_sentence(writing, &names, Sentence::Act, &form, part)? {
         writing.mark(&form, "this event is wrong")?;

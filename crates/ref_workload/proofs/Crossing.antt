@@ -22,7 +22,7 @@ use Rattle.ref_workload.specs.contracts.running.workers.Run as Run
 
 -- What is lent and given to the threads of a shared world. The set of ref_shared also has worlds and views, which cost a search more
 -- than it may take.
-ruleset shared_crosses = (share_send, shared_sync)
+pub ruleset shared_crosses = (share_send, shared_sync)
 
 ruleset plain = (std.crosses, knot.crosses, sendable)
 

@@ -13,7 +13,7 @@ use Rattle.service.specs.contracts.shop.Shop as Shop
 
 -- What is lent and given to the threads of a shared world. The set of ref_shared also has worlds and views, which cost a search more
 -- than it may take.
-ruleset shared_crosses = (share_send, shared_sync)
+pub ruleset shared_crosses = (share_send, shared_sync)
 
 ruleset plain = (std.crosses, sendable)
 
