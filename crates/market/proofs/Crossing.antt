@@ -1,4 +1,4 @@
--- What of the market crosses threads, as a set for `search`.
+-- What of the market crosses threads. A search compares its goal with each fact that it is given, so it is given no more than it needs.
 use denote.RattleType.{RattleType}
 use denote.Ref.{NamedLft}
 use denote.Param.Send.{IsSend, IsSync, sendable}
@@ -12,23 +12,17 @@ use Rattle.market.specs.contracts.tickets.office.Office as Office
 use Rattle.market.specs.contracts.customers.Visit as Visit
 use Rattle.market.specs.contracts.customers.Custom as Custom
 
--- What is lent and given to the threads of a shared world. The set of ref_shared also has worlds and views, which cost a search more
--- than it may take.
-pub ruleset shared_crosses = (share_send, shared_sync)
-
 module _ (κ : NamedLft) (F C A K : RattleType) (gC : Ledger.Ghosts C.Denot) (gA : Ledger.Ghosts A.Denot) (gK : Ledger.Ghosts K.Denot) where
   pub market_sync : IsSync F → IsSync (Market.the_row κ F C A K gC gA gK)
   market_sync y = declared_sync (Market.the_type κ F C A K gC gA gK)
-      (search (std.crosses, sendable) depth 60, (search (y, std.crosses, sendable) depth 60, (search (shared_crosses, std.crosses, sendable) depth 60, tt)))
+      (search (std.crosses, sendable) depth 60, (search (y, std.crosses, sendable) depth 60, (search (shared_sync, std.crosses, sendable) depth 60, tt)))
 
 module _ (C A K : RattleType) (gC : Ledger.Ghosts C.Denot) (gA : Ledger.Ghosts A.Denot) (gK : Ledger.Ghosts K.Denot) where
   pub visit_send : IsSend (Visit.the_row C A K gC gA gK)
-  visit_send = declared_send (Visit.the_type C A K gC gA gK) (search (std.crosses, sendable) depth 60, (search (shared_crosses, std.crosses, sendable) depth 60, tt))
+  visit_send = declared_send (Visit.the_type C A K gC gA gK) (search (std.crosses, sendable) depth 60, (search (share_send, std.crosses, sendable) depth 60, tt))
 
   pub custom_send : IsSend (Custom.the_row C A K gC gA gK)
-  custom_send = declared_send (Custom.the_type C A K gC gA gK) (search (shared_crosses, std.crosses, sendable) depth 60, (search (std.crosses, sendable) depth 60, (search (std.crosses, sendable) depth 60, tt)))
+  custom_send = declared_send (Custom.the_type C A K gC gA gK) (search (share_send, std.crosses, sendable) depth 60, (search (std.crosses, sendable) depth 60, (search (std.crosses, sendable) depth 60, tt)))
 
   pub office_sync : IsSync (Office.the_row C A K gC gA gK)
-  office_sync = declared_sync (Office.the_type C A K gC gA gK) (search (std.crosses, sendable) depth 60, (search (shared_crosses, std.crosses, sendable) depth 60, tt))
-
-pub ruleset crosses = (shared_crosses, market_sync, visit_send, custom_send, office_sync)
+  office_sync = declared_sync (Office.the_type C A K gC gA gK) (search (std.crosses, sendable) depth 60, (search (shared_sync, std.crosses, sendable) depth 60, tt))

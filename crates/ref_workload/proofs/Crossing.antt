@@ -1,4 +1,4 @@
--- What of a run crosses threads, as a set for `search`.
+-- What of a run crosses threads. A search compares its goal with each fact that it is given, so it is given no more than it needs.
 --
 -- `search` alone finds no proof of it, as for a world: each type's fact stands on those of its fields.
 use denote.RattleType.{RattleType}
@@ -19,10 +19,6 @@ use Rattle.ref_workload.specs.contracts.progress.Progress as Progress
 use Rattle.ref_workload.specs.contracts.running.workers.Ended as Ended
 use Rattle.ref_workload.specs.contracts.running.workers.WorkerStart as WorkerStart
 use Rattle.ref_workload.specs.contracts.running.workers.Run as Run
-
--- What is lent and given to the threads of a shared world. The set of ref_shared also has worlds and views, which cost a search more
--- than it may take.
-pub ruleset shared_crosses = (share_send, shared_sync)
 
 ruleset plain = (std.crosses, knot.crosses, sendable)
 
@@ -113,7 +109,7 @@ module _ (κ : NamedLft) (F C A K : RattleType) (gC : Ledger.Ghosts C.Denot) (gA
     (
       search (y, plain) depth 60,
       (
-        search (shared_crosses, plain) depth 60,
+        search (shared_sync, plain) depth 60,
         (search (step_send, step_sync, lists.the_sync, plain) depth 60, (search plain depth 60, (search (progress_sync, plain) depth 60, tt))),
       ),
     ),
@@ -122,10 +118,8 @@ module _ (κ : NamedLft) (F C A K : RattleType) (gC : Ledger.Ghosts C.Denot) (gA
 module _ (C A K : RattleType) (gC : Ledger.Ghosts C.Denot) (gA : Ledger.Ghosts A.Denot) (gK : Ledger.Ghosts K.Denot) where
   pub ended_send : IsSend (Ended.the_row C A K gC gA gK)
   ended_send = declared_send (Ended.the_type C A K gC gA gK)
-      (search (shared_crosses, plain) depth 60, (search (refusal_send, plain) depth 60, (search plain depth 60, tt)))
+      (search (share_send, plain) depth 60, (search (refusal_send, plain) depth 60, (search plain depth 60, tt)))
 
   pub start_send : (G : RattleType) → IsSend G → IsSend (WorkerStart.the_row C A K G gC gA gK)
   start_send G y = declared_send (WorkerStart.the_type C A K G gC gA gK)
-      (search plain depth 60, (search (shared_crosses, plain) depth 60, (search (y, plain) depth 60, tt)))
-
-pub ruleset crosses = (shared_crosses, run_sync, ended_send, start_send)
+      (search plain depth 60, (search (share_send, plain) depth 60, (search (y, plain) depth 60, tt)))

@@ -1,4 +1,4 @@
--- What of the shop crosses threads, as a set for `search`.
+-- What of the shop crosses threads. A search compares its goal with each fact that it is given, so it is given no more than it needs.
 use denote.RattleType.{RattleType}
 use denote.Ref.{NamedLft}
 use denote.Param.Send.{IsSend, IsSync, sendable}
@@ -11,10 +11,6 @@ use Rattle.service.specs.contracts.counts.Done as Done
 use Rattle.service.specs.contracts.selling.Shift as Shift
 use Rattle.service.specs.contracts.shop.Shop as Shop
 
--- What is lent and given to the threads of a shared world. The set of ref_shared also has worlds and views, which cost a search more
--- than it may take.
-pub ruleset shared_crosses = (share_send, shared_sync)
-
 ruleset plain = (std.crosses, sendable)
 
 module _ (κ : NamedLft) (F C A K : RattleType) (gC : Ledger.Ghosts C.Denot) (gA : Ledger.Ghosts A.Denot) (gK : Ledger.Ghosts K.Denot) where
@@ -26,7 +22,7 @@ module _ (κ : NamedLft) (F C A K : RattleType) (gC : Ledger.Ghosts C.Denot) (gA
       (
         search plain depth 60,
         (
-          search (shared_crosses, plain) depth 60,
+          search (shared_sync, plain) depth 60,
           (search plain depth 60, (search plain depth 60, (search plain depth 60, tt))),
         ),
       ),
@@ -35,9 +31,7 @@ module _ (κ : NamedLft) (F C A K : RattleType) (gC : Ledger.Ghosts C.Denot) (gA
 
 module _ (C A K : RattleType) (gC : Ledger.Ghosts C.Denot) (gA : Ledger.Ghosts A.Denot) (gK : Ledger.Ghosts K.Denot) where
   pub shift_send : IsSend (Shift.the_row C A K gC gA gK)
-  shift_send = declared_send (Shift.the_type C A K gC gA gK) (search plain depth 60, (search (shared_crosses, plain) depth 60, tt))
+  shift_send = declared_send (Shift.the_type C A K gC gA gK) (search plain depth 60, (search (share_send, plain) depth 60, tt))
 
   pub done_send : IsSend (Done.the_row C A K gC gA gK)
-  done_send = declared_send (Done.the_type C A K gC gA gK) (search (shared_crosses, plain) depth 60, (search plain depth 60, tt))
-
-pub ruleset crosses = (shared_crosses, shop_sync, shift_send, done_send)
+  done_send = declared_send (Done.the_type C A K gC gA gK) (search (share_send, plain) depth 60, (search plain depth 60, tt))
