@@ -1,7 +1,11 @@
-use denote.Param.Send.{sendable}
-use Rattle.std.proofs.Crossing as std
+use denote.Param.{param}
+use denote.Param.Send.{IsSync, sendable}
+use denote.Ref.{NamedLft}
 use Rattle.ref_workload.proofs.Crossing.{run_sync}
+use Rattle.ref_workload.specs.contracts.running.workers.Run as Run
 use Rattle.ref_workload.proofs.running.threads.start_pool.Goals as goal
 
 pub spawn-requires-send-F : goal.spawn-requires-send-F
-spawn-requires-send-F g c κs within = search (run_sync, std.crosses, sendable) depth 60
+spawn-requires-send-F g c κs within =
+    let run : (κ : NamedLft) → IsSync (Run.the_row κ (param 1 g.row.F) (param 2 g.row.C) (param 3 g.row.A) (param 4 g.row.K) g.C.Ledger g.A.Ledger g.K.Ledger) = λ κ. run_sync κ _ _ _ _ _ _ _ c.type_bounds.sync-F in
+    search (run, sendable) depth 60
