@@ -38,9 +38,11 @@ fn carries_in<D: Naming + Values>(
     document: &D,
     forms: Iter<'_>,
 ) -> Result<Vec<Carry>, Wrong>
-    ensures ok { IfOk result (λ carries. carries_said (D.named document.now) D.is_value forms.entry ≡ Some carries.items) }
+    ensures ok { IfOk result (λ carries.
+        carries_said (D.named document.now) D.is_value forms.entry ≡ Some carries.items) }
     ensures few { IfOk result (λ carries. length carries.items ≤ most_carries) }
-    ensures wrong { IfErr result (λ w. w ≢ Wrong.Memory → carries_said (D.named document.now) D.is_value forms.entry ≡ None) }
+    ensures wrong { IfErr result (λ w. w ≢ Wrong.Memory →
+        carries_said (D.named document.now) D.is_value forms.entry ≡ None) }
 {
     let mut carries = Vec::new(alloc);
     let mut worst = None;

@@ -176,7 +176,8 @@ pub fn requirement_on<D: Naming + Values>(
     document: &D,
     mut parts: Iter<'_>,
 ) -> Result<(u32, Rule), Wrong>
-    ensures { Reads (then_said (number_said (D.named document.now) kinds.Ref) (rule_said D.is_value) parts.entry) result }
+    ensures { Reads (then_said (number_said (D.named document.now) kinds.Ref) (rule_said D.is_value) parts.entry)
+        result }
 {
     let (Some(subject), Some(predicate)) = (parts.next(), parts.next()) else {
         return Err(Wrong::Form);
@@ -213,7 +214,8 @@ pub fn state_on<D: Naming + Values>(
     document: &D,
     mut parts: Iter<'_>,
 ) -> Result<(u32, (Value, bool)), Wrong>
-    ensures { Reads (then_said (number_said (D.named document.now) kinds.Agent) (state_said D.is_value) parts.entry) result }
+    ensures { Reads (then_said (number_said (D.named document.now) kinds.Agent) (state_said D.is_value) parts.entry)
+        result }
 {
     let Some(subject) = parts.next() else {
         return Err(Wrong::Form);
@@ -246,7 +248,8 @@ fn who_and_rule<D: Naming + Values>(
     subject: &Value,
     rule: &Items,
 ) -> Result<(Who, Rule), Wrong>
-    ensures { Reads (both (λ who rule. (who, rule)) (D.named document.now subject.now) (rule_said D.is_value rule.now)) result }
+    ensures { Reads (both (λ who rule. (who, rule)) (D.named document.now subject.now)
+        (rule_said D.is_value rule.now)) result }
 {
     let mut parts = rule.iter();
     let Some(predicate) = parts.next() else {

@@ -1,14 +1,16 @@
 //! Lists with several owners, and what can have several owners.
-ghost use Rattle.std.specs.Prelude.{◌≡◌, ◌≢◌, ◌<◌, ◌↔◌, [], ◌∷◌, ◌++◌, ◌^◌, IsTrue, length, IfOk, OnErr, OnOk, slice_get, slice_index_or, option_copied};
+ghost use Rattle.std.specs.Prelude.{◌≡◌, ◌≢◌, ◌<◌, ◌↔◌, [], ◌∷◌, ◌++◌, ◌^◌, IsTrue, length, IfNone, IfOk, IfErr, IfSome, OnErr, OnOk, slice_get, slice_index_or, option_copied, vec_capacity, vec_len};
 ghost use Rattle.std.specs.Mem.{FitsInMemory};
 ghost use Rattle.std.specs.Slice.{IsItemAt};
+ghost use Rattle.ref_fun.specs.Lists.{items_in};
+ghost use Rattle.ref_fun.specs.declared.lists.Inside.TheVariants as Inside;
 ghost use Rattle.std.specs.Iterator.{YieldsFirstRef, item_count};
 
 use ref_value::Value;
 use std::alloc::{AllocError, Global};
 use std::marker::Model;
-use std::slice;
 use std::sync::Arc;
+use std::{mem, slice};
 
 /// What can have one more owner.
 pub trait Shareable: Drop {
@@ -38,6 +40,19 @@ pub(crate) enum Inside<T> {
 #[derive(Drop)]
 pub(crate) struct Only<T> {
     item: T,
+}
+
+impl<T: Drop> Inside<T> {
+    // The single item.
+    fn single(self) -> Option<Arc<Only<T>>>
+        ensures some { IfSome result (λ only. only.value.item ∷ [] ≡ items_in self) }
+        ensures none { IfNone result ((only : _) → self ≡ Inside.One only → ⊥) }
+    {
+        match self {
+            Inside::One(only) => Some(only),
+            Inside::Empty | Inside::Many(_) => None,
+        }
+    }
 }
 
 // A function of its own, which each place that drops one calls; a derived one would be written out there.
@@ -182,39 +197,89 @@ impl<T: Drop> SharedVec<T> {
 }
 
 impl<T: Shareable> SharedVec<T> {
-    /// Puts an item behind the others, in place where the list has two or more and no other owner. Else the items get one more owner each,
-    /// in a list of their own. Room is made for exactly two items, then for as many again as there are.
+    /// Puts an item behind the others, in place where the list has no other owner. Else the items get one more owner each, in a list of their
+    /// own. Room is made for exactly two items, then for as many again as there are.
     pub fn push(&mut self, alloc: Global, item: T) -> Result<(), AllocError>
         ensures ok { OnOk result (self.new ≡ self.old ++ item ∷ []) }
         ensures err { OnErr result (self.new ≡ self.old) }
     {
-        match &self.inside {
+        match &mut self.inside {
             Inside::Empty => {
                 self.inside = Inside::One(Arc::new(alloc, Only { item })?);
                 return Ok(());
             }
-            Inside::One(only) => {
-                let both = two(alloc, only.item.share()?, item)?;
-                self.inside = Inside::Many(both);
-                return Ok(());
-            }
-            Inside::Many(_) => {}
+            Inside::One(_) => {}
+            Inside::Many(items) => return push_shared(alloc, items, item),
         }
-        match &mut self.inside {
-            Inside::Many(items) => push_shared(alloc, items, item),
-            Inside::Empty | Inside::One(_) => unreachable!(),
+        let Some(only) = mem::replace(&mut self.inside, Inside::Empty).single() else {
+            unreachable!();
+        };
+        match two(alloc, only, item) {
+            Ok(both) => {
+                self.inside = Inside::Many(both);
+                Ok(())
+            }
+            Err(only) => {
+                self.inside = Inside::One(only);
+                Err(AllocError)
+            }
         }
     }
 }
 
-// A list of two items, with room for no other.
-fn two<T: Drop>(alloc: Global, first: T, second: T) -> Result<Arc<Vec<T>>, AllocError>
-    ensures { IfOk result (λ items. items.value.items ≡ first ∷ second ∷ []) }
+// A list of two items, with room for no other, or the first one again. All that takes memory comes before the first is moved.
+fn two<T: Shareable>(
+    alloc: Global,
+    first: Arc<Only<T>>,
+    second: T,
+) -> Result<Arc<Vec<T>>, Arc<Only<T>>>
+    ensures ok { IfOk result (λ items. items.value.items ≡ first.value.item ∷ second ∷ []) }
+    ensures err { IfErr result (λ only. only.value.item ≡ first.value.item) }
 {
-    let mut items = Vec::with_capacity(alloc, 2)?;
-    items.push(first)?;
-    items.push(second)?;
-    Ok(Arc::new(alloc, items)?)
+    let Ok(mut both) = room_for_two(alloc) else {
+        return Err(first);
+    };
+    match Arc::get_mut(&mut both) {
+        Some(items) => match item_of(first) {
+            Ok(first) => fill(items, first, second),
+            Err(first) => return Err(first),
+        },
+        None => return Err(first),
+    }
+    Ok(both)
+}
+
+// No items, with room for two.
+fn room_for_two<T: Drop>(alloc: Global) -> Result<Arc<Vec<T>>, AllocError>
+    ensures items { IfOk result (λ items. items.value.items ≡ []) }
+    ensures room { IfOk result (λ items. (vec_len items.value ≡ 0) × (vec_capacity items.value ≡ 2)) }
+{
+    Ok(Arc::new(alloc, Vec::with_capacity(alloc, 2)?)?)
+}
+
+// The item, moved where it has no other owner, and else with one more owner.
+fn item_of<T: Shareable>(only: Arc<Only<T>>) -> Result<T, Arc<Only<T>>>
+    ensures ok { IfOk result (λ x. x ≡ only.value.item) }
+    ensures err { IfErr result (λ c. c ≡ only) }
+{
+    match Arc::try_unwrap(only) {
+        Ok(Only { item }) => Ok(item),
+        Err(only) => match only.item.share() {
+            Ok(item) => Ok(item),
+            Err(_) => Err(only),
+        },
+    }
+}
+
+// Puts two items into a list that has room for them.
+fn fill<T: Drop>(items: &mut Vec<T>, first: T, second: T)
+    requires none { items.old.items ≡ [] }
+    requires room { (vec_len items.old ≡ 0) × (vec_capacity items.old ≡ 2) }
+    ensures { items.new.items ≡ first ∷ second ∷ [] }
+{
+    let (Ok(()), Ok(())) = (items.push(first), items.push(second)) else {
+        unreachable!();
+    };
 }
 
 // Puts an item behind the others.

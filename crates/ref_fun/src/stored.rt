@@ -23,7 +23,8 @@ pub type Pred = Box<dyn Fn(&Value, &[Value]) -> bool + Send + Sync>;
 pub struct StoredFun {
     code: u32,
     run: Fun,
-    ghost callable: { (alloc : _) (state : _) (args : _) → length args.now ≤ most_arguments → Fun.pre run alloc state args },
+    ghost callable: { (alloc : _) (state : _) (args : _) → length args.now ≤ most_arguments →
+        Fun.pre run alloc state args },
     ghost answers: { (alloc : _) (state : _) (args : _) (result : _) → Fun.post run alloc state args result
         → Answers (core_means code args.now state.now) result } by { Π_prop (λ _. Π_prop (λ _. Π_prop (λ _. Π_prop (λ _. →_prop (Answers-prop _ _))))) },
 }
@@ -44,7 +45,8 @@ impl StoredFun {
 
     /// The closure under this code. Who makes the closure proves what the type guarantees of it.
     pub fn new(code: u32, run: Fun) -> StoredFun
-        requires callable { (alloc : _) (state : _) (args : _) → length args.now ≤ most_arguments → Fun.pre run alloc state args }
+        requires callable { (alloc : _) (state : _) (args : _) → length args.now ≤ most_arguments →
+            Fun.pre run alloc state args }
         requires answers { (alloc : _) (state : _) (args : _) (r : _) → Fun.post run alloc state args r
             → Answers (core_means code args.now state.now) r }
         ensures { fun_code result ≡ code }

@@ -182,7 +182,8 @@ fn append_befores(
     values: &[Value],
     out: &mut Vec<u8>,
 ) -> Result<(), AllocError>
-    ensures { OnOk result (out.new.items ≡ out.old.items ++ flat_map (change_of names.now kind values.now) befores.now) }
+    ensures { OnOk result (out.new.items ≡ out.old.items
+        ++ flat_map (change_of names.now kind values.now) befores.now) }
 {
     for before in befores {
         append_before(alloc, names, kind, before, values, out)?;

@@ -41,7 +41,8 @@ impl<M: Meaning, C: Ledger, A: Ledger, K: Ledger> Model for Sim<M, C, A, K> {
 
     ghost view = { λ a. record { world = a.world; share = a.share; slots = a.actors; jobs = a.jobs } };
 
-    ghost invariant = { λ a. IsSim M.means (record { world = a.world; share = a.share; slots = a.actors; jobs = a.jobs }) };
+    ghost invariant = { λ a. IsSim M.means
+        (record { world = a.world; share = a.share; slots = a.actors; jobs = a.jobs }) };
 }
 
 impl<M: Meaning, C: Ledger, A: Ledger, K: Ledger> Sim<M, C, A, K> {

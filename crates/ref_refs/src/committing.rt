@@ -127,7 +127,8 @@ impl<M: Meaning> RefStore<M> {
         tx: &Tx<M>,
     ) -> Result<Prepared, CommitFault>
         ensures refused { TellsOrMemory commits.Memory (early_refusal (F.knows funs.now) self.now at agents tx.now)
-            (commit_refusal M.means M.accepts (F.knows funs.now) self.now at agents most_added most_taken tx.now) result }
+            (commit_refusal M.means M.accepts (F.knows funs.now) self.now at agents most_added most_taken tx.now)
+            result }
         ensures here { OnOk result (alien_ref self.now.values tx.now.dones ≡ None) }
         ensures values { IfOk result (λ p. (atoms : List Edn)
             → step M.means at (entry_of stamp tx.now) (record { refs = self.now.values; atoms = atoms })
@@ -138,7 +139,8 @@ impl<M: Meaning> RefStore<M> {
         ensures made { IfOk result (λ p. after_dones M.means tx.now.dones at tx.now.dones (Ok self.now.values)
             ≡ Ok p.refs.values) }
         ensures accepted { IfOk result (λ p. AreAccepted M.accepts self.now.guards p.refs.values) }
-        ensures moved { IfOk result (λ p. (r : ℕ) → changed_at p.refs.lasts r ≡ changed_by self.now.lasts at tx.now.dones r) }
+        ensures moved { IfOk result (λ p. (r : ℕ) →
+            changed_at p.refs.lasts r ≡ changed_by self.now.lasts at tx.now.dones r) }
         ensures all { IfOk result (λ p. length p.refs.lasts ≡ length self.now.lasts) }
         ensures entry { IfOk result (λ p. p.landed.entry ≡ entry_of stamp tx.now) }
         ensures notices { IfOk result (λ p. p.landed.notices.items
@@ -211,14 +213,17 @@ impl<M: Meaning> RefStore<M> {
         refs: &Draft<'_>,
     ) -> Result<Vec<u32>, CommitFault>
         requires known { lacking_rule (F.knows funs.now).preds self.now.guards dones.now ≡ None }
-        requires made { (at : ℕ) → after_dones M.means dones.now at dones.now (Ok self.now.values) ≡ Ok refs.now.values }
+        requires made { (at : ℕ) → after_dones M.means dones.now at dones.now (Ok self.now.values)
+            ≡ Ok refs.now.values }
         ensures told { IfOk result (λ rs. (before after : List Edn)
-            → notices self.now.guards before after rs.items ≡ notices self.now.guards before after (touched_refs dones.now)) }
-        ensures ok { OnOk result (first_invalid M.accepts self.now.guards refs.now.values (touched_refs dones.now) ≡ None) }
+            → notices self.now.guards before after rs.items
+            ≡ notices self.now.guards before after (touched_refs dones.now)) }
+        ensures ok { OnOk result (
+            first_invalid M.accepts self.now.guards refs.now.values (touched_refs dones.now) ≡ None) }
         ensures accepted { OnOk result (AreAccepted M.accepts self.now.guards refs.now.values) }
         ensures err { IfErr result (λ f. f ≢ commits.Memory
-            → option_map commits.Invalid (first_invalid M.accepts self.now.guards refs.now.values (touched_refs dones.now))
-            ≡ Some f) }
+            → option_map commits.Invalid
+            (first_invalid M.accepts self.now.guards refs.now.values (touched_refs dones.now)) ≡ Some f) }
     {
         if are_unguarded(&self.guards, dones) {
             return Ok(Vec::new(alloc));

@@ -188,7 +188,14 @@ impl<M: Meaning> RefStore<M> {
     pub fn begin(&self, alloc: Global, point: u64, agents: usize) -> Result<Tx<M>, AllocError>
         requires { are_unchanged_since self.now.lasts point ≡ true }
         ensures { IfOk result (λ tx. tx
-            ≡ record { read_point = point; began = self.now.values; dones = []; sends = []; tally = self.now.tally; agents = agents }) }
+            ≡ record {
+              read_point = point;
+              began = self.now.values;
+              dones = [];
+              sends = [];
+              tally = self.now.tally;
+              agents = agents;
+            }) }
     {
         let refs = self.refs.share(alloc)?;
         Ok(Tx::start(alloc, point, refs, self.tally, agents))

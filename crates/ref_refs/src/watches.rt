@@ -105,7 +105,8 @@ fn tell(
     r: u32,
     all: &mut Vec<Notice>,
 ) -> Result<(), AllocError>
-    ensures { OnOk result (all.new.items ≡ all.old.items ++ notices_at guards.now before.now.values after.now.values r) }
+    ensures { OnOk result (all.new.items ≡ all.old.items
+        ++ notices_at guards.now before.now.values after.now.values r) }
 {
     if guards.is_unwatched(r) {
         return Ok(());

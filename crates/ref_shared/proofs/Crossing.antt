@@ -1,4 +1,6 @@
--- What of a shared world crosses threads, as a set for `search`: it may be lent to them, and shares, views and worlds may be given to them.
+-- What of a shared world crosses threads, as a set for `search`: it may be lent to them, and shares may be given to them. A search compares
+-- its goal with each fact of a set and unfolds both, so views and whole worlds aren't in it: a program that gives one to a thread adds
+-- `seen_send` or `world_send` of ref_world.
 use denote.RattleType.{RattleType}
 use denote.Param.Send.{IsSend, IsSync, sendable}
 use denote.Param.SendFields.{declared_send, declared_sync}
@@ -6,7 +8,7 @@ use Rattle.std.proofs.Crossing.{crosses as std_crosses}
 use Rattle.std.proofs.MapsCrossing.{crosses as map_crosses}
 use Rattle.std.specs.declared.sync.ledger.Ledger as Ledger
 use Rattle.ref_fun.specs.declared.meanings.Meaning as Meaning
-use Rattle.ref_world.proofs.Crossing.{seen_send, share_send, world_send}
+use Rattle.ref_world.proofs.Crossing.{share_send, world_send}
 use Rattle.ref_shared.specs.contracts.shared.Held as Held
 use Rattle.ref_shared.specs.contracts.shared.Shared as Shared
 use Rattle.ref_shared.specs.contracts.waiters.Awaited as Awaited
@@ -25,4 +27,4 @@ module _ (M C A K : RattleType) (gM : Meaning.Ghosts M.Denot) (gC : Ledger.Ghost
   pub shared_sync : IsSync (Shared.the_row M C A K gM gC gA gK)
   shared_sync = declared_sync (Shared.the_type M C A K gM gC gA gK) (search (held_send, std_crosses, sendable) depth 60, (search (std_crosses, sendable) depth 60, (search (std_crosses, sendable) depth 60, tt)))
 
-pub ruleset crosses = (share_send, seen_send, world_send, shared_sync)
+pub ruleset crosses = (share_send, shared_sync)

@@ -67,7 +67,14 @@ impl<M: Meaning> Tx<M> {
         agents: usize,
     ) -> Tx<M>
         ensures { result
-            ≡ record { read_point = read_point; began = began.values; dones = []; sends = []; tally = tally; agents = agents } }
+            ≡ record {
+              read_point = read_point;
+              began = began.values;
+              dones = [];
+              sends = [];
+              tally = tally;
+              agents = agents;
+            } }
     {
         Tx {
             read_point,

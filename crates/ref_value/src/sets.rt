@@ -43,7 +43,8 @@ impl Model for Elements {
 
     ghost view = { λ a. singles a.tree.0 };
 
-    ghost invariant = { λ a. AreTwins a.tree.0 × (a.tree.1 ≤ 255) × (a.tree.2 ≡ elements_ascend (items_of (singles a.tree.0))) };
+    ghost invariant = { λ a. AreTwins a.tree.0 × (a.tree.1 ≤ 255) ×
+        (a.tree.2 ≡ elements_ascend (items_of (singles a.tree.0))) };
 
     ghost size = { λ xs. 300 * items_depth (items_of xs) + 299 };
 

@@ -86,7 +86,8 @@ impl<M: Meaning, C: Ledger, A: Ledger, K: Ledger> World<M, C, A, K> {
         ensures receipt { IfOk result (λ receipt. (receipt.point ≡ point_of self.old + 1) × (receipt.stamp ≡ stamp)) }
         ensures notices { IfOk result (λ receipt. receipt.notices.items
             ≡ notices self.old.refs.guards self.old.refs.values self.new.refs.values (touched_refs tx.dones)) }
-        ensures share { OnOk result (share.new ≡ shares.with_commit share.old (point_of self.old + 1) (entry_of stamp tx)
+        ensures share { OnOk result (share.new
+            ≡ shares.with_commit share.old (point_of self.old + 1) (entry_of stamp tx)
             (moved_by_dones Added self.old.refs.tally tx.dones) (moved_by_dones Taken self.old.refs.tally tx.dones)) }
         // A conflict is returned with a ref that the transaction protects, its read point and a later point.
         ensures conflict { IfErr result (λ e. ConflictFits tx e.1) }

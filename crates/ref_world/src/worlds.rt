@@ -216,7 +216,8 @@ impl<M: Meaning, C: Ledger, A: Ledger, K: Ledger> World<M, C, A, K> {
           taken = self.old.books.taken;
         } }
         ensures whole { share.old.parts ≡ all_parts
-            → (result.commits ≡ share.old.commits) × (result.added ≡ share.old.added) × (result.taken ≡ share.old.taken) }
+            → (result.commits ≡ share.old.commits) × (result.added ≡ share.old.added)
+            × (result.taken ≡ share.old.taken) }
         ensures world { self.new ≡ self.old }
         ensures share { share.new ≡ share.old }
     {

@@ -111,7 +111,8 @@ fn found_in<'a>(entries: &'a Entries) -> Option<Found<'a>>
     ensures workers { IfSome result (λ f. elements (option_copied f.workers) ≡ forms_under entries.now workers_word) }
     ensures vectors { IfSome result (λ _. HasVectors entries.now) }
     ensures pool { IfSome result (λ f. pool_said (under entries.now pool_word) ≡ Some f.pool) }
-    ensures none { IfNone result ((n : ℤ) → HasVectors entries.now → pool_said (under entries.now pool_word) ≡ Some n → ⊥) }
+    ensures none { IfNone result ((n : ℤ) → HasVectors entries.now →
+        pool_said (under entries.now pool_word) ≡ Some n → ⊥) }
 {
     Some(Found {
         refs: vector_under(entries, b"refs")?,

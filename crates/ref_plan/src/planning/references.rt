@@ -99,7 +99,8 @@ struct Reference<'a> {
 }
 
 fn parts_in(alloc: Global, mut parts: Iter<'_>) -> Result<Reference<'_>, Wrong>
-    ensures ok { IfOk result (λ r. parts_declare parts.entry ≡ Some (declaration r.name r.value r.rule (option_copied r.mark))) }
+    ensures ok { IfOk result (λ r. parts_declare parts.entry
+        ≡ Some (declaration r.name r.value r.rule (option_copied r.mark))) }
     ensures wrong { IfErr result (λ w. w ≢ Wrong.Memory → parts_declare parts.entry ≡ None) }
 {
     let (Some(name), Some(value)) = (parts.next(), parts.next()) else {
@@ -121,7 +122,8 @@ fn parts_in(alloc: Global, mut parts: Iter<'_>) -> Result<Reference<'_>, Wrong>
 }
 
 fn reference_in(alloc: Global, form: &Value) -> Result<Reference<'_>, Wrong>
-    ensures ok { IfOk result (λ r. declaration_of form.now ≡ Some (declaration r.name r.value r.rule (option_copied r.mark))) }
+    ensures ok { IfOk result (λ r. declaration_of form.now
+        ≡ Some (declaration r.name r.value r.rule (option_copied r.mark))) }
     ensures wrong { IfErr result (λ w. w ≢ Wrong.Memory → declaration_of form.now ≡ None) }
 {
     match elements_in(form) {
@@ -173,7 +175,8 @@ pub fn ref_in(
     ensures one_tally { IfOk result (λ r. has_tally ≡ true → r.1.tally ≡ false) }
     ensures adds { IfOk result (λ r. Adds table.old r.0 who table.new) }
     ensures refused { IfErr result (λ e. e ≢ Refused.Memory → (name : List ℕ) (start : AnyRef)
-        → ref_of form.now ≡ Some (name, start) → found table.old name ≡ None → (has_tally ≡ true → start.tally ≡ false) → ⊥) }
+        → ref_of form.now ≡ Some (name, start) → found table.old name ≡ None
+        → (has_tally ≡ true → start.tally ≡ false) → ⊥) }
 {
     let reference = match reference_in(alloc, form) {
         Ok(reference) => reference,

@@ -137,7 +137,8 @@ pub fn workers(
     requires few { length forms.now ≤ most_workers }
     requires vectors { list_all is_short_vector forms.now ≡ true }
     ensures ok { IfOk result (λ workers. all_said (worker_of version declared.now) forms.now ≡ Some workers.items) }
-    ensures none { IfErr result (λ f. f ≢ PlanFault.Memory → all_said (worker_of version declared.now) forms.now ≡ None) }
+    ensures none { IfErr result (λ f. f ≢ PlanFault.Memory →
+        all_said (worker_of version declared.now) forms.now ≡ None) }
 {
     let mut workers = Vec::new(alloc);
     for form in forms {

@@ -80,7 +80,8 @@ impl Chunk {
     #[tactic(auto, using(crate::proofs::Pairing::length_twins, crate::proofs::Pairing::twins_at))]
     pub(crate) fn pair_at(&self, i: usize) -> (&Value, &Value)
         requires { i < length (members_of self.now) }
-        ensures { let entry : Edn × Edn = (result.0.now, result.1.now) in entry ≡ slice_index_or (members_of self.now) i entry }
+        ensures { let entry : Edn × Edn = (result.0.now, result.1.now)
+            in entry ≡ slice_index_or (members_of self.now) i entry }
     {
         match self {
             Chunk::Values(values) => {
@@ -323,7 +324,8 @@ impl<'a> Run<'a> {
     #[tactic(auto, using(crate::proofs::Pairing::length_twins, crate::proofs::Pairing::twins_at))]
     pub(crate) fn first(&self) -> (&'a Value, &'a Value)
         requires { 0 < length (run_of self.now) }
-        ensures { let entry : Edn × Edn = (result.0.now, result.1.now) in entry ≡ slice_index_or (run_of self.now) 0 entry }
+        ensures { let entry : Edn × Edn = (result.0.now, result.1.now)
+            in entry ≡ slice_index_or (run_of self.now) 0 entry }
     {
         match self {
             Run::Values(values) => {
