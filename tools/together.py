@@ -109,8 +109,9 @@ class Room:
         self.texts = {str(it.relative_to(self.source)): it.read_text(encoding="utf-8") for it in (self.source / "src").rglob("*.rt")}
         self.functions = {(path, at): it for path, text in self.texts.items() for at, it in enumerate(functions(text))}
         if not (self.source / "out" / "incremental").is_dir():
-            # the gate leaves the library alone, and nothing of what the crate's check stored
-            subprocess.run(["rt", "check", "--jobs", "1"], cwd=self.source, capture_output=True, check=True)
+            # the gate leaves the library alone, and nothing of what the crate's check stored. In the copy no other check waits for this one
+            subprocess.run(["rt", "check", "--jobs", "1"], cwd=self.crate, capture_output=True, check=True)
+            repository.link_tree(self.crate / "out" / "incremental", self.source / "out" / "incremental")
 
     def begin(self):
         """Lets the next check begin with what the crate's own check stored, and with nothing else."""
