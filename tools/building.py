@@ -97,7 +97,13 @@ def memory_of(name, below):
 
 
 def free_memory():
-    return 1024 * int(re.search(r"MemAvailable:\s+(\d+)", Path("/proc/meminfo").read_text(encoding="utf-8"))[1])
+    """The free memory in bytes, under the limit of the control group, too."""
+    found = [1024 * int(re.search(r"MemAvailable:\s+(\d+)", Path("/proc/meminfo").read_text(encoding="utf-8"))[1])]
+    for limit, held in RTLIB.GROUPS:
+        limit, held = RTLIB.number_in(limit, r"(\d+)"), RTLIB.number_in(*held)
+        if limit and held is not None:
+            found.append(limit - held)
+    return min(found)
 
 
 def rooms():
