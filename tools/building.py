@@ -99,7 +99,8 @@ def memory_of(name, below):
 def free_memory():
     """The free memory in bytes, under the limit of the control group, too."""
     found = [1024 * int(re.search(r"MemAvailable:\s+(\d+)", Path("/proc/meminfo").read_text(encoding="utf-8"))[1])]
-    for limit, held in RTLIB.GROUPS:
+    # not each kit says where the limits stand
+    for limit, held in getattr(RTLIB, "GROUPS", ()):
         limit, held = RTLIB.number_in(limit, r"(\d+)"), RTLIB.number_in(*held)
         if limit and held is not None:
             found.append(limit - held)
