@@ -197,8 +197,9 @@ impl<T: Drop> SharedVec<T> {
 }
 
 impl<T: Shareable> SharedVec<T> {
-    /// Puts an item behind the others, in place where the list has no other owner. Else the items get one more owner each, in a list of their
-    /// own. Room is made for exactly two items, then for as many again as there are.
+    /// Puts an item behind the others. The first item and the second each take a new block: for one item, then for exactly two. A longer
+    /// list without another owner grows in place, with room for as many again as it holds; else its items get one more owner each, in a list
+    /// of their own.
     pub fn push(&mut self, alloc: Global, item: T) -> Result<(), AllocError>
         ensures ok { OnOk result (self.new ≡ self.old ++ item ∷ []) }
         ensures err { OnErr result (self.new ≡ self.old) }
