@@ -6,14 +6,16 @@ use crate::references::{
     write_bad_tally, write_name_twice, write_reference_fault, write_start_invalid,
 };
 use crate::steps::{Part, write_event_fault, write_step_fault};
+use crate::verdicts::{write_no_point, write_verdict};
 use crate::writing::Writing;
 use ref_edn::ReadFault;
 use ref_events::ScriptFault;
 use ref_plan::PlanFault;
+use ref_verdict::Verdict;
 use ref_verdict::reading::faults::DumpFault;
 use std::alloc::{AllocError, Global};
 
-/// Why a text was refused.
+/// Why a text was refused, or what an audit says no to.
 #[derive(Clone, Copy, Debug, Drop, PartialEq, Eq)]
 pub enum Mistake {
     /// It is no EDN.
@@ -22,6 +24,10 @@ pub enum Mistake {
     Workload(PlanFault),
     Events(ScriptFault),
     Dump(DumpFault),
+    /// It is a dump, and this is the verdict on it.
+    Audit(Verdict),
+    /// It is a dump without the point that is asked for.
+    NoPoint,
     /// It has more bytes than a text may have.
     TooLong,
 }
@@ -88,6 +94,8 @@ pub fn explain(alloc: Global, text: &[u8], mistake: Mistake) -> Result<String, A
         Mistake::Workload(fault) => write_workload(&mut writing, fault)?,
         Mistake::Events(fault) => write_events(&mut writing, fault)?,
         Mistake::Dump(fault) => write_dump(&mut writing, fault)?,
+        Mistake::Audit(verdict) => write_verdict(&mut writing, verdict)?,
+        Mistake::NoPoint => write_no_point(&mut writing)?,
         Mistake::TooLong => writing.note("a text has at most 16777216 bytes")?,
     }
     Ok(writing.into_output())

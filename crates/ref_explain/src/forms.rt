@@ -85,6 +85,11 @@ impl<'a> Form<'a> {
         }
     }
 
+    /// Whether what looks as a discard belongs to it, since no blank stands before.
+    pub fn has_discard(&self) -> bool {
+        self.bytes().windows(2).any(|pair| pair == b"#_".as_slice())
+    }
+
     /// Whether it is the keyword of this name.
     pub fn is_word(&self, word: &str) -> bool {
         self.keyword() == Some(word.as_bytes())

@@ -165,6 +165,41 @@ fn write_unknown(
     writing.mark(form, message.as_str())
 }
 
+// What is said of a key that only another text has, by which that is known.
+fn of_another(document: Document, word: &[u8]) -> Option<&'static str> {
+    match (document, word) {
+        (Document::Workload | Document::Events, b"dump") => {
+            Some("this is a dump, for refrun audit, history, at and draw")
+        }
+        (Document::Workload | Document::Dump, b"events") => {
+            Some("this is a list of events, for refrun play")
+        }
+        (Document::Events | Document::Dump, b"workers") => {
+            Some("this is a workload, for refrun run and check")
+        }
+        _ => None,
+    }
+}
+
+// Says that it is another text, and whether it is.
+fn write_another(
+    writing: &mut Writing<'_>,
+    document: Document,
+    map: &Form<'_>,
+) -> Result<bool, AllocError> {
+    for member in map.members().step_by(2) {
+        let found = match member.keyword() {
+            Some(word) => of_another(document, word),
+            None => None,
+        };
+        if let Some(message) = found {
+            writing.mark(&member, message)?;
+            return Ok(true);
+        }
+    }
+    Ok(false)
+}
+
 // Says what is wrong under a key, and whether something is.
 fn write_under(writing: &mut Writing<'_>, key: Key, value: &Form<'_>) -> Result<bool, AllocError> {
     let word = key.word;
@@ -280,6 +315,9 @@ pub(crate) fn write_keys(writing: &mut Writing<'_>, document: Document) -> Resul
     };
     if map.sort() != Sort::Map {
         return writing.mark(&map, document.is_map());
+    }
+    if write_another(writing, document, &map)? {
+        return Ok(());
     }
     write_entries(writing, document, &map)?;
     write_missing(writing, document, &map)?;

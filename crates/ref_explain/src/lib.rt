@@ -3,7 +3,7 @@
 //!
 //! | Name | Is |
 //! |---|---|
-//! | [`explain`], [`Mistake`] | the explanation of a fault of reading, of a plan, of a list of events or of a dump |
+//! | [`explain`], [`Mistake`] | the explanation of a fault of reading, of a plan, of a list of events or of a dump, or of a verdict |
 //! | [`explain_refused`], [`Refused`] | the texts of the steps that a run refused |
 //! | [`warnings_of`] | what of a workload can never work |
 //! | [`Remembering`] | a reader that remembers what was read, for the two above |
@@ -34,6 +34,7 @@ pub mod reports;
 mod sentences;
 mod steps;
 mod surroundings;
+mod verdicts;
 pub mod warnings;
 mod words;
 mod writing;

@@ -1,6 +1,6 @@
 //! Why a text is no EDN.
 use crate::forms::{after_form, first_form};
-use crate::inside::{from, up_to};
+use crate::inside::{from, is_closing, up_to};
 use crate::surroundings::{Surroundings, surroundings_of};
 use crate::writing::Writing;
 use ref_edn::ReadFault;
@@ -139,7 +139,15 @@ fn write_close(writing: &mut Writing<'_>, place: usize) -> Result<(), AllocError
 }
 
 fn write_trailing(writing: &mut Writing<'_>, place: usize) -> Result<(), AllocError> {
-    writing.mark_element(place, "a second element; a text has only one")?;
+    if is_closing(byte_at(writing, place)) {
+        writing.mark_at(
+            place,
+            place.saturating_add(1),
+            "this bracket closes nothing",
+        )?;
+    } else {
+        writing.mark_element(place, "a second element; a text has only one")?;
+    }
     match first_form(writing.text) {
         Some(first) => writing.mark_end(&first, "the first element ends here"),
         None => Ok(()),
@@ -185,17 +193,24 @@ fn element_at<'a>(writing: &Writing<'a>, place: usize) -> &'a [u8] {
     up_to(text, text.len().saturating_sub(rest.len()))
 }
 
+// Why a token that begins with a digit is no number.
+fn bad_number(token: &[u8]) -> &'static str {
+    match (token, behind_digits(token)) {
+        (_, Some(b'X')) => HEXADECIMAL,
+        (_, Some(b'R')) => RADIX,
+        ([b'0', ..] | [b'+' | b'-', b'0', ..], _) => {
+            "not a number; an integer has no 0 at its front"
+        }
+        _ => "not a number; a name doesn't begin with a digit",
+    }
+}
+
 fn write_number(writing: &mut Writing<'_>, place: usize) -> Result<(), AllocError> {
     let token = element_at(writing, place);
     let message = if token.contains(&b'#') {
         "not a number; a # belongs to it, leave a blank before a discard"
     } else {
-        match token {
-            [b'0', ..] | [b'+' | b'-', b'0', ..] => {
-                "not a number; an integer has no 0 at its front"
-            }
-            _ => "not a number; a name doesn't begin with a digit",
-        }
+        bad_number(token)
     };
     writing.mark_element(place, message)
 }
@@ -232,6 +247,31 @@ fn write_no_utf8(writing: &mut Writing<'_>, place: usize) -> Result<(), AllocErr
     writing.mark_at(place, place.saturating_add(1), message.as_str())
 }
 
+const HEXADECIMAL: &str = "hexadecimal digits are left out; write the integer with decimal ones";
+
+const RADIX: &str = "a radix is left out; write the integer with decimal digits";
+
+// The byte behind the digits at the front of a number.
+fn behind_digits(token: &[u8]) -> Option<u8> {
+    let number = match token {
+        [b'+' | b'-', number @ ..] => number,
+        number => number,
+    };
+    number.iter().find(|b| !b.is_ascii_digit()).copied()
+}
+
+// Which notation of numbers is left out.
+fn left_out_number(token: &[u8]) -> &'static str {
+    match behind_digits(token) {
+        Some(b'/') => "ratios are left out: integers are the only numbers",
+        Some(b'.' | b'e' | b'E') => "floats are left out: integers are the only numbers",
+        Some(b'N' | b'M') => "numbers of any size are left out: an integer has 64 bits",
+        Some(b'x') => HEXADECIMAL,
+        Some(b'r') => RADIX,
+        _ => "this notation is left out; write the integer with decimal digits",
+    }
+}
+
 // Which part of EDN is left out.
 fn left_out(token: &[u8]) -> &'static str {
     match token {
@@ -242,14 +282,7 @@ fn left_out(token: &[u8]) -> &'static str {
             "tagged elements are left out; write the value alone, as a string or an integer"
         }
         [b'#', ..] => "this is left out; a # begins a set or a discard",
-        _ if token.contains(&b'/') => "ratios are left out: integers are the only numbers",
-        _ if token.contains(&b'.') || token.contains(&b'e') || token.contains(&b'E') => {
-            "floats are left out: integers are the only numbers"
-        }
-        _ if token.contains(&b'N') || token.contains(&b'M') => {
-            "numbers of any size are left out: an integer has 64 bits"
-        }
-        _ => "this notation is left out; write the integer with decimal digits",
+        _ => left_out_number(token),
     }
 }
 

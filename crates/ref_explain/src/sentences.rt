@@ -1,7 +1,7 @@
 //! What is wrong with the form of a step, an operation or an act.
 use crate::calls::{write_bad_call, write_bad_carries};
 use crate::documents::part_of;
-use crate::forms::{Form, Members, Sort};
+use crate::forms::{Form, Members};
 use crate::functions::{predicate_of, write_no_predicate};
 use crate::nearest::{Nearest, with_hint};
 use crate::words::{CARRYING, MOST_WORDS, Sentence, Slot, TRANSACTION, Word};
@@ -149,12 +149,20 @@ pub(crate) fn write_bad_rule(
     Ok(false)
 }
 
+// Whether a form can be the number of a reference or of an actor.
+fn is_number(form: &Form<'_>) -> bool {
+    match form.integer() {
+        Some(n) => 0 <= n && n <= 4_294_967_295,
+        None => false,
+    }
+}
+
 fn is_numbered(form: &Form<'_>) -> bool {
     let mut parts = form.members();
     match (parts.next(), parts.next(), parts.next()) {
         (Some(kind), Some(number), None) => {
             (kind.is_word("ref") || kind.is_word("atom") || kind.is_word("agent"))
-                && number.sort() == Sort::Number
+                && is_number(&number)
         }
         _ => false,
     }
@@ -285,13 +293,6 @@ fn write_bad_slots(
 
 // ---- sentences
 
-fn is_actor(form: &Form<'_>) -> bool {
-    match form.integer() {
-        Some(n) => 0 <= n && n <= 4_294_967_295,
-        None => false,
-    }
-}
-
 // Says that the actor of an act is missing or wrong, and whether it is.
 fn write_bad_actor(writing: &mut Writing<'_>, form: &Form<'_>) -> Result<bool, AllocError> {
     match form.members().next() {
@@ -299,7 +300,7 @@ fn write_bad_actor(writing: &mut Writing<'_>, form: &Form<'_>) -> Result<bool, A
             writing.mark(form, "an event is [ACTOR ACT ARG ..]")?;
             Ok(true)
         }
-        Some(actor) if !is_actor(&actor) => {
+        Some(actor) if !is_number(&actor) => {
             writing.mark(
                 &actor,
                 "an event begins with its actor, an integer from 0 to 4294967295",

@@ -30,6 +30,12 @@ fn write_unknown_name(
     names: &[Named<'_>],
     form: &Form<'_>,
 ) -> Result<(), AllocError> {
+    if form.has_discard() {
+        return writing.mark(
+            form,
+            "no reference has this name; a # belongs to it, leave a blank before a discard",
+        );
+    }
     let mut nearest = Nearest::to(form.bytes());
     for named in names {
         nearest.offer_bytes(writing.alloc, named.name)?;

@@ -39,6 +39,19 @@ const TRIES: u32 = 1_000;
 const ABOUT: &str =
     "Runs EDN workloads on refs, atoms and agents with a thread for each worker, reports, dumps and audits what came of them, and plays lists of events";
 
+const ABOUT_MORE: &str =
+    "Each command reads standard input. The script ./refrun of the repository takes a file too, as in
+./refrun run FILE, and adds --explain on a terminal.
+
+Statuses:
+  0  it went well
+  2  a wrong command line
+  3  the input is at fault
+  4  standard input or output failed
+  5  an audit says no
+  6  out of memory
+  7  a step was refused, with run --strict";
+
 const RUN: &str = "Reads a workload from standard input, runs it, audits it, and prints a report";
 
 const RUN_MORE: &str = "Functions of a workload: + - inc dec max min conj assoc dissoc disj
@@ -166,6 +179,7 @@ fn command<'a>(alloc: Global, version: &'a str) -> Result<Command<'a>, AllocErro
         .arg(explain(alloc, EXPLAIN))?;
     Command::new(alloc, "refrun")
         .about(ABOUT)
+        .after_help(ABOUT_MORE)
         .version(version)
         .subcommand_required(true)
         .subcommand(run(alloc)?)?

@@ -1,5 +1,6 @@
 //! What follows on standard error for people, where they ask for it: only what there is memory for.
 use crate::faults::{AuditRunFault, Fault};
+use ref_audit::Verdict;
 use ref_explain::{Mistake, RefusedSteps, explain, explain_refused, warnings_of};
 use ref_workload::RunFault;
 use std::alloc::AllocError;
@@ -18,10 +19,8 @@ fn mistake_in_audit(fault: AuditRunFault) -> Option<Mistake> {
         AuditRunFault::InputTooLong => Some(Mistake::TooLong),
         AuditRunFault::NotEdn(fault) => Some(Mistake::Edn(fault)),
         AuditRunFault::Dump(fault) => Some(Mistake::Dump(fault)),
-        AuditRunFault::Read
-        | AuditRunFault::NoPoint(_)
-        | AuditRunFault::Write
-        | AuditRunFault::Memory => None,
+        AuditRunFault::NoPoint(_) => Some(Mistake::NoPoint),
+        AuditRunFault::Read | AuditRunFault::Write | AuditRunFault::Memory => None,
     }
 }
 
@@ -45,6 +44,11 @@ pub(crate) fn explain_fault<R: AllocGlobal + Eprint>(rt: &R, text: &[u8], fault:
     if let Some(mistake) = mistake_of(fault) {
         write(rt, explain(rt.alloc(), text, mistake));
     }
+}
+
+/// Shows what of a dump an audit says no to.
+pub(crate) fn explain_verdict<R: AllocGlobal + Eprint>(rt: &R, text: &[u8], verdict: Verdict) {
+    write(rt, explain(rt.alloc(), text, Mistake::Audit(verdict)));
 }
 
 /// Warns of what in a workload can never work.

@@ -142,16 +142,22 @@ fn names_in_file<R: AllocGlobal + Files + Eprint>(
     let mut reader = Remembering::new(rt.alloc(), Counted::new(opened), explains);
     match names_of_text(rt.alloc(), &mut reader) {
         Ok(names) => Ok(names),
-        Err(fault) => Err(no_workload(rt, fault, reader.bytes())),
+        Err(fault) => Err(no_workload(rt, file, fault, reader.bytes())),
     }
 }
 
 // The file of names holds no workload, or it can't be read.
-fn no_workload<R: AllocGlobal + Eprint>(rt: &R, fault: RunFault, text: Option<&[u8]>) -> u8
+fn no_workload<R: AllocGlobal + Eprint>(
+    rt: &R,
+    file: &str,
+    fault: RunFault,
+    text: Option<&[u8]>,
+) -> u8
     requires { IsOfChecking fault }
     ensures { is_early result ≡ true }
 {
     let status = say(rt, Fault::Run(fault));
+    let _said = eprintln!(rt; "in {file}, the file of --names");
     if let Some(text) = text {
         explain_fault(rt, text, Fault::Run(fault));
     }

@@ -8,7 +8,7 @@ ghost use Rattle.ref_workload.specs.Streams.{most_input};
 
 use crate::checking::check_text;
 use crate::commands::{Act, Wanted};
-use crate::explaining::{explain_fault, explain_refused_steps, warn};
+use crate::explaining::{explain_fault, explain_refused_steps, explain_verdict, warn};
 use crate::faults::Fault;
 use crate::lines::say;
 use crate::printing::print_text;
@@ -129,6 +129,6 @@ fn explain_end<R: AllocGlobal + Eprint>(
         (_, Err(fault)) => explain_fault(rt, text, fault),
         (Act::Check, Ok(_)) => warn(rt, text),
         (Act::ByCore(Task::Run { .. }), Ok(_)) => explain_refused_steps(rt, text, steps),
-        _ => {}
+        (_, Ok(verdict)) => explain_verdict(rt, text, verdict),
     }
 }
