@@ -154,6 +154,7 @@ fn write_fold(writing: &mut Writing<'_>, number: u64) -> Result<(), AllocError> 
 // ---- books
 
 // What the books are, by what is folded and by the entries so far.
+#[derive(Drop)]
 struct Books {
     commits: u64,
     added: u64,

@@ -48,7 +48,7 @@ Statuses:
   2  a wrong command line
   3  the input is at fault
   4  standard input or output failed
-  5  an audit says no
+  5  an audit says no, or the program itself is wrong
   6  out of memory
   7  a step was refused, with run --strict";
 

@@ -92,15 +92,15 @@ fn receipts_of_folded_entries_are_not_asked_for(rt: HostRuntime) -> Result<(), F
 
 // What the account of g shows: its start, how many actions ended since then and in all, and how many wait.
 #[derive(Clone, Copy, Debug, Drop, PartialEq)]
-struct Shown {
+pub(crate) struct Shown {
     start: Option<i64>,
-    handled: usize,
+    pub(crate) handled: usize,
     number: u64,
     waiting: usize,
 }
 
 #[derive(Drop)]
-struct AccountOf(u32);
+pub(crate) struct AccountOf(pub(crate) u32);
 
 impl Inspection for AccountOf {
     type Seen = Option<Shown>;

@@ -40,6 +40,8 @@ pub mod numbers;
 #[cfg(test)]
 mod same;
 pub mod scenarios;
+#[cfg(test)]
+mod seconds;
 pub mod steps;
 #[cfg(test)]
 mod strangers;
