@@ -7,6 +7,7 @@
 //! | `work`, `ends`, `kept` | agents, how a sink hears of their actions, and what a world has when it comes out again |
 //! | `folds`, `bites` | what is dropped: receipts of folded entries, and actions that ended; a log that is folded in bites |
 //! | `awaits`, `whens` | waiting for agents, and transactions that wait, where neither has to sleep |
+//! | `seconds`, `missing` | each call on the second reference of its kind, and on one that isn't there |
 //! | `strangers` | transactions that were begun in another world |
 //! | `faults` | what faults say |
 //! | `same` | an assertion |
@@ -36,6 +37,8 @@ pub mod jobs;
 mod kept;
 #[cfg(test)]
 mod makings;
+#[cfg(test)]
+mod missing;
 pub mod numbers;
 #[cfg(test)]
 mod same;

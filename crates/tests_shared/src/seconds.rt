@@ -4,7 +4,6 @@ use crate::jobs::work;
 use crate::numbers::int_of;
 use crate::same::same;
 use crate::scenarios::{Scenario, run_to_end};
-use crate::steps::send;
 use crate::worlds::{Stop, action, agent, at_least, int_at, one_arg, plain_start, value};
 use ref_agents::ErrorMode;
 use ref_fun::codes::PLUS;
@@ -20,50 +19,45 @@ use std::sync::Wait;
 use std::sync::ledger::Ledger;
 use std::test::Fail;
 
-// A call on a reference, with a value that it takes, and what it says: a value, a fault, or whether it did so. Where it takes a function,
-// that is `+`. All that is said of a transaction is on the ref, or it sends to the agent.
-type Row = (&'static str, Who, &'static str, &'static str);
+// A call on a reference, with what it takes, and what it says: a number, whether it did so, or a fault. A function is always `+`. A call of
+// a transaction is made in one that is committed, on a ref, or for the agent to which it sends.
+pub(crate) type Row = (&'static str, Who, &'static str, &'static str);
 
-fn said<T: Display, E: Display>(alloc: Global, answer: Result<T, E>) -> Result<String, AllocError> {
+type Said = Result<String, AllocError>;
+
+fn said<T: Display + Drop, E: Display + Drop>(alloc: Global, answer: Result<T, E>) -> Said {
     match answer {
         Ok(answer) => format!(in alloc; "{answer}"),
         Err(fault) => format!(in alloc; "{fault}"),
     }
 }
 
-// An action that carries `+ 1` for another agent.
-fn carrying(alloc: Global, text: &str, g: u32) -> Result<Action, AllocError> {
-    let carry = Carry {
-        g,
-        code: PLUS,
-        args: one_arg(alloc, "1")?,
-    };
-    Ok(Action {
-        code: PLUS,
-        args: one_arg(alloc, text)?,
-        carries: Carries::of(alloc, vec![in alloc; carry]?)?,
-    })
+fn fault<E: Display + Drop>(alloc: Global, answer: Result<(), E>) -> Said {
+    said(alloc, answer.map(|()| "ok"))
 }
 
 fn number(value: &Value) -> i64 {
     int_of(value).unwrap_or(0)
 }
 
-fn in_tx(alloc: Global, tx: &mut Tx<Core>, word: &str, n: u32, text: &str) -> Result<i64, TxFault> {
-    let funs = &CoreFunctions;
-    let value = value(alloc, text)?;
+// An action that carries `+ 1` for an agent.
+fn carrying(alloc: Global, text: &str, g: u32) -> Result<Action, AllocError> {
+    let (code, args) = (PLUS, one_arg(alloc, "1")?);
+    let mut action = action(alloc, PLUS, text)?;
+    action.carries = Carries::of(alloc, vec![in alloc; Carry { g, code, args }]?)?;
+    Ok(action)
+}
+
+fn in_tx(alloc: Global, tx: &mut Tx<Core>, n: u32, row: Row) -> Result<i64, TxFault> {
+    let (funs, (word, _, text, _)) = (&CoreFunctions, row);
     let answer = match word {
         "ensure" => tx.ensure(alloc, n)?,
-        "set" => tx.ref_set(alloc, n, value)?,
+        "set" => tx.ref_set(alloc, n, value(alloc, text)?)?,
         "alter" => tx.alter(alloc, funs, n, PLUS, one_arg(alloc, text)?)?,
         "commute" => tx.commute(alloc, funs, n, PLUS, one_arg(alloc, text)?)?,
-        "require" => {
-            tx.require(funs, n, &at_least(alloc, text)?)?;
-            value
-        }
         "send in tx" => {
             tx.send(alloc, funs, n, action(alloc, PLUS, text)?)?;
-            value
+            return Ok(0);
         }
         _ => tx.deref(n)?.share()?,
     };
@@ -79,58 +73,200 @@ struct On<'a, 'b, R: Wait, C: Ledger, A: Ledger, K: Ledger> {
 }
 
 impl<'a, 'b, R: Wait, C: Ledger, A: Ledger, K: Ledger> On<'a, 'b, R, C, A, K> {
-    fn transact(
-        &self,
-        share: &mut Share<C, A, K>,
-        stamp: Stamp,
-        word: &str,
-        n: u32,
-        text: &str,
-    ) -> Result<String, AllocError> {
-        let (rt, alloc, funs) = (self.rt, self.alloc, &CoreFunctions);
-        let body = |tx: &mut Tx<Core>| in_tx(alloc, tx, word, n, text);
-        let (gate, sink) = (&mut Open, &mut Quiet);
-        let committed = self
-            .shared
-            .transact(rt, alloc, funs, share, stamp, 1, gate, sink, body);
+    fn transact(&self, share: &mut Share<C, A, K>, step: u32, n: u32, row: Row) -> Said {
+        let (rt, alloc, shared, funs) = (self.rt, self.alloc, self.shared, &CoreFunctions);
+        let body = |tx: &mut Tx<Core>| in_tx(alloc, tx, n, row);
+        let (stamp, gate, sink) = (Stamp { worker: 0, step }, &mut Open, &mut Quiet);
+        let committed = shared.transact(rt, alloc, funs, share, stamp, 1, gate, sink, body);
         said(alloc, committed.map(|(answer, _)| answer))
     }
 
-    fn atom(
-        &self,
-        share: &mut Share<C, A, K>,
-        word: &str,
-        a: u32,
-        text: &str,
-    ) -> Result<String, AllocError> {
+    fn atom(&self, share: &mut Share<C, A, K>, a: u32, row: Row) -> Said {
         let (rt, alloc, shared, funs) = (self.rt, self.alloc, self.shared, &CoreFunctions);
-        let value = value(alloc, text)?;
-        if word == "compare" {
-            let compared = shared.compare_and_set(
-                rt,
-                alloc,
-                funs,
-                share,
-                a,
-                &value,
-                value.share()?,
-            );
-            return said(alloc, compared.map(|compared| compared.done));
-        }
-        let changed = if word == "swap" {
-            shared.swap(rt, alloc, funs, share, a, PLUS, one_arg(alloc, text)?)
-        } else {
-            shared.reset(rt, alloc, funs, share, a, value)
+        let (word, _, text, _) = row;
+        let changed = match word {
+            "swap" => shared.swap(rt, alloc, funs, share, a, PLUS, one_arg(alloc, text)?),
+            "reset" => shared.reset(rt, alloc, funs, share, a, value(alloc, text)?),
+            _ => {
+                let (old, new) = (value(alloc, text)?, value(alloc, "53")?);
+                let compared = shared.compare_and_set(rt, alloc, funs, share, a, &old, new);
+                return said(alloc, compared.map(|compared| compared.done));
+            }
         };
         said(alloc, changed.map(|changed| number(&changed.new)))
     }
 
-    fn agent(&self, word: &str, g: u32, text: &str) -> Result<String, AllocError> {
-        let (rt, alloc, shared) = (self.rt, self.alloc, self.shared);
-        let did = match word {
+    fn agent(&self, g: u32, row: Row) -> Said {
+        let (rt, alloc, shared, funs) = (self.rt, self.alloc, self.shared, &CoreFunctions);
+        let (word, _, text, _) = row;
+        let answer = match word {
             "send" => shared.send(rt, alloc, g, action(alloc, PLUS, text)?),
-            _ => Ok(()),
+            // With `+ 1` for the next agent.
+            "carry" => shared.send(rt, alloc, g, carrying(alloc, text, g.saturating_add(1))?),
+            "restart" => {
+                let state = value(alloc, text)?;
+                return fault(alloc, shared.restart(rt, alloc, funs, g, state, false));
+            }
+            "continue" => return fault(alloc, shared.set_error_mode(rt, g, ErrorMode::Continue)),
+            "await" => return fault(alloc, shared.await_agents(rt, alloc, &[g])),
+            "error" => return fault(alloc, shared.error_of(rt, g).map_or(Ok(()), Err)),
+            "fold" => return said(alloc, shared.fold_agent(rt, g)),
+            "release" => return format!(in alloc; "{}", shared.release_carried(rt, g)),
+            // Whether an action of this agent was run.
+            _ => return format!(in alloc; "{}", work(rt, alloc, shared) == Ok(Worked::Did(g))),
         };
-        said(alloc, did.map(|()| "ok"))
+        fault(alloc, answer)
     }
+
+    fn make(&self, share: &mut Share<C, A, K>, step: u32, row: Row) -> Said {
+        let (rt, alloc, shared, funs) = (self.rt, self.alloc, self.shared, &CoreFunctions);
+        let (word, who, text, _) = row;
+        match (word, who) {
+            ("value", _) => format!(in alloc; "{:?}", int_at(rt, shared, who)),
+            ("rule", _) => {
+                let rule = at_least(alloc, text)?;
+                fault(alloc, shared.set_validator(rt, funs, who, Some(rule)))
+            }
+            ("no rule", _) => fault(alloc, shared.set_validator(rt, funs, who, None)),
+            ("watch", _) => said(alloc, shared.add_watch(rt, alloc, who, value(alloc, ":k")?)),
+            ("unwatch", _) => {
+                let key = value(alloc, ":k")?;
+                format!(in alloc; "{}", shared.remove_watch(rt, who, &key))
+            }
+            ("send in tx", Who::Agent(n)) | (_, Who::Ref(n)) => self.transact(share, step, n, row),
+            (_, Who::Atom(a)) => self.atom(share, a, row),
+            (_, Who::Agent(g)) => self.agent(g, row),
+        }
+    }
+}
+
+// Rows in a closed world, so that no call waits.
+#[derive(Clone, Copy, Drop)]
+pub(crate) struct Rows(pub(crate) &'static [Row]);
+
+impl<R: Wait> Scenario<R> for Rows {
+    // The first row by which a call says something else, and what it says; and then the numbers of the first ref, atom and agent, of the
+    // second ones, and so on, 0 where there is none.
+    type Outcome = (Option<(Row, String)>, Vec<i64>);
+
+    fn run<C: Ledger, A: Ledger, K: Ledger>(
+        &self,
+        rt: &R,
+        alloc: Global,
+        shared: &Shared<Core, C, A, K>,
+        share: &mut Share<C, A, K>,
+    ) -> Result<(Option<(Row, String)>, Vec<i64>), Stop> {
+        shared.close(rt);
+        let on = On { rt, alloc, shared };
+        let mut wrong = None;
+        for (step, row) in (0..1_000u32).zip(self.0) {
+            let answer = on.make(share, step, *row)?;
+            if wrong.is_none() && answer.as_str() != row.3 {
+                wrong = Some((*row, answer));
+            }
+        }
+        let mut numbers = Vec::new(alloc);
+        for n in 0..5u32 {
+            for who in [Who::Ref(n), Who::Atom(n), Who::Agent(n)] {
+                numbers.push(int_at(rt, shared, who).unwrap_or(0))?;
+            }
+        }
+        Ok((wrong, numbers))
+    }
+}
+
+pub(crate) fn start(alloc: Global) -> Result<Start, AllocError> {
+    let mut start = plain_start(alloc, "10 20 30", "40 50 60 70")?;
+    for text in ["80", "90", "100", "110", "120"] {
+        start.agents.push(agent(value(alloc, text)?, None))?;
+    }
+    Ok(start)
+}
+
+const R1: Who = Who::Ref(1);
+
+const A1: Who = Who::Atom(1);
+
+const G0: Who = Who::Agent(0);
+
+const G1: Who = Who::Agent(1);
+
+const G2: Who = Who::Agent(2);
+
+const INVALID: &str = "the rule doesn't accept the value";
+
+const REF_1_INVALID: &str = "the commit was refused: the rule of ref 1 doesn't accept its value";
+
+const ROWS: &[Row] = &[
+    ("deref", R1, "", "20"),
+    ("ensure", R1, "", "20"),
+    ("set", R1, "21", "21"),
+    ("alter", R1, "2", "23"),
+    ("commute", R1, "3", "26"),
+    ("rule", R1, "26", "ok"),
+    ("set", R1, "25", REF_1_INVALID),
+    ("no rule", R1, "", "ok"),
+    ("set", R1, "25", "25"),
+    ("swap", A1, "1", "51"),
+    ("reset", A1, "52", "52"),
+    ("compare", A1, "40", "false"),
+    ("compare", A1, "52", "true"),
+    ("rule", A1, "53", "ok"),
+    ("reset", A1, "51", INVALID),
+    ("no rule", A1, "", "ok"),
+    ("reset", A1, "51", "51"),
+    ("send", G1, "1", "ok"),
+    ("await", G1, "", "closed before all was done"),
+    ("await", G0, "", "ok"),
+    ("work", G1, "", "true"),
+    ("send in tx", G1, "2", "0"),
+    ("work", G1, "", "true"),
+    ("carry", G1, "3", "ok"),
+    ("work", G1, "", "true"),
+    ("release", G1, "", "false"),
+    ("work", G2, "", "true"),
+    ("rule", G1, "96", "ok"),
+    ("send", G0, ":k", "ok"),
+    ("work", G0, "", "true"),
+    ("error", G1, "", "ok"),
+    ("send", G1, "-1", "ok"),
+    ("send", G1, "1", "ok"),
+    ("work", G1, "", "true"),
+    ("error", G1, "", INVALID),
+    ("await", G1, "", "agent 1 is failed"),
+    ("restart", G1, "97", "ok"),
+    ("error", G1, "", "ok"),
+    ("error", G0, "", "refused: wrong kind of value"),
+    ("work", G1, "", "true"),
+    ("continue", G1, "", "ok"),
+    ("send", G1, ":k", "ok"),
+    ("work", G1, "", "true"),
+    ("error", G1, "", "ok"),
+    ("send", G2, ":k", "ok"),
+    ("work", G2, "", "true"),
+    ("error", G2, "", "refused: wrong kind of value"),
+    ("watch", R1, "", "true"),
+    ("watch", A1, "", "true"),
+    ("watch", G1, "", "true"),
+    ("unwatch", Who::Ref(0), "", "false"),
+    ("unwatch", Who::Atom(0), "", "false"),
+    ("unwatch", G0, "", "false"),
+    ("unwatch", R1, "", "true"),
+    ("unwatch", A1, "", "true"),
+    ("unwatch", G1, "", "true"),
+    ("fold", G1, "", "true"),
+];
+
+// With the count of actions of an agent that are left behind the fold.
+#[test]
+fn a_call_reaches_the_second_of_its_kind_alone(rt: HostRuntime) -> Result<(), Fail> {
+    let (alloc, rows) = (rt.alloc(), Rows(ROWS));
+    for (g, left) in [(0, 1), (1, 0), (2, 2)] {
+        let (seen, shown) = run_to_end(&rt, alloc, start(alloc)?, &rows, &AccountOf(g))?;
+        let handled = shown.map(|shown| shown.handled);
+        same(&rt, (seen.0, g, handled), (None, g, Some(left)));
+        let numbers = [10, 40, 80, 25, 51, 98, 30, 60, 101, 0, 70, 110, 0, 0, 120];
+        same(&rt, seen.1.as_slice(), &numbers);
+    }
+    Ok(())
 }

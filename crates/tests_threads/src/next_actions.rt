@@ -1,26 +1,27 @@
-//! Who waits for an agent gets the next action as soon as it may be taken: one that was carried once it is released, and an agent's
-//! next one before the sink has taken the notices of the last.
+//! Who waits for an agent gets the next action as soon as it may be taken: one that was carried once it is released, an agent's next one
+//! before the sink has taken the notices of the last, and the one behind an action that was passed over with what it carried.
 ghost use Rattle.std.specs.Prelude.{◌≡◌};
 ghost use Rattle.ref_world.specs.Shares.{IsBlank};
 
 use crate::flags::Flags;
-use crate::side_by_side::{take_turns, work_next};
+use crate::side_by_side::{take_turns, work_first, work_next};
 use crate::waits::{Meet, wait_for};
+use ref_agents::ErrorMode;
 use ref_fun::codes::PLUS;
 use ref_fun::{Action, Carries, Carry, Core, CoreFunctions};
 use ref_log::{Notice, Who};
-use ref_shared::{Shared, WatchSink, Worked};
+use ref_shared::{AwaitFault, Shared, WatchSink, Worked};
 use ref_world::ALL_PARTS;
 use std::alloc::{AllocError, Global};
 use std::marker::Brand;
 use std::sync::Wait;
-use std::sync::atomic::AtomicBool;
+use std::sync::atomic::{AtomicBool, Ordering};
 use std::sync::ledger::{Blank, Ledger};
 use std::test::Fail;
 use std::thread;
 use std::thread::Threads;
 use std::time::Clock;
-use tests_shared::jobs::{Work, agents_at, two_agents};
+use tests_shared::jobs::{Work, agents_at, two_agents, work};
 use tests_shared::steps::{send, watch};
 use tests_shared::worlds::{Stop, done, one_arg, opened};
 
@@ -34,8 +35,8 @@ struct Turns {
 
 // ---- One that was carried
 
-// For g `+ 1`, which carries `+ 4` for h.
-fn carrying(alloc: Global) -> Result<Action, AllocError> {
+// For g `+` with this argument, which carries `+ 4` for h.
+fn carrying(alloc: Global, text: &str) -> Result<Action, AllocError> {
     let to_h = Carry {
         g: 1,
         code: PLUS,
@@ -43,7 +44,7 @@ fn carrying(alloc: Global) -> Result<Action, AllocError> {
     };
     Ok(Action {
         code: PLUS,
-        args: one_arg(alloc, "1")?,
+        args: one_arg(alloc, text)?,
         carries: Carries::of(alloc, vec![in alloc; to_h]?)?,
     })
 }
@@ -59,7 +60,7 @@ fn try_carried<
     requires taken { IsBlank taken K.name K.parts }
 {
     let (shared, _share) = opened::<C, A, K>(alloc, two_agents(alloc)?, commits, added, taken)?;
-    done(shared.send(rt, alloc, 0, carrying(alloc)?))?;
+    done(shared.send(rt, alloc, 0, carrying(alloc, "1")?))?;
     let (next, first) = take_turns(rt, alloc, &shared);
     Ok(Turns {
         first,
@@ -178,5 +179,104 @@ fn the_next_action_does_not_wait_for_the_sink(rt: HostRuntime) -> Result<(), Fai
         values: (Some(3), Some(0)),
     };
     assert_eq!(rt; turns, wanted);
+    Ok(())
+}
+
+// ---- One that is passed over
+
+// Waits while the first action of g is on its way: for g, or for an action of g to run. Returns whether this went well, and whether it came
+// in time.
+fn wait_next<R: AllocGlobal + Wait + Clock, C: Ledger, A: Ledger, K: Ledger>(
+    rt: &R,
+    shared: &Shared<Core, C, A, K>,
+    awaits: bool,
+    flags: &Flags,
+) -> (bool, bool) {
+    let in_time = wait_for(rt, &flags.first);
+    flags.second.store(true, Ordering::SeqCst);
+    let went = if awaits {
+        shared.await_agents(rt, rt.alloc(), &[0]).is_ok()
+    } else {
+        work(rt, rt.alloc(), shared) == Ok(Worked::Did(0))
+    };
+    flags.third.store(true, Ordering::SeqCst);
+    (went, in_time)
+}
+
+fn wait_and_pass<
+    C: Ledger + Send + Sync,
+    A: Ledger + Send + Sync,
+    K: Ledger + Send + Sync,
+    R: AllocGlobal + Threads + Wait + Clock + Sync,
+>(rt: &R, shared: &Shared<Core, C, A, K>, awaits: bool) -> ((bool, bool), (Work, bool)) {
+    let flags = Flags::new();
+    let lent = &flags;
+    let (next, first) = thread::join(
+        rt,
+        move || wait_next(rt, shared, awaits, lent),
+        move || work_first(rt, rt.alloc(), shared, &CoreFunctions, lent),
+    );
+    (next, first)
+}
+
+// What each thread did and whether the other was there in time, whether nothing is left for h, and what the agents are then.
+#[derive(Debug, Drop, PartialEq)]
+struct Passed {
+    next: (bool, bool),
+    first: (Work, bool),
+    rest: Result<(), AwaitFault>,
+    values: (Option<i64>, Option<i64>),
+}
+
+// g goes on where an action fails. If it isn't waited for, `+ 2` stands behind the action that is passed over.
+fn try_passing<
+    C: Ledger + Send + Sync,
+    A: Ledger + Send + Sync,
+    K: Ledger + Send + Sync,
+    R: AllocGlobal + Threads + Wait + Clock + Sync,
+>(rt: &R, awaits: bool, commits: Blank, added: Blank, taken: Blank) -> Result<Passed, Stop>
+    requires commits { IsBlank commits C.name C.parts }
+    requires added { IsBlank added A.name A.parts }
+    requires taken { IsBlank taken K.name K.parts }
+{
+    let alloc = rt.alloc();
+    let (shared, _share) = opened::<C, A, K>(alloc, two_agents(alloc)?, commits, added, taken)?;
+    done(shared.set_error_mode(rt, 0, ErrorMode::Continue))?;
+    done(shared.send(rt, alloc, 0, carrying(alloc, ":k")?))?;
+    if !awaits {
+        send(rt, alloc, &shared, 0, PLUS, "2")?;
+    }
+    let (next, first) = wait_and_pass(rt, &shared, awaits);
+    Ok(Passed {
+        next,
+        first,
+        rest: shared.await_agents(rt, alloc, &[1]),
+        values: agents_at(rt, &shared),
+    })
+}
+
+fn passed<R: AllocGlobal + Threads + Wait + Clock + Sync>(
+    rt: &R,
+    awaits: bool,
+) -> Result<Passed, Stop> {
+    let (commits, added, taken) = (
+        Blank::new(ALL_PARTS),
+        Blank::new(ALL_PARTS),
+        Blank::new(ALL_PARTS),
+    );
+    try_passing::<Brand, Brand, Brand, R>(rt, awaits, commits, added, taken)
+}
+
+#[test]
+fn an_action_that_carries_and_is_passed_over_wakes_who_waits(rt: HostRuntime) -> Result<(), Fail> {
+    for (awaits, value) in [(true, 0), (false, 2)] {
+        let wanted = Passed {
+            next: (true, true),
+            first: (Ok(Worked::Did(0)), true),
+            rest: Ok(()),
+            values: (Some(value), Some(0)),
+        };
+        assert_eq!(rt; passed(&rt, awaits)?, wanted);
+    }
     Ok(())
 }
