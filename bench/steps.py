@@ -1,7 +1,7 @@
 #!/usr/bin/env python3
 """Measures `refrun run` on one worker that alters one ref in each step, at N and at 2 N steps.
 
-steps.sh calls this: steps.py REFRUN [--steps N] [--rounds N] [SHAPE..]. The shapes are
+steps.sh calls this: steps.py REFRUN [--against PROGRAM] [--steps N] [--rounds N] [SHAPE..]. The shapes are
 
 sum       an integer, and `+` of 1 in each step
 vector    a vector, which gets one element more by `conj` in each step
@@ -67,28 +67,34 @@ def run_once(refrun, text, steps):
     return took, used.ru_maxrss
 
 
-def measured(refrun, folder, shape, steps, rounds):
-    """The least of the seconds, and the most of the KiB."""
+def measured(programs, folder, shape, steps, rounds):
+    """The least of the seconds and the most of the KiB of each program, in turns."""
     path = f"{folder}/{shape}-{steps}.edn"
     with open(path, "w", encoding="utf-8", newline="\n") as out:
         out.write(workload(shape, steps))
-    runs = [run_once(refrun, path, steps) for _ in range(rounds)]
-    return min(took for took, _ in runs), max(peak for _, peak in runs)
+    turns = [[run_once(refrun, path, steps) for refrun in programs] for _ in range(rounds)]
+    return [(min(took for took, _ in runs), max(peak for _, peak in runs)) for runs in zip(*turns)]
 
 
-def measure(refrun, folder, shape, steps, rounds):
+def beside(older, ours):
+    """What an older build takes over what ours takes."""
+    return "".join(f"; the older build {it[0] / ours[0]:.2f} times the time, {it[1] / ours[1]:.2f} the memory" for it in older)
+
+
+def measure(programs, folder, shape, steps, rounds):
     """Prints the figures of a shape at so many steps and at twice as many."""
-    once = measured(refrun, folder, shape, steps, rounds)
-    print(f"{shape:<8} {steps:>6} steps {once[0]:8.2f} s {once[1] / 1024:9.1f} MiB", flush=True)
-    twice = measured(refrun, folder, shape, 2 * steps, rounds)
+    once, *older = measured(programs, folder, shape, steps, rounds)
+    print(f"{shape:<8} {steps:>6} steps {once[0]:8.2f} s {once[1] / 1024:9.1f} MiB{beside(older, once)}", flush=True)
+    twice, *older = measured(programs, folder, shape, 2 * steps, rounds)
     print(f"{shape:<8} {2 * steps:>6} steps {twice[0]:8.2f} s {twice[1] / 1024:9.1f} MiB:"
-          f" {twice[0] / once[0]:.1f} times as long, {twice[1] / once[1]:.1f} times the memory", flush=True)
+          f" {twice[0] / once[0]:.1f} times as long, {twice[1] / once[1]:.1f} times the memory{beside(older, twice)}", flush=True)
 
 
 def main():
     said = argparse.ArgumentParser(description=__doc__, formatter_class=argparse.RawDescriptionHelpFormatter)
     said.add_argument("refrun")
     said.add_argument("shapes", nargs="*", metavar="SHAPE", help=", ".join(SHAPES))
+    said.add_argument("--against", metavar="PROGRAM", help="an older build, to be measured in the same turns")
     said.add_argument("--steps", type=int, default=MOST_STEPS // 2, help="of the smaller run; at most 5,000")
     said.add_argument("--rounds", type=int, default=3, help="of each run: the best time, the highest peak")
     given = said.parse_intermixed_args()
@@ -104,7 +110,7 @@ def main():
     with tempfile.TemporaryDirectory() as folder:
         for shape in given.shapes or SHAPES:
             try:
-                measure(given.refrun, folder, shape, given.steps, given.rounds)
+                measure([given.refrun, *([given.against] if given.against else [])], folder, shape, given.steps, given.rounds)
             except Refused as why:
                 print(f"{shape}: skipped from here on: {why}")
                 refused += 1

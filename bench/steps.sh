@@ -1,7 +1,7 @@
 #!/bin/sh
 # Measures how long a run takes, and how much memory, as its one worker makes twice as many steps:
 #
-#   bench/steps.sh [--steps N] [--rounds N] [SHAPE..]
+#   bench/steps.sh [--against PROGRAM] [--steps N] [--rounds N] [SHAPE..]
 #
 # README.md beside this says what the figures mean. Where the program isn't built yet, this builds it first.
 set -eu

@@ -1,7 +1,7 @@
 #!/usr/bin/env python3
 """Measures `refrun run` on a standard set of workloads, next to Clojure.
 
-workloads.sh calls this: workloads.py PROGRAM [--steps N] [--rounds N] [--warm-up S] [SHAPE..]. The shapes are
+workloads.sh calls this: workloads.py PROGRAM [--against PROGRAM] [--steps N] [--rounds N] [--warm-up S] [SHAPE..]. The shapes are
 
 alter-1, alter-4, alter-64          so many workers add 1 to one ref by alter
 commute-1, commute-4, commute-64    the same by commute
@@ -78,17 +78,24 @@ class Measured:
     peak: int
 
 
-def measured(program, text, wanted, rounds):
-    pairs = []
-    for _ in range(rounds):
-        check, _, lines = run_once([program, "check"], text)
-        if lines != ["workload ok"]:
-            raise Wrong(f"check says {lines[:1]}")
-        run, peak, lines = run_once([program, *RUN], text)
-        check_report(lines, wanted)
-        pairs.append((run, check, run - check, peak))
-    runs, checks, between, peaks = zip(*pairs)
-    return Measured(statistics.median(runs), statistics.median(checks), statistics.median(between), max(peaks))
+def turn(program, text, wanted):
+    """The seconds of one `run`, of one `check`, and of what is between them, and the KiB of the `run`."""
+    check, _, lines = run_once([program, "check"], text)
+    if lines != ["workload ok"]:
+        raise Wrong(f"check says {lines[:1]}")
+    run, peak, lines = run_once([program, *RUN], text)
+    check_report(lines, wanted)
+    return run, check, run - check, peak
+
+
+def measured(programs, text, wanted, rounds):
+    """What each of the programs takes, in turns."""
+    turns = [[turn(program, text, wanted) for program in programs] for _ in range(rounds)]
+    found = []
+    for of_one in zip(*turns):
+        runs, checks, between, peaks = zip(*of_one)
+        found.append(Measured(statistics.median(runs), statistics.median(checks), statistics.median(between), max(peaks)))
+    return found
 
 
 def peer(words, text, wanted, rounds, warm_up):
@@ -103,9 +110,20 @@ def a_second(steps, seconds):
     return f"{steps / seconds:,.0f}" if seconds > 0 else "too short"
 
 
-def head(words):
+def head(words, has_older):
     print(f"{'shape':<16}{'workers':>8}{'steps':>9}{'a second':>12}{'run s':>8}{'check s':>9}{'MiB':>9}"
-          f"{'twice: time':>14}{'memory':>8}" + (f"{'Clojure a second':>19}{'its time over ours':>20}" if words else ""))
+          f"{'twice: time':>14}{'memory':>8}" + (f"{'older: time':>14}{'check':>8}{'memory':>8}" if has_older else "")
+          + (f"{'Clojure a second':>19}{'its time over ours':>20}" if words else ""))
+
+
+def over(theirs, ours):
+    """A ratio, or that the time is too short to tell."""
+    return f"{theirs / ours:.2f}" if ours > 0 else "-"
+
+
+def beside_older(older, ours):
+    """What an older build takes over what ours takes."""
+    return f"{over(older.between, ours.between):>14}{over(older.check, ours.check):>8}{over(older.peak, ours.peak):>8}"
 
 
 class Targets:
@@ -127,37 +145,44 @@ class Targets:
 
 
 def measure(name, given, words, folder, targets):
-    """Prints the row of a shape, and answers the text of its greater workload and the seconds of its check."""
+    """Prints the row of a shape, and answers the text of its greater workload and what each program takes for it."""
     shape = SHAPES[name]
     each = MOST_STEPS // 2 if name == "limits" else min(max(1, given.steps // shape.workers), MOST_STEPS // 2)
     small, large = f"{folder}/{name}.edn", f"{folder}/{name}-twice.edn"
     wanted = write(small, shape, each)
-    once = measured(given.program, small, wanted, given.rounds)
-    twice = measured(given.program, large, write(large, shape, 2 * each), given.rounds)
+    programs = [given.program, *([given.against] if given.against else [])]
+    once, *older = measured(programs, small, wanted, given.rounds)
+    both = measured(programs, large, write(large, shape, 2 * each), given.rounds)
+    twice = both[0]
     growth = (twice.between / once.between if once.between > 0 else float("nan")), twice.peak / once.peak
     cells = (f"{name:<16}{shape.workers:>8}{wanted.steps:>9,}{a_second(wanted.steps, once.between):>12}{once.run:>8.3f}"
              f"{once.check:>9.3f}{once.peak / 1024:>9.1f}{growth[0]:>14.2f}{growth[1]:>8.2f}")
     targets.count(name, *growth)
+    cells += "".join(beside_older(it, once) for it in older)
     if words:
         theirs = peer(words, small, wanted, given.rounds, given.warm_up)
         cells += f"{a_second(wanted.steps, theirs):>19}{theirs / once.between:>20.2f}"
     print(cells, flush=True)
-    return large, twice
+    return large, both
 
 
-def tell_limits(text, twice, steps):
+def tell_limits(text, both, steps):
     """What a workload at all limits takes, and how fast it is checked."""
     size = os.path.getsize(text) / MIB
+    twice, *older = both
     print(f"limits with {steps:,} steps: {a_second(steps, twice.between)} a second, {twice.run:.3f} s,"
           f" {twice.peak / 1024:,.1f} MiB, which is {twice.peak / 1024 / size:.1f} times the text")
     print(f"check of that text: {size:.1f} MiB in {twice.check:.3f} s, {size / twice.check:.1f} MiB a second,"
           f" of which the target is {LEAST_CHECKED}")
+    for it in older:
+        print(f"the older build: run {it.run:.3f} s in {it.peak / 1024:,.1f} MiB, check {it.check:.3f} s, {size / it.check:.1f} MiB a second")
 
 
 def arguments():
     said = argparse.ArgumentParser(description=__doc__, formatter_class=argparse.RawDescriptionHelpFormatter)
     said.add_argument("program")
     said.add_argument("shapes", nargs="*", metavar="SHAPE", help="of those above; all where none is named")
+    said.add_argument("--against", metavar="PROGRAM", help="an older build, to be measured in the same turns: its time and memory over ours")
     said.add_argument("--steps", type=int, default=20_000, help="of all workers; at most 5,000 of each, and those of limits are fixed")
     said.add_argument("--rounds", type=int, default=5, help="of which the median counts")
     said.add_argument("--warm-up", type=float, default=5, help="seconds that Clojure gets before")
@@ -177,15 +202,15 @@ def main():
     print("'a second' is steps over the time of run less that of check, and so is the growth of time; MiB are of run")
     if not words:
         print("clojure is not installed: its figures are skipped")
-    head(words)
+    head(words, given.against)
     targets = Targets()
     failed = 0
     with tempfile.TemporaryDirectory() as folder:
         for name in given.shapes or SHAPES:
             try:
-                text, twice = measure(name, given, words, folder, targets)
+                text, both = measure(name, given, words, folder, targets)
                 if name == "limits":
-                    tell_limits(text, twice, SHAPES[name].workers * MOST_STEPS)
+                    tell_limits(text, both, SHAPES[name].workers * MOST_STEPS)
             except (Refused, Wrong) as why:
                 print(f"{name}: {why}", flush=True)
                 failed += 1

@@ -1,7 +1,7 @@
 #!/bin/sh
 # Measures whole workloads by `refrun run`, beside Clojure where it is there:
 #
-#   bench/workloads.sh [--steps N] [--rounds N] [--warm-up S] [SHAPE..]
+#   bench/workloads.sh [--against PROGRAM] [--steps N] [--rounds N] [--warm-up S] [SHAPE..]
 #
 # README.md beside this says what the figures mean. $REFRUN names the program to measure; without it, it is the one of this
 # repository, which is built first where it isn't yet.
