@@ -12,6 +12,12 @@ const A: Who = Who::Atom(4);
 
 const G: Who = Who::Agent(5);
 
+const LAST_REF: Who = Who::Ref(2);
+
+const LAST_ATOM: Who = Who::Atom(3);
+
+const LAST_AGENT: Who = Who::Agent(4);
+
 const NO_REF: &str = "the body ended it: no such ref";
 
 const NO_ATOM: &str = "there is no such atom";
@@ -20,7 +26,7 @@ const NO_AGENT: &str = "there is no such agent";
 
 const NONE: &str = "there is no such reference";
 
-// Then what could have been changed.
+// Each last one is watched, and the last agent fails: so it would be seen if a call were made on it.
 const MISSING: &[Row] = &[
     ("deref", R, "", NO_REF),
     ("ensure", R, "", NO_REF),
@@ -32,10 +38,8 @@ const MISSING: &[Row] = &[
     ("reset", A, "1", NO_ATOM),
     ("compare", A, "70", NO_ATOM),
     ("send", G, "1", NO_AGENT),
-    ("carry", Who::Agent(4), "1", NO_AGENT),
-    ("restart", G, "1", NO_AGENT),
+    ("carry", LAST_AGENT, "1", NO_AGENT),
     ("continue", G, "", NO_AGENT),
-    ("error", G, "", "ok"),
     ("release", G, "", "false"),
     ("value", R, "", "None"),
     ("value", A, "", "None"),
@@ -46,13 +50,21 @@ const MISSING: &[Row] = &[
     ("watch", R, "", NONE),
     ("watch", A, "", NONE),
     ("watch", G, "", NONE),
+    ("watch", LAST_REF, "", "true"),
+    ("watch", LAST_ATOM, "", "true"),
+    ("watch", LAST_AGENT, "", "true"),
     ("unwatch", R, "", "false"),
     ("unwatch", A, "", "false"),
     ("unwatch", G, "", "false"),
-    ("unwatch", Who::Ref(0), "", "false"),
-    ("unwatch", Who::Atom(3), "", "false"),
-    ("unwatch", Who::Agent(4), "", "false"),
-    ("work", Who::Agent(4), "", "false"),
+    ("unwatch", LAST_REF, "", "true"),
+    ("unwatch", LAST_ATOM, "", "true"),
+    ("unwatch", LAST_AGENT, "", "true"),
+    ("send", LAST_AGENT, ":k", "ok"),
+    ("work", LAST_AGENT, "", "true"),
+    ("error", LAST_AGENT, "", "refused: wrong kind of value"),
+    ("error", G, "", "ok"),
+    ("restart", G, "1", NO_AGENT),
+    ("work", LAST_AGENT, "", "false"),
 ];
 
 #[test]
