@@ -255,7 +255,7 @@ fn try_passing<
     })
 }
 
-fn passed<R: AllocGlobal + Threads + Wait + Clock + Sync>(
+fn pass_over<R: AllocGlobal + Threads + Wait + Clock + Sync>(
     rt: &R,
     awaits: bool,
 ) -> Result<Passed, Stop> {
@@ -276,7 +276,7 @@ fn an_action_that_carries_and_is_passed_over_wakes_who_waits(rt: HostRuntime) ->
             rest: Ok(()),
             values: (Some(value), Some(0)),
         };
-        assert_eq!(rt; passed(&rt, awaits)?, wanted);
+        assert_eq!(rt; pass_over(&rt, awaits)?, wanted);
     }
     Ok(())
 }

@@ -1,4 +1,4 @@
-use Rattle.tests_threads.proofs.next_actions.passed.Given as goal
+use Rattle.tests_threads.proofs.next_actions.pass_over.Given as goal
 
 abbrev pub ghosts-try_passing-C-Ledger : goal.ghosts-try_passing-C-Ledger
 ghosts-try_passing-C-Ledger g a = record { name = a.commits.name; parts = a.commits.parts }
