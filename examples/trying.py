@@ -37,7 +37,7 @@ def printed(text):
 
 
 def refused(status, words):
-    """What is wanted where the text is refused: one line on standard error, and nothing on standard output."""
+    """What is wanted where the text is refused: one line on standard error, and nothing on standard output. More lines may follow."""
     return b"", f"refrun: {words}\n".encode(), status
 
 
@@ -97,8 +97,8 @@ def rows_of(file):
 
 def wanted_of(lines):
     """What is wanted where these lines stand."""
-    fault = re.fullmatch(r"!! (\d) (.*)", lines[0]) if len(lines) == 1 else None
-    return refused(int(fault[1]), fault[2]) if fault else printed(joined(lines))
+    fault = re.fullmatch(r"!! (\d) (.*)", "\n".join(lines), re.DOTALL)
+    return refused(int(fault[1]), fault[2].replace("EXAMPLES", str(HERE))) if fault else printed(joined(lines))
 
 
 def shown_rows(file):

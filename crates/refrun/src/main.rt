@@ -157,7 +157,9 @@ fn no_workload<R: AllocGlobal + Eprint>(
     ensures { is_early result ≡ true }
 {
     let status = say(rt, Fault::Run(fault));
-    let _said = eprintln!(rt; "in {file}, the file of --names");
+    if fault != RunFault::Memory {
+        let _said = eprintln!(rt; "in {file}, the file of --names");
+    }
     if let Some(text) = text {
         explain_fault(rt, text, Fault::Run(fault));
     }

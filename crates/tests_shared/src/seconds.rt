@@ -121,21 +121,29 @@ impl<'a, 'b, R: Wait, C: Ledger, A: Ledger, K: Ledger> On<'a, 'b, R, C, A, K> {
     fn make(&self, share: &mut Share<C, A, K>, step: u32, row: Row) -> Said {
         let (rt, alloc, shared, funs) = (self.rt, self.alloc, self.shared, &CoreFunctions);
         let (word, who, text, _) = row;
-        match (word, who) {
-            ("value", _) => format!(in alloc; "{:?}", int_at(rt, shared, who)),
-            ("rule", _) => {
+        match word {
+            "value" => format!(in alloc; "{:?}", int_at(rt, shared, who)),
+            "rule" => {
                 let rule = at_least(alloc, text)?;
                 fault(alloc, shared.set_validator(rt, funs, who, Some(rule)))
             }
-            ("no rule", _) => fault(alloc, shared.set_validator(rt, funs, who, None)),
-            ("watch", _) => said(alloc, shared.add_watch(rt, alloc, who, value(alloc, ":k")?)),
-            ("unwatch", _) => {
+            "no rule" => fault(alloc, shared.set_validator(rt, funs, who, None)),
+            "watch" => said(alloc, shared.add_watch(rt, alloc, who, value(alloc, ":k")?)),
+            "unwatch" => {
                 let key = value(alloc, ":k")?;
                 format!(in alloc; "{}", shared.remove_watch(rt, who, &key))
             }
-            ("send in tx", Who::Agent(n)) | (_, Who::Ref(n)) => self.transact(share, step, n, row),
-            (_, Who::Atom(a)) => self.atom(share, a, row),
-            (_, Who::Agent(g)) => self.agent(g, row),
+            _ => self.change(share, step, row),
+        }
+    }
+
+    fn change(&self, share: &mut Share<C, A, K>, step: u32, row: Row) -> Said {
+        let (word, who, _, _) = row;
+        match who {
+            Who::Ref(n) => self.transact(share, step, n, row),
+            Who::Atom(a) => self.atom(share, a, row),
+            Who::Agent(g) if word == "send in tx" => self.transact(share, step, g, row),
+            Who::Agent(g) => self.agent(g, row),
         }
     }
 }
