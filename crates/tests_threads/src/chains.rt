@@ -8,7 +8,7 @@ use ref_fun::{Action, Args, Carries, Carry, Core};
 use ref_log::Who;
 use ref_shared::Shared;
 use ref_value::{Node, Value};
-use ref_world::{ALL_PARTS, Start, World};
+use ref_world::{ALL_PARTS, Share, Start, World};
 use std::alloc::{AllocError, Global};
 use std::marker::Brand;
 use std::sync::Wait;
@@ -164,6 +164,19 @@ fn first_wrong<C: Ledger, A: Ledger, K: Ledger>(world: &World<Core, C, A, K>) ->
     None
 }
 
+// How many actions were run, and the first agent that isn't as it should be at the end.
+fn wrong_at_end<C: Ledger, A: Ledger, K: Ledger>(
+    alloc: Global,
+    shared: Shared<Core, C, A, K>,
+    share: Share<C, A, K>,
+    ran: u32,
+) -> Result<(u32, Option<u32>), Stop> {
+    match closed(alloc, shared, share) {
+        Ok((world, _totals)) => Ok((ran, first_wrong(&world))),
+        Err(stop) => Err(stop),
+    }
+}
+
 fn try_all<
     C: Ledger + Send + Sync,
     A: Ledger + Send + Sync,
@@ -180,10 +193,13 @@ fn try_all<
     requires added { IsBlank added A.name A.parts }
     requires taken { IsBlank taken K.name K.parts }
 {
-    let (shared, share) = opened::<C, A, K>(alloc, start(alloc)?, commits, added, taken)?;
-    let ran = five(rt, alloc, &shared)?;
-    let (world, _totals) = closed(alloc, shared, share)?;
-    Ok((ran, first_wrong(&world)))
+    match opened::<C, A, K>(alloc, start(alloc)?, commits, added, taken) {
+        Ok((shared, share)) => match five(rt, alloc, &shared) {
+            Ok(ran) => wrong_at_end(alloc, shared, share, ran),
+            Err(stop) => Err(stop),
+        },
+        Err(stop) => Err(stop),
+    }
 }
 
 #[test]

@@ -152,6 +152,25 @@ fn send_both(alloc: Global, tx: &mut Tx<Core>) -> Result<(), Stop> {
     send_four(alloc, tx)
 }
 
+// Commits both sends, and releases them while two wait.
+fn commit_and_see<
+    C: Ledger + Send + Sync,
+    A: Ledger + Send + Sync,
+    K: Ledger + Send + Sync,
+    R: AllocGlobal + Threads + Wait + Clock + Sync,
+>(
+    rt: &R,
+    alloc: Global,
+    shared: &Shared<Core, C, A, K>,
+    share: &mut Share<C, A, K>,
+) -> Result<Released, Stop> {
+    let mut tx = shared.begin(rt, alloc)?;
+    send_both(alloc, &mut tx)?;
+    let receipt = done(shared.commit(rt, alloc, &CoreFunctions, share, STAMP, tx))?;
+    let point = receipt.point;
+    Ok(release_and_see(rt, shared, Some(point)))
+}
+
 fn try_commit<
     C: Ledger + Send + Sync,
     A: Ledger + Send + Sync,
@@ -162,12 +181,10 @@ fn try_commit<
     requires added { IsBlank added A.name A.parts }
     requires taken { IsBlank taken K.name K.parts }
 {
-    let (shared, mut share) = opened::<C, A, K>(alloc, two_agents(alloc)?, commits, added, taken)?;
-    let mut tx = shared.begin(rt, alloc)?;
-    send_both(alloc, &mut tx)?;
-    let receipt = done(shared.commit(rt, alloc, &CoreFunctions, &mut share, STAMP, tx))?;
-    let point = receipt.point;
-    Ok(release_and_see(rt, &shared, Some(point)))
+    match opened::<C, A, K>(alloc, two_agents(alloc)?, commits, added, taken) {
+        Ok((shared, mut share)) => commit_and_see(rt, alloc, &shared, &mut share),
+        Err(stop) => Err(stop),
+    }
 }
 
 #[test]
@@ -314,6 +331,22 @@ fn carry_both<C: Ledger, A: Ledger, K: Ledger>(
     }
 }
 
+// Carries both, and releases them while two wait.
+fn carry_and_see<
+    C: Ledger + Send + Sync,
+    A: Ledger + Send + Sync,
+    K: Ledger + Send + Sync,
+    R: AllocGlobal + Threads + Wait + Clock + Sync,
+>(rt: &R, alloc: Global, mut world: World<Core, C, A, K>) -> Result<Released, Stop> {
+    match carry_both(alloc, &mut world) {
+        Ok(()) => {
+            let shared = Shared::new(world);
+            Ok(release_and_see(rt, &shared, None))
+        }
+        Err(stop) => Err(stop),
+    }
+}
+
 // `work_once` releases what it ended itself, so the action ends before the world is shared.
 fn try_carried<
     C: Ledger + Send + Sync,
@@ -326,17 +359,10 @@ fn try_carried<
     requires taken { IsBlank taken K.name K.parts }
 {
     let start = two_agents(alloc)?;
-    let (mut world, _share) = done(World::<Core, C, A, K>::new(
-        alloc,
-        &CoreFunctions,
-        &start,
-        commits,
-        added,
-        taken,
-    ))?;
-    carry_both(alloc, &mut world)?;
-    let shared = Shared::new(world);
-    Ok(release_and_see(rt, &shared, None))
+    match World::<Core, C, A, K>::new(alloc, &CoreFunctions, &start, commits, added, taken) {
+        Ok((world, _share)) => carry_and_see(rt, alloc, world),
+        Err(_) => Err(Stop::Refused),
+    }
 }
 
 #[test]
