@@ -11,7 +11,7 @@ use ref_fun::{Functions, Meaning, Rule};
 use ref_log::{RuleFault, WatchFault, Who};
 use ref_value::Value;
 use ref_world::World;
-use std::alloc::{AllocError, Global};
+use std::alloc::AllocError;
 use std::sync::ledger::Ledger;
 
 // Gives a reference another rule, or none.
@@ -36,7 +36,6 @@ pub(crate) fn set_validator<M: Meaning, C: Ledger, A: Ledger, K: Ledger, F: Func
 
 // Adds a watch to a reference.
 pub(crate) fn add_watch<M: Meaning, C: Ledger, A: Ledger, K: Ledger>(
-    alloc: Global,
     world: &mut World<M, C, A, K>,
     who: Who,
     key: &Value,
@@ -48,7 +47,7 @@ pub(crate) fn add_watch<M: Meaning, C: Ledger, A: Ledger, K: Ledger>(
     let Ok(key) = key.share() else {
         return Reply::AddWatch(Err(WatchFault::Memory));
     };
-    match world.add_watch(alloc, who, key) {
+    match world.add_watch(who, key) {
         Ok(is_new) => Reply::AddWatch(Ok(is_new)),
         Err(fault) => Reply::AddWatch(Err(fault)),
     }

@@ -212,12 +212,12 @@ fn take_step<C: Ledger, A: Ledger, K: Ledger>(
         }
         Step::Send(g, code, args) => {
             let action = action_of(alloc, *code, args)?;
-            world.send(alloc, *g, action)?;
+            world.send(*g, action)?;
             Ok(())
         }
         Step::SendCarry(g, code, args, carried) => {
             let action = carrying_of(alloc, *code, args, carried)?;
-            world.send(alloc, *g, action)?;
+            world.send(*g, action)?;
             Ok(())
         }
         Step::ReleaseCarried(g) => {

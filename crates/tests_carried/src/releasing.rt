@@ -32,7 +32,7 @@ fn send_two<R: Wait, C: Ledger, A: Ledger, K: Ledger>(
         args: one_arg(alloc, "1")?,
         carries: Carries::of(alloc, vec![in alloc; carry]?)?,
     };
-    done(shared.send(rt, alloc, 0, action))?;
+    done(shared.send(rt, 0, action))?;
     send(rt, alloc, shared, 0, PLUS, "2")
 }
 

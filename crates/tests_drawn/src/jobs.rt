@@ -194,7 +194,7 @@ fn sent<C: Ledger, A: Ledger, K: Ledger, M: Memory>(
 ) -> Result<(), SendFault> {
     let action = action_from(player.alloc, action)?;
     player.memory.begin();
-    let seen = side.world.send(player.alloc, g, action);
+    let seen = side.world.send(g, action);
     player.memory.end();
     seen
 }
@@ -262,7 +262,7 @@ fn restarted<C: Ledger, A: Ledger, K: Ledger, M: Memory>(
 ) -> Result<(), RestartFault> {
     let value = value_from(state)?;
     player.memory.begin();
-    let seen = side.world.restart(player.alloc, &table, g, value, clear);
+    let seen = side.world.restart(&table, g, value, clear);
     player.memory.end();
     seen
 }

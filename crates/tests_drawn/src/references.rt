@@ -280,7 +280,7 @@ pub(crate) fn add_watch<C: Ledger, A: Ledger, K: Ledger, M: Memory>(
     let key = player.draws.key();
     let value = value_from(key)?;
     player.memory.begin();
-    let seen = side.world.add_watch(player.alloc, who, value);
+    let seen = side.world.add_watch(who, value);
     player.memory.end();
     if player.refuses(seen == Err(WatchFault::Memory)) {
         return Ok(());

@@ -104,7 +104,7 @@ impl<'a, R: Input, C: Ledger, A: Ledger, K: Ledger> Subject for Refusing<'a, R, 
 
     fn add_watch(&mut self, alloc: Global, who: Who, key: Value) -> Result<bool, WatchFault> {
         self.refuser.begin();
-        let answer = self.whole.add_watch(alloc, who, key);
+        let answer = self.whole.add_watch(who, key);
         self.refuser.end();
         answer
     }
@@ -139,7 +139,7 @@ impl<'a, R: Input, C: Ledger, A: Ledger, K: Ledger> Subject for Refusing<'a, R, 
 
     fn send(&mut self, alloc: Global, g: u32, action: Action) -> Result<(), SendFault> {
         self.refuser.begin();
-        let answer = self.whole.send(alloc, g, action);
+        let answer = self.whole.send(g, action);
         self.refuser.end();
         answer
     }

@@ -287,9 +287,9 @@ impl Subject for Apart {
 
     fn add_watch(&mut self, alloc: Global, who: Who, key: Value) -> Result<bool, WatchFault> {
         match who {
-            Who::Ref(r) => self.refs.add_watch(alloc, r, key),
-            Who::Atom(a) => self.atoms.add_watch(alloc, a, key),
-            Who::Agent(g) => self.agents.add_watch(alloc, g, key),
+            Who::Ref(r) => self.refs.add_watch(r, key),
+            Who::Atom(a) => self.atoms.add_watch(a, key),
+            Who::Agent(g) => self.agents.add_watch(g, key),
         }
     }
 
@@ -357,7 +357,7 @@ impl Subject for Apart {
     }
 
     fn send(&mut self, alloc: Global, g: u32, action: Action) -> Result<(), SendFault> {
-        self.agents.send(alloc, g, action)
+        self.agents.send(g, action)
     }
 
     fn release(&mut self, point: u64) -> bool {
@@ -381,7 +381,7 @@ impl Subject for Apart {
     }
 
     fn restart(&mut self, by: By, g: u32, state: Value, clear: bool) -> Result<(), RestartFault> {
-        self.agents.restart(by.alloc, by.funs, g, state, clear)
+        self.agents.restart(by.funs, g, state, clear)
     }
 
     fn set_error_mode(&mut self, g: u32, mode: ErrorMode) -> Result<(), ModeFault> {

@@ -211,7 +211,7 @@ impl<C: Ledger, A: Ledger, K: Ledger> Subject for Whole<C, A, K> {
     }
 
     fn add_watch(&mut self, alloc: Global, who: Who, key: Value) -> Result<bool, WatchFault> {
-        self.world.add_watch(alloc, who, key)
+        self.world.add_watch(who, key)
     }
 
     fn remove_watch(&mut self, who: Who, key: &Value) -> bool {
@@ -273,7 +273,7 @@ impl<C: Ledger, A: Ledger, K: Ledger> Subject for Whole<C, A, K> {
     }
 
     fn send(&mut self, alloc: Global, g: u32, action: Action) -> Result<(), SendFault> {
-        self.world.send(alloc, g, action)
+        self.world.send(g, action)
     }
 
     fn release(&mut self, point: u64) -> bool {
@@ -297,7 +297,7 @@ impl<C: Ledger, A: Ledger, K: Ledger> Subject for Whole<C, A, K> {
     }
 
     fn restart(&mut self, by: By, g: u32, state: Value, clear: bool) -> Result<(), RestartFault> {
-        self.world.restart(by.alloc, by.funs, g, state, clear)
+        self.world.restart(by.funs, g, state, clear)
     }
 
     fn set_error_mode(&mut self, g: u32, mode: ErrorMode) -> Result<(), ModeFault> {

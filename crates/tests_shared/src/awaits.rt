@@ -37,7 +37,7 @@ fn restart<C: Ledger, A: Ledger, K: Ledger, R: Wait>(
     clear: bool,
 ) -> Result<(), Stop> {
     let zero = value(alloc, "0")?;
-    done(shared.restart(rt, alloc, &CoreFunctions, g, zero, clear))
+    done(shared.restart(rt, &CoreFunctions, g, zero, clear))
 }
 
 fn make<C: Ledger, A: Ledger, K: Ledger, R: Wait>(

@@ -536,8 +536,8 @@ fn give_watches<C: Ledger, A: Ledger, K: Ledger, R: Wait>(
     let key = value(alloc, ":k")?;
     let (first, again) = (key.share()?, key.share()?);
     Ok((
-        done(shared.add_watch(rt, alloc, Who::Ref(0), first))?,
-        done(shared.add_watch(rt, alloc, Who::Ref(0), again))?,
+        done(shared.add_watch(rt, Who::Ref(0), first))?,
+        done(shared.add_watch(rt, Who::Ref(0), again))?,
         shared.remove_watch(rt, Who::Ref(0), &key),
         shared.remove_watch(rt, Who::Ref(0), &key),
     ))

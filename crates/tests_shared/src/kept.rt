@@ -74,10 +74,10 @@ fn watch_and_send<C: Ledger, A: Ledger, K: Ledger>(
     world: &mut World<Core, C, A, K>,
 ) -> Result<(), Stop> {
     let key = value(alloc, ":w")?;
-    done(world.add_watch(alloc, Who::Ref(0), key))?;
+    done(world.add_watch(Who::Ref(0), key))?;
     done(world.set_error_mode(1, ErrorMode::Continue))?;
     let action = action(alloc, PLUS, ":k")?;
-    done(world.send(alloc, 1, action))
+    done(world.send(1, action))
 }
 
 fn send_one(alloc: Global, tx: &mut Tx<Core>) -> Result<(), Stop> {

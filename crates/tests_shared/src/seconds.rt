@@ -100,12 +100,12 @@ impl<'a, 'b, R: Wait, C: Ledger, A: Ledger, K: Ledger> On<'a, 'b, R, C, A, K> {
         let (rt, alloc, shared, funs) = (self.rt, self.alloc, self.shared, &CoreFunctions);
         let (word, _, text, _) = row;
         let answer = match word {
-            "send" => shared.send(rt, alloc, g, action(alloc, PLUS, text)?),
+            "send" => shared.send(rt, g, action(alloc, PLUS, text)?),
             // With `+ 1` for the next agent.
-            "carry" => shared.send(rt, alloc, g, carrying(alloc, text, g.saturating_add(1))?),
+            "carry" => shared.send(rt, g, carrying(alloc, text, g.saturating_add(1))?),
             "restart" => {
                 let state = value(alloc, text)?;
-                return fault(alloc, shared.restart(rt, alloc, funs, g, state, false));
+                return fault(alloc, shared.restart(rt, funs, g, state, false));
             }
             "continue" => return fault(alloc, shared.set_error_mode(rt, g, ErrorMode::Continue)),
             "await" => return fault(alloc, shared.await_agents(rt, alloc, &[g])),
@@ -128,7 +128,7 @@ impl<'a, 'b, R: Wait, C: Ledger, A: Ledger, K: Ledger> On<'a, 'b, R, C, A, K> {
                 fault(alloc, shared.set_validator(rt, funs, who, Some(rule)))
             }
             "no rule" => fault(alloc, shared.set_validator(rt, funs, who, None)),
-            "watch" => said(alloc, shared.add_watch(rt, alloc, who, value(alloc, ":k")?)),
+            "watch" => said(alloc, shared.add_watch(rt, who, value(alloc, ":k")?)),
             "unwatch" => {
                 let key = value(alloc, ":k")?;
                 format!(in alloc; "{}", shared.remove_watch(rt, who, &key))

@@ -18,7 +18,7 @@ pub fn watch<C: Ledger, A: Ledger, K: Ledger, R: Wait>(
     key: &str,
 ) -> Result<(), Stop> {
     let key = value(alloc, key)?;
-    let _ = done(shared.add_watch(rt, alloc, who, key))?;
+    let _ = done(shared.add_watch(rt, who, key))?;
     Ok(())
 }
 
@@ -32,7 +32,7 @@ pub fn send<C: Ledger, A: Ledger, K: Ledger, R: Wait>(
     argument: &str,
 ) -> Result<(), Stop> {
     let action = action(alloc, code, argument)?;
-    done(shared.send(rt, alloc, g, action))
+    done(shared.send(rt, g, action))
 }
 
 /// `ref-set r text`.

@@ -57,7 +57,7 @@ impl<R: Wait> Scenario<R> for Closed {
         _share: &mut Share<C, A, K>,
     ) -> Result<(Result<(), SendFault>, Work, Work), Stop> {
         shared.close(rt);
-        let sent = shared.send(rt, alloc, 1, action(alloc, PLUS, "1")?);
+        let sent = shared.send(rt, 1, action(alloc, PLUS, "1")?);
         let first = work(rt, alloc, shared);
         Ok((sent, first, work(rt, alloc, shared)))
     }
@@ -158,7 +158,7 @@ fn fail<C: Ledger, A: Ledger, K: Ledger, R: Wait>(
     let worked = send_and_fail(rt, alloc, shared)?;
     let error = shared.error_of(rt, 0);
     let now = int_at(rt, shared, Who::Agent(0));
-    let send = shared.send(rt, alloc, 0, action(alloc, PLUS, "3")?);
+    let send = shared.send(rt, 0, action(alloc, PLUS, "3")?);
     shared.close(rt);
     Ok(Failed {
         worked,
@@ -177,7 +177,7 @@ fn restart<C: Ledger, A: Ledger, K: Ledger, R: Wait>(
     clear: bool,
 ) -> Result<Restarted, Stop> {
     let ten = value(alloc, "10")?;
-    let restarted = shared.restart(rt, alloc, &CoreFunctions, 0, ten, clear);
+    let restarted = shared.restart(rt, &CoreFunctions, 0, ten, clear);
     let error = shared.error_of(rt, 0);
     let worked = (work(rt, alloc, shared), work(rt, alloc, shared));
     Ok(Restarted {

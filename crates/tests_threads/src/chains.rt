@@ -71,7 +71,7 @@ fn send_one_each<R: Wait, C: Ledger, A: Ledger, K: Ledger>(
     n: i64,
 ) -> Result<(), Stop> {
     for g in 0..AGENTS {
-        done(shared.send(rt, alloc, g, link(alloc, g, n)?))?;
+        done(shared.send(rt, g, link(alloc, g, n)?))?;
     }
     Ok(())
 }

@@ -232,7 +232,7 @@ fn try_transaction<
     requires taken { IsBlank taken K.name K.parts }
 {
     let (shared, share) = opened::<C, A, K>(alloc, two_agents(alloc)?, commits, added, taken)?;
-    let _ = done(shared.add_watch(rt, alloc, Who::Ref(0), value(alloc, ":k")?))?;
+    let _ = done(shared.add_watch(rt, Who::Ref(0), value(alloc, ":k")?))?;
     shared.close(rt);
     let flags = Flags::new();
     let (mine, seen) = transact_and_look(rt, &shared, share, place, waits, &flags);
@@ -343,8 +343,8 @@ fn try_action<
     requires taken { IsBlank taken K.name K.parts }
 {
     let (shared, _share) = opened::<C, A, K>(alloc, two_agents(alloc)?, commits, added, taken)?;
-    let _ = done(shared.add_watch(rt, alloc, Who::Agent(1), value(alloc, ":k")?))?;
-    done(shared.send(rt, alloc, 1, action(alloc, PLUS, "4")?))?;
+    let _ = done(shared.add_watch(rt, Who::Agent(1), value(alloc, ":k")?))?;
+    done(shared.send(rt, 1, action(alloc, PLUS, "4")?))?;
     shared.close(rt);
     let flags = Flags::new();
     let (is_ok, seen) = act_and_look(rt, &shared, place, &flags);

@@ -60,7 +60,7 @@ fn try_carried<
     requires taken { IsBlank taken K.name K.parts }
 {
     let (shared, _share) = opened::<C, A, K>(alloc, two_agents(alloc)?, commits, added, taken)?;
-    done(shared.send(rt, alloc, 0, carrying(alloc, "1")?))?;
+    done(shared.send(rt, 0, carrying(alloc, "1")?))?;
     let (next, first) = take_turns(rt, alloc, &shared);
     Ok(Turns {
         first,
@@ -242,7 +242,7 @@ fn try_passing<
     let alloc = rt.alloc();
     let (shared, _share) = opened::<C, A, K>(alloc, two_agents(alloc)?, commits, added, taken)?;
     done(shared.set_error_mode(rt, 0, ErrorMode::Continue))?;
-    done(shared.send(rt, alloc, 0, carrying(alloc, ":k")?))?;
+    done(shared.send(rt, 0, carrying(alloc, ":k")?))?;
     if !awaits {
         send(rt, alloc, &shared, 0, PLUS, "2")?;
     }

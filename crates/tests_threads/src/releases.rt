@@ -324,7 +324,7 @@ fn carry_both<C: Ledger, A: Ledger, K: Ledger>(
     alloc: Global,
     world: &mut World<Core, C, A, K>,
 ) -> Result<(), Stop> {
-    done(world.send(alloc, 0, carrying_both(alloc)?))?;
+    done(world.send(0, carrying_both(alloc)?))?;
     match done(world.take())? {
         Some(job) => end_job(alloc, world, job),
         None => Err(Stop::Refused),

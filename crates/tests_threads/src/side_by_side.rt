@@ -77,8 +77,8 @@ fn try_meeting<
     requires taken { IsBlank taken K.name K.parts }
 {
     let (shared, _share) = opened::<C, A, K>(alloc, two_agents(alloc)?, commits, added, taken)?;
-    done(shared.send(rt, alloc, 0, action(alloc, PLUS, "1")?))?;
-    done(shared.send(rt, alloc, 1, action(alloc, PLUS, "2")?))?;
+    done(shared.send(rt, 0, action(alloc, PLUS, "1")?))?;
+    done(shared.send(rt, 1, action(alloc, PLUS, "2")?))?;
     let (one, two) = work_side_by_side(rt, &shared);
     Ok(Met {
         one,
@@ -187,8 +187,8 @@ fn try_turns<
 {
     let (shared, _share) = opened::<C, A, K>(alloc, two_agents(alloc)?, commits, added, taken)?;
     done(shared.set_error_mode(rt, 0, ErrorMode::Continue))?;
-    done(shared.send(rt, alloc, 0, action(alloc, code, "1")?))?;
-    done(shared.send(rt, alloc, 0, action(alloc, PLUS, "2")?))?;
+    done(shared.send(rt, 0, action(alloc, code, "1")?))?;
+    done(shared.send(rt, 0, action(alloc, PLUS, "2")?))?;
     let (next, first) = take_turns(rt, alloc, &shared);
     Ok(InTurn {
         first,
@@ -325,8 +325,8 @@ fn try_holding<
     requires taken { IsBlank taken K.name K.parts }
 {
     let (shared, _share) = opened::<C, A, K>(alloc, two_agents(alloc)?, commits, added, taken)?;
-    done(shared.send(rt, alloc, 0, action(alloc, PLUS, "1")?))?;
-    done(shared.send(rt, alloc, 1, action(alloc, PLUS, "2")?))?;
+    done(shared.send(rt, 0, action(alloc, PLUS, "1")?))?;
+    done(shared.send(rt, 1, action(alloc, PLUS, "2")?))?;
     let (one, two) = work_by_two(rt, &shared);
     Ok(Held {
         first: usize::from(one.is_first) + usize::from(two.is_first),

@@ -469,7 +469,7 @@ fn try_telling<
 {
     let start = plain_start(alloc, "0", "")?;
     let (shared, share) = opened::<C, A, K>(alloc, start, commits, added, taken)?;
-    let _ = done(shared.add_watch(rt, alloc, Who::Ref(0), value(alloc, ":k")?))?;
+    let _ = done(shared.add_watch(rt, Who::Ref(0), value(alloc, ":k")?))?;
     let (mine, seen) = tell(rt, &shared, share);
     let (share, told) = mine;
     let (_, totals) = closed(alloc, shared, share)?;

@@ -33,7 +33,7 @@ pub(crate) fn nudge<R: Wait, C: Ledger, A: Ledger, K: Ledger>(
     shared: &Shared<Core, C, A, K>,
 ) {
     if let Ok(action) = action(alloc, PLUS, "1") {
-        let _ = shared.send(rt, alloc, 1, action);
+        let _ = shared.send(rt, 1, action);
     }
 }
 
@@ -50,7 +50,7 @@ fn wake<R: Wait + Clock, C: Ledger, A: Ledger, K: Ledger>(
     flags: &Flags,
 ) -> bool {
     let was_first = wait_past(rt, &flags.first);
-    let sent = shared.send(rt, alloc, 0, action);
+    let sent = shared.send(rt, 0, action);
     let was_second = wait_past(rt, &flags.second);
     let released = shared.release(rt, point);
     let was_third = wait_past(rt, &flags.third);
@@ -163,7 +163,7 @@ fn restart<R: Wait + Clock, C: Ledger, A: Ledger, K: Ledger>(
     flags: &Flags,
 ) -> bool {
     let was_there = wait_past(rt, &flags.first);
-    let restarted = shared.restart(rt, alloc, &CoreFunctions, 0, state, false);
+    let restarted = shared.restart(rt, &CoreFunctions, 0, state, false);
     let has_ended = wait_for(rt, &flags.second);
     shared.close(rt);
     was_there && has_ended && restarted.is_ok()
@@ -203,8 +203,8 @@ fn try_restart<
     requires taken { IsBlank taken K.name K.parts }
 {
     let (shared, _share) = opened::<C, A, K>(alloc, two_agents(alloc)?, commits, added, taken)?;
-    done(shared.send(rt, alloc, 0, action(alloc, MINUS, "5")?))?;
-    done(shared.send(rt, alloc, 0, action(alloc, PLUS, "2")?))?;
+    done(shared.send(rt, 0, action(alloc, MINUS, "5")?))?;
+    done(shared.send(rt, 0, action(alloc, PLUS, "2")?))?;
     let _ = done(work(rt, alloc, &shared))?;
     let (worked, woke) = work_and_restart(rt, alloc, &shared, value(alloc, "10")?);
     Ok((worked, woke, int_at(rt, &shared, Who::Agent(0))))
@@ -272,7 +272,7 @@ fn try_handing_on<
     requires taken { IsBlank taken K.name K.parts }
 {
     let (shared, _share) = opened::<C, A, K>(alloc, two_agents(alloc)?, commits, added, taken)?;
-    done(shared.send(rt, alloc, 0, action(alloc, PLUS, "1")?))?;
+    done(shared.send(rt, 0, action(alloc, PLUS, "1")?))?;
     let (next, first) = hand_on(rt, alloc, &shared);
     Ok(HandedOn {
         first,

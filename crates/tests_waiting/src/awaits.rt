@@ -146,9 +146,7 @@ fn restart<R: AllocGlobal + Wait, C: Ledger, A: Ledger, K: Ledger>(
 ) -> bool {
     let alloc = rt.alloc();
     match value(alloc, "0") {
-        Ok(zero) => shared
-            .restart(rt, alloc, &CoreFunctions, 0, zero, clear)
-            .is_ok(),
+        Ok(zero) => shared.restart(rt, &CoreFunctions, 0, zero, clear).is_ok(),
         Err(_) => false,
     }
 }
