@@ -25,7 +25,7 @@ use Rattle.ref_log.specs.declared.notices.Who.{Who}
 use Rattle.ref_log.specs.declared.notices.Who.TheVariants.{Ref, Atom, Agent}
 use Rattle.ref_agents.specs.declared.agents.ErrorMode.{ErrorMode}
 use Rattle.ref_agents.specs.declared.agents.ErrorMode.TheVariants as modes
-use Rattle.ref_start.specs.Names.{NamesSeen}
+use Rattle.ref_forms.specs.Names.{NamesSeen}
 use Rattle.ref_forms.specs.Calls.{action_said, any, mode_said, rule_of, rule_said, value_said}
 use Rattle.ref_forms.specs.Plain.{alone_said, and_said, elements_of, mark_said, number_of, one_said, only_if, stamp_number, then_said, two_said}
 use Rattle.ref_forms.specs.References.{carrying_said, number_said, state_said}

@@ -8,10 +8,10 @@
 -- events as specs/Acts.antt says. There are at most as many events as a workload has steps.
 use Rattle.std.specs.Prelude.{◌≡◌, ◌≤◌, ℕ, pos, true, List, Some, length}
 use Rattle.ref_value.specs.Edn.{Edn, int}
-use Rattle.ref_start.specs.Names.{NamesSeen}
-use Rattle.ref_start.specs.declared.starts.AgentStart.{AgentStart}
-use Rattle.ref_start.specs.declared.starts.AtomStart.{AtomStart}
-use Rattle.ref_start.specs.declared.starts.RefStart.{RefStart}
+use Rattle.ref_forms.specs.Names.{NamesSeen}
+use Rattle.ref_agents.specs.declared.starts.AgentStart.{AgentStart}
+use Rattle.ref_agents.specs.declared.starts.AtomStart.{AtomStart}
+use Rattle.ref_agents.specs.declared.starts.RefStart.{RefStart}
 use Rattle.ref_forms.specs.Plain.{are_known, forms_under, is_vector_or_none, map_said, under}
 use Rattle.ref_plan.specs.Declarations.{AreReferences}
 use Rattle.ref_plan.specs.Limits.{most_declared}

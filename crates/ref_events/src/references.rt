@@ -18,7 +18,7 @@ pub(crate) struct Numbered<'a> {
 }
 
 impl<'a> Model for Numbered<'a> {
-    ghost use Rattle.ref_start.specs.Names.{NamesSeen};
+    ghost use Rattle.ref_forms.specs.Names.{NamesSeen};
 
     ghost Value = { NamesSeen };
 

@@ -1,10 +1,10 @@
 -- What a value that isn't taken as a workload would have to be.
 use Rattle.std.proofs.Common.{◌≡◌, ℕ, List, None, Some, refl, sym, ◌∙◌, subst}
 use Rattle.ref_value.specs.Edn.{Edn}
-use Rattle.ref_start.specs.Names.{NamesSeen}
-use Rattle.ref_start.specs.declared.starts.AgentStart.{AgentStart}
-use Rattle.ref_start.specs.declared.starts.AtomStart.{AtomStart}
-use Rattle.ref_start.specs.declared.starts.RefStart.{RefStart}
+use Rattle.ref_forms.specs.Names.{NamesSeen}
+use Rattle.ref_agents.specs.declared.starts.AgentStart.{AgentStart}
+use Rattle.ref_agents.specs.declared.starts.AtomStart.{AtomStart}
+use Rattle.ref_agents.specs.declared.starts.RefStart.{RefStart}
 use Rattle.ref_forms.specs.Plain.{all_said, forms_under, map_said}
 use Rattle.ref_plan.specs.Declarations.{AreReferences}
 use Rattle.ref_plan.specs.Laws.{one_names}

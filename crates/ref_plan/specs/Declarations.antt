@@ -9,10 +9,10 @@ use Rattle.ref_fun.specs.Core.{core_accepts}
 use Rattle.ref_fun.specs.Rule.{passes}
 use Rattle.ref_fun.specs.declared.rules.Rule.{Rule}
 use Rattle.ref_log.specs.Tally.{is_count}
-use Rattle.ref_start.specs.declared.starts.AgentStart.{AgentStart}
-use Rattle.ref_start.specs.declared.starts.AtomStart.{AtomStart}
-use Rattle.ref_start.specs.declared.starts.RefStart.{RefStart}
-use Rattle.ref_start.specs.Names.{NamesSeen}
+use Rattle.ref_agents.specs.declared.starts.AgentStart.{AgentStart}
+use Rattle.ref_agents.specs.declared.starts.AtomStart.{AtomStart}
+use Rattle.ref_agents.specs.declared.starts.RefStart.{RefStart}
+use Rattle.ref_forms.specs.Names.{NamesSeen}
 use Rattle.ref_forms.specs.Calls.{mode_named, rule_said, value_said}
 use Rattle.ref_forms.specs.Plain.{both, elements_of, only_if}
 use Rattle.ref_plan.specs.Limits.{is_shallow}

@@ -1,10 +1,10 @@
 -- Laws of Declarations, for a proof: forms declare one list of names.
 use Rattle.std.proofs.Common.{◌≡◌, ℕ, List, [], ◌∷◌, Option, None, Some, refl, sym, ◌∙◌, ap}
 use Rattle.ref_value.specs.Edn.{Edn}
-use Rattle.ref_start.specs.Names.{NamesSeen}
-use Rattle.ref_start.specs.declared.starts.AgentStart.{AgentStart}
-use Rattle.ref_start.specs.declared.starts.AtomStart.{AtomStart}
-use Rattle.ref_start.specs.declared.starts.RefStart.{RefStart}
+use Rattle.ref_forms.specs.Names.{NamesSeen}
+use Rattle.ref_agents.specs.declared.starts.AgentStart.{AgentStart}
+use Rattle.ref_agents.specs.declared.starts.AtomStart.{AtomStart}
+use Rattle.ref_agents.specs.declared.starts.RefStart.{RefStart}
 use Rattle.ref_plan.specs.Declarations.{AreDeclared, AreReferences, agent_of, atom_of, ref_of}
 
 -- a form declares one name and one start

@@ -11,7 +11,7 @@ use Rattle.std.specs.Prelude.{ℕ, if◌then◌else◌, nat_le, List, length, Op
 use Rattle.ref_value.specs.Edn.{Edn}
 use Rattle.ref_value.specs.Names.{bytes_eq}
 use Rattle.ref_fun.specs.declared.actions.Action.{Action}
-use Rattle.ref_start.specs.Names.{NamesSeen}
+use Rattle.ref_forms.specs.Names.{NamesSeen}
 use Rattle.ref_log.specs.declared.operations.Op.TheVariants.{Set, Alter, Commute, Ensure}
 use Rattle.ref_forms.specs.Calls.{action_said, rule_said, value_said}
 use Rattle.ref_forms.specs.Plain.{all_said, one_said, only_if, tagged_of, then_said, two_said}

@@ -13,7 +13,7 @@
 use Rattle.std.specs.Prelude.{ℕ, if◌then◌else◌, List, Option, None, option_and_then, option_map}
 use Rattle.ref_value.specs.Edn.{Edn}
 use Rattle.ref_value.specs.Names.{bytes_eq}
-use Rattle.ref_start.specs.Names.{NamesSeen}
+use Rattle.ref_forms.specs.Names.{NamesSeen}
 use Rattle.ref_forms.specs.Calls.{mode_said, rule_of, value_said}
 use Rattle.ref_forms.specs.Plain.{all_said, elements_within, tagged_of, then_said, two_said}
 use Rattle.ref_forms.specs.References.{number_said, state_said}

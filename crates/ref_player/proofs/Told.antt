@@ -7,10 +7,10 @@ use Rattle.ref_edn.specs.declared.faults.ReadFault.{ReadFault}
 use Rattle.ref_workload.specs.Streams.{IsFaultOfOne}
 use Rattle.ref_edn.specs.declared.faults.ReadFault.TheVariants as reads
 use Rattle.ref_fun.specs.Calls.{HasCore, Known}
-use Rattle.ref_start.specs.Names.{NamesSeen}
-use Rattle.ref_start.specs.declared.starts.AgentStart.{AgentStart}
-use Rattle.ref_start.specs.declared.starts.AtomStart.{AtomStart}
-use Rattle.ref_start.specs.declared.starts.RefStart.{RefStart}
+use Rattle.ref_forms.specs.Names.{NamesSeen}
+use Rattle.ref_agents.specs.declared.starts.AgentStart.{AgentStart}
+use Rattle.ref_agents.specs.declared.starts.AtomStart.{AtomStart}
+use Rattle.ref_agents.specs.declared.starts.RefStart.{RefStart}
 use Rattle.ref_verdict.specs.DumpForm.{dump_of}
 use Rattle.ref_verdict.specs.Verdict.{verdict_on}
 use Rattle.ref_verdict.specs.declared.reports.Verdict.TheVariants as verdicts

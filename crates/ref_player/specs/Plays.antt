@@ -4,9 +4,9 @@ use Rattle.ref_value.specs.Edn.{Edn}
 use Rattle.ref_edn.specs.Grammar.{IsText}
 use Rattle.ref_fun.specs.Calls.{HasCore, Known}
 use Rattle.ref_fun.specs.Core.{core_accepts, core_means}
-use Rattle.ref_start.specs.declared.starts.AgentStart.{AgentStart}
-use Rattle.ref_start.specs.declared.starts.AtomStart.{AtomStart}
-use Rattle.ref_start.specs.declared.starts.RefStart.{RefStart}
+use Rattle.ref_agents.specs.declared.starts.AgentStart.{AgentStart}
+use Rattle.ref_agents.specs.declared.starts.AtomStart.{AtomStart}
+use Rattle.ref_agents.specs.declared.starts.RefStart.{RefStart}
 use Rattle.ref_verdict.specs.DumpForm.{dump_of}
 use Rattle.ref_verdict.specs.Verdict.{verdict_on}
 use Rattle.ref_verdict.specs.declared.reports.Verdict.TheVariants as verdicts

@@ -14,12 +14,13 @@ ghost use Rattle.ref_workload.specs.Run.{IsOfPlan};
 ghost use Rattle.ref_world.specs.Shares.{IsBlank};
 
 use crate::lines::lines_of;
+use ref_agents::Start;
 use ref_audit::{Verdict, report};
 use ref_events::{Script, ScriptParts};
+use ref_forms::Names;
 use ref_fun::{Core, Functions};
 use ref_log::MakeFault;
 use ref_play::{Event, Reply, Sim};
-use ref_start::{Names, Start};
 use ref_value::Items;
 use ref_workload::RunFault;
 use ref_workload::texts::check_audit;

@@ -4,7 +4,7 @@ use Rattle.std.specs.Prelude.{◌≢◌}
 use Rattle.ref_player.specs.Plays.{IsPlay}
 use Rattle.ref_player.specs.declared.faults.PlayFault.{PlayFault}
 use Rattle.ref_player.specs.declared.faults.PlayFault.TheVariants as plays
-use Rattle.ref_start.specs.Names.{NamesSeen}
+use Rattle.ref_forms.specs.Names.{NamesSeen}
 use Rattle.ref_workload.specs.Streams.{HasBrokenOff}
 use Rattle.ref_workload.specs.declared.faults.RunFault.TheVariants as runs
 use Rattle.refrun.specs.Tasks.{IsLeft, play_fault_of}

@@ -8,7 +8,7 @@ use Rattle.ref_workload.specs.declared.faults.RunFault.TheVariants as run_faults
 use Rattle.ref_player.specs.Plays as plays
 use Rattle.ref_player.specs.declared.faults.PlayFault.{PlayFault}
 use Rattle.ref_player.specs.declared.faults.PlayFault.TheVariants as play_faults
-use Rattle.ref_start.specs.Names.{NamesSeen}
+use Rattle.ref_forms.specs.Names.{NamesSeen}
 use Rattle.refrun.specs.Auditing as audits
 use Rattle.refrun.specs.Looking as looks
 use Rattle.refrun.specs.declared.faults.AuditRunFault.TheVariants as audit_faults

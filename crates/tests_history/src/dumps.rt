@@ -4,7 +4,7 @@ ghost use Rattle.ref_log.specs.Replay.{point_after};
 ghost use Rattle.ref_verdict.specs.OfCore.{IsOfCore};
 
 use ref_edn::read_one;
-use ref_start::Names;
+use ref_forms::Names;
 use ref_value::{Text, Value};
 use ref_verdict::read_dump;
 use ref_verdict::reading::dumps::Dump;

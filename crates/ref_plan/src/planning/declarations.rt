@@ -1,9 +1,9 @@
 //! The references that a workload declares.
 ghost use Rattle.std.specs.Prelude.{◌≡◌, ◌≢◌, ◌≤◌, ◌||◌, ℕ, [], List, IfErr, IfOk, count_by, length};
-ghost use Rattle.ref_start.specs.Names.{NamesSeen};
-ghost use Rattle.ref_start.specs.declared.starts.AgentStart.{AgentStart as AnyAgent};
-ghost use Rattle.ref_start.specs.declared.starts.AtomStart.{AtomStart as AnyAtom};
-ghost use Rattle.ref_start.specs.declared.starts.RefStart.{RefStart as AnyRef};
+ghost use Rattle.ref_forms.specs.Names.{NamesSeen};
+ghost use Rattle.ref_agents.specs.declared.starts.AgentStart.{AgentStart as AnyAgent};
+ghost use Rattle.ref_agents.specs.declared.starts.AtomStart.{AtomStart as AnyAtom};
+ghost use Rattle.ref_agents.specs.declared.starts.RefStart.{RefStart as AnyRef};
 ghost use Rattle.ref_plan.specs.Declarations.{AreDeclared, AreReferences, agent_of, atom_of, ref_of};
 ghost use Rattle.ref_plan.specs.Limits.{most_declared};
 ghost use Rattle.ref_plan.specs.Named.{AreApart};
@@ -13,8 +13,9 @@ use crate::plan_faults::PlanFault;
 use crate::planning::hashing::NameHashing;
 use crate::planning::names::{Declared, NameTable};
 use crate::planning::references::{Refused, agent_in, atom_in, ref_in};
+use ref_agents::{AgentStart, AtomStart, RefStart, Start};
+use ref_forms::Names;
 use ref_log::Who;
-use ref_start::{AgentStart, AtomStart, Names, RefStart, Start};
 use ref_value::{Items, Text};
 use std::alloc::Global;
 

@@ -3,23 +3,22 @@ ghost use Rattle.std.specs.Prelude.{◌≡◌, ◌≢◌, ◌∷◌, ℕ, [], Li
 ghost use Rattle.ref_fun.specs.Core.{core_accepts};
 ghost use Rattle.ref_fun.specs.Rule.{passes};
 ghost use Rattle.ref_log.specs.Tally.{is_count};
-ghost use Rattle.ref_start.specs.declared.starts.AgentStart.{AgentStart as AnyAgent};
-ghost use Rattle.ref_start.specs.declared.starts.AtomStart.{AtomStart as AnyAtom};
-ghost use Rattle.ref_start.specs.declared.starts.RefStart.{RefStart as AnyRef};
+ghost use Rattle.ref_agents.specs.declared.starts.AgentStart.{AgentStart as AnyAgent};
+ghost use Rattle.ref_agents.specs.declared.starts.AtomStart.{AtomStart as AnyAtom};
+ghost use Rattle.ref_agents.specs.declared.starts.RefStart.{RefStart as AnyRef};
 ghost use Rattle.ref_forms.specs.Reading.{Reads};
 ghost use Rattle.ref_plan.specs.Declarations.{agent_of, atom_of, declaration, declaration_of, mode_marked, parts_declare, ref_of, rule_in, tail_said, tally_said};
 ghost use Rattle.ref_plan.specs.Tables.{Adds, found};
 ghost use Rattle.ref_plan.specs.declared.planning.references.Refused.TheVariants.{Memory};
 
 use crate::planning::names::{Declared, NameTable};
-use ref_agents::ErrorMode;
+use ref_agents::{AgentStart, AtomStart, ErrorMode, RefStart};
 use ref_forms::Wrong;
 use ref_forms::calls::{Values, rule_parts};
 use ref_forms::marks::mode_named;
 use ref_forms::plain::{elements_in, is_same, keyword_in, symbol_in};
 use ref_fun::{Rule, core_test};
 use ref_log::Who;
-use ref_start::{AgentStart, AtomStart, RefStart};
 use ref_value::vectors::Iter;
 use ref_value::{Node, Text, Value};
 use std::alloc::{AllocError, AllocFailed, Global};

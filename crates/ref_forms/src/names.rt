@@ -14,7 +14,7 @@ pub struct Names {
 
 impl Model for Names {
     ghost use Rattle.std.specs.Coded.{codes};
-    ghost use Rattle.ref_start.specs.Names.{NamesSeen};
+    ghost use Rattle.ref_forms.specs.Names.{NamesSeen};
 
     ghost Value = { NamesSeen };
 

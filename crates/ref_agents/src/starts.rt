@@ -1,5 +1,5 @@
 //! What a world begins with.
-use ref_agents::ErrorMode;
+use crate::agents::ErrorMode;
 use ref_fun::Rule;
 use ref_value::Value;
 
