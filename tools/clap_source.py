@@ -1,9 +1,11 @@
 """What a program takes on its command line, as its source says it: the calls that build it for clap, made here as they stand there.
 
-Of Rust that is little: constants, `let`, names, texts, numbers, and calls of functions and methods. All else is an `Unknown`.
+Of Rust that is little: constants, `let`, names, texts, numbers, structs and their fields, and calls of functions and methods. All else is an
+`Unknown`. What the help has of the words of other crates is listed here as those crates list it (`LISTS`).
 """
 
 import re
+import textwrap
 from dataclasses import dataclass, field
 from pathlib import Path
 
@@ -79,6 +81,38 @@ class Command:
         """The arguments that are no options, in order."""
         return [it for it in self.args if not it.long]
 
+
+# ---- lists of words
+
+
+def words_of(kind):
+    """The words that a step, an operation or an act begins with, as `Sentence::words` of ref_calls lists them."""
+    text = (CRATES / "ref_calls" / "src" / "words.rt").read_text(encoding="utf-8").partition("pub const WORDS")[2]
+    rows = re.findall(r'word: "([^"]*)",\s+stands: (.*?),\s+since: Version::(\w+),', text, re.DOTALL)
+    found = [(f":{word}", kind != "Act" and since == "Two") for word, stands, since in rows if f"{kind}Word::" in stands]
+    later = " ".join(word for word, is_later in found if is_later)
+    return " ".join(word for word, is_later in found if not is_later) + (f", and in version 2 {later}" if later else "")
+
+
+def names_of(first, last):
+    """The names of Core's functions or predicates, from one to another, as ref_fun has them."""
+    names = re.findall(r'^    \((\w+), "([^"]*)"\),$', (CRATES / "ref_fun" / "src" / "names.rt").read_text(encoding="utf-8"), re.MULTILINE)
+    codes = [code for code, _ in names]
+    return " ".join(name for _, name in names[codes.index(first) : codes.index(last) + 1])
+
+
+def on_lines(words):
+    """These words on lines of at most 78 columns, each behind a newline and two blanks."""
+    return "".join(f"\n  {line}" for line in textwrap.wrap(words, 76, break_long_words=False, break_on_hyphens=False))
+
+
+# What other crates, and functions with loops, return.
+LISTS = {
+    "on_lines": on_lines,
+    "functions": lambda: names_of("PLUS", "DISJ"),
+    "predicates": lambda: names_of("AT_LEAST", "IS_SOME"),
+    **{f"Sentence::{kind}.words": lambda kind=kind: words_of(kind) for kind in ("Step", "Operation", "Act")},
+}
 
 # ---- reading it
 
@@ -156,6 +190,8 @@ class Source:
         raise Unknown(f"the name {name}")
 
     def call(self, name, args):
+        if name in LISTS:
+            return LISTS[name](*args[1:])
         if name not in self.functions:
             raise Unknown(f"the function {name}")
         params, body = self.functions[name]
@@ -185,6 +221,8 @@ class Source:
                 args, end = inside(tokens, at + 2)
                 value = self.method(value, tokens[at + 1], [self.value(it, known) for it in listed(args)])
                 at = end
+            elif tokens[at] == "." and isinstance(value, dict) and tokens[at + 1] in value:
+                value, at = value[tokens[at + 1]], at + 2
             elif tokens[at] == "..=":
                 return value, self.value(tokens[at + 1 :], known)
             else:
@@ -210,25 +248,32 @@ class Source:
             args, at = inside(tokens, at)
             args = [self.value(it, known) for it in listed(args)]
             made = {"Command::new": Command, "Arg::new": Arg}.get(name)
-            return made(args[1]) if made else self.call(name, args), at
+            return args[0] if name == "Ok" else made(args[1]) if made else self.call(name, args), at
+        if tokens[at : at + 1] == ["{"]:
+            fields, at = inside(tokens, at)
+            return {it[0]: self.value(it[2:], known) for it in listed(fields)}, at
         if tokens[at : at + 1] == ["!"]:
             args, at = inside(tokens, at + 1)
-            return self.macro(name, args), at
+            return self.macro(name, args, known), at
         if len(path) > 1:
             return name, at
         return known[name] if name in known else self.constant(name), at
 
-    def macro(self, name, tokens):
+    def macro(self, name, tokens, known):
         if name == "value_parser" and tokens[0] in GREATEST:
             return Number(tokens[0])
         if name == "format" and tokens[-1][0] == '"':
-            return re.sub(r"\{(\w+)\}", lambda it: str(self.constant(it[1])), string_of(tokens[-1]))
+            return re.sub(r"\{(\w+)\}", lambda it: str(known[it[1]] if it[1] in known else self.constant(it[1])), string_of(tokens[-1]))
         raise Unknown(f"the macro {name} of {' '.join(tokens)}")
 
     @staticmethod
     def method(value, name, args):
         if isinstance(value, Number) and name == "range":
             return Number(value.kind, args[0])
+        if isinstance(value, str) and name == "as_str":
+            return value
+        if isinstance(value, str) and f"{value}.{name}" in LISTS:
+            return LISTS[f"{value}.{name}"]()
         if isinstance(value, Command) and name in ("arg", "subcommand"):
             getattr(value, name + "s").append(args[0])
         elif isinstance(value, Arg) and name == "conflicts_with":
@@ -241,9 +286,10 @@ class Source:
 
 
 def command_of(file):
-    """What the program takes, as this source says: its functions `command` and `version`."""
+    """What the program takes, as this source says: its functions `command`, and `version` or `texts`."""
     source = Source(file)
+    made = "texts" if "texts" in source.functions else "version"
     try:
-        return source.call("command", [None, source.call("version", [None])])
+        return source.call("command", [None, source.call(made, [None])])
     except (IndexError, KeyError, TypeError, AttributeError) as error:
         raise Unknown(f"an expression ({error!r})") from error
