@@ -314,12 +314,16 @@ class Draws:
             base = self.world.base.point
             return f"{kind} {self.below(self.world.point + 3) if self.once_in(4) else base + self.below(len(self.world.log) + 1)}"
         name, value = self.anyone()
+        watched = [it for of_kind in KINDS for it in self.world.of_kind(of_kind) if it.watches]
+        if kind == ":remove-watch" and watched and self.once_in(2):
+            found = self.one(watched)
+            return f"{kind} {self.named(found.kind, found.number)} {text(self.one(found.watches))}"
         if kind == ":set-validator":
             return f"{kind} {name} {'nil' if self.once_in(4) else self.rule(value)}"
         return f"{kind} {name} {self.key()}" if kind.endswith("watch") else f"{kind} {name}"
 
     def act(self, actor):
-        parts = (3, 4, 2, 2) if self.of_agents else (7, 2, 1, 3)
+        parts = (4, 6, 3, 2) if self.of_agents else (8, 2, 1, 3)
         kind = self.weighed(dict(zip(("tx", "job", "agents", "references"), parts)))
         if kind == "tx":
             return self.in_transaction(actor)
@@ -347,6 +351,6 @@ class Draws:
 
 
 def drawn(seed, whole=True, length=None):
-    """The list of a seed, with so many events or some 5 to 60."""
+    """The list of a seed, with so many events or some 6 to 80."""
     draws = Draws(seed, whole)
-    return draws.draw(length or 5 + draws.below(56))
+    return draws.draw(length or 6 + draws.below(75))

@@ -211,7 +211,7 @@ class Operation:
         return (count, 0) if self.call.function[1] == "+" else (0, count)
 
     def form(self):
-        what = {":set": (self.value,), ":ensure": ()}.get(self.name) if self.call is None else self.call.forms()
+        what = self.call.forms() if self.call else (self.value,) if self.name == ":set" else ()
         return vector(word(self.name), number(self.ref), *what, self.answer)
 
 
@@ -890,7 +890,7 @@ class Play:
 
     def act_error_of(self, _, agent):
         found = self.world.find(self.who(agent))
-        return found and found.error or "none"
+        return "none" if found is None or found.error is None else found.error
 
     def act_fold(self, _, agent):
         found = self.world.find(self.who(agent))
