@@ -269,7 +269,7 @@ class Draws:
         is_failed = any(it.error for it in self.world.agents)
         is_carrying = any(it.is_carrying for it in self.world.agents)
         kind = self.weighed({
-            ":send": 8, ":send-carry": 5, ":restart": 6 if is_failed else 1, ":set-error-mode": 2, ":error-of": 2,
+            ":send": 8, ":send-carry": 5, ":restart": 6 if is_failed else 1, ":set-error-mode": 2, ":error-of": 4 if is_failed else 1,
             ":fold": 3 if self.whole else 0, ":release": 8 if self.world.held else 1, ":release-carried": 8 if is_carrying else 1,
         })  # fmt: skip
         if kind.startswith(":send"):

@@ -708,6 +708,7 @@ class Play:
         self.told, self.follows_memory = told, follows_memory
         self.world, self.actors, self.names = self.World(), {}, {}
         self.declared = {kind: self.parts.get(f":{kind}s", ()) for kind in ("ref", "atom", "agent")}
+        # Each act with its reply, or "start" with the reason for which it is refused.
         self.replied = []
 
     def declare(self):
@@ -726,6 +727,7 @@ class Play:
         try:
             self.declare()
         except Refused as why:
+            self.replied.append(("start", str(why).split(" ")[-1]))
             yield str(why)
             return
         for at, event in enumerate(self.parts.get(":events", ())):

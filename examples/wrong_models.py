@@ -119,6 +119,17 @@ class release_frees_all(World):
         return was_held
 
 
+@wrong
+class deref_reads_the_latest(Play):
+    """`:deref` returns the value that the ref has now, where the transaction changed nothing."""
+
+    def act_deref(self, actor, ref):
+        at = self.number(ref)
+        if not actor.opened().done and at < len(actor.tx.values):
+            actor.tx.values[at] = self.world.refs[at].value
+        return super().act_deref(actor, ref)
+
+
 # ---- agents
 
 
@@ -142,6 +153,15 @@ class restart_drops_its_queue(Agent):
         super().restart(state, True)
 
 
+@with_world
+class cleared_sends_are_released(World):
+    """A commit whose sends a restart has cleared isn't held any more."""
+
+    def release(self, point):
+        waits = any(it.point == point for agent in self.agents for it in agent.queue)
+        return super().release(point) and waits
+
+
 @with_agent
 class restart_counts_on(Agent):
     """A restarted agent goes on with the number of its next job."""
@@ -162,6 +182,17 @@ class failed_action_carries(World):
         except Refused:
             self.carry_out(self.agents[job.agent], job.action.carries)
             raise
+
+
+@with_world
+class carried_sends_come_first(World):
+    """What an action carries stands before what waits."""
+
+    def carry_out(self, agent, carries):
+        super().carry_out(agent, carries)
+        for it in carries:
+            queue = self.agents[it.agent].queue
+            queue.insert(int(self.agents[it.agent].is_out), queue.pop())
 
 
 @with_world
@@ -227,6 +258,18 @@ class checkpoint_folds_kept_answers(World):
     """A checkpoint gives the base what the transactions saw."""
 
     Base = CommutesAsAnswered
+
+
+class NeverChanged(Base):
+    def declare_ref(self, value, point=0):
+        super().declare_ref(value)
+
+
+@with_world
+class made_ref_never_changed(World):
+    """The last change of a ref that was made isn't the point at which it was."""
+
+    Base = NeverChanged
 
 
 @with_world
