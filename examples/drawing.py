@@ -1,5 +1,5 @@
-"""Draws lists of events, for `drawn`. What is drawn next depends on what the model says there is: an actor with a transaction mostly goes on
-with it, a failed agent is mostly the one that is restarted, and so on. But anything may come at any time.
+"""Draws lists of events, for `drawn`. What is drawn next depends on what the model says there is: an actor with a transaction mostly goes
+on with it, a failed agent is mostly the one that is restarted, and so on. But anything may come at any time.
 """
 
 import random
@@ -75,7 +75,7 @@ class Draws:
         return f"[{' '.join(inside)}]" if kind == 2 else f"( {','.join(inside)})"
 
     def deep(self, room):
-        levels = max(1, room - self.below(3))
+        levels = max(1, room - self.one((0, 0, 1, 2)))
         return "[" * levels + "]" * levels
 
     def value(self, room=DEEPEST):
@@ -103,7 +103,7 @@ class Draws:
             count = 0 if name in ("inc", "dec") else self.weighed({0: 1, 1: 12, 2: 2, 8: 1})
             return name, [self.integer() for _ in range(count)]
         if kind == "vector":
-            return "conj", [self.deep(room) if self.once_in(4) else self.value(room) for _ in range(self.below(3))]
+            return "conj", [self.deep(room) if self.once_in(3) else self.value(room) for _ in range(self.below(3))]
         if kind == "set":
             return self.one(("conj", "disj")), [self.value(room) for _ in range(self.below(4))]
         keys = [text(key) for key, _ in value[1]] if kind == "map" else []
@@ -148,7 +148,7 @@ class Draws:
 
     def start(self):
         """A value to begin with: mostly an integer, or an empty collection."""
-        return self.weighed({self.small(): 10, "[]": 2, "#{}": 1, "{}": 1, "nil": 1, self.value(): 4})
+        return self.weighed({self.small(): 10, "[]": 3, "#{}": 1, "{}": 1, "nil": 1, self.value(): 4})
 
     def form(self, kind):
         """A value, a rule or none, and what follows."""
@@ -265,6 +265,10 @@ class Draws:
         at = self.at("agent")
         return f"[{self.named('agent', at)} {self.call(self.value_at('agent', at), DEEPEST - 1)}]"
 
+    def waiting(self):
+        """The points of commits whose sends are in some queue."""
+        return {it.point for agent in self.world.agents for it in agent.queue}
+
     def on_agents(self):
         is_failed = any(it.error for it in self.world.agents)
         is_carrying = any(it.is_carrying for it in self.world.agents)
@@ -275,11 +279,11 @@ class Draws:
         if kind.startswith(":send"):
             return f"{kind} {self.sent(kind)}"
         if kind == ":release":
-            held = sorted(self.world.held)
+            held = sorted(self.world.held - self.waiting() or self.world.held)
             return f"{kind} {self.one(held) if held and not self.once_in(5) else self.below(self.world.point + 2)}"
         if kind == ":release-carried":
             return f"{kind} {self.named('agent', self.agent(lambda it: it.is_carrying))}"
-        at = self.agent(lambda it: it.error) if kind in (":restart", ":error-of") else self.at("agent")
+        at = self.agent(lambda it: it.error) if kind in (":restart", ":error-of", ":fold") else self.at("agent")
         if kind == ":restart":
             return f"{kind} {self.named('agent', at)} {self.like(self.value_at('agent', at))}{self.one(('', ' :clear'))}"
         end = self.one((" :fail", " :continue")) if kind == ":set-error-mode" else ""
@@ -331,26 +335,53 @@ class Draws:
             return self.with_job(actor)
         return self.on_agents() if kind == "agents" else self.on_references()
 
+    # ---- lists
+
+    def add(self, by, act):
+        """Adds an event, which the model plays."""
+        event = f"[{by} {act}]"
+        self.play.reply(len(self.list.events), read(event)[1], None)
+        self.list.events.append(event)
+
+    def end(self):
+        """Acts that show what is open, what is held and what waits."""
+        for by, actor in list(self.play.actors.items()):
+            if actor.tx:
+                self.add(by, ":commit")
+            if actor.job:
+                self.add(by, ":put-back")
+        for point in sorted(self.world.held):
+            self.add(3, f":release {point}")
+        for it in list(self.world.agents):
+            if it.is_carrying:
+                self.add(3, f":release-carried {self.named('agent', it.number)}")
+            if it.error:
+                self.add(3, f":restart {self.named('agent', it.number)} {text(it.value)}")
+        for _ in range(6):
+            if self.world.ready():
+                for act in (":take", ":run", ":finish"):
+                    self.add(3, act)
+
     def draw(self, length):
-        """A list of so many events, and what the model says of it, if it takes the first agent that is ready."""
+        """A list of so many events, if the model, which takes the first agent that is ready, can begin; and now and then some more."""
         self.list = List(self.declare())
-        play = Play(self.list.text())
-        self.of_agents = self.once_in(2)
+        self.play = Play(self.list.text())
+        self.world, self.of_agents = self.play.world, self.once_in(2)
         try:
-            play.declare()
+            self.play.declare()
         except Refused:
-            return List(self.list.declared, [f"[{self.below(3)} :take]" for _ in range(self.below(3))])
-        self.world = play.world
+            self.list.events = ["[0 :take]"] * self.below(3)
+            return self.list
         actors = [0, 1, 7, 2**32 - 1][: self.weighed({1: 2, 2: 6, 3: 5, 4: 2})]
-        for at in range(length):
+        for _ in range(length):
             by = self.one(actors)
-            event = f"[{by} {self.act(play.actors.get(by))}]"
-            play.reply(at, read(event)[1], None)
-            self.list.events.append(event)
+            self.add(by, self.act(self.play.actors.get(by)))
+        if self.once_in(3):
+            self.end()
         return self.list
 
 
 def drawn(seed, whole=True, length=None):
-    """The list of a seed, with so many events or some 6 to 80."""
+    """The list of a seed, with so many events or some 6 to 80, and now and then some more."""
     draws = Draws(seed, whole)
     return draws.draw(length or 6 + draws.below(75))
