@@ -9,8 +9,8 @@ The text has to be a list of events; what isn't ends it with Python's own words.
 | Part | States | Document |
 |---|---|---|
 | `order`, `text` | the value order, and the one text of a value | EDN.md: Values, Printing |
-| `called`; `accepts` of auditor.py | what functions give, and why they refuse; predicates | WORKLOADS.md: Functions and predicates |
 | `called`, and `accepts` of auditor.py | what functions give, why they refuse; predicates | WORKLOADS.md: Functions and predicates |
+| `Transaction`, `Operation` | in-transaction values, outcomes of an operation, the first reason first | MODEL.md: Open transaction |
 | `World.commit` | what a commit asks, in order, and what it leaves | MODEL.md: Store of refs and commit; World |
 | `World.change`, `World.compare_and_set` | changes of atoms | MODEL.md: Store of atoms |
 | `Agent`, calls of `World` on agents | accounts, queues, error modes, carried sends, folds | MODEL.md: Store of agents |
