@@ -339,7 +339,7 @@ class Draws:
 
     def add(self, by, act):
         """Adds an event, which the model plays."""
-        event = f"[{by} {act}]"
+        event = f"({by}, {act})" if self.once_in(30) else f"[{by} {act}]"
         self.play.reply(len(self.list.events), read(event)[1], None)
         self.list.events.append(event)
 
