@@ -4,7 +4,7 @@ on with it, a failed agent is mostly the one that is restarted, and so on. But a
 
 import random
 
-from auditor import NIL, read
+from auditor import NIL, depth, read
 from model import Play, Refused, text
 
 KINDS = ("ref", "atom", "agent")
@@ -13,7 +13,7 @@ SCALARS = ("nil", "true", "false", ":k", ":a/b", "sym", "+", '""', '"a"', '"\\u0
 EXTREMES = (2**63 - 1, 2**63 - 2, -(2**63), -(2**63) + 1, 2**62, -(2**62))
 FUNCTIONS = ("+", "-", "inc", "dec", "max", "min", "conj", "assoc", "dissoc", "disj")
 PREDICATES = (">=", "<=", "=", "int?", "string?", "vector?", "map?", "set?", "some?")
-# What the rules of the tally and of other integers are often about.
+# Half of what a book of the tally holds, and one more.
 HALF = 2**62
 # An event may be nested 49 deep, itself included.
 DEEPEST = 48
@@ -133,7 +133,7 @@ class Draws:
         kind = self.below(12)
         if kind == 0:
             return " ".join([self.one(PREDICATES), *(self.value(room) for _ in range(self.below(3)))])
-        if kind == 1:
+        if kind == 1 and depth(value) <= room:
             return f"= {text(value)}"
         if kind == 2 or value[0] != "int":
             return self.one(("some?", "int?", "vector?", "map?", "set?", "string?", f"= {self.value(room)}"))
