@@ -307,7 +307,7 @@ class Draws:
 
     def on_references(self):
         kind = self.weighed({
-            "atoms": 7, "making": 3, ":set-validator": 3, ":add-watch": 4, ":remove-watch": 1, ":value-of": 1,
+            "atoms": 7, "making": 5, ":set-validator": 3, ":add-watch": 4, ":remove-watch": 1, ":value-of": 1,
             ":rule-of": 2 if self.whole else 0, ":checkpoint": 2,
         })  # fmt: skip
         if kind == "atoms":

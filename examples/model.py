@@ -24,6 +24,8 @@ Two replies of the program are followed, as no document says which one comes. `:
 request for memory was refused replies `out-of-memory`, if that is allowed there, and leaves everything as it was.
 """
 
+from __future__ import annotations
+
 import copy
 import sys
 from typing import NamedTuple
@@ -638,32 +640,20 @@ class World:
 
 # ---- acts
 
-# These take no memory. Of the others, `out-of-memory` may replace what is said here, or any reply of the act where nothing is said.
-NEVER_OUT_OF_MEMORY = {
-    ":abort", ":error-of", ":put-back", ":read-point", ":release", ":release-carried", ":remove-watch", ":set-error-mode",
+# The acts that ask for memory, and the replies that `out-of-memory` may replace; no other act may say it, if it is a request that was
+# refused. Of a call, only success and what it finds after its first request are replaced; what an actor lacks or has is found before.
+ASKING = {
+    ":begin": "point", ":ref-set": "value", ":alter": "value too-deep", ":commute": "value too-deep", ":ensure": "value",
+    ":send-in-tx": "ok", ":send-carry-in-tx": "ok", ":commit": "point refused invalid book-full", ":take": "job none", ":run": "ok",
+    ":finish": "changed failed continued", ":swap": "swapped too-deep invalid", ":reset": "swapped invalid", ":cas": "true false invalid",
+    ":send": "ok agent-failed", ":send-carry": "ok agent-failed", ":add-watch": "true", ":make-ref": "ref", ":make-atom": "atom",
+    ":make-agent": "agent", ":checkpoint": "folded",
 }  # fmt: skip
-REPLACED = {
-    ":begin": ("point",),
-    ":take": ("job", "none"),
-    ":deref": ("value",),
-    ":value-of": ("value",),
-    ":rule-of": ("rule",),
-    ":ensure": ("value",),
-    ":require": ("ok", "not-met"),
-    ":run": ("ok",),
-    ":finish": ("changed", "failed", "continued"),
-    ":commit": ("point", "refused", "invalid", "book-full"),
-    ":fold": ("true",),
-    ":checkpoint": ("folded",),
-}
 
 
 def may_lack_memory(act, reply):
-    """Whether `out-of-memory` may come instead of a reply."""
-    first = reply.split(" ", 1)[0]
-    if act in NEVER_OUT_OF_MEMORY or first in ("no-tx", "no-job"):
-        return False
-    return first in REPLACED.get(act, (first,))
+    """Whether `out-of-memory` may come instead of a reply, if a request for memory is refused."""
+    return reply.split(" ", 1)[0] in ASKING.get(act, "").split()
 
 
 class Actor:
