@@ -36,10 +36,10 @@ class List:
 
 
 class Draws:
-    """One list. Without `whole` it has no acts and no starts that came later than the first version of lists of events."""
+    """What is drawn of a seed: one list."""
 
-    def __init__(self, seed, whole=True):
-        self.random, self.whole = random.Random(seed), whole
+    def __init__(self, seed):
+        self.random = random.Random(seed)
 
     def below(self, limit):
         return self.random.randrange(limit)
@@ -175,7 +175,7 @@ class Draws:
                 for name in names[: 0 if self.once_in(16) else 1 + self.below(len(names))]:
                     more = [it for it in self.form(kind) if it]
                     declared[kind].append(f"[{' '.join([name, *more])}]")
-            if self.fits(declared) or (self.whole and self.once_in(25)):
+            if self.fits(declared) or self.once_in(25):
                 return declared
 
     # ---- references in events
@@ -274,7 +274,7 @@ class Draws:
         is_carrying = any(it.is_carrying for it in self.world.agents)
         kind = self.weighed({
             ":send": 8, ":send-carry": 5, ":restart": 6 if is_failed else 1, ":set-error-mode": 2, ":error-of": 4 if is_failed else 1,
-            ":fold": 3 if self.whole else 0, ":release": 8 if self.world.held else 1, ":release-carried": 8 if is_carrying else 1,
+            ":fold": 3, ":release": 8 if self.world.held else 1, ":release-carried": 8 if is_carrying else 1,
         })  # fmt: skip
         if kind.startswith(":send"):
             return f"{kind} {self.sent(kind)}"
@@ -308,7 +308,7 @@ class Draws:
     def on_references(self):
         kind = self.weighed({
             "atoms": 7, "making": 5, ":set-validator": 3, ":add-watch": 4, ":remove-watch": 1, ":value-of": 1,
-            ":rule-of": 2 if self.whole else 0, ":checkpoint": 2,
+            ":rule-of": 2, ":checkpoint": 2,
         })  # fmt: skip
         if kind == "atoms":
             return self.on_atoms()
@@ -381,7 +381,7 @@ class Draws:
         return self.list
 
 
-def drawn(seed, whole=True, length=None):
+def drawn(seed, length=None):
     """The list of a seed, with so many events or some 6 to 80, and now and then some more."""
-    draws = Draws(seed, whole)
+    draws = Draws(seed)
     return draws.draw(length or 6 + draws.below(75))
