@@ -8,7 +8,7 @@
 //! |---|---|
 //! | `rows` | the rows, and how they are asked |
 //! | `served` | which tables serve a world and its actors, and what a table lacks for an act |
-//! | `commits`, `agents`, `atoms` | calls with a transaction or a job of another world, by a table that lacks something, and at the last point |
+//! | `commits`, `agents`, `atoms`, `replays` | calls with a transaction or a job of another world, by a table that lacks something, and at the last point |
 //! | `shares` | shares, views, and what is left at the end of a list |
 //! | `tables`, `worlds`, `looks` | a table that lacks functions; worlds that a list came to; what is done with them |
 //! | `words` | what faults say |
@@ -22,6 +22,8 @@ mod atoms;
 mod commits;
 #[cfg(test)]
 mod looks;
+#[cfg(test)]
+mod replays;
 #[cfg(test)]
 mod rows;
 #[cfg(test)]

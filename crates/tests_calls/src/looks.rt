@@ -4,7 +4,7 @@ use crate::shares::{forgotten, left, split};
 use crate::tables::{FULL, Table};
 use crate::worlds::Scenario;
 use ref_fun::Core;
-use ref_log::Stamp;
+use ref_log::{MakeFault, Stamp, Who};
 use ref_play::{Act, Event, Reply};
 use ref_tx::{Tx, TxFault};
 use ref_world::{Share, World};
@@ -30,7 +30,7 @@ pub(crate) enum What {
 }
 
 /// What is done with a world, and what was heard until then: whether the table with fewer functions serves it, and what it lacks. That table
-/// plays each event that has an `x` in `tables`.
+/// makes the world, or plays an event, where an `x` stands in `tables`.
 #[derive(Drop)]
 pub(crate) struct Look<'a> {
     pub what: What,
@@ -63,6 +63,10 @@ impl<'a> Scenario for Look<'a> {
 
     fn has_fewer(&self, place: usize) -> bool {
         self.tables.as_bytes().get(place) == Some(&b'x')
+    }
+
+    fn refuse(self, alloc: Global, who: Who, fault: MakeFault) -> Result<String, AllocError> {
+        format!(in alloc; "{who:?} {fault}")
     }
 
     fn look<C: Ledger, A: Ledger, K: Ledger>(
@@ -119,6 +123,10 @@ impl Scenario for Beginning {
 
     fn has_fewer(&self, _place: usize) -> bool {
         false
+    }
+
+    fn refuse(self, _alloc: Global, _who: Who, _fault: MakeFault) -> Result<Tx<Core>, AllocError> {
+        Err(AllocError)
     }
 
     fn look<C: Ledger, A: Ledger, K: Ledger>(

@@ -3,6 +3,7 @@ use crate::agents::{ended, lacked};
 use crate::atoms::changed;
 use crate::commits::landed;
 use crate::looks::{Beginning, Look, What};
+use crate::replays::replayed;
 use crate::tables::Table;
 use crate::worlds::run;
 use std::alloc::{AllocError, Global};
@@ -15,7 +16,7 @@ pub(crate) const LAST: u64 = 4_611_686_018_427_387_904;
 /// How a row is asked.
 #[derive(Clone, Copy, Drop)]
 pub(crate) enum Way {
-    /// A list of events; before it an `x` for each event that is played by the table with fewer functions.
+    /// A list; before it, for the start and each event, an `x` if it is by the table with fewer functions.
     Served,
     /// Where a transaction begins, with its acts by hand, and where it is committed, by this table.
     Commit(Table),
@@ -27,6 +28,8 @@ pub(crate) enum Way {
     Land(u64, (u64, u64)),
     /// An atom, and a change of it at a point by a table.
     Change(u64, Table),
+    /// Entries, which are replayed by the table with fewer functions.
+    Replay,
     /// A list, what is left of which is looked at.
     Left,
     /// Changes by hand, with shares.
@@ -61,6 +64,7 @@ fn outcome(alloc: Global, way: Way, row: &str) -> Result<String, AllocError> {
             landed(alloc, run(alloc, there, Beginning)?, here, at, room)
         }
         Way::Change(at, table) => changed(alloc, row, at, &table),
+        Way::Replay => replayed(alloc, row),
         Way::Left => run(alloc, row, Look::of(alloc, What::Left, "")),
         Way::Split => run(alloc, row, Look::of(alloc, What::Split, "")),
         Way::Forget => run(alloc, row, Look::of(alloc, What::Forget, "")),

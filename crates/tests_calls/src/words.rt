@@ -1,4 +1,4 @@
-//! What faults say. The rows of other modules show what else those of commits, atoms, makings, ends of jobs and restarts say.
+//! What faults say. The rows of other modules show what else those of replays, commits, atoms, makings, ends of jobs and restarts say.
 use ref_agents::{AgentError, FinishFault, JobFault, ModeFault, RestartFault, SendFault};
 use ref_atoms::AtomFault;
 use ref_events::ScriptFault;
@@ -19,23 +19,6 @@ fn check<F: Display>(rt: &(impl Abort + AllocGlobal), faults: &[(F, &str)]) -> R
     }
     Ok(())
 }
-
-const AUDIT_FAULTS: &[(AuditFault, &str)] = &[
-    (
-        AuditFault::Answer(3),
-        "the entry at point 3 keeps a wrong answer",
-    ),
-    (
-        AuditFault::Refuses(3),
-        "a function refuses in the entry at point 3",
-    ),
-    (
-        AuditFault::NoSuch(3),
-        "the entry at point 3 is about a reference that isn't there",
-    ),
-    (AuditFault::Memory, "out of memory"),
-    (AuditFault::NoSuchFun(7), "no function has code 7"),
-];
 
 const TX_FAULTS: &[(TxFault, &str)] = &[
     (TxFault::NoSuchRef, "no such ref"),
@@ -116,7 +99,6 @@ const SCRIPT_FAULTS: &[(ScriptFault, &str)] = &[
 
 #[test]
 fn faults_say_what_they_are(rt: HostRuntime) -> Result<(), Fail> {
-    check(&rt, AUDIT_FAULTS)?;
     check(&rt, TX_FAULTS)?;
     check(&rt, RULE_FAULTS)?;
     check(&rt, WATCH_FAULTS)?;
@@ -126,6 +108,7 @@ fn faults_say_what_they_are(rt: HostRuntime) -> Result<(), Fail> {
     check(&rt, JOB_FAULTS)?;
     check(&rt, RESTART_FAULTS)?;
     check(&rt, SCRIPT_FAULTS)?;
+    check(&rt, &[(AuditFault::Memory, "out of memory")])?;
     check(&rt, &[(CommitFault::Memory, "out of memory")])?;
     check(&rt, &[(AtomFault::Memory, "out of memory")])?;
     check(&rt, &[(MakeFault::Memory, "out of memory")])?;

@@ -6,6 +6,7 @@ use crate::tables::{FEWER, FULL};
 use ref_edn::read_one;
 use ref_events::{ScriptParts, script_of};
 use ref_fun::Core;
+use ref_log::{MakeFault, Who};
 use ref_play::{Event, Reply, Sim};
 use ref_world::{ALL_PARTS, Share, World};
 use std::alloc::{AllocError, Global};
@@ -19,8 +20,11 @@ pub trait Scenario: Drop + Sized {
     /// Takes the reply to an event, if one was played, and whether the table with fewer functions serves what there is now.
     fn hear(&mut self, reply: Option<&Reply>, is_served: bool) -> Result<(), AllocError>;
 
-    /// By which table the event at a place is played: the one with fewer functions, or all of Core.
+    /// Whether the world is made, at place 0, and each event is played, at the next ones, by the table with fewer functions.
     fn has_fewer(&self, place: usize) -> bool;
+
+    /// Returns what is seen where there is no world.
+    fn refuse(self, alloc: Global, who: Who, fault: MakeFault) -> Result<Self::Seen, AllocError>;
 
     /// Makes calls on the world and the whole share that are left, and returns what is seen.
     fn look<C: Ledger, A: Ledger, K: Ledger>(
@@ -49,7 +53,11 @@ fn play_front<C: Ledger, A: Ledger, K: Ledger, S: Scenario>(
 ) -> Result<usize, AllocError> {
     scenario.hear(None, sim.served_by(&FEWER))?;
     for (i, event) in events.iter().enumerate() {
-        let table = if scenario.has_fewer(i) { FEWER } else { FULL };
+        let table = if scenario.has_fewer(i.saturating_add(1)) {
+            FEWER
+        } else {
+            FULL
+        };
         if event.actor == 9 {
             return Ok(i);
         }
@@ -86,9 +94,10 @@ fn run_in<C: Ledger, A: Ledger, K: Ledger, S: Scenario>(
     requires taken { IsBlank taken K.name K.parts }
 {
     let ScriptParts { start, events, .. } = parts_of(alloc, row)?;
-    match Sim::<Core, C, A, K>::new(alloc, &FULL, &start, commits, added, taken) {
+    let table = if scenario.has_fewer(0) { FEWER } else { FULL };
+    match Sim::<Core, C, A, K>::new(alloc, &table, &start, commits, added, taken) {
         Ok(sim) => run_sim(alloc, sim, &events, scenario),
-        Err(_) => Err(AllocError),
+        Err((who, fault)) => scenario.refuse(alloc, who, fault),
     }
 }
 
