@@ -100,12 +100,13 @@ pub(crate) fn committed<C: Ledger, A: Ledger, K: Ledger>(
     table: &Table,
     tx: Tx<Core>,
 ) -> Result<String, AllocError> {
+    let before = world.point();
     let (tx, fault) = match world.commit_with(alloc, table, share, STAMP, tx) {
         Ok(receipt) => return format!(in alloc; "point {}", receipt.point),
         Err(refused) => refused,
     };
     match world.commit_with(alloc, table, share, STAMP, tx) {
-        Err((_tx, again)) if again == fault => fault.to_string(alloc),
+        Err((_tx, again)) if again == fault && world.point() == before => fault.to_string(alloc),
         _ => String::from_str(alloc, "another outcome"),
     }
 }

@@ -2,8 +2,9 @@
 use crate::rows::{Way, check};
 use ref_agents::JobFault;
 use ref_atoms::AtomFault;
+use ref_fun::Core;
 use ref_log::{MakeFault, RuleFault};
-use ref_play::Reply;
+use ref_play::{Reply, runs_have_laws, steps_have_laws};
 use ref_tx::TxFault;
 use ref_world::CheckpointFault;
 use std::test::Fail;
@@ -65,4 +66,11 @@ fn tables_serve_or_lack(rt: HostRuntime) -> Result<(), Fail> {
             111111111111 [2, 1000, 1001, 3, 1000, 1001] | .....xx.xxx. | :refs [[a 0]] :atoms [[x 5]] :events [[0 :begin] [0 :alter a - 1] [0 :commit] [0 :swap x inc] [1 :checkpoint 1] [1 :checkpoint 0] [1 :checkpoint 1] [1 :checkpoint 2] [1 :checkpoint 1] [1 :checkpoint 3] [1 :checkpoint 2]]
         "##,
     )
+}
+
+// The laws of lists of events are those of Core too.
+#[test]
+fn runs_of_core_have_the_laws(_rt: HostRuntime) {
+    steps_have_laws::<Core>();
+    runs_have_laws::<Core>();
 }
