@@ -39,11 +39,12 @@ pub(crate) const CASES: &[(&str, Call)] = &[
     ("finish", Call::Finish),
 ];
 
-/// What a call returned: none if it was out of memory. Else it is the point of a commit and its notices, the number of an agent that
-/// acted, or of one that is failed.
+/// What a call returned; none if it was out of memory. It is the point of a commit and its notices, or the number of an agent.
 pub(crate) type Answer = Option<(u64, usize)>;
 
 type Said = Result<Answer, Stop>;
+
+type Begun = Option<Tx<Core>>;
 
 // What is returned where nothing is to be done.
 const CLOSED: Answer = Some((99, 0));
@@ -62,21 +63,14 @@ pub(crate) struct Trial {
     pub(crate) number: usize,
 }
 
-/// What came of the call: what it returned at last, whether a request was refused, and whether the first call was; and what later calls
-/// return.
+/// What came of the call: what it returned at last, whether a request was refused, whether the first call was, and what came later: of
+/// transactions that were open, of the share, and of further calls.
 #[derive(Drop)]
 pub(crate) struct Made {
     pub(crate) answer: Answer,
     pub(crate) was_hit: bool,
     pub(crate) was_refused: bool,
     pub(crate) later: Vec<Answer>,
-}
-
-// The transaction that a call commits, and another one that is open, if they are there.
-#[derive(Drop)]
-struct Opens {
-    own: Option<Tx<Core>>,
-    other: Option<Tx<Core>>,
 }
 
 /// A shared world that is lent.
@@ -107,31 +101,25 @@ fn transacted(answer: Result<((), Receipt), TransactFault<Stop>>) -> Said {
 
 impl<'a, R: Input + Wait, C: Ledger, A: Ledger, K: Ledger> Lent<'a, R, C, A, K> {
     // A transaction in which something was done.
-    fn begun(&self, r: u32) -> Result<Option<Tx<Core>>, Stop> {
+    fn begun(&self, r: u32) -> Result<Begun, Stop> {
         let mut tx = self.shared.begin(self.rt, self.alloc)?;
         body(self.alloc, &mut tx, r, SENT_TO)?;
         Ok(Some(tx))
     }
 
     fn transact(&self, share: &mut Share<C, A, K>) -> Said {
-        let (rt, alloc, funs) = (self.rt, self.alloc, &CoreFunctions);
+        let (rt, alloc, funs, shared) = (self.rt, self.alloc, &CoreFunctions, self.shared);
         let work = |tx: &mut Tx<Core>| body(alloc, tx, 0, SENT_TO);
         let (gate, sink) = (&mut Open, &mut Quiet);
-        transacted(
-            self.shared
-                .transact(rt, alloc, funs, share, STAMP, 3, gate, sink, work),
-        )
+        transacted(shared.transact(rt, alloc, funs, share, STAMP, 3, gate, sink, work))
     }
 
     // With a body that is ready at once.
     fn transact_when(&self, share: &mut Share<C, A, K>) -> Said {
-        let (rt, alloc, funs) = (self.rt, self.alloc, &CoreFunctions);
+        let (rt, alloc, funs, shared) = (self.rt, self.alloc, &CoreFunctions, self.shared);
         let work = &mut |tx: &mut Tx<Core>| body(alloc, tx, 0, SENT_TO).map(Some);
         let (gate, sink) = (&mut Open, &mut Quiet);
-        match self
-            .shared
-            .transact_when(rt, alloc, funs, share, STAMP, 3, gate, sink, work)
-        {
+        match shared.transact_when(rt, alloc, funs, share, STAMP, 3, gate, sink, work) {
             Ok(landed) => transacted(Ok(landed)),
             Err(WaitFault::Transact(fault)) => transacted(Err(fault)),
             Err(WaitFault::Closed) => Err(Stop::Refused),
@@ -139,12 +127,7 @@ impl<'a, R: Input + Wait, C: Ledger, A: Ledger, K: Ledger> Lent<'a, R, C, A, K> 
     }
 
     // Commits a transaction, if there is one. A refused one is open still.
-    fn commit(
-        &self,
-        share: &mut Share<C, A, K>,
-        stamp: Stamp,
-        open: &mut Option<Tx<Core>>,
-    ) -> Said {
+    fn commit(&self, share: &mut Share<C, A, K>, stamp: Stamp, open: &mut Begun) -> Said {
         let Some(tx) = open.take() else {
             return Ok(CLOSED);
         };
@@ -179,11 +162,11 @@ impl<'a, R: Input + Wait, C: Ledger, A: Ledger, K: Ledger> Lent<'a, R, C, A, K> 
     }
 
     // Makes a call, but for `finish`, which takes the shared world.
-    fn make(&self, share: &mut Share<C, A, K>, opens: &mut Opens, call: Call) -> Said {
+    fn make(&self, share: &mut Share<C, A, K>, own: &mut Begun, call: Call) -> Said {
         match call {
             Call::Transact => self.transact(share),
             Call::TransactWhen => self.transact_when(share),
-            Call::Commit => self.commit(share, STAMP, &mut opens.own),
+            Call::Commit => self.commit(share, STAMP, own),
             Call::Work(_, _) => self.work(),
             Call::Await => self.wait(),
             Call::Finish | Call::End => Ok(CLOSED),
@@ -206,17 +189,9 @@ impl<'a, R: Input + Wait, C: Ledger, A: Ledger, K: Ledger> Lent<'a, R, C, A, K> 
         Err(Stop::Late)
     }
 
-    // What the share has, and what later calls return. They show what a dump doesn't: whose turn it is, which sends are held, which
-    // transactions are open, and who watches.
-    fn later(&self, share: &mut Share<C, A, K>, opens: Opens) -> Result<Vec<Answer>, Stop> {
-        let mut all = Vec::new(self.alloc);
-        all.push(Some((share.parts(), share.receipts().len())))?;
-        self.send_all(&mut all)?;
-        let mut worker = 8;
-        for mut open in [opens.own, opens.other] {
-            worker += 1;
-            all.push(self.commit(share, Stamp { worker, step: 0 }, &mut open)?)?;
-        }
+    // What later calls return. They show what a dump doesn't: whose turn it is, and which sends are held.
+    fn later(&self, all: &mut Vec<Answer>) -> Result<(), Stop> {
+        self.send_all(all)?;
         for g in G..=J {
             let had_carries = self.shared.release_carried(self.rt, g);
             all.push(Some((u64::from(had_carries), 0)))?;
@@ -225,34 +200,36 @@ impl<'a, R: Input + Wait, C: Ledger, A: Ledger, K: Ledger> Lent<'a, R, C, A, K> 
             let had_sends = self.shared.release(self.rt, point);
             all.push(Some((u64::from(had_sends), 0)))?;
         }
-        self.send_all(&mut all)?;
-        Ok(all)
+        self.send_all(all)
     }
 
     /// Makes the calls of a trial, and later ones.
-    pub(crate) fn try_it(&self, share: &mut Share<C, A, K>, trial: Trial) -> Result<Made, Stop> {
+    pub(crate) fn try_it(self, share: &mut Share<C, A, K>, trial: Trial) -> Result<Made, Stop> {
         self.shared.close(self.rt);
         let (is_commit, is_full) = (trial.call == Call::Commit, trial.state > 0);
-        let mut opens = Opens {
-            own: if is_commit { self.begun(0)? } else { None },
-            other: if is_full { self.begun(2)? } else { None },
-        };
+        let mut own = if is_commit { self.begun(0)? } else { None };
+        let mut other = if is_full { self.begun(2)? } else { None };
         let (mut answer, mut was_hit) = (Ok(CLOSED), false);
         if trial.times > 0 && trial.call != Call::Finish {
             refuse(self.rt, trial.number);
-            answer = self.make(share, &mut opens, trial.call);
+            answer = self.make(share, &mut own, trial.call);
             was_hit = was_refused(self.rt);
         }
         let mut answer = answer?;
         let was_refused = answer.is_none();
         if trial.times > 1 && was_refused {
-            answer = self.make(share, &mut opens, trial.call)?;
+            answer = self.make(share, &mut own, trial.call)?;
         }
+        let mut later = Vec::new(self.alloc);
+        later.push(self.commit(share, Stamp { worker: 8, step: 0 }, &mut own)?)?;
+        later.push(self.commit(share, Stamp { worker: 9, step: 0 }, &mut other)?)?;
+        later.push(Some((share.parts(), share.receipts().len())))?;
+        self.later(&mut later)?;
         Ok(Made {
             answer,
             was_hit,
             was_refused,
-            later: self.later(share, opens)?,
+            later,
         })
     }
 }

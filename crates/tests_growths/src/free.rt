@@ -33,9 +33,13 @@ fn end<R: Input + Print>(rt: &R, group: &str, calls: &[bool]) -> Result<(), Stop
     Ok(())
 }
 
-fn of_data(value: &Value, map: &PMap<u64>, list: &PVec<u64>) -> [bool; 14] {
+// The table has `>=` alone.
+fn of_data(funs: &FunTable, args: &[Value], map: &PMap<u64>, list: &PVec<u64>) -> [bool; 19] {
+    let [value] = args else {
+        return [false; 19];
+    };
     let Node::Vector(items) = value.node() else {
-        return [false; 14];
+        return [false; 19];
     };
     [
         Value::of(Node::Int(7)).is_ok(),
@@ -44,6 +48,11 @@ fn of_data(value: &Value, map: &PMap<u64>, list: &PVec<u64>) -> [bool; 14] {
         items.len() == 3,
         items.get(0).is_some(),
         items.share().is_ok(),
+        code_of(b"+") == Some(PLUS),
+        name_of(PLUS) == Some("+"),
+        Functions::<Core>::test(funs, AT_LEAST, value, args) == Some(false),
+        Functions::<Core>::has_pred(funs, AT_LEAST),
+        !Functions::<Core>::has_fun(funs, PLUS),
         map.len() == 2,
         map.get(5).is_some(),
         map.share().is_ok(),
@@ -52,23 +61,6 @@ fn of_data(value: &Value, map: &PMap<u64>, list: &PVec<u64>) -> [bool; 14] {
         list.get(50).is_some(),
         list.share().is_ok(),
         PVec::<u64>::empty().is_empty(),
-    ]
-}
-
-// By a table that has `>=` alone.
-fn of_table(alloc: Global, funs: &FunTable, seven: &Value, args: &[Value]) -> [bool; 6] {
-    let is_at_least = match args {
-        [_] => Functions::<Core>::test(funs, AT_LEAST, seven, args),
-        _ => None,
-    };
-    let none = FunTable::empty(alloc);
-    [
-        code_of(b"+") == Some(PLUS),
-        name_of(PLUS) == Some("+"),
-        is_at_least == Some(true),
-        Functions::<Core>::has_pred(funs, AT_LEAST),
-        !Functions::<Core>::has_fun(funs, PLUS),
-        !Functions::<Core>::has_pred(&none, AT_LEAST),
     ]
 }
 
@@ -82,18 +74,15 @@ fn call_on_data<R: Input + Print>(rt: &R, alloc: Global) -> Result<(), Stop> {
         { core_test(AT_LEAST, state, args) },
     )?;
     done(funs.add_pred(StoredPred::new(AT_LEAST, run)))?;
-    let (seven, args) = (value(alloc, "7")?, one_arg(alloc, "7")?);
-    refuse(rt, EACH);
-    let of_table = of_table(alloc, &funs, &seven, args.as_slice());
-    end(rt, "tables of functions", &of_table)?;
-    let vector = value(alloc, "[1 2 [3]]")?;
+    let args = one_arg(alloc, "[1 2 [3]]")?;
     let map = PMap::empty().with(alloc, 5, 50)?.with(alloc, 70_000, 7)?;
     let mut list = PVec::empty();
     for item in 0..100 {
         list.push(alloc, item)?;
     }
     refuse(rt, EACH);
-    end(rt, "values, maps and lists", &of_data(&vector, &map, &list))
+    let _none = FunTable::empty(alloc);
+    end(rt, "data", &of_data(&funs, args.as_slice(), &map, &list))
 }
 
 fn of_world<C: Ledger, A: Ledger, K: Ledger>(
@@ -198,13 +187,9 @@ fn call_on_world<R: Input + Print, C: Ledger, A: Ledger, K: Ledger>(
 ) -> Result<(), Stop> {
     let (key, rule) = (value(alloc, ":k")?, at_least(alloc, "0")?);
     refuse(rt, EACH);
-    end(rt, "agents and jobs", &of_agents(alloc, world))?;
+    end(rt, "agents", &of_agents(alloc, world))?;
     refuse(rt, EACH);
-    end(
-        rt,
-        "worlds and transactions",
-        &of_world(alloc, world, &rule),
-    )?;
+    end(rt, "worlds", &of_world(alloc, world, &rule))?;
     for who in WATCHED {
         refuse(rt, EACH);
         end(rt, "references", &of_reference(world, *who, &key))?;
@@ -228,9 +213,8 @@ impl<R: AllocGlobal + Input + Print + Wait> Use<R> for Calls {
         let called = call_on_world(rt, alloc, &mut world, &mut share);
         refuse(rt, EACH);
         let shared = Shared::new(world);
-        end(rt, "shared worlds", &of_shared(rt, alloc, &shared))?;
-        ended?;
-        called
+        let closed = end(rt, "shared", &of_shared(rt, alloc, &shared));
+        ended.and(called).and(closed)
     }
 }
 

@@ -6,14 +6,10 @@ use std::io::Read;
 /// As a number of a request: each one.
 pub(crate) const EACH: usize = 255;
 
-const MOST_BYTES: usize = 256;
-
 // What a read of so many bytes gives, if it gives one byte.
 fn asked<R: Input>(rt: &R, length: usize) -> Option<u8> {
-    let mut room = [0u8; MOST_BYTES];
-    let Some(part) = room.get_mut(..length) else {
-        return None;
-    };
+    let mut room = [0u8; EACH + 1];
+    let part = room.get_mut(..length)?;
     match rt.reader().read(part) {
         Ok(1) => Some(room[0]),
         _ => None,

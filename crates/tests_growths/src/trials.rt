@@ -69,12 +69,7 @@ impl<R: AllocGlobal + Input + Wait> Use<R> for Trial {
             alloc,
             shared: &shared,
         };
-        let made = lent.try_it(&mut share, self);
-        drop(lent);
-        let mut made = match made {
-            Ok(made) => made,
-            Err(stop) => return Err(stop),
-        };
+        let mut made = lent.try_it(&mut share, self)?;
         let (world, totals) = end(rt, alloc, shared, share, self, &mut made)?;
         let dump = done(dump(alloc, &world));
         drop(world);
@@ -136,18 +131,19 @@ fn try_request<R: AllocGlobal + Input + Print + Wait>(
 fn try_call<R: AllocGlobal + Input + Print + Wait>(rt: &R, call: Call) -> Result<Counts, Stop> {
     let mut counts = Counts::default();
     for state in 0..STATES {
-        let mut trial = Trial {
+        let trial = Trial {
             call,
             state,
-            times: 0,
+            times: 2,
             number: 0,
         };
-        let never = tried(rt, trial)?;
-        trial.times = 2;
         let wanted = tried(rt, trial)?;
-        trial.number = 1;
-        while trial.number < EACH && try_request(rt, trial, (&never, &wanted), &mut counts)? {
-            trial.number += 1;
+        let never = tried(rt, Trial { times: 0, ..trial })?;
+        for number in 1..EACH {
+            let trial = Trial { number, ..trial };
+            if !try_request(rt, trial, (&never, &wanted), &mut counts)? {
+                break;
+            }
         }
     }
     Ok(counts)

@@ -28,17 +28,12 @@ pub(crate) const J: u32 = 3;
 /// To whom transactions send, but for the one whose sends are held.
 pub(crate) const SENT_TO: &[u32] = &[G, I, G];
 
-const HELD_FOR: &[u32] = &[J, H];
-
 /// The references that have a watch, one of each kind.
 pub(crate) const WATCHED: &[Who] = &[Who::Ref(0), Who::Atom(0), Who::Agent(G)];
 
 /// How many states there are. The first is that of a world with one entry, without which the end of a shared world makes no request.
 /// The others are full, each with one change of the atom more than the one before, so that each list is full in one of them.
 pub(crate) const STATES: u32 = 10;
-
-// How many changes of the atom a full world has at least.
-const CHANGES: u32 = 24;
 
 fn start(alloc: Global) -> Result<Start, Stop> {
     let mut start = plain_start(alloc, "0 0 0 0", "0")?;
@@ -135,9 +130,9 @@ fn events(alloc: Global, state: u32, call: Call) -> Result<Vec<Event>, Stop> {
         push_commit(alloc, &mut all, 0, SENT_TO)?;
         push(&mut all, Act::Release(1))?;
         push_actions(&mut all, 3)?;
-        push_commit(alloc, &mut all, 1, HELD_FOR)?;
+        push_commit(alloc, &mut all, 1, &[J, H])?;
         push(&mut all, Act::Send(J, action_for(alloc, J)?))?;
-        changes = CHANGES.saturating_add(state);
+        changes = state.saturating_add(24);
     }
     for _ in 0..changes {
         push(&mut all, Act::Reset(0, value(alloc, "5")?))?;
@@ -168,15 +163,6 @@ pub(crate) trait Use<R>: Drop {
     fn used<C: Ledger, A: Ledger, K: Ledger>(self, rt: &R, sim: Sim<Core, C, A, K>) -> Self::Out;
 }
 
-// Plays events, if the table serves them.
-fn play<C: Ledger, A: Ledger, K: Ledger>(
-    alloc: Global,
-    sim: &mut Sim<Core, C, A, K>,
-    events: &[Event],
-) -> bool {
-    sim.served_by(&CoreFunctions) && sim.play(alloc, &CoreFunctions, events).is_ok()
-}
-
 fn open<R: AllocGlobal, W: Use<R>, C: Ledger, A: Ledger, K: Ledger>(
     rt: &R,
     start: &Start,
@@ -194,7 +180,7 @@ fn open<R: AllocGlobal, W: Use<R>, C: Ledger, A: Ledger, K: Ledger>(
     let Ok(mut sim) = Sim::<Core, C, A, K>::new(alloc, funs, start, commits, added, taken) else {
         return Err(Stop::Refused);
     };
-    if play(alloc, &mut sim, events) {
+    if sim.served_by(funs) && sim.play(alloc, funs, events).is_ok() {
         return Ok(what.used(rt, sim));
     }
     drop(sim.end());
