@@ -198,7 +198,6 @@ fn call_on_world<R: Input + Print, C: Ledger, A: Ledger, K: Ledger>(
     end(rt, "shares", &of_share(share))
 }
 
-// The calls on a world.
 #[derive(Drop)]
 struct Calls;
 

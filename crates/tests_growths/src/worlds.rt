@@ -32,7 +32,7 @@ pub(crate) const SENT_TO: &[u32] = &[G, I, G];
 pub(crate) const WATCHED: &[Who] = &[Who::Ref(0), Who::Atom(0), Who::Agent(G)];
 
 /// How many states there are. The first is that of a world with one entry, without which the end of a shared world makes no request.
-/// The others are full, each with one change of the atom more than the one before, so that each list is full in one of them.
+/// The others are full, each with one entry, and an action of g and of i, more than the one before, so that each list is full in one.
 pub(crate) const STATES: u32 = 10;
 
 fn start(alloc: Global) -> Result<Start, Stop> {
@@ -93,7 +93,7 @@ fn push_actions(all: &mut Vec<Event>, times: u32) -> Result<(), Stop> {
     Ok(())
 }
 
-// What `body` does, and a commit by a worker of its own, so that none comes out of order.
+// What `body` does, and a commit.
 fn push_commit(alloc: Global, all: &mut Vec<Event>, r: u32, agents: &[u32]) -> Result<(), Stop> {
     push(all, Act::Begin)?;
     push(all, Act::Alter(r, PLUS, one_arg(alloc, "5")?))?;
@@ -101,8 +101,7 @@ fn push_commit(alloc: Global, all: &mut Vec<Event>, r: u32, agents: &[u32]) -> R
     for g in agents {
         push(all, Act::SendInTx(*g, action_for(alloc, *g)?))?;
     }
-    let worker = r.saturating_add(1);
-    push(all, Act::Commit(Stamp { worker, step: 0 }))
+    push(all, Act::Commit(Stamp { worker: 1, step: r }))
 }
 
 // Watches and a rule. An action of i is passed over, one of h fails, and another one waits then.
@@ -136,6 +135,9 @@ fn events(alloc: Global, state: u32, call: Call) -> Result<Vec<Event>, Stop> {
     }
     for _ in 0..changes {
         push(&mut all, Act::Reset(0, value(alloc, "5")?))?;
+        push(&mut all, Act::Send(G, action_for(alloc, G)?))?;
+        push(&mut all, Act::Send(I, action_for(alloc, I)?))?;
+        push_actions(&mut all, 2)?;
     }
     if let Call::Work(g, carries) = call {
         push(&mut all, Act::Send(g, action_for(alloc, g)?))?;
