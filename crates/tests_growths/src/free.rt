@@ -131,6 +131,7 @@ fn of_reference<C: Ledger, A: Ledger, K: Ledger>(
 fn of_agents<C: Ledger, A: Ledger, K: Ledger>(
     alloc: Global,
     world: &mut World<Core, C, A, K>,
+    zero: Value,
 ) -> [bool; 6] {
     let Some(job) = world.take().ok().flatten() else {
         return [false; 6];
@@ -149,18 +150,17 @@ fn of_agents<C: Ledger, A: Ledger, K: Ledger>(
         world.set_error_mode(G, ErrorMode::Continue).is_ok(),
         !world.release_carried(G),
         world.release(2),
-        world.error_of(G).is_none(),
         matches!(world.fold_agent(G), Ok(true)),
+        world.restart(&CoreFunctions, H, zero, false).is_ok(),
     ]
 }
 
 fn of_share<C: Ledger, A: Ledger, K: Ledger>(share: &mut Share<C, A, K>) -> [bool; 3] {
-    let part = share.split(5);
-    let is_split = part.is_some() && !share.is_whole();
-    let is_joined = match part {
-        Some(part) => share.join(part).is_ok(),
-        None => false,
+    let Some(part) = share.split(5) else {
+        return [false; 3];
     };
+    let is_split = !share.is_whole();
+    let is_joined = share.join(part).is_ok();
     share.forget(0);
     [is_split, is_joined, share.is_whole()]
 }
@@ -186,8 +186,9 @@ fn call_on_world<R: Input + Print, C: Ledger, A: Ledger, K: Ledger>(
     share: &mut Share<C, A, K>,
 ) -> Result<(), Stop> {
     let (key, rule) = (value(alloc, ":k")?, at_least(alloc, "0")?);
+    let zero = value(alloc, "0")?;
     refuse(rt, EACH);
-    end(rt, "agents", &of_agents(alloc, world))?;
+    end(rt, "agents", &of_agents(alloc, world, zero))?;
     refuse(rt, EACH);
     end(rt, "worlds", &of_world(alloc, world, &rule))?;
     for who in WATCHED {

@@ -90,14 +90,14 @@ fn tried<R: AllocGlobal + Input + Wait>(rt: &R, trial: Trial) -> Result<Seen, St
 struct Counts {
     refused: u32,
     passed: u32,
-    differences: u32,
+    wrong: u32,
 }
 
 impl Counts {
     // A call without a request was right or not.
     fn judge<R: Print>(&mut self, rt: &R, is_right: bool, trial: Trial) {
         if !is_right {
-            self.differences = self.differences.saturating_add(1);
+            self.wrong = self.wrong.saturating_add(1);
             let (state, times, number) = (trial.state, trial.times, trial.number);
             let _ = println!(rt; "state {state}, {times} calls, request {number}: wrong");
         }
@@ -144,6 +144,9 @@ fn try_call<R: AllocGlobal + Input + Print + Wait>(rt: &R, call: Call) -> Result
             if !try_request(rt, trial, (&never, &wanted), &mut counts)? {
                 break;
             }
+            if number + 1 == EACH {
+                return Err(Stop::Late);
+            }
         }
     }
     Ok(counts)
@@ -151,16 +154,12 @@ fn try_call<R: AllocGlobal + Input + Print + Wait>(rt: &R, call: Call) -> Result
 
 /// Prints the table of all calls. It fails if something differed.
 pub(crate) fn try_all<R: AllocGlobal + Input + Print + Wait>(rt: &R) -> Result<(), Stop> {
-    println!(rt; "call of Shared | states | requests refused | done without | differences").map_err(
-        |_| Stop::Late,
-    )?;
+    println!(rt; "call | states | refused | done without | wrong").map_err(|_| Stop::Late)?;
     for (name, call) in CASES {
         let counts = try_call(rt, *call)?;
-        let (refused, passed, differences) = (counts.refused, counts.passed, counts.differences);
-        println!(rt; "{name} | {STATES} | {refused} | {passed} | {differences}").map_err(
-            |_| Stop::Late,
-        )?;
-        if differences > 0 {
+        let (refused, passed, wrong) = (counts.refused, counts.passed, counts.wrong);
+        println!(rt; "{name} | {STATES} | {refused} | {passed} | {wrong}").map_err(|_| Stop::Late)?;
+        if wrong > 0 {
             return Err(Stop::Refused);
         }
     }
