@@ -189,9 +189,8 @@ impl<'a, R: Input + Wait, C: Ledger, A: Ledger, K: Ledger> Lent<'a, R, C, A, K> 
         Err(Stop::Late)
     }
 
-    // What later calls return. They show what a dump doesn't: whose turn it is, and which sends are held.
-    fn later(&self, all: &mut Vec<Answer>) -> Result<(), Stop> {
-        self.send_all(all)?;
+    // Releases all that is held. It shows which sends were.
+    fn release_all(&self, all: &mut Vec<Answer>) -> Result<(), Stop> {
         for g in G..=J {
             let had_carries = self.shared.release_carried(self.rt, g);
             all.push(Some((u64::from(had_carries), 0)))?;
@@ -221,10 +220,11 @@ impl<'a, R: Input + Wait, C: Ledger, A: Ledger, K: Ledger> Lent<'a, R, C, A, K> 
             answer = self.make(share, &mut own, trial.call)?;
         }
         let mut later = Vec::new(self.alloc);
+        self.send_all(&mut later)?;
         later.push(self.commit(share, Stamp { worker: 8, step: 0 }, &mut own)?)?;
         later.push(self.commit(share, Stamp { worker: 9, step: 0 }, &mut other)?)?;
         later.push(Some((share.parts(), share.receipts().len())))?;
-        self.later(&mut later)?;
+        self.release_all(&mut later)?;
         Ok(Made {
             answer,
             was_hit,
