@@ -45,6 +45,16 @@ const PLAYS: &[(&str, &str)] = &[
          12 0 :release-carried h -> true\n13 9 :take -> none\n14 9 :put-back -> no-job\n15 0 :release-carried [:agent 0] -> true\n\
          16 0 :release-carried g -> false\nagent g 1 ready\nagent h 2 ready\ncommits 1\naudit ok\n",
     ),
+    // An account that is folded, one that can't be, and rules.
+    (
+        "{:version 1 :agents [[g 0 [>= 0]]] :events [[0 :send g + 1] [0 :take] [0 :run] [0 :finish] [0 :fold g] [0 :fold [:agent 1]] \
+         [0 :send g + 2] [0 :take] [0 :rule-of g] [0 :set-validator g [<= 9]] [0 :rule-of g] [0 :set-validator g nil] [0 :rule-of g] \
+         [0 :rule-of [:atom 0]]]}",
+        "0 0 :send g + 1 -> ok\n1 0 :take -> job 0 0\n2 0 :run -> ok\n3 0 :finish -> changed\n4 0 :fold g -> true\n\
+         5 0 :fold [:agent 1] -> false\n6 0 :send g + 2 -> ok\n7 0 :take -> job 0 1\n8 0 :rule-of g -> rule [>= 0]\n\
+         9 0 :set-validator g [<= 9] -> ok\n10 0 :rule-of g -> rule [<= 9]\n11 0 :set-validator g nil -> ok\n\
+         12 0 :rule-of g -> none\n13 0 :rule-of [:atom 0] -> none\nagent g 1 ready\ncommits 0\naudit ok\n",
+    ),
     // Each act on atoms, with a watch, and a reference by its number.
     (
         "{:version 1 :atoms [[w 0] [x 1]] :events [[0 :add-watch x :k] [0 :swap x + 1 2] [0 :reset [:atom 1] 5] [0 :cas x 5 6] \
@@ -60,7 +70,7 @@ const PLAYS: &[(&str, &str)] = &[
 fn plays_are_written(rt: HostRuntime) -> Result<(), Fail> {
     let alloc = rt.alloc();
     for (text, wanted) in PLAYS {
-        match play_text(alloc, &CoreFunctions::new(), text.as_bytes()) {
+        match play_text(alloc, &CoreFunctions::new(), text.as_bytes(), false) {
             Ok(output) => assert_eq!(rt; output.as_slice(), wanted.as_bytes()),
             Err(_) => return Err(Fail::new("a list of events isn't played")),
         }

@@ -5,6 +5,6 @@ use Rattle.ref_player.proofs.plays.output_of.Goals as goal
 pub returns-clause-ok : goal.returns-clause-ok
 returns-clause-ok g c =
     let parts = c.into_parts-names.ensures in
-    play_of_parts c.args.script _ c.requires.core _ _ _ (λ t. t.items) _ _ _ _ _ _
+    play_of_parts c.args.dump c.args.script _ c.requires.core _ _ _ (λ t. t.items) _ _ _ _ _ _
     parts.names parts.refs parts.atoms parts.agents (c.as_slice.ensures.value ∙ parts.events) parts.forms
     c.in_ok-sim.ensures.begins c.in_ok-played.ensures.plays c.text_of.result c.text_of.ensures.audited c.text_of.ensures.text
