@@ -89,7 +89,9 @@ fn write_dump(writing: &mut Writing<'_>, fault: DumpFault) -> Result<(), AllocEr
 fn start_fault_of(alloc: Global, text: &[u8]) -> Option<PlanFault> {
     let value = read_one(alloc, text).ok()?;
     let entries = map_in(&value)?;
-    let empty = Items::of(alloc, Vec::new(alloc)).ok()?;
+    let Ok(empty) = Items::of(alloc, Vec::new(alloc)) else {
+        return None;
+    };
     let refs = forms_of(vector_under(entries, b"refs")?, &empty);
     let atoms = forms_of(vector_under(entries, b"atoms")?, &empty);
     let agents = forms_of(vector_under(entries, b"agents")?, &empty);
