@@ -44,7 +44,7 @@ WORDS = (
     ("`(x : T) → p`, `(x : T) × p`", "`p` for each `x` of type `T`; there is an `x` of type `T` with `p`"),
     ("`λ x. ..`, `let x = .. in ..`", "a function; a name for a part"),
     ("`ℕ`, `ℤ`, `Bool`, `List T`", "numbers from 0 on, integers, `true` and `false`, lists"),
-    ("`true`, `false`, `not b`, `m == n`", "the values of `Bool`; the other one; whether two numbers are equal"),
+    ("`true`, `false`, `not b`, `b && c`, `m == n`", "the values of `Bool`; the other one; whether both are; whether two numbers are equal"),
     ("`IsTrue b`, `OnTrue b p`, `OnFalse b p`", "`b` is `true`; if `b` is `true`, then `p`; if `b` is `false`, then `p`"),
     ("`Option T`, `Some x`, `None`", "an option, with a value or without one"),
     ("`IsSome o`, `is_some o`, `is_none o`", "the option has a value; the test of that, and of the opposite"),

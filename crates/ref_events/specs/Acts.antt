@@ -9,8 +9,8 @@
 --   :take, :run, :put-back, :finish           the actor's job
 --   :swap X F ARG .., :reset X V, :cas X OLD NEW
 --   :send G F ARG .., :send-carry G [F ARG ..] [H F ARG ..] .., :release-carried G
---   :restart G V, :restart G V :clear, :set-error-mode G :fail or :continue, :error-of G
---   :set-validator NAME RULE or nil, :add-watch NAME KEY, :remove-watch NAME KEY, :value-of NAME
+--   :restart G V, :restart G V :clear, :set-error-mode G :fail or :continue, :error-of G, :fold G
+--   :set-validator NAME RULE or nil, :add-watch NAME KEY, :remove-watch NAME KEY, :value-of NAME, :rule-of NAME
 --   :release P, :checkpoint P                 at the point P
 --   :make-ref V, :make-atom V, :make-agent V  then RULE or nil, then, for a ref, :tally, or, for an agent, :fail or :continue
 --
@@ -161,12 +161,14 @@ agent_said names agents.ReleaseCarried parts = option_map acts.ReleaseCarried (o
 agent_said names agents.Restart parts = option_map (λ p. acts.Restart p.0 p.1.0 p.1.1) (restart_said names parts)
 agent_said names agents.SetErrorMode parts = option_map (λ p. acts.SetErrorMode p.0 p.1) (two_said (place_said names kinds.Agent) mode_said parts)
 agent_said names agents.ErrorOf parts = option_map acts.ErrorOf (one_said (place_said names kinds.Agent) parts)
+agent_said names agents.Fold parts = option_map acts.Fold (one_said (place_said names kinds.Agent) parts)
 
 abbrev pub reference_said : NamesSeen → ReferenceWord → List Edn → Option Act
 reference_said names references.SetValidator parts = option_map (λ p. acts.SetValidator p.0 p.1) (two_said (who_said names) (rule_of any) parts)
 reference_said names references.AddWatch parts = option_map (λ p. acts.AddWatch p.0 p.1) (watch_said names parts)
 reference_said names references.RemoveWatch parts = option_map (λ p. acts.RemoveWatch p.0 p.1) (watch_said names parts)
 reference_said names references.ValueOf parts = option_map acts.ValueOf (one_said (who_said names) parts)
+reference_said names references.RuleOf parts = option_map acts.RuleOf (one_said (who_said names) parts)
 
 abbrev pub world_said : WorldWord → List Edn → Option Act
 world_said worlds.Release parts = option_map acts.Release (point_said parts)

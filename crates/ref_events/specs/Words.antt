@@ -22,9 +22,9 @@ act_words =
     ∷ (codes "swap", Atom atoms.Swap) ∷ (codes "reset", Atom atoms.Reset) ∷ (codes "cas", Atom atoms.CompareAndSet)
     ∷ (codes "send", Agent agents.Send) ∷ (codes "send-carry", Agent agents.SendCarry) ∷ (codes "release-carried", Agent agents.ReleaseCarried)
     ∷ (codes "restart", Agent agents.Restart) ∷ (codes "set-error-mode", Agent agents.SetErrorMode)
-    ∷ (codes "error-of", Agent agents.ErrorOf)
+    ∷ (codes "error-of", Agent agents.ErrorOf) ∷ (codes "fold", Agent agents.Fold)
     ∷ (codes "set-validator", Reference references.SetValidator) ∷ (codes "add-watch", Reference references.AddWatch)
-    ∷ (codes "remove-watch", Reference references.RemoveWatch) ∷ (codes "value-of", Reference references.ValueOf)
+    ∷ (codes "remove-watch", Reference references.RemoveWatch) ∷ (codes "value-of", Reference references.ValueOf) ∷ (codes "rule-of", Reference references.RuleOf)
     ∷ (codes "release", World worlds.Release) ∷ (codes "checkpoint", World worlds.Checkpoint)
     ∷ (codes "make-ref", Making makings.MakeRef) ∷ (codes "make-atom", Making makings.MakeAtom) ∷ (codes "make-agent", Making makings.MakeAgent) ∷ []
 

@@ -153,6 +153,7 @@ fn agent_act_in(
             Ok(Act::SetErrorMode(g, mode))
         }
         AgentWord::ErrorOf => Ok(Act::ErrorOf(number_alone(names, Kind::Agent, parts)?)),
+        AgentWord::Fold => Ok(Act::Fold(number_alone(names, Kind::Agent, parts)?)),
     }
 }
 
@@ -178,6 +179,7 @@ fn reference_act_in(
             Ok(Act::RemoveWatch(who, key))
         }
         ReferenceWord::ValueOf => Ok(Act::ValueOf(who_alone(names, parts)?)),
+        ReferenceWord::RuleOf => Ok(Act::RuleOf(who_alone(names, parts)?)),
     }
 }
 

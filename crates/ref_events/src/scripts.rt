@@ -177,7 +177,7 @@ pub fn script_of(alloc: Global, value: &Value) -> Result<Script, ScriptFault>
     let atoms = forms_of(parts.atoms, &empty);
     let agents = forms_of(parts.agents, &empty);
     let forms = forms_of(parts.events, &empty);
-    let (declared, start) = declarations(alloc, refs, atoms, agents)?;
+    let (declared, start) = declarations(alloc, refs, atoms, agents, false)?;
     let events = events_in(
         alloc,
         &Numbered {

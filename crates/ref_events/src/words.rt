@@ -61,6 +61,7 @@ pub enum AgentWord {
     Restart,
     SetErrorMode,
     ErrorOf,
+    Fold,
 }
 
 /// Any reference.
@@ -70,6 +71,7 @@ pub enum ReferenceWord {
     AddWatch,
     RemoveWatch,
     ValueOf,
+    RuleOf,
 }
 
 /// A point of the world.
@@ -87,7 +89,7 @@ pub enum MakingWord {
     MakeAgent,
 }
 
-const WORDS: [(&str, ActWord); 34] = [
+const WORDS: [(&str, ActWord); 36] = [
     ("begin", ActWord::Tx(TxWord::Begin)),
     ("deref", ActWord::Tx(TxWord::Deref)),
     ("ref-set", ActWord::Tx(TxWord::RefSet)),
@@ -113,6 +115,7 @@ const WORDS: [(&str, ActWord); 34] = [
     ("restart", ActWord::Agent(AgentWord::Restart)),
     ("set-error-mode", ActWord::Agent(AgentWord::SetErrorMode)),
     ("error-of", ActWord::Agent(AgentWord::ErrorOf)),
+    ("fold", ActWord::Agent(AgentWord::Fold)),
     (
         "set-validator",
         ActWord::Reference(ReferenceWord::SetValidator),
@@ -123,6 +126,7 @@ const WORDS: [(&str, ActWord); 34] = [
         ActWord::Reference(ReferenceWord::RemoveWatch),
     ),
     ("value-of", ActWord::Reference(ReferenceWord::ValueOf)),
+    ("rule-of", ActWord::Reference(ReferenceWord::RuleOf)),
     ("release", ActWord::World(WorldWord::Release)),
     ("checkpoint", ActWord::World(WorldWord::Checkpoint)),
     ("make-ref", ActWord::Making(MakingWord::MakeRef)),

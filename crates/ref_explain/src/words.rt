@@ -105,7 +105,7 @@ pub(crate) enum Sentence {
 }
 
 // No kind of sentence has more words.
-pub(crate) const MOST_WORDS: usize = 34;
+pub(crate) const MOST_WORDS: usize = 36;
 
 fn step(place: usize) -> Option<Word> {
     match place {
@@ -219,6 +219,8 @@ fn act_of_world(place: usize) -> Option<Word> {
             NEW_AGENT,
             "[ACTOR :make-agent V], then a rule or nil, then :fail or :continue",
         )),
+        34 => Some(written("fold", AN_AGENT, "[ACTOR :fold G]")),
+        35 => Some(written("rule-of", ANY, "[ACTOR :rule-of NAME]")),
         _ => None,
     }
 }

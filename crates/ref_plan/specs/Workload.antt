@@ -79,7 +79,7 @@ pub record HasForm (x : Edn) : Type 0 where
 -- the references that the entries declare
 abbrev pub HasReferences : List (Edn × Edn) → PlanSeen → Type 0
 HasReferences entries plan =
-    AreReferences (forms_under entries refs_word) (forms_under entries atoms_word) (forms_under entries agents_word)
+    AreReferences true (forms_under entries refs_word) (forms_under entries atoms_word) (forms_under entries agents_word)
     plan.names plan.refs plan.atoms plan.agents
 
 pub record IsWorkload (x : Edn) (plan : PlanSeen) : Type 0 where

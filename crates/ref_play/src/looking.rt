@@ -1,7 +1,7 @@
 //! Acts on references of all kinds: rules, watches, and reads.
 ghost use Rattle.std.specs.Prelude.{ℕ, []};
 ghost use Rattle.ref_fun.specs.Calls.{Known};
-ghost use Rattle.ref_play.specs.Present.{ReadsError, ReadsValue};
+ghost use Rattle.ref_play.specs.Present.{ReadsError, ReadsRule, ReadsValue};
 ghost use Rattle.ref_play.specs.Sims.{Serves, SimSeen, present};
 ghost use Rattle.ref_play.specs.declared.events.Act.TheVariants as acts;
 
@@ -80,6 +80,23 @@ pub(crate) fn value_of<M: Meaning, C: Ledger, A: Ledger, K: Ledger>(
     match value.share() {
         Ok(value) => Reply::ValueOf(Ok(Some(value))),
         Err(_) => Reply::ValueOf(Err(AllocError)),
+    }
+}
+
+// The rule of a reference now, if it has one.
+pub(crate) fn rule_of<M: Meaning, C: Ledger, A: Ledger, K: Ledger>(
+    world: &World<M, C, A, K>,
+    who: Who,
+) -> Reply
+    ensures { (s : SimSeen) → ReadsRule (present (record s { world = world.now })) who result []
+        (present (record s { world = world.now })) }
+{
+    let Some(rule) = world.rule_of(who) else {
+        return Reply::RuleOf(Ok(None));
+    };
+    match rule.share() {
+        Ok(rule) => Reply::RuleOf(Ok(Some(rule))),
+        Err(_) => Reply::RuleOf(Err(AllocError)),
     }
 }
 

@@ -1,6 +1,6 @@
 //! What actors do with agents.
 ghost use Rattle.std.specs.Prelude.{◌≡◌, ◌≢◌, [], None, IfOk, OnErr};
-ghost use Rattle.ref_play.specs.Present.{MakesAgent, Releases, ReleasesCarried, Restarts, Sends, SetsMode};
+ghost use Rattle.ref_play.specs.Present.{FoldsAgent, MakesAgent, Releases, ReleasesCarried, Restarts, Sends, SetsMode};
 ghost use Rattle.ref_play.specs.Sims.{SimSeen, present};
 ghost use Rattle.ref_world.specs.World.{with_agents};
 
@@ -91,6 +91,21 @@ pub(crate) fn set_error_mode<M: Meaning, C: Ledger, A: Ledger, K: Ledger>(
     match world.set_error_mode(g, mode) {
         Ok(()) => Reply::SetErrorMode(Ok(())),
         Err(fault) => Reply::SetErrorMode(Err(fault)),
+    }
+}
+
+// Folds the account of an agent.
+pub(crate) fn fold_agent<M: Meaning, C: Ledger, A: Ledger, K: Ledger>(
+    world: &mut World<M, C, A, K>,
+    g: u32,
+) -> Reply
+    ensures acts { (s : SimSeen) → FoldsAgent (present (record s { world = world.old })) g result []
+        (present (record s { world = world.new })) }
+    ensures rest { world.new ≡ with_agents world.old world.new.agents }
+{
+    match world.fold_agent(g) {
+        Ok(done) => Reply::Fold(Ok(done)),
+        Err(_) => Reply::Fold(Err(AllocError)),
     }
 }
 

@@ -3,7 +3,7 @@ ghost use Rattle.std.specs.Prelude.{◌≡◌, ◌≢◌, IfSome, IsNone, false,
 ghost use Rattle.clap.specs.Simple.{subcommand_rows_of};
 ghost use Rattle.clap.specs.Matches.{found_of};
 ghost use Rattle.clap.specs.Walk.{one_of, rows_of};
-ghost use Rattle.refrun.specs.Commands.{IsAct, IsChoice, IsFlag, IsHistoryOf, IsNumber, IsPart, IsPoint, IsRunOf, IsTries, IsWanted, is_command};
+ghost use Rattle.refrun.specs.Commands.{IsAct, IsChoice, IsFlag, IsHistoryOf, IsNumber, IsPart, IsPlayOf, IsPoint, IsRunOf, IsTries, IsWanted, is_command};
 
 use crate::tasks::Task;
 use clap::{Arg, ArgAction, ArgMatches, Command, Error, value_parser};
@@ -169,6 +169,10 @@ fn command<'a>(alloc: Global, version: &'a str) -> Result<Command<'a>, AllocErro
     let play = Command::new(alloc, "play")
         .about(PLAY)
         .after_help(PLAY_MORE)
+        .arg(dump(
+            alloc,
+            "Prints the dump of the world that it came to instead of the report",
+        ))?
         .arg(explain(alloc, EXPLAIN))?;
     let history = history(alloc)?;
     let at = at(alloc)?;
@@ -195,6 +199,13 @@ fn command<'a>(alloc: Global, version: &'a str) -> Result<Command<'a>, AllocErro
 fn explain<'a>(alloc: Global, help: &'a str) -> Arg<'a> {
     Arg::new(alloc, "explain")
         .long("explain")
+        .action(ArgAction::SetTrue)
+        .help(help)
+}
+
+fn dump<'a>(alloc: Global, help: &'a str) -> Arg<'a> {
+    Arg::new(alloc, "dump")
+        .long("dump")
         .action(ArgAction::SetTrue)
         .help(help)
 }
@@ -279,10 +290,6 @@ fn run<'a>(alloc: Global) -> Result<Command<'a>, AllocError> {
         .help(
             "How often a transaction is tried that is in conflict, 1,000 times where nothing is said",
         );
-    let dump = Arg::new(alloc, "dump")
-        .long("dump")
-        .action(ArgAction::SetTrue)
-        .help("Prints the dump of the run instead of its report");
     let progress = Arg::new(alloc, "progress")
         .long("progress")
         .action(ArgAction::SetTrue)
@@ -296,7 +303,7 @@ fn run<'a>(alloc: Global) -> Result<Command<'a>, AllocError> {
         .about(RUN)
         .after_help(RUN_MORE)
         .arg(tries)?
-        .arg(dump)?
+        .arg(dump(alloc, "Prints the dump of the run instead of its report"))?
         .arg(progress)?
         .arg(strict)?
         .arg(explain(
@@ -345,7 +352,7 @@ fn act_of(name: &str, inner: &ArgMatches) -> Option<Act>
         "run" => Some(Act::ByCore(run_of(inner))),
         "check" => Some(Act::Check),
         "audit" => Some(Act::ByCore(Task::Audit)),
-        "play" => Some(Act::ByCore(Task::Play)),
+        "play" => Some(Act::ByCore(play_of(inner))),
         "history" => Some(Act::ByCore(Task::Look(history_of(inner)))),
         "at" => Some(Act::ByCore(Task::Look(Look::At(point_of(inner, "point", 0))))),
         "draw" => Some(Act::ByCore(Task::Draw(part_of(inner)))),
@@ -421,6 +428,15 @@ fn run_of(matches: &ArgMatches) -> Task
             dump: has_flag(matches, "dump"),
         },
         tells: has_flag(matches, "progress"),
+    }
+}
+
+// A play with the option that stands in the command.
+fn play_of(matches: &ArgMatches) -> Task
+    ensures { IsPlayOf (rows_of (found_of matches.now)) result }
+{
+    Task::Play {
+        dump: has_flag(matches, "dump"),
     }
 }
 

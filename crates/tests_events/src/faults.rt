@@ -54,7 +54,7 @@ const ROWS: &[(&str, PlayFault)] = &[
 fn faults_are_told(rt: HostRuntime) -> Result<(), Fail> {
     let alloc = rt.alloc();
     for (text, wanted) in ROWS {
-        match play_text(alloc, &CoreFunctions::new(), text.as_bytes()) {
+        match play_text(alloc, &CoreFunctions::new(), text.as_bytes(), false) {
             Ok(_) => return Err(Fail::new("what is no list of events is played")),
             Err(fault) => assert!(rt; fault == *wanted),
         }

@@ -45,6 +45,29 @@ const PLAYS: &[(&str, &str)] = &[
          12 0 :release-carried h -> true\n13 9 :take -> none\n14 9 :put-back -> no-job\n15 0 :release-carried [:agent 0] -> true\n\
          16 0 :release-carried g -> false\nagent g 1 ready\nagent h 2 ready\ncommits 1\naudit ok\n",
     ),
+    // Starts that are refused: the first reference, refs before atoms before agents.
+    (
+        "{:version 1 :refs [[a 0] [b 1 [>= 2]] [c -1 :tally]] :atoms [[x 0 [>= 1]]] :events [[0 :begin]]}",
+        "start -> ref 1 invalid\n",
+    ),
+    (
+        "{:version 1 :refs [[a 0 :tally] [b 0 :tally]] :atoms [[x 0 [>= 1]]]}",
+        "start -> ref 1 bad-tally\n",
+    ),
+    (
+        "{:version 1 :refs [[a 0]] :atoms [[x 0] [y 0]] :agents [[g 0] [h 0] [i 0 [>= 1]]]}",
+        "start -> agent 2 invalid\n",
+    ),
+    // An account that is folded, one that can't be, and rules.
+    (
+        "{:version 1 :agents [[g 0 [>= 0]]] :events [[0 :send g + 1] [0 :take] [0 :run] [0 :finish] [0 :fold g] [0 :fold [:agent 1]] \
+         [0 :send g + 2] [0 :take] [0 :rule-of g] [0 :set-validator g [<= 9]] [0 :rule-of g] [0 :set-validator g nil] [0 :rule-of g] \
+         [0 :rule-of [:atom 0]]]}",
+        "0 0 :send g + 1 -> ok\n1 0 :take -> job 0 0\n2 0 :run -> ok\n3 0 :finish -> changed\n4 0 :fold g -> true\n\
+         5 0 :fold [:agent 1] -> false\n6 0 :send g + 2 -> ok\n7 0 :take -> job 0 1\n8 0 :rule-of g -> rule [>= 0]\n\
+         9 0 :set-validator g [<= 9] -> ok\n10 0 :rule-of g -> rule [<= 9]\n11 0 :set-validator g nil -> ok\n\
+         12 0 :rule-of g -> none\n13 0 :rule-of [:atom 0] -> none\nagent g 1 ready\ncommits 0\naudit ok\n",
+    ),
     // Each act on atoms, with a watch, and a reference by its number.
     (
         "{:version 1 :atoms [[w 0] [x 1]] :events [[0 :add-watch x :k] [0 :swap x + 1 2] [0 :reset [:atom 1] 5] [0 :cas x 5 6] \
@@ -60,7 +83,33 @@ const PLAYS: &[(&str, &str)] = &[
 fn plays_are_written(rt: HostRuntime) -> Result<(), Fail> {
     let alloc = rt.alloc();
     for (text, wanted) in PLAYS {
-        match play_text(alloc, &CoreFunctions::new(), text.as_bytes()) {
+        match play_text(alloc, &CoreFunctions::new(), text.as_bytes(), false) {
+            Ok(output) => assert_eq!(rt; output.as_slice(), wanted.as_bytes()),
+            Err(_) => return Err(Fail::new("a list of events isn't played")),
+        }
+    }
+    Ok(())
+}
+
+// The text, and what is written with the dump instead of the report.
+const DUMPS: &[(&str, &str)] = &[
+    (
+        "{:version 1 :refs [[a 0 [>= 0]]] :atoms [[x :k]] :events [[2 :begin] [2 :alter a + 5] [2 :commit]]}",
+        "0 2 :begin -> point 0\n1 2 :alter a + 5 -> value 5\n2 2 :commit -> point 1\n\
+         {:added 0, :agents [], :atoms [[:k nil]], :base-atoms [:k], :base-refs [[0 0]], :commits 1, :dump 3, \
+         :entries [[:tx 2 2 0 [[:alter 0 + [5] 5]] []]], :folded [0 0 0], :point 0, :refs [[5 [>= 0]]], :taken 0, :tally nil}\n",
+    ),
+    (
+        "{:version 1 :refs [[a 0 [>= 1]]]}",
+        "start -> ref 0 invalid\n",
+    ),
+];
+
+#[test]
+fn dumps_are_written(rt: HostRuntime) -> Result<(), Fail> {
+    let alloc = rt.alloc();
+    for (text, wanted) in DUMPS {
+        match play_text(alloc, &CoreFunctions::new(), text.as_bytes(), true) {
             Ok(output) => assert_eq!(rt; output.as_slice(), wanted.as_bytes()),
             Err(_) => return Err(Fail::new("a list of events isn't played")),
         }

@@ -85,6 +85,7 @@ fn on_agent(alloc: Global, word: &str, call: &[Value]) -> Acted {
         }
         "set-error-mode" => Ok(Act::SetErrorMode(g, mode_at(call, 2))),
         "error-of" => Ok(Act::ErrorOf(g)),
+        "fold" => Ok(Act::Fold(g)),
         _ => on_any(alloc, word, call),
     }
 }
@@ -96,6 +97,7 @@ fn on_any(alloc: Global, word: &str, call: &[Value]) -> Acted {
         "add-watch" => Ok(Act::AddWatch(who, value_at(call, 2)?)),
         "remove-watch" => Ok(Act::RemoveWatch(who, value_at(call, 2)?)),
         "value-of" => Ok(Act::ValueOf(who)),
+        "rule-of" => Ok(Act::RuleOf(who)),
         _ => making(alloc, word, call),
     }
 }

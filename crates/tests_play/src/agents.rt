@@ -98,3 +98,20 @@ fn agents_fail_and_are_restarted(rt: HostRuntime) -> Result<(), Fail> {
         "##,
     )
 }
+
+#[test]
+fn accounts_are_folded(rt: HostRuntime) -> Result<(), Fail> {
+    check_all(
+        rt.alloc(),
+        r##"
+            // The state is the start, and the actions that ended are dropped. The queue stays, and so do the numbers of jobs.
+            [] [] [0 5] [0 send g + 1 :ok] [0 send g + 2 :ok] [0 send g + 4 :ok] [0 take [g 0]] [0 run :ok] [0 finish :changed] [account g [0 :done 2]] [1 fold g true] [account g [1 2]] [account h [5 0]] [1 value-of g 1] [0 take [g 1]] [0 run :ok] [0 finish :changed] [account g [1 :done 1]] [0 fold g true] [0 fold g true] [account g [3 1]] [0 take [g 2]] [0 put-back :ok] [0 fold h true] [account h [5 0]] [0 fold i false] [0 fold i false]
+            // While a job is out, one of another actor too.
+            [] [] [0] [0 send g + 1 :ok] [0 send g + 2 :ok] [0 take [g 0]] [0 run :ok] [0 finish :changed] [0 take [g 1]] [1 fold g true] [account g [1 1]] [0 run :ok] [1 take :none] [0 fold g true] [0 finish :changed] [account g [1 :done 0]] [0 value-of g 3]
+            // The action that failed the agent stays, one that was passed over doesn't. A restart drops it.
+            [] [] [[rule 0 [>= 0]]] [0 set-error-mode g continue :ok] [0 send g + 1 :ok] [0 send g - 9 :ok] [0 send g - 8 :ok] [0 send g + 3 :ok] [0 take [g 0]] [0 run :ok] [0 finish :changed] [0 take [g 1]] [0 run :ok] [0 finish [:continued :invalid]] [0 set-error-mode g fail :ok] [0 take [g 2]] [0 run :ok] [0 finish [:failed :invalid]] [account g [0 :done :passed :failed 1]] [0 fold g true] [account g [1 :failed 1]] [0 error-of g :invalid] [0 take :none] [0 fold g true] [account g [1 :failed 1]] [0 restart g 7 :ok] [account g [7 1]] [0 take [g 0]]
+            // Not while what its last action carried isn't released. What is held in its queue doesn't matter.
+            [] [] [0 0] [0 send-carry g [+ 1] [h + 10] :ok] [0 take [g 0]] [0 run :ok] [0 finish :changed] [1 fold g false] [account g [0 :done 0]] [1 fold h true] [account h [0 1]] [0 take :none] [0 release-carried g true] [1 fold g true] [account g [1 0]] [0 take [h 0]] [0 run :ok] [0 finish :changed] [0 value-of h 10]
+        "##,
+    )
+}

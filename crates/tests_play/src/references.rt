@@ -36,6 +36,19 @@ fn rules_and_watches_are_set(rt: HostRuntime) -> Result<(), Fail> {
 }
 
 #[test]
+fn rules_are_read(rt: HostRuntime) -> Result<(), Fail> {
+    check_all(
+        rt.alloc(),
+        r##"
+            // Of each kind, as it was declared, set, taken away or made; and of what isn't there.
+            [0 [rule 5 [<= 9]]] [1 [rule 6 [>= 2]]] [2 [rule 7 [= 7]]] [0 rule-of a :none] [0 rule-of b [<= 9]] [0 rule-of x :none] [0 rule-of y [>= 2]] [0 rule-of g :none] [0 rule-of h [= 7]] [0 rule-of c :none] [0 rule-of z :none] [0 rule-of i :none] [1 set-validator a [>= 0] :ok] [1 set-validator y nil :ok] [1 set-validator g [<= 2] :ok] [0 rule-of a [>= 0]] [0 rule-of b [<= 9]] [0 rule-of y :none] [0 rule-of g [<= 2]] [0 make-ref [rule 3 [>= 1]] c] [0 make-atom 3 z] [0 make-agent [rule 3 [<= 3]] i] [0 rule-of c [>= 1]] [0 rule-of z :none] [0 rule-of i [<= 3]] [entries 2]
+            // A rule that is refused isn't there.
+            [5] [] [] [0 set-validator a [>= 6] :invalid] [0 rule-of a :none] [0 set-validator a [>= 5] :ok] [0 set-validator a [<= 4] :invalid] [0 rule-of a [>= 5]]
+        "##,
+    )
+}
+
+#[test]
 fn worlds_begin_or_are_refused(rt: HostRuntime) -> Result<(), Fail> {
     check_all(
         rt.alloc(),

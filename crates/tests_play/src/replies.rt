@@ -2,6 +2,7 @@
 use ref_agents::{AgentError, FinishFault, Finished};
 use ref_atoms::{AtomFault, Cas, Swapped};
 use ref_edn::Value;
+use ref_fun::Rule;
 use ref_log::{MakeFault, Who};
 use ref_play::Reply;
 use ref_refs::CommitFault;
@@ -10,7 +11,7 @@ use ref_world::Receipt;
 use std::alloc::{AllocError, Global};
 use std::fmt::Debug;
 use tests_rows::answers::{Form, number, truth, word};
-use tests_rows::words::{name, told_form, value_form, variant_form, vector};
+use tests_rows::words::{name, rule_form, told_form, value_form, variant_form, vector};
 
 /// The act whose reply it is, or none where the act wasn't made; and what it says.
 pub(crate) type Said = (&'static str, Form);
@@ -116,6 +117,13 @@ fn value_now(alloc: Global, told: &Result<Option<Value>, AllocError>) -> Form {
     }
 }
 
+fn rule_now(alloc: Global, told: &Result<Option<Rule>, AllocError>) -> Form {
+    match told {
+        Ok(rule) => rule_form(alloc, rule.as_ref()),
+        Err(_) => word(alloc, "memory"),
+    }
+}
+
 fn error_now(alloc: Global, error: Option<AgentError>) -> Form {
     match error {
         Some(error) => variant_form(alloc, &error),
@@ -138,6 +146,7 @@ fn said_of_atom(alloc: Global, reply: &Reply) -> Said {
         Reply::MakeAgent(told) => ("make-agent", made(alloc, told.map(Who::Agent))),
         Reply::Checkpoint(told) => ("checkpoint", counted(alloc, told)),
         Reply::ValueOf(told) => ("value-of", value_now(alloc, told)),
+        Reply::RuleOf(told) => ("rule-of", rule_now(alloc, told)),
         _ => ("", word(alloc, "no-reply")),
     }
 }
@@ -154,6 +163,7 @@ fn said_of_agent(alloc: Global, reply: &Reply) -> Said {
         Reply::Restart(told) => ("restart", done(alloc, told)),
         Reply::SetErrorMode(told) => ("set-error-mode", done(alloc, told)),
         Reply::ErrorOf(error) => ("error-of", error_now(alloc, *error)),
+        Reply::Fold(told) => ("fold", answered(alloc, told)),
         _ => said_of_atom(alloc, reply),
     }
 }

@@ -17,7 +17,8 @@
 //! | `[0 take [g 0]]`, `[0 run :ok]`, `[0 put-back :ok]` | the agent and the number of the job, or `:none` |
 //! | `[0 finish :changed]`, `[0 finish [:failed :invalid]]` | how it ended, and the notices |
 //! | `[0 restart g 5 :ok]`, `[0 restart g 5 clear :ok]`, `[0 set-error-mode g continue :ok]`, `[0 error-of g :invalid]` | the error |
-//! | `[0 set-validator a [>= 0] :ok]`, `[0 value-of a 5]` | the value |
+//! | `[0 fold g true]` | whether its account was folded |
+//! | `[0 set-validator a [>= 0] :ok]`, `[0 value-of a 5]`, `[0 rule-of a [>= 0]]` | the value, the rule |
 //! | `[0 add-watch a :k true]`, `[0 remove-watch a :k true]` | whether the key is new; whether it was there |
 //! | `[0 make-ref 5 b]`, `[0 make-atom 5 y]`, `[0 make-agent 5 h]` | the new reference |
 //! | `[0 checkpoint 2 1]` | how many entries were folded |
