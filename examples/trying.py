@@ -134,12 +134,18 @@ def wanted_of(lines):
     return refused(int(fault[1]), fault[2].replace("EXAMPLES", str(HERE))) if fault else printed(joined(lines))
 
 
-def shown_rows(file):
-    """The rows of examples/shown.rows: each is a text, a command, and what is wanted of it."""
+def rows_of_commands(file):
+    """The rows of a table where commands stand behind `$`: each is a text, a command, and the lines below it."""
     for text, lines in lines_of_rows(file):
         starts = [at for at, line in enumerate(lines) if line.startswith("$ ")]
         for at, end in zip(starts, [*starts[1:], len(lines)]):
-            yield text, lines[at][2:].replace("EXAMPLES", str(HERE)), wanted_of(lines[at + 1 : end])
+            yield text, lines[at][2:].replace("EXAMPLES", str(HERE)), lines[at + 1 : end]
+
+
+def shown_rows(file):
+    """The rows of such a table: each is a text, a command, and what is wanted of it."""
+    for text, command, lines in rows_of_commands(file):
+        yield text, command, wanted_of(lines)
 
 
 def explained_rows(file):
