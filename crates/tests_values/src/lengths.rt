@@ -1,10 +1,10 @@
 //! Texts of each length, in the node and in a block: where a text lies makes no difference, and it is read into the node where it fits.
+use crate::versions::value_of;
 use ref_edn::order::compare;
 use ref_edn::{Items, Node, Text, Value, read_one};
 use std::alloc::Global;
 use std::cmp::Ordering;
 use std::test::Fail;
-use tests_tables::{right, value};
 
 // The texts are its fronts.
 const LETTERS: &str = "abcdefghijklmnopqrstuvwxyabcdefghijklmno";
@@ -22,8 +22,16 @@ enum Kind {
     Symbol,
 }
 
+fn right(is_right: bool, what: &str) -> Result<(), Fail> {
+    if is_right {
+        Ok(())
+    } else {
+        Err(Fail::new(format_args!("not right: {what}")))
+    }
+}
+
 fn chosen(alloc: Global, kind: Kind, text: &str) -> Result<Value, Fail> {
-    value(match kind {
+    value_of(match kind {
         Kind::Str => Node::string(alloc, text)?,
         Kind::Keyword => Node::keyword(alloc, text)?,
         Kind::Symbol => Node::symbol(alloc, text)?,
@@ -32,7 +40,7 @@ fn chosen(alloc: Global, kind: Kind, text: &str) -> Result<Value, Fail> {
 
 fn in_block(alloc: Global, kind: Kind, text: &str) -> Result<Value, Fail> {
     let text = Text::copy_of(alloc, text)?;
-    value(match kind {
+    value_of(match kind {
         Kind::Str => Node::Str(text),
         Kind::Keyword => Node::Keyword(text),
         Kind::Symbol => Node::Symbol(text),
@@ -69,7 +77,7 @@ fn lends(node: &Node, kind: Kind, text: &str) -> bool {
 
 fn vector(alloc: Global, member: &Value) -> Result<Value, Fail> {
     let items = Items::of(alloc, vec![in alloc; member.share()?, member.share()?]?)?;
-    value(Node::Vector(items))
+    value_of(Node::Vector(items))
 }
 
 fn check_same(alloc: Global, a: &Value, b: &Value, name: &str) -> Result<(), Fail> {

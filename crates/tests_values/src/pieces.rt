@@ -1,10 +1,7 @@
-//! Readers and writers that give and take bytes in pieces, and fail in mid-stream.
+//! A reader and a writer that give and take bytes in pieces, and fail in mid-stream.
 ghost use Rattle.std.specs.Prelude.{None};
 
 use ref_edn::{Failed, Sink, Source};
-use std::alloc::Global;
-use std::io;
-use std::io::{ErrorKind, Read};
 
 /// Gives at most `piece` bytes at a read, and fails once `good` reads have been given.
 #[derive(Drop)]
@@ -13,17 +10,6 @@ pub struct Pieces<'a> {
     pub piece: usize,
     pub good: u64,
     pub failures: u64,
-}
-
-impl<'a> Pieces<'a> {
-    pub fn new(bytes: &'a [u8], piece: usize, good: u64) -> Pieces<'a> {
-        Pieces {
-            bytes,
-            piece,
-            good,
-            failures: 0,
-        }
-    }
 }
 
 impl<'a> Source for Pieces<'a> {
@@ -53,17 +39,6 @@ pub struct Narrow {
     pub failures: u64,
 }
 
-impl Narrow {
-    pub fn new(alloc: Global, piece: usize, room: usize) -> Narrow {
-        Narrow {
-            taken: Vec::new(alloc),
-            piece,
-            room,
-            failures: 0,
-        }
-    }
-}
-
 impl Sink for Narrow {
     ghost written = { λ _. None };
 
@@ -77,22 +52,5 @@ impl Sink for Narrow {
         }
         self.room -= n;
         Ok(n)
-    }
-}
-
-/// A reader of `std` that gives one byte at a time, and then fails.
-#[derive(Drop)]
-pub struct Breaks {
-    pub good: u64,
-}
-
-impl Read for Breaks {
-    fn read(&mut self, buf: &mut [u8]) -> io::Result<usize> {
-        if self.good == 0 || buf.is_empty() {
-            return Err(ErrorKind::Other.into());
-        }
-        self.good -= 1;
-        buf[0] = b'x';
-        Ok(1)
     }
 }

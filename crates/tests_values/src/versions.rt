@@ -1,5 +1,8 @@
-//! Drawn changes of vectors, maps and sets, in all of whose versions everything is right at the end.
-use crate::drawing::draw;
+//! Drawn changes of vectors, maps and sets, in all of whose versions everything is right at the end. A change is made in place, or makes a
+//! new collection of the one before.
+ghost use Rattle.std.specs.Prelude.{◌<◌};
+
+use crate::same::same;
 use ref_edn::{Elements, Entries, Items, Node, Value};
 use std::alloc::{AllocError, Global};
 use std::collections::BTreeMap;
@@ -13,7 +16,7 @@ const KEPT_AFTER: usize = 1_000;
 const MOST: usize = 5_000;
 
 // More members than a tree of chunks could hold without balance: its height ends at 255, and a chunk at 32 members.
-const MANY: usize = 20_000;
+const MANY: i64 = 20_000;
 
 // A vector, a map and a set, and what they are to hold. A number below 0 stands for a vector of it.
 #[derive(Drop)]
@@ -26,7 +29,19 @@ struct Version {
     set: BTreeMap<i64, i64>,
 }
 
-fn value_of(node: Node) -> Result<Value, Fail> {
+// A number below a bound. The same seed always gives the same row of them.
+fn draw(seed: &mut u64, below: usize) -> usize
+    ensures { 0 < below → result < below }
+{
+    *seed = seed
+        .wrapping_mul(6364136223846793005)
+        .wrapping_add(1442695040888963407);
+    let high = (*seed >> 33) as usize;
+    if below == 0 { 0 } else { high % below }
+}
+
+/// The value of a lawful node.
+pub(crate) fn value_of(node: Node) -> Result<Value, Fail> {
     match Value::of(node) {
         Ok(value) => Ok(value),
         Err(_) => Err(Fail::from("not lawful")),
@@ -72,49 +87,74 @@ fn drawn_number(seed: &mut u64, below: usize) -> i64 {
 
 // ---- changes
 
-fn push(alloc: Global, version: &mut Version, n: i64) -> Result<(), Fail> {
-    if version.list.len() >= MOST {
-        version.items = Items::of(alloc, Vec::new(alloc))?;
-        version.list = Vec::new(alloc);
+fn push(alloc: Global, version: &mut Version, n: i64, in_place: bool) -> Result<(), Fail> {
+    let x = member(alloc, n)?;
+    if in_place {
+        version.items.push(alloc, x)?;
+    } else {
+        version.items = version.items.with(alloc, x)?;
     }
-    version.items.push(alloc, member(alloc, n)?)?;
     version.list.push(n)?;
     Ok(())
 }
 
-fn change_map(alloc: Global, version: &mut Version, key: i64, n: Option<i64>) -> Result<(), Fail> {
+fn put(alloc: Global, version: &mut Version, key: i64, n: i64, in_place: bool) -> Result<(), Fail> {
     if !version.entries.ascends() {
         return Err(Fail::from("not in order"));
     }
-    match n {
-        Some(n) => {
-            let value = member(alloc, n)?;
-            version.entries.insert(alloc, member(alloc, key)?, value)?;
-            version.map.insert(key, n)?;
-        }
-        None => {
-            version.entries.remove(alloc, &member(alloc, key)?)?;
-            version.map.remove(&key);
-        }
+    let (k, x) = (member(alloc, key)?, member(alloc, n)?);
+    if in_place {
+        version.entries.insert(alloc, k, x)?;
+    } else {
+        version.entries = version.entries.with(alloc, k, x)?;
     }
+    version.map.insert(key, n)?;
     Ok(())
 }
 
-fn change_set(alloc: Global, version: &mut Version, n: i64, comes: bool) -> Result<(), Fail> {
+fn take_out(alloc: Global, version: &mut Version, key: i64, in_place: bool) -> Result<(), Fail> {
+    if !version.entries.ascends() {
+        return Err(Fail::from("not in order"));
+    }
+    let k = member(alloc, key)?;
+    if in_place {
+        version.entries.remove(alloc, &k)?;
+    } else {
+        version.entries = version.entries.without(alloc, &k)?;
+    }
+    version.map.remove(&key);
+    Ok(())
+}
+
+fn add(alloc: Global, version: &mut Version, n: i64, in_place: bool) -> Result<(), Fail> {
     if !version.elements.ascends() {
         return Err(Fail::from("not in order"));
     }
-    if comes {
-        version.elements.insert(alloc, member(alloc, n)?)?;
-        version.set.insert(n, n)?;
+    let x = member(alloc, n)?;
+    if in_place {
+        version.elements.insert(alloc, x)?;
     } else {
-        version.elements.remove(alloc, &member(alloc, n)?)?;
-        version.set.remove(&n);
+        version.elements = version.elements.with(alloc, x)?;
     }
+    version.set.insert(n, n)?;
     Ok(())
 }
 
-// In one change of two a member comes while a collection grows, and in one of nine while it shrinks.
+fn leave_out(alloc: Global, version: &mut Version, n: i64, in_place: bool) -> Result<(), Fail> {
+    if !version.elements.ascends() {
+        return Err(Fail::from("not in order"));
+    }
+    let x = member(alloc, n)?;
+    if in_place {
+        version.elements.remove(alloc, &x)?;
+    } else {
+        version.elements = version.elements.without(alloc, &x)?;
+    }
+    version.set.remove(&n);
+    Ok(())
+}
+
+// In eight changes of nine a member comes while a collection grows, and in two of nine while it shrinks.
 fn does_come(seed: &mut u64, grows: bool) -> bool {
     draw(seed, 9) < if grows { 8 } else { 2 }
 }
@@ -122,18 +162,13 @@ fn does_come(seed: &mut u64, grows: bool) -> bool {
 fn change(alloc: Global, seed: &mut u64, version: &mut Version, grows: bool) -> Result<(), Fail> {
     let kind = draw(seed, 5);
     let n = drawn_number(seed, 2 * MOST);
-    let comes = does_come(seed, grows);
+    let (comes, in_place) = (does_come(seed, grows), draw(seed, 4) > 0);
     match kind {
-        0 => push(alloc, version, n),
-        1 | 2 => {
-            let x = if comes {
-                Some(drawn_number(seed, 10))
-            } else {
-                None
-            };
-            change_map(alloc, version, n, x)
-        }
-        _ => change_set(alloc, version, n, comes),
+        0 => push(alloc, version, n, in_place),
+        1 | 2 if comes => put(alloc, version, n, drawn_number(seed, 10), in_place),
+        1 | 2 => take_out(alloc, version, n, in_place),
+        _ if comes => add(alloc, version, n, in_place),
+        _ => leave_out(alloc, version, n, in_place),
     }
 }
 
@@ -250,15 +285,15 @@ fn is_right(alloc: Global, seed: &mut u64, version: &Version) -> Result<bool, Fa
 
 // ---- the run
 
-// Some thousand members in each, made at once.
-fn start(alloc: Global) -> Result<Version, Fail> {
+// So many members in each, made at once.
+fn start(alloc: Global, count: i64) -> Result<Version, Fail> {
     let mut values = Vec::new(alloc);
     let mut list = Vec::new(alloc);
     let mut pairs = Vec::new(alloc);
     let mut map = BTreeMap::new(alloc);
     let mut elements = Vec::new(alloc);
     let mut set = BTreeMap::new(alloc);
-    for n in 0..3_000 {
+    for n in 0..count {
         values.push(member(alloc, n)?)?;
         list.push(n)?;
         pairs.push((member(alloc, n)?, member(alloc, 7)?))?;
@@ -302,17 +337,26 @@ fn go_on(
 #[test]
 fn old_versions_stay(rt: HostRuntime) -> Result<(), Fail> {
     let alloc = rt.alloc();
-    let mut versions = vec![in alloc; start(alloc)?]?;
+    let mut versions = vec![in alloc; start(alloc, 3_000)?]?;
     let mut seed: u64 = 17;
     for round in 0..CHANGES / KEPT_AFTER {
         go_on(alloc, &mut seed, &mut versions, round % 20 < 10)?;
     }
     let mut longest: usize = 0;
     for (i, version) in versions.iter().enumerate() {
-        assert!(rt; is_right(alloc, &mut seed, version)?, "version {i}");
+        same(&rt, (i, is_right(alloc, &mut seed, version)?), (i, true));
         longest = longest.max(version.map.len()).max(version.set.len());
     }
-    assert!(rt; longest > 4_000, "{longest} members");
+    same(&rt, (longest > 4_000, longest), (true, longest));
+    Ok(())
+}
+
+fn grow(alloc: Global, version: &mut Version) -> Result<(), Fail> {
+    for n in 0..MANY {
+        push(alloc, version, n, true)?;
+        put(alloc, version, n, n, true)?;
+        add(alloc, version, n, true)?;
+    }
     Ok(())
 }
 
@@ -320,18 +364,22 @@ fn old_versions_stay(rt: HostRuntime) -> Result<(), Fail> {
 #[test]
 fn many_members_come_one_by_one(rt: HostRuntime) -> Result<(), Fail> {
     let alloc = rt.alloc();
-    let mut items = Items::of(alloc, Vec::new(alloc))?;
-    let mut elements = Elements::of(alloc, Vec::new(alloc))?;
-    let mut entries = Entries::of(alloc, Vec::new(alloc))?;
-    for n in 0..MANY {
-        let n = n as i64;
-        items.push(alloc, member(alloc, n)?)?;
-        elements.insert(alloc, member(alloc, n)?)?;
-        entries.insert(alloc, member(alloc, n)?, member(alloc, n)?)?;
+    let mut version = start(alloc, 0)?;
+    grow(alloc, &mut version)?;
+    same(&rt, is_right(alloc, &mut 17, &version)?, true);
+    Ok(())
+}
+
+#[test]
+fn values_are_nested_64_deep_at_most(rt: HostRuntime) -> Result<(), Fail> {
+    let alloc = rt.alloc();
+    let mut node = Node::Int(5);
+    for _ in 0..64 {
+        node = Node::Vector(Items::of(alloc, vec![in alloc; value_of(node)?]?)?);
     }
-    assert_eq!(rt;
-        (items.len(), elements.len(), entries.len()),
-        (MANY, MANY, MANY)
-    );
+    let deepest = value_of(node)?;
+    same(&rt, deepest.depth(), 64);
+    let deeper = Node::Vector(Items::of(alloc, vec![in alloc; deepest]?)?);
+    same(&rt, Value::of(deeper).is_err(), true);
     Ok(())
 }
