@@ -1,7 +1,7 @@
-//! Calls of Core that no workload makes: of values nested deeper than 48, and by codes that have no meaning. The names of the codes.
+//! Calls of Core that no workload makes: of values nested deeper than 48, and by codes that have no meaning.
 use crate::same::same;
 use ref_edn::{Node, Value, print, read_one};
-use ref_fun::{Args, Cause, FunFault, MOST_ARGUMENTS, code_of, core_fun, core_test, name_of};
+use ref_fun::{Args, Cause, FunFault, MOST_ARGUMENTS, core_fun, core_test};
 use std::alloc::{AllocError, Global};
 use std::process::Abort;
 use std::test::Fail;
@@ -106,38 +106,6 @@ fn calls_that_no_workload_makes(rt: HostRuntime) -> Result<(), Fail> {
         same(&rt, got, written_out(alloc, gives)?);
     }
     Ok(())
-}
-
-const FUNCTIONS: &[&str] = &[
-    "+", "-", "inc", "dec", "max", "min", "conj", "assoc", "dissoc", "disj",
-];
-
-const PREDICATES: &[&str] = &[
-    ">=", "<=", "=", "int?", "string?", "vector?", "map?", "set?", "some?",
-];
-
-// These names stand for the codes from this one on.
-fn check_names(rt: &(impl Abort + AllocGlobal), names: &[&str], first: u32) {
-    let mut code = first;
-    for name in names {
-        same(rt, code_of(name.as_bytes()), Some(code));
-        same(rt, name_of(code), Some(*name));
-        code = code.saturating_add(1);
-    }
-}
-
-#[test]
-fn names_stand_for_codes(rt: HostRuntime) {
-    check_names(&rt, FUNCTIONS, 1);
-    check_names(&rt, PREDICATES, 101);
-    for name in [
-        "", "++", "int", "int?x", "Inc", " +", ":inc", "==", ">", "nil?",
-    ] {
-        same(&rt, (name, code_of(name.as_bytes())), (name, None));
-    }
-    for code in [0, 11, 100, 110, u32::MAX] {
-        same(&rt, (code, name_of(code)), (code, None));
-    }
 }
 
 // Codes of no function, and of no predicate.

@@ -81,7 +81,7 @@ fn check_codes(rt: &(impl Abort + AllocGlobal), table: &FunTable, without: &[u32
     }
 }
 
-// What the functions give if they are in the table, and what the predicates answer. A code of the other kind is in none.
+// Calls of functions, of which the last is of a predicate.
 const CALLS: &[Call] = &[
     (1, "2", "[3 4]", "9"),
     (2, "2", "[3 4]", "-5"),
@@ -93,6 +93,7 @@ const CALLS: &[Call] = &[
     (101, "2", "[3]", "NoSuchFun(101)"),
 ];
 
+// Calls of predicates, of which the last are of functions.
 const TESTS: &[Call] = &[
     (101, "0", "[1]", "Some(false)"),
     (101, "0", "[]", "Some(false)"),
@@ -117,41 +118,6 @@ fn tested(alloc: Global, table: &FunTable, code: u32, given: &Inputs) -> Result<
     Ok(format!(in alloc; "{answer:?}")?)
 }
 
-// A call gives what is wanted, unless its code is left out.
-fn check_call(
-    rt: &(impl Abort + AllocGlobal),
-    table: &FunTable,
-    without: &[u32],
-    call: &Call,
-) -> Result<(), Fail> {
-    let alloc = rt.alloc();
-    let (code, state, args, gives) = *call;
-    let got = called(alloc, table, code, &inputs_of(alloc, state, args)?)?;
-    let missing = format!(in alloc; "NoSuchFun({code})")?;
-    let is_out = without.contains(&code);
-    let wanted = if is_out { missing.as_str() } else { gives };
-    same(rt, got.as_str(), wanted);
-    Ok(())
-}
-
-fn check_test(
-    rt: &(impl Abort + AllocGlobal),
-    table: &FunTable,
-    without: &[u32],
-    call: &Call,
-) -> Result<(), Fail> {
-    let alloc = rt.alloc();
-    let (code, state, args, gives) = *call;
-    let got = tested(alloc, table, code, &inputs_of(alloc, state, args)?)?;
-    let wanted = if without.contains(&code) {
-        "None"
-    } else {
-        gives
-    };
-    same(rt, got.as_str(), wanted);
-    Ok(())
-}
-
 // A table that has Core without these codes.
 fn check_table(
     rt: &(impl Abort + AllocGlobal),
@@ -159,11 +125,22 @@ fn check_table(
     without: &[u32],
 ) -> Result<(), Fail> {
     check_codes(rt, table, without);
-    for call in CALLS {
-        check_call(rt, table, without, call)?;
+    let alloc = rt.alloc();
+    for (code, state, args, gives) in CALLS {
+        let got = called(alloc, table, *code, &inputs_of(alloc, state, args)?)?;
+        let missing = format!(in alloc; "NoSuchFun({code})")?;
+        let is_out = without.contains(code);
+        let wanted: &str = if is_out { missing.as_str() } else { *gives };
+        same(rt, got.as_str(), wanted);
     }
-    for call in TESTS {
-        check_test(rt, table, without, call)?;
+    for (code, state, args, gives) in TESTS {
+        let got = tested(alloc, table, *code, &inputs_of(alloc, state, args)?)?;
+        let wanted: &str = if without.contains(code) {
+            "None"
+        } else {
+            *gives
+        };
+        same(rt, got.as_str(), wanted);
     }
     Ok(())
 }

@@ -1,8 +1,7 @@
-//! Tests of values, of readers and writers, and of tables of functions, by calls that are public, as far as no text says what is tested:
-//! what is read and printed of texts, and what the functions of Core give, is in rows of `examples`.
+//! Tests of values and of tables of functions, by calls that are public, as far as no text says what is tested: what is read and printed of
+//! texts, and what the functions of Core give, is in rows of `examples`.
 //!
-//! They stand here and not in `ref_value`, `ref_edn` and `ref_fun`, since a crate that has tests is proved twice, without them and with
-//! them.
+//! They stand here and not in `ref_value` and `ref_fun`, since a crate that has tests is proved twice, without them and with them.
 #![tactic(auto)]
 
 #[cfg(test)]
@@ -10,13 +9,8 @@ mod calls;
 #[cfg(test)]
 mod closures;
 #[cfg(test)]
-mod faults;
-#[cfg(test)]
 mod lengths;
-pub mod pieces;
 #[cfg(test)]
 mod same;
-#[cfg(test)]
-mod streams;
 #[cfg(test)]
 mod versions;

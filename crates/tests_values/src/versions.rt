@@ -1,5 +1,4 @@
-//! Drawn changes of vectors, maps and sets, in all of whose versions everything is right at the end. A change is made in place, or makes a
-//! new collection of the one before.
+//! Drawn changes of vectors, maps and sets, in all of whose versions everything is right at the end.
 ghost use Rattle.std.specs.Prelude.{◌<◌};
 
 use crate::same::same;
@@ -18,7 +17,10 @@ const MOST: usize = 5_000;
 // More members than a tree of chunks could hold without balance: its height ends at 255, and a chunk at 32 members.
 const MANY: i64 = 20_000;
 
-// A vector, a map and a set, and what they are to hold. A number below 0 stands for a vector of it.
+// From this number on one stands for a vector of it. So values are in the order of their numbers.
+const NESTED: i64 = 100_000;
+
+// A vector, a map and a set, and the numbers of what they are to hold.
 #[derive(Drop)]
 struct Version {
     items: Items,
@@ -50,36 +52,39 @@ pub(crate) fn value_of(node: Node) -> Result<Value, Fail> {
 
 fn member(alloc: Global, n: i64) -> Result<Value, Fail> {
     let number = value_of(Node::Int(n))?;
-    if n >= 0 {
+    if n < NESTED {
         return Ok(number);
     }
     value_of(Node::Vector(Items::of(alloc, vec![in alloc; number]?)?))
 }
 
-// Whether a value is the one that stands for a number.
-fn stands_for(value: &Value, n: i64) -> bool {
-    match value.node() {
-        Node::Int(m) => *m == n && n >= 0,
-        Node::Vector(items) => match items.get(0) {
-            Some(first) => items.len() == 1 && n < 0 && is_number(first, n),
-            None => false,
-        },
-        _ => false,
-    }
+fn depth_of(n: i64) -> u8 {
+    if n < NESTED { 0 } else { 1 }
 }
 
-fn is_number(value: &Value, n: i64) -> bool {
+fn is_int(value: &Value, n: i64) -> bool {
     match value.node() {
         Node::Int(m) => *m == n,
         _ => false,
     }
 }
 
-// A number below a bound, and now and then one below 0.
+// Whether a value is the one that stands for a number.
+fn stands_for(value: &Value, n: i64) -> bool {
+    match value.node() {
+        Node::Vector(items) => match items.get(0) {
+            Some(first) => items.len() == 1 && n >= NESTED && is_int(first, n),
+            None => false,
+        },
+        _ => n < NESTED && is_int(value, n),
+    }
+}
+
+// A number below a bound, and now and then one that stands for a vector.
 fn drawn_number(seed: &mut u64, below: usize) -> i64 {
     let n = i64::try_from(draw(seed, below)).unwrap_or(0);
     if draw(seed, 500) == 0 {
-        n.saturating_sub(100_000)
+        n.saturating_add(NESTED)
     } else {
         n
     }
@@ -87,88 +92,55 @@ fn drawn_number(seed: &mut u64, below: usize) -> i64 {
 
 // ---- changes
 
-fn push(alloc: Global, version: &mut Version, n: i64, in_place: bool) -> Result<(), Fail> {
-    let x = member(alloc, n)?;
-    if in_place {
-        version.items.push(alloc, x)?;
-    } else {
-        version.items = version.items.with(alloc, x)?;
-    }
+fn push(alloc: Global, version: &mut Version, n: i64) -> Result<(), Fail> {
+    version.items.push(alloc, member(alloc, n)?)?;
     version.list.push(n)?;
     Ok(())
 }
 
-fn put(alloc: Global, version: &mut Version, key: i64, n: i64, in_place: bool) -> Result<(), Fail> {
-    if !version.entries.ascends() {
-        return Err(Fail::from("not in order"));
-    }
-    let (k, x) = (member(alloc, key)?, member(alloc, n)?);
-    if in_place {
-        version.entries.insert(alloc, k, x)?;
-    } else {
-        version.entries = version.entries.with(alloc, k, x)?;
-    }
-    version.map.insert(key, n)?;
-    Ok(())
-}
-
-fn take_out(alloc: Global, version: &mut Version, key: i64, in_place: bool) -> Result<(), Fail> {
+fn change_map(alloc: Global, version: &mut Version, key: i64, n: Option<i64>) -> Result<(), Fail> {
     if !version.entries.ascends() {
         return Err(Fail::from("not in order"));
     }
     let k = member(alloc, key)?;
-    if in_place {
-        version.entries.remove(alloc, &k)?;
-    } else {
-        version.entries = version.entries.without(alloc, &k)?;
+    match n {
+        Some(n) => {
+            version.entries.insert(alloc, k, member(alloc, n)?)?;
+            version.map.insert(key, n)?;
+        }
+        None => {
+            version.entries.remove(alloc, &k)?;
+            version.map.remove(&key);
+        }
     }
-    version.map.remove(&key);
     Ok(())
 }
 
-fn add(alloc: Global, version: &mut Version, n: i64, in_place: bool) -> Result<(), Fail> {
+fn change_set(alloc: Global, version: &mut Version, n: i64, comes: bool) -> Result<(), Fail> {
     if !version.elements.ascends() {
         return Err(Fail::from("not in order"));
     }
     let x = member(alloc, n)?;
-    if in_place {
+    if comes {
         version.elements.insert(alloc, x)?;
+        version.set.insert(n, n)?;
     } else {
-        version.elements = version.elements.with(alloc, x)?;
-    }
-    version.set.insert(n, n)?;
-    Ok(())
-}
-
-fn leave_out(alloc: Global, version: &mut Version, n: i64, in_place: bool) -> Result<(), Fail> {
-    if !version.elements.ascends() {
-        return Err(Fail::from("not in order"));
-    }
-    let x = member(alloc, n)?;
-    if in_place {
         version.elements.remove(alloc, &x)?;
-    } else {
-        version.elements = version.elements.without(alloc, &x)?;
+        version.set.remove(&n);
     }
-    version.set.remove(&n);
     Ok(())
 }
 
 // In eight changes of nine a member comes while a collection grows, and in two of nine while it shrinks.
-fn does_come(seed: &mut u64, grows: bool) -> bool {
-    draw(seed, 9) < if grows { 8 } else { 2 }
-}
-
 fn change(alloc: Global, seed: &mut u64, version: &mut Version, grows: bool) -> Result<(), Fail> {
     let kind = draw(seed, 5);
     let n = drawn_number(seed, 2 * MOST);
-    let (comes, in_place) = (does_come(seed, grows), draw(seed, 4) > 0);
+    let comes = draw(seed, 9) < if grows { 8 } else { 2 };
     match kind {
-        0 => push(alloc, version, n, in_place),
-        1 | 2 if comes => put(alloc, version, n, drawn_number(seed, 10), in_place),
-        1 | 2 => take_out(alloc, version, n, in_place),
-        _ if comes => add(alloc, version, n, in_place),
-        _ => leave_out(alloc, version, n, in_place),
+        0 => push(alloc, version, n),
+        1 | 2 if comes => change_map(alloc, version, n, Some(drawn_number(seed, 10))),
+        1 | 2 => change_map(alloc, version, n, None),
+        _ => change_set(alloc, version, n, comes),
     }
 }
 
@@ -184,11 +156,6 @@ fn share(version: &Version) -> Result<Version, AllocError> {
 }
 
 // ---- what is to hold
-
-// How deep numbers are: those below 0 stand for vectors.
-fn depth_of(n: i64) -> u8 {
-    if n < 0 { 1 } else { 0 }
-}
 
 fn is_right_vector(version: &Version) -> bool {
     let mut left = version.items.iter();
@@ -207,23 +174,17 @@ fn is_right_vector(version: &Version) -> bool {
         && version.items.deepest() == deepest
 }
 
-// Values stand in order as numbers do, but those below 0 behind all others.
 fn is_right_map(entries: &Entries, map: &BTreeMap<i64, i64>) -> bool {
     let mut left = entries.iter();
     let mut deepest = 0;
-    for nested in [false, true] {
-        for (key, n) in map {
-            if (*key < 0) != nested {
-                continue;
-            }
-            let Some((k, x)) = left.next() else {
-                return false;
-            };
-            if !stands_for(k, *key) || !stands_for(x, *n) {
-                return false;
-            }
-            deepest = depth_of(*key).max(depth_of(*n)).max(deepest);
+    for (key, n) in map {
+        let Some((k, x)) = left.next() else {
+            return false;
+        };
+        if !stands_for(k, *key) || !stands_for(x, *n) {
+            return false;
         }
+        deepest = depth_of(*key).max(depth_of(*n)).max(deepest);
     }
     left.next().is_none() && entries.ascends() && entries.deepest() == deepest
 }
@@ -231,24 +192,19 @@ fn is_right_map(entries: &Entries, map: &BTreeMap<i64, i64>) -> bool {
 fn is_right_set(elements: &Elements, set: &BTreeMap<i64, i64>) -> bool {
     let mut left = elements.iter();
     let mut deepest = 0;
-    for nested in [false, true] {
-        for (n, _) in set {
-            if (*n < 0) != nested {
-                continue;
-            }
-            let Some(x) = left.next() else {
-                return false;
-            };
-            if !stands_for(x, *n) {
-                return false;
-            }
-            deepest = depth_of(*n).max(deepest);
+    for (n, _) in set {
+        let Some(x) = left.next() else {
+            return false;
+        };
+        if !stands_for(x, *n) {
+            return false;
         }
+        deepest = depth_of(*n).max(deepest);
     }
     left.next().is_none() && elements.ascends() && elements.deepest() == deepest
 }
 
-// Whether one member is found, or not, as it should be: by its place in the vector, and by itself in the map and the set.
+// Whether one member is found, or not, as it should be.
 fn is_found(alloc: Global, version: &Version, n: i64) -> Result<bool, Fail> {
     let x = member(alloc, n)?;
     if !version.entries.ascends() || !version.elements.ascends() {
@@ -259,14 +215,8 @@ fn is_found(alloc: Global, version: &Version, n: i64) -> Result<bool, Fail> {
         (None, None) => true,
         _ => false,
     };
-    let i = n.unsigned_abs() as usize;
-    let in_vector = match (version.items.get(i), version.list.get(i)) {
-        (Some(value), Some(m)) => stands_for(value, *m),
-        (None, None) => true,
-        _ => false,
-    };
     let in_set = version.elements.contains(&x) == version.set.contains_key(&n);
-    Ok(in_map && in_vector && in_set)
+    Ok(in_map && in_set)
 }
 
 fn is_right(alloc: Global, seed: &mut u64, version: &Version) -> Result<bool, Fail> {
@@ -353,9 +303,9 @@ fn old_versions_stay(rt: HostRuntime) -> Result<(), Fail> {
 
 fn grow(alloc: Global, version: &mut Version) -> Result<(), Fail> {
     for n in 0..MANY {
-        push(alloc, version, n, true)?;
-        put(alloc, version, n, n, true)?;
-        add(alloc, version, n, true)?;
+        push(alloc, version, n)?;
+        change_map(alloc, version, n, Some(n))?;
+        change_set(alloc, version, n, true)?;
     }
     Ok(())
 }
