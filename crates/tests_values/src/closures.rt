@@ -4,7 +4,7 @@ ghost use Rattle.ref_fun.specs.Core.{core_accepts, core_means};
 ghost use Rattle.ref_fun.specs.Meaning.{Answers};
 ghost use Rattle.ref_fun.specs.Limits.{most_arguments};
 
-use crate::calls::{Call, Inputs, inputs_of, text_of};
+use crate::calls::{Call, answered, is_test};
 use crate::same::same;
 use ref_edn::Value;
 use ref_fun::{
@@ -81,7 +81,7 @@ fn check_codes(rt: &(impl Abort + AllocGlobal), table: &FunTable, without: &[u32
     }
 }
 
-// Calls of functions, of which the last is of a predicate.
+// A predicate is no function, and a function no predicate.
 const CALLS: &[Call] = &[
     (1, "2", "[3 4]", "9"),
     (2, "2", "[3 4]", "-5"),
@@ -91,10 +91,6 @@ const CALLS: &[Call] = &[
     (3, "2", "[3]", "Refused(WrongArity)"),
     (9, "2", "[3]", "Refused(WrongKind)"),
     (101, "2", "[3]", "NoSuchFun(101)"),
-];
-
-// Calls of predicates, of which the last are of functions.
-const TESTS: &[Call] = &[
     (101, "0", "[1]", "Some(false)"),
     (101, "0", "[]", "Some(false)"),
     (109, "nil", "[]", "Some(false)"),
@@ -105,42 +101,23 @@ const TESTS: &[Call] = &[
     (3, "0", "[]", "None"),
 ];
 
-// What a table gives, or why it doesn't.
-fn called(alloc: Global, table: &FunTable, code: u32, given: &Inputs) -> Result<String, Fail> {
-    match table.call(alloc, code, &given.state, given.args.as_slice()) {
-        Ok(value) => text_of(alloc, &value),
-        Err(fault) => Ok(format!(in alloc; "{fault:?}")?),
-    }
-}
-
-fn tested(alloc: Global, table: &FunTable, code: u32, given: &Inputs) -> Result<String, Fail> {
-    let answer = table.test(code, &given.state, given.args.as_slice());
-    Ok(format!(in alloc; "{answer:?}")?)
-}
-
-// A table that has Core without these codes.
+// A table has Core without these codes.
 fn check_table(
     rt: &(impl Abort + AllocGlobal),
     table: &FunTable,
     without: &[u32],
 ) -> Result<(), Fail> {
     check_codes(rt, table, without);
-    let alloc = rt.alloc();
-    for (code, state, args, gives) in CALLS {
-        let got = called(alloc, table, *code, &inputs_of(alloc, state, args)?)?;
-        let missing = format!(in alloc; "NoSuchFun({code})")?;
-        let is_out = without.contains(code);
-        let wanted: &str = if is_out { missing.as_str() } else { *gives };
-        same(rt, got.as_str(), wanted);
-    }
-    for (code, state, args, gives) in TESTS {
-        let got = tested(alloc, table, *code, &inputs_of(alloc, state, args)?)?;
-        let wanted: &str = if without.contains(code) {
+    for call in CALLS {
+        let missing = format!(in rt.alloc(); "NoSuchFun({})", call.0)?;
+        let missing = if is_test(call) {
             "None"
         } else {
-            *gives
+            missing.as_str()
         };
-        same(rt, got.as_str(), wanted);
+        let is_out = without.contains(&call.0);
+        let wanted = if is_out { missing } else { call.3 };
+        same(rt, answered(rt.alloc(), table, call)?.as_str(), wanted);
     }
     Ok(())
 }
@@ -156,34 +133,29 @@ fn a_table_answers_as_the_codes_mean(rt: HostRuntime) -> Result<(), Fail> {
     Ok(())
 }
 
-// The fault of the code that is added as this one in turn: the first 64 are new, then there is one too many, and the last
-// two are there.
-fn adding_fault(i: usize) -> Option<AddFault> {
-    match i {
-        0..64 => None,
-        64 => Some(AddFault::Full),
-        _ => Some(AddFault::Taken),
-    }
+// A function and a predicate with this code are added, or have this fault.
+fn check_added(
+    rt: &(impl Abort + AllocGlobal),
+    table: &mut FunTable,
+    code: u32,
+    fault: Option<AddFault>,
+) -> Result<(), Fail> {
+    let wanted = fault.map(|fault| (code, fault));
+    same(rt, add_fun(rt.alloc(), table, code)?, wanted);
+    same(rt, add_pred(rt.alloc(), table, code)?, wanted);
+    let has = (table.has_fun(code), table.has_pred(code));
+    let is_in = fault != Some(AddFault::Full);
+    same(rt, has, (is_in, is_in));
+    Ok(())
 }
 
 #[test]
 fn a_table_takes_64_of_each_kind(rt: HostRuntime) -> Result<(), Fail> {
-    let alloc = rt.alloc();
-    let mut table = FunTable::empty(alloc);
-    for (i, code) in (1000..1065u32).chain([1000, 1063]).enumerate() {
-        let want = adding_fault(i).map(|fault| (code, fault));
-        same(&rt, add_fun(alloc, &mut table, code)?, want);
-        same(&rt, add_pred(alloc, &mut table, code)?, want);
+    let mut table = FunTable::empty(rt.alloc());
+    for code in 1000..1064u32 {
+        check_added(&rt, &mut table, code, None)?;
     }
-    same(
-        &rt,
-        (table.has_fun(1063), table.has_pred(1063)),
-        (true, true),
-    );
-    same(
-        &rt,
-        (table.has_fun(1064), table.has_pred(1064)),
-        (false, false),
-    );
-    Ok(())
+    check_added(&rt, &mut table, 1064, Some(AddFault::Full))?;
+    check_added(&rt, &mut table, 1000, Some(AddFault::Taken))?;
+    check_added(&rt, &mut table, 1063, Some(AddFault::Taken))
 }

@@ -8,11 +8,8 @@ use std::cmp::Ordering;
 use std::process::Abort;
 use std::test::Fail;
 
-// The texts are its fronts.
+// The texts are its fronts. It has no z, which is greater than all of its letters.
 const LETTERS: &str = "abcdefghijklmnopqrstuvwxyabcdefghijklmno";
-
-// Its letters are greater, each than the one above it.
-const GREATER: &str = "bcdefghijklmnopqrstuvwxyzbcdefghijklmnop";
 
 // Texts of up to so many bytes lie in the node.
 const MOST_IN_NODE: usize = 14;
@@ -26,13 +23,13 @@ enum Kind {
 
 /// The value of one text: as a node of its length has it, in a block, and as it is read.
 #[derive(Drop)]
-struct Made {
+struct Forms {
     chosen: Value,
     block: Value,
     read: Value,
 }
 
-fn made(alloc: Global, kind: Kind, text: &str) -> Result<Made, Fail> {
+fn forms_of(alloc: Global, kind: Kind, text: &str) -> Result<Forms, Fail> {
     let block = Text::copy_of(alloc, text)?;
     let (chosen, block, written) = match kind {
         Kind::Str => (
@@ -51,7 +48,7 @@ fn made(alloc: Global, kind: Kind, text: &str) -> Result<Made, Fail> {
             String::from_str(alloc, text)?,
         ),
     };
-    Ok(Made {
+    Ok(Forms {
         chosen: value_of(chosen)?,
         block: value_of(block)?,
         read: read_one(alloc, written.as_bytes())?,
@@ -66,7 +63,7 @@ fn is_in_node(value: &Value) -> bool {
 }
 
 // The values of one text are equal, and less than those of one with a greater last letter.
-fn check_orders(rt: &(impl Abort + AllocGlobal), text: &Made, greater: &Made) {
+fn check_orders(rt: &(impl Abort + AllocGlobal), text: &Forms, greater: &Forms) {
     for a in [&text.chosen, &text.block, &text.read] {
         for b in [&text.chosen, &text.block, &text.read] {
             same(rt, (*a == *b, compare(a, b)), (true, Ordering::Equal));
@@ -79,11 +76,10 @@ fn check_orders(rt: &(impl Abort + AllocGlobal), text: &Made, greater: &Made) {
 }
 
 fn check_length(rt: &(impl Abort + AllocGlobal), kind: Kind, len: usize) -> Result<(), Fail> {
-    let last = len.saturating_sub(1);
-    let mut greater = String::from_str(rt.alloc(), LETTERS.get(..last).unwrap_or(""))?;
-    greater.push_str(GREATER.get(last..len.max(1)).unwrap_or(""))?;
-    let text = made(rt.alloc(), kind, LETTERS.get(..len).unwrap_or(""))?;
-    let greater = made(rt.alloc(), kind, &greater)?;
+    let front = LETTERS.get(..len.saturating_sub(1)).unwrap_or("");
+    let greater = format!(in rt.alloc(); "{front}z")?;
+    let text = forms_of(rt.alloc(), kind, LETTERS.get(..len).unwrap_or(""))?;
+    let greater = forms_of(rt.alloc(), kind, &greater)?;
     check_orders(rt, &text, &greater);
     let lie = (
         is_in_node(&text.chosen),

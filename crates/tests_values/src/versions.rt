@@ -1,16 +1,14 @@
 //! Drawn changes of vectors, maps and sets, in all of whose versions everything is right at the end.
-ghost use Rattle.std.specs.Prelude.{◌<◌};
-
 use crate::same::same;
 use ref_edn::{Elements, Entries, Items, Node, Value};
 use std::alloc::{AllocError, Global};
 use std::collections::BTreeMap;
 use std::test::Fail;
 
-// How many changes are drawn, after how many a version is stored, and about how many members a collection has at most.
-const CHANGES: usize = 100_000;
+// How many versions are stored, how many changes are drawn between two, and about how many members a map or a set has at most.
+const VERSIONS: usize = 40;
 
-const KEPT_AFTER: usize = 1_000;
+const CHANGES: usize = 1_000;
 
 const MOST: usize = 5_000;
 
@@ -32,9 +30,7 @@ struct Version {
 }
 
 // A number below a bound. The same seed always gives the same row of them.
-fn draw(seed: &mut u64, below: usize) -> usize
-    ensures { 0 < below → result < below }
-{
+fn draw(seed: &mut u64, below: usize) -> usize {
     *seed = seed
         .wrapping_mul(6364136223846793005)
         .wrapping_add(1442695040888963407);
@@ -89,8 +85,6 @@ fn drawn_number(seed: &mut u64, below: usize) -> i64 {
         n
     }
 }
-
-// ---- changes
 
 fn push(alloc: Global, version: &mut Version, n: i64) -> Result<(), Fail> {
     version.items.push(alloc, member(alloc, n)?)?;
@@ -154,8 +148,6 @@ fn share(version: &Version) -> Result<Version, AllocError> {
         set: version.set.clone()?,
     })
 }
-
-// ---- what is to hold
 
 fn is_right_vector(version: &Version) -> bool {
     let mut left = version.items.iter();
@@ -233,8 +225,6 @@ fn is_right(alloc: Global, seed: &mut u64, version: &Version) -> Result<bool, Fa
     )
 }
 
-// ---- the run
-
 // So many members in each, made at once.
 fn start(alloc: Global, count: i64) -> Result<Version, Fail> {
     let mut values = Vec::new(alloc);
@@ -277,7 +267,7 @@ fn go_on(
         return Err(Fail::from("no version"));
     };
     let mut next = share(version)?;
-    for _ in 0..KEPT_AFTER {
+    for _ in 0..CHANGES {
         change(alloc, seed, &mut next, grows)?;
     }
     versions.push(next)?;
@@ -289,7 +279,7 @@ fn old_versions_stay(rt: HostRuntime) -> Result<(), Fail> {
     let alloc = rt.alloc();
     let mut versions = vec![in alloc; start(alloc, 3_000)?]?;
     let mut seed: u64 = 17;
-    for round in 0..CHANGES / KEPT_AFTER {
+    for round in 0..VERSIONS {
         go_on(alloc, &mut seed, &mut versions, round % 20 < 10)?;
     }
     let mut longest: usize = 0;

@@ -24,11 +24,9 @@ fn faults_of_functions_say_what_they_are(rt: HostRuntime) -> Result<(), Fail> {
     says(&rt, &Cause::TooDeep, "nested too deep")?;
     let refused = FunFault::Refused(Cause::Overflow);
     says(&rt, &refused, "refused: integer overflow")?;
-    says(&rt, &FunFault::Memory, "out of memory")?;
     says(&rt, &CallFault::NoSuchFun(7), "no function has code 7")?;
     let refused = CallFault::Refused(Cause::TooDeep);
     says(&rt, &refused, "refused: nested too deep")?;
-    says(&rt, &CallFault::Memory, "out of memory")?;
     says(&rt, &AddFault::Taken, "the code is taken")?;
     says(&rt, &AddFault::Full, "the table is full")?;
     says(&rt, &AddFault::Memory, "out of memory")
@@ -38,7 +36,6 @@ fn faults_of_functions_say_what_they_are(rt: HostRuntime) -> Result<(), Fail> {
 fn faults_of_streams_and_dumps_say_what_they_are(rt: HostRuntime) -> Result<(), Fail> {
     says(&rt, &InputFault::Read, "the input could not be read")?;
     says(&rt, &InputFault::TooLong, "the input is too long")?;
-    says(&rt, &InputFault::Memory, "out of memory")?;
     says(&rt, &Failed, "a read or a write failed")?;
     says(&rt, &DumpFault::NotDump, "not a dump")?;
     let version = "a version that isn't that of the keys";
@@ -46,24 +43,9 @@ fn faults_of_streams_and_dumps_say_what_they_are(rt: HostRuntime) -> Result<(), 
     let part = DumpFault::BadPart(Key::BaseRefs);
     says(&rt, &part, "the part :base-refs has a wrong form")?;
     says(&rt, &DumpFault::BadEntry(2), "entry 2 has a wrong form")?;
-    says(&rt, &DumpFault::Memory, "out of memory")?;
     says(&rt, &DumpMakeFault::TooDeep, "the dump is nested too deep")?;
     says(&rt, &DumpMakeFault::Memory, "out of memory")?;
     says(&rt, &DumpMakeFault::Unnamed(50), "no function has code 50")
-}
-
-// What is wrong with a step.
-fn of_steps(rt: &(impl Abort + AllocGlobal), worker: u32, step: u32) -> Result<(), Fail> {
-    let form = PlanFault::BadStep { worker, step };
-    says(rt, &form, "step 3 of worker 60 is not a step")?;
-    let name = PlanFault::UnknownName { worker, step };
-    says(rt, &name, "step 3 of worker 60 names an unknown reference")?;
-    let function = PlanFault::UnknownFun { worker, step };
-    says(
-        rt,
-        &function,
-        "step 3 of worker 60 names an unknown function",
-    )
 }
 
 #[test]
@@ -83,7 +65,13 @@ fn faults_of_plans_say_what_they_are(rt: HostRuntime) -> Result<(), Fail> {
     )?;
     let tally = PlanFault::BadTally(Who::Ref(1));
     says(&rt, &tally, "ref 1 can't be the tally")?;
-    of_steps(&rt, 60, 3)?;
+    let (worker, step) = (60, 3);
+    let form = PlanFault::BadStep { worker, step };
+    says(&rt, &form, "step 3 of worker 60 is not a step")?;
+    let name = PlanFault::UnknownName { worker, step };
+    says(&rt, &name, "step 3 of worker 60 names an unknown reference")?;
+    let fun = PlanFault::UnknownFun { worker, step };
+    says(&rt, &fun, "step 3 of worker 60 names an unknown function")?;
     let many = "too many references, workers or steps, or a pool out of range";
     says(&rt, &PlanFault::TooMany, many)?;
     says(&rt, &PlanFault::Memory, "out of memory")

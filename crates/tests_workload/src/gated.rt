@@ -12,10 +12,7 @@ use std::time::Clock;
 
 // A number of a row, or 0.
 fn number(word: Option<&str>) -> u32 {
-    match word {
-        Some(word) => word.parse::<u32>().unwrap_or(0),
-        None => 0,
-    }
+    word.and_then(|word| word.parse::<u32>().ok()).unwrap_or(0)
 }
 
 // A row is how often a transaction is tried; the code of a function or a predicate that the table lacks, and that of a function which is
@@ -31,8 +28,11 @@ fn run_row<'a, R: AllocGlobal + Threads + Wait + Clock + Sync>(
     let (numbers, rest) = row.split_once(" | ").ok_or("a row has numbers")?;
     let (workload, wanted) = rest.split_once(" | ").ok_or("a row has a report")?;
     let mut words = numbers.split_whitespace();
-    let tries = number(words.next());
-    let (code, starved) = (number(words.next()), number(words.next()));
+    let (tries, code, starved) = (
+        number(words.next()),
+        number(words.next()),
+        number(words.next()),
+    );
     let funs = CoreWithout { code, starved };
     let text = format!(in alloc; "{{:version 1 {workload}}}")?;
     match run(rt, alloc, &text, How { funs, tries, roles }, progress)? {
