@@ -15,7 +15,7 @@ use std::marker::Brand;
 use std::sync::ledger::{Blank, Ledger};
 use std::test::Fail;
 
-/// Why a world isn't dumped that begins with nothing, after these acts of one actor, if it isn't.
+/// Why a world that begins with nothing isn't dumped after these acts of one actor, if it isn't.
 fn refusal(alloc: Global, events: &[Event]) -> Result<Option<DumpMakeFault>, Fail> {
     let start = Start {
         refs: Vec::new(alloc),
@@ -100,8 +100,8 @@ fn makings(alloc: Global, value: &str) -> Result<Vec<Event>, Fail> {
 }
 
 fn args_of(alloc: Global, value: &str) -> Result<Args, Fail> {
-    let values = vec![in alloc; read_one(alloc, value.as_bytes())?]?;
-    Ok(Args::of(alloc, values)?)
+    let value = read_one(alloc, value.as_bytes())?;
+    Ok(Args::of(alloc, vec![in alloc; value]?)?)
 }
 
 // An action, and sends by these codes that it carries, all with this value as their argument.

@@ -22,14 +22,14 @@ fn faults_of_functions_say_what_they_are(rt: HostRuntime) -> Result<(), Fail> {
     says(&rt, &Cause::WrongArity, "wrong number of arguments")?;
     says(&rt, &Cause::Overflow, "integer overflow")?;
     says(&rt, &Cause::TooDeep, "nested too deep")?;
+    says(&rt, &FunFault::Memory, "out of memory")?;
     let refused = FunFault::Refused(Cause::Overflow);
     says(&rt, &refused, "refused: integer overflow")?;
     says(&rt, &CallFault::NoSuchFun(7), "no function has code 7")?;
     let refused = CallFault::Refused(Cause::TooDeep);
     says(&rt, &refused, "refused: nested too deep")?;
     says(&rt, &AddFault::Taken, "the code is taken")?;
-    says(&rt, &AddFault::Full, "the table is full")?;
-    says(&rt, &AddFault::Memory, "out of memory")
+    says(&rt, &AddFault::Full, "the table is full")
 }
 
 #[test]
@@ -44,7 +44,6 @@ fn faults_of_streams_and_dumps_say_what_they_are(rt: HostRuntime) -> Result<(), 
     says(&rt, &part, "the part :base-refs has a wrong form")?;
     says(&rt, &DumpFault::BadEntry(2), "entry 2 has a wrong form")?;
     says(&rt, &DumpMakeFault::TooDeep, "the dump is nested too deep")?;
-    says(&rt, &DumpMakeFault::Memory, "out of memory")?;
     says(&rt, &DumpMakeFault::Unnamed(50), "no function has code 50")
 }
 
@@ -73,8 +72,7 @@ fn faults_of_plans_say_what_they_are(rt: HostRuntime) -> Result<(), Fail> {
     let fun = PlanFault::UnknownFun { worker, step };
     says(&rt, &fun, "step 3 of worker 60 names an unknown function")?;
     let many = "too many references, workers or steps, or a pool out of range";
-    says(&rt, &PlanFault::TooMany, many)?;
-    says(&rt, &PlanFault::Memory, "out of memory")
+    says(&rt, &PlanFault::TooMany, many)
 }
 
 // Nobody makes as many commits as there are points.

@@ -16,8 +16,8 @@ fn number(word: Option<&str>) -> u32 {
 }
 
 // A row is how often a transaction is tried; the code of a function or a predicate that the table lacks, and that of a function which is
-// refused memory, if there are such; a workload; and the fault that ends its run, or its report, with strokes between the
-// lines. Answers what comes of it, and what is wanted.
+// refused memory, if there are such; a workload; and its report, with strokes between the lines, or the fault that ends its run. Returns
+// what comes of it, and what is wanted.
 fn run_row<'a, R: AllocGlobal + Threads + Wait + Clock + Sync>(
     rt: &R,
     row: &'a str,
@@ -28,11 +28,9 @@ fn run_row<'a, R: AllocGlobal + Threads + Wait + Clock + Sync>(
     let (numbers, rest) = row.split_once(" | ").ok_or("a row has numbers")?;
     let (workload, wanted) = rest.split_once(" | ").ok_or("a row has a report")?;
     let mut words = numbers.split_whitespace();
-    let (tries, code, starved) = (
-        number(words.next()),
-        number(words.next()),
-        number(words.next()),
-    );
+    let tries = number(words.next());
+    let code = number(words.next());
+    let starved = number(words.next());
     let funs = CoreWithout { code, starved };
     let text = format!(in alloc; "{{:version 1 {workload}}}")?;
     match run(rt, alloc, &text, How { funs, tries, roles }, progress)? {

@@ -1,5 +1,5 @@
-//! Tests of runs of workloads whose threads gates hold, of dumps that no workload and no list of events makes, and of what faults say, by
-//! calls that are public. What `refrun` shows of workloads is in rows of `examples`.
+//! Tests of runs of workloads, of dumps, and of what faults say, by calls that are public, as far as `refrun` doesn't show it: what it shows is
+//! in rows of `examples`.
 //!
 //! No clause says which thread comes first, nor that the workers run side by side, so this is tested. Gates hold one thread until another
 //! has come so far. Each wait of a test ends by itself. `runs` runs a text with `gates`, by one of the `tables` of functions.
