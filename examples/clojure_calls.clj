@@ -111,6 +111,16 @@
     [@a @r])
   => [2 2])
 
+(row "@a of an atom or an agent inside dosync"
+  (let [r (ref 0), a (atom 0), g (agent 0), tries (atom 0)]
+    [(dosync @r
+       (let [before [@a @g]]
+         (meanwhile tries (reset! a 5) (send g + 7) (await g))
+         (alter r inc)
+         [before [@a @g]]))
+     @tries])
+  => [[[0 0] [5 7]] 1])
+
 (row "(deref r), @r in a transaction"
   (let [r (ref 0)] (dosync (alter r inc) @r)) => 1
   (let [r (ref 0 :min-history 1), tries (atom 0)]
@@ -131,6 +141,12 @@
 
 (row "(alter r f ..)"
   (let [r (ref 10)] [(dosync (alter r - 1 2)) @r]) => [7 7])
+
+(row "(alter r f ..), with any other function than Core's"
+  (let [r (ref 3)] [(dosync (alter r (fn [v] (* v v)))) @r]) => [9 9]
+  ;; In conflict, it computes again.
+  (let [r (ref 3), tries (atom 0)]
+    [(dosync (alter r (fn [v] (meanwhile tries (dosync (ref-set r 5))) (* v v)))) @r]) => [25 25])
 
 (row "(commute r f ..)"
   ;; The latest value, though the transaction has read an older one.
@@ -197,6 +213,22 @@
   => ["boom" 1 1]
   ;; It is asked at the commit alone.
   (let [r (ref 1 :validator pos?)] (dosync (alter r - 5) (alter r + 6))) => 2)
+
+(row "when a validator is asked"
+  ;; Not about a value in between, and only at the commit.
+  (let [r (ref 1 :validator pos?)] [(dosync (ref-set r -1) (alter r + 3)) @r]) => [2 2]
+  (let [r (ref 1 :validator pos?), came (atom false)]
+    [(fault (dosync (ref-set r -1) (reset! came true))) @came @r])
+  => [invalid true 1]
+  ;; Of a ref that is only commuted, about the latest value.
+  (let [r (ref 1 :validator pos?), times (atom 0)]
+    [(fault (dosync (commute r (fn [v] (meanwhile times (dosync (ref-set r 10))) (- v 5))))) @r])
+  => [nil 5]
+  ;; A ref that isn't changed isn't asked.
+  (let [asked (atom 0), r (ref 1 :validator (fn [_] (swap! asked inc) true)), s (ref 0)]
+    (reset! asked 0)
+    [(dosync (ensure r) (alter s inc)) @asked])
+  => [1 0])
 
 (row "an exception in the body"
   (let [r (ref 0), g (agent 0)]
@@ -609,6 +641,33 @@
     (dosync (alter held inc)
             (elsewhere (send g inc) (await g) [(dosync (alter free inc)) (swap! a inc) @g])))
   => [1 1 1])
+
+(row "(future ..)"
+  @(future (+ 1 2)) => 3
+  ;; In a transaction: no part of it, and run at each try.
+  (let [r (ref 0), a (atom 0), tries (atom 0)]
+    (dosync @(future (swap! a inc)) (meanwhile tries (dosync (alter r inc))) (alter r inc))
+    [@a @r])
+  => [2 2]
+  (let [r (ref 0), s (ref 0)] [(fault (dosync (alter r inc) @(future (dosync (alter s + 10))) (boom))) @r @s])
+  => ["boom" 0 10])
+
+(row "(promise), (deliver p v)"
+  (let [p (promise), got (start #(deref p))] (deliver p 1) (deliver p 2) [(outcome got) @p]) => [1 1])
+
+(row "(delay ..)"
+  (let [times (atom 0), d (delay (swap! times inc))] [@times @d @d @times]) => [0 1 1 1])
+
+(row "(locking x ..)"
+  (let [x (Object.), seen (atom [])]
+    (let [other (locking x
+                  (let [other (start #(locking x (swap! seen conj :other)))]
+                    (Thread/sleep 20)
+                    (swap! seen conj :first)
+                    other))]
+      (outcome other)
+      @seen))
+  => [:first :other])
 
 (row "The order of notices"
   ;; Of two threads the second one's comes first.

@@ -1,7 +1,7 @@
-"""Which names of a library are public, by a look at its lines, and whether each has its entry in docs/reference.
+"""Which names of a library are public, by a look at its lines, and whether each has an entry on the library's page.
 
-For `quick`. It shares nothing with `tools/reference`, which makes the entries, so that what that passes over is found here. It knows the
-layout of `rt fmt`: an item begins a line, and what a type or a trait has stands four columns in.
+For `reference`. It shares nothing with what makes the entries, so that what that passes over is found here. It knows the layout of
+`rt fmt`: an item begins a line, and what a type or a trait has stands four columns in.
 """
 
 import re
@@ -58,16 +58,14 @@ def public_names(name):
     return items + Counter(("method", f"{block}::{it}") for block, it in methods if block in types)
 
 
-def entries(name):
+def entries(page):
     """The names that have an entry on a library's page, each with its kind, counted."""
-    page = TOP / "docs" / "reference" / f"{name}.md"
-    text = page.read_text(encoding="utf-8") if page.is_file() else ""
-    items = re.findall(r"^### (?!mod)(\w+) `(?:\w+::)*(\w+)`$", text, re.MULTILINE)
-    return Counter(items) + Counter(("method", it) for it in re.findall(r"^#### `(?:\w+::)*?(\w+::\w+)`$", text, re.MULTILINE))
+    items = re.findall(r"^### (?!mod)(\w+) `(?:\w+::)*(\w+)`$", page, re.MULTILINE)
+    return Counter(items) + Counter(("method", it) for it in re.findall(r"^#### `(?:\w+::)*?(\w+::\w+)`$", page, re.MULTILINE))
 
 
-def complaints(name):
-    """The public names of a library that have no entry, and the entries that no public name has."""
-    public, found = public_names(name), entries(name)
-    lacking = [f"{name}: {kind} {it} is public, and has no entry in docs/reference" for kind, it in sorted(public - found)]
-    return lacking + [f"{name}: {kind} {it} has an entry in docs/reference, and isn't public" for kind, it in sorted(found - public)]
+def complaints(name, page):
+    """The public names of a library that have no entry on its page, and the entries that no public name has."""
+    public, found = public_names(name), entries(page)
+    lacking = [f"{name}: {kind} {it} is public, and has no entry" for kind, it in sorted(public - found)]
+    return lacking + [f"{name}: {kind} {it} has an entry, and isn't public" for kind, it in sorted(found - public)]

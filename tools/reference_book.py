@@ -142,7 +142,10 @@ class Book:
             return page.link(match[0], target, follows(match)) if target else match[0]
 
         def document(match):
-            return f"[{match[0]}](../{match[1]})" if (self.scopes.top / match[0]).is_file() else match[0]
+            if (self.scopes.top / match[0]).is_file():
+                return f"[{match[0]}](../{match[1]})"
+            self.lost.append(f"{module.source}: there is no {match[0]}")
+            return match[0]
 
         def bracketed(match):
             target = self.target_in(module, match[3] or match[1].strip("`").removesuffix("()"))

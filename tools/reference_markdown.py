@@ -3,8 +3,10 @@
 For `reference`.
 """
 
+import os
 import re
 import unicodedata
+from pathlib import Path
 
 FENCE = re.compile(r"^(```+).*\n(?:.*\n)*?\1$", re.MULTILINE)
 HEADING = re.compile(r"^#{1,6} (.*)$", re.MULTILINE)
@@ -81,14 +83,20 @@ def headings(text):
 
 
 def broken_links(texts, folder):
-    """The links of pages, by their names, that lead to no page, no heading or no file. The pages stand in this folder, or will."""
+    """The links of pages, by their names, that lead to no page, no heading or no file. The pages stand in this folder, or will: of what
+    is in it now nothing is looked at."""
     known, told = {name: set(anchors(headings(text))) for name, text in texts.items()}, []
 
-    def places(name):
-        file = folder / name
-        if name not in known and file.suffix == ".md" and file.is_file():
-            known[name] = set(anchors(headings(file.read_text(encoding="utf-8"))))
-        return known.get(name)
+    def file_of(page):
+        return Path(os.path.normpath(folder / page))
+
+    def is_there(page):
+        return page in texts or (file_of(page).parent != folder and file_of(page).exists())
+
+    def places(page):
+        if page not in known and page.endswith(".md"):
+            known[page] = set(anchors(headings(file_of(page).read_text(encoding="utf-8"))))
+        return known.get(page, ())
 
     for name, text in sorted(texts.items()):
         found, lost = targets_in(text)
@@ -98,8 +106,8 @@ def broken_links(texts, folder):
             page = page or name
             if page.startswith("https://"):
                 continue
-            if page not in texts and not (folder / page).exists():
+            if not is_there(page):
                 told.append(f"{name}: there is no {page}")
-            elif place and place not in (places(page) or ()):
+            elif place and place not in places(page):
                 told.append(f"{name}: {page} has no heading with the anchor {place}")
     return told

@@ -189,35 +189,16 @@ def seen(book, page, ghosts, scope):
 
 
 def variants(book, page, entry):
-    """A table of the variants of an enum: the number, what is printed of it, and its comment, as far as they have these."""
-    parts, numbers = reference_items.parts(entry.item.body), variant_numbers(book.scopes, entry.place)
-    messages = [re.search(r'#\[error\("((?:[^"\\]|\\.)*)"', " ".join(attributes)) for _text, _docs, attributes in parts]
-    if not numbers and not any(docs or attributes for _text, docs, attributes in parts):
+    """A table of the variants of an enum: what is printed of it, and its comment, as far as they have these."""
+    parts = reference_items.parts(entry.item.body)
+    if not any(docs or attributes for _text, docs, attributes in parts):
         return ""
+    messages = [re.search(r'#\[error\("((?:[^"\\]|\\.)*)"', " ".join(attributes)) for _text, _docs, attributes in parts]
     columns = {"Variant": [f"`{text}`" for text, _docs, _attributes in parts]}
-    if numbers:
-        columns["Number"] = [numbers.get(re.match(r"\w+", text)[0], "") for text, _docs, _attributes in parts]
     if any(messages):
         columns["Printed as"] = [it[1] if it else "" for it in messages]
     columns["Means"] = [book.documented(" ".join(docs), entry.module, page) for _text, docs, _attributes in parts]
     return table(list(columns), zip(*columns.values()))
-
-
-def variant_numbers(scopes, place):
-    """The numbers of the variants of an enum, as its function `number` gives them."""
-    found = {}
-    number = scopes.members.get(place, {}).get("number")
-    for names, value in re.findall(r"([^=>]+) => ([^,]+),", number.item.body) if number and number.item else []:
-        for name in re.findall(r"::(\w+)", names):
-            found[name] = value if value.isdigit() else inner_numbers(scopes, place, name)
-    return found
-
-
-def inner_numbers(scopes, place, variant):
-    """The numbers of a variant that has those of what is in it."""
-    texts = [it for it, _docs, _attributes in reference_items.parts(scopes.items[place].body) if it.startswith(f"{variant}(")]
-    inner = [scopes.find(scopes.modules[place[:-1]], [re.search(r"\((\w+)", it)[1]]) for it in texts]
-    return " or ".join(sorted({number for it in inner if it for number in variant_numbers(scopes, it).values()}))
 
 
 def fields(book, page, entry):

@@ -1,4 +1,5 @@
-//! Tests of waiting by several threads: for agents, and for an entry. There is nothing else here.
+//! Tests of waiting by several threads, for agents and for an entry, and of when what an action carried is released. There is nothing
+//! else here.
 //!
 //! No clause says what another thread does between two calls, so this is tested, as in `tests_threads`, with whose flags and gates one
 //! thread waits for another. Each wait of a test ends by itself.
@@ -10,12 +11,15 @@
 //! | `whens` | by two: a transaction that waits is woken by each entry of another thread, and at the end |
 //! | `many` | by two or more: many waits of several threads, each of which ends |
 //! | `sleepers` | by four: one waits to run actions, while others wait for something else |
+//! | `releasing` | by one: what an action carried is released once its sink has heard of its end |
 #![tactic(auto)]
 
 #[cfg(test)]
 mod awaits;
 #[cfg(test)]
 mod many;
+#[cfg(test)]
+mod releasing;
 #[cfg(test)]
 mod sleepers;
 #[cfg(test)]
