@@ -3,7 +3,7 @@ use std::fmt::Debug;
 use std::process::Abort;
 
 /// Ends the test where these two differ.
-pub(crate) fn equal<T: Debug + PartialEq + Drop>(
+pub(crate) fn same<T: Debug + PartialEq + Drop>(
     rt: &(impl Abort + AllocGlobal),
     got: T,
     wanted: T,
