@@ -3,8 +3,9 @@
 //!
 //! | Modules | |
 //! |---|---|
-//! | `calls`, `makings`, `conflicts`, `finishing` | each call, what is made, transactions that are tried again, the end |
-//! | `work`, `ends`, `kept` | agents, how a sink hears of their actions, and what a world has when it comes out again |
+//! | `rows`, over `texts`, `acting`, `transacting` and `closing` | calls as rows of texts, with what they say; of these are most tests |
+//! | `calls`, `conflicts`, `finishing` | each call, what is made, transactions that are tried again, the end |
+//! | `work`, `kept` | agents, how a sink hears of their actions, and what a world has when it comes out again |
 //! | `folds`, `bites` | what is dropped: receipts of folded entries, and actions that ended; a log that is folded in bites |
 //! | `awaits`, `whens` | waiting for agents, and transactions that wait, where neither has to sleep |
 //! | `seconds`, `missing` | each call on the second reference of its kind, and on one that isn't there |
@@ -17,15 +18,17 @@
 #![tactic(auto)]
 
 #[cfg(test)]
+mod acting;
+#[cfg(test)]
 mod awaits;
 #[cfg(test)]
 mod bites;
 #[cfg(test)]
 mod calls;
 #[cfg(test)]
-mod conflicts;
+mod closing;
 #[cfg(test)]
-mod ends;
+mod conflicts;
 #[cfg(test)]
 mod faults;
 #[cfg(test)]
@@ -36,10 +39,10 @@ pub mod jobs;
 #[cfg(test)]
 mod kept;
 #[cfg(test)]
-mod makings;
-#[cfg(test)]
 mod missing;
 pub mod numbers;
+#[cfg(test)]
+mod rows;
 #[cfg(test)]
 mod same;
 pub mod scenarios;
@@ -49,6 +52,10 @@ pub mod steps;
 #[cfg(test)]
 mod strangers;
 pub mod tables;
+#[cfg(test)]
+mod texts;
+#[cfg(test)]
+mod transacting;
 #[cfg(test)]
 mod whens;
 #[cfg(test)]
