@@ -1,8 +1,8 @@
-//! The calls of a row but for those of transactions.
+//! Calls but for those of transactions.
 use crate::numbers::int_of;
 use crate::texts::{
-    Said, action_at, add_item, at, both, carrying_at, code_at, count_at, fault, index_at, new_ear,
-    no_call, notices_text, number, number_at, rule_at, said, table_at, text, who_at,
+    NO_CALL, Said, action_of, add_item, at, code_at, count_at, fault, index_at, new_ear, number,
+    number_at, rule_at, said, table_at, text, truth, who_at, with_heard, with_notices,
 };
 use crate::worlds::{int_at, one_arg, value};
 use ref_agents::ErrorMode;
@@ -11,7 +11,7 @@ use ref_fun::{Core, CoreFunctions};
 use ref_log::Who;
 use ref_shared::{Open, Shared, Worked};
 use ref_world::Share;
-use std::alloc::{AllocError, Global};
+use std::alloc::Global;
 use std::sync::Wait;
 use std::sync::ledger::Ledger;
 
@@ -29,21 +29,18 @@ fn changed(alloc: Global, answer: Result<Swapped, AtomFault>) -> Said {
         Ok(changed) => changed,
         Err(fault) => return format!(in alloc; "{fault}"),
     };
-    let old = number(alloc, int_of(&changed.old))?;
-    let new = number(alloc, int_of(&changed.new))?;
-    both(
-        format!(in alloc; "{old} -> {new}")?,
-        &notices_text(alloc, &changed.notices)?,
-    )
+    let (old, new) = (int_of(&changed.old), int_of(&changed.new));
+    let (old, new) = (number(alloc, old)?, number(alloc, new)?);
+    with_notices(format!(in alloc; "{old} -> {new}"), alloc, &changed.notices)
 }
 
 // Whether it was set, and the notices.
 fn compared(alloc: Global, answer: Result<Cas, AtomFault>) -> Said {
     match answer {
-        Ok(compared) => both(
-            format!(in alloc; "{}", compared.done)?,
-            &notices_text(alloc, &compared.notices)?,
-        ),
+        Ok(compared) => {
+            let done = truth::<AtomFault>(alloc, Ok(compared.done));
+            with_notices(done, alloc, &compared.notices)
+        }
         Err(fault) => format!(in alloc; "{fault}"),
     }
 }
@@ -65,7 +62,7 @@ impl<'a, 'b, R: Wait, C: Ledger, A: Ledger, K: Ledger> On<'a, 'b, R, C, A, K> {
         Ok(list)
     }
 
-    pub(crate) fn reference(&self, call: &[&'static str]) -> Said {
+    pub(crate) fn reference(&self, call: &[&str]) -> Said {
         let (rt, alloc, shared, funs) = (self.rt, self.alloc, self.shared, &CoreFunctions);
         let (who, word) = (who_at(call, 1), at(call, 2));
         match at(call, 0) {
@@ -75,15 +72,15 @@ impl<'a, 'b, R: Wait, C: Ledger, A: Ledger, K: Ledger> On<'a, 'b, R, C, A, K> {
                 alloc,
                 shared.set_validator(rt, funs, who, rule_at(alloc, call, 2)?),
             ),
-            "watch" => said(alloc, shared.add_watch(rt, who, value(alloc, word)?)),
+            "watch" => truth(alloc, shared.add_watch(rt, who, value(alloc, word)?)),
             _ => {
                 let was_there = shared.remove_watch(rt, who, &value(alloc, word)?);
-                format!(in alloc; "{was_there}")
+                truth::<AtomFault>(alloc, Ok(was_there))
             }
         }
     }
 
-    pub(crate) fn make(&self, call: &[&'static str]) -> Said {
+    pub(crate) fn make(&self, call: &[&str]) -> Said {
         let (rt, alloc, shared, funs) = (self.rt, self.alloc, self.shared, &CoreFunctions);
         let (new, rule) = (value(alloc, at(call, 2))?, rule_at(alloc, call, 3)?);
         let made = match at(call, 1) {
@@ -96,7 +93,7 @@ impl<'a, 'b, R: Wait, C: Ledger, A: Ledger, K: Ledger> On<'a, 'b, R, C, A, K> {
         said(alloc, made)
     }
 
-    pub(crate) fn atom(&self, share: &mut Share<C, A, K>, call: &[&'static str]) -> Said {
+    pub(crate) fn atom(&self, share: &mut Share<C, A, K>, call: &[&str]) -> Said {
         let (rt, alloc, shared, funs) = (self.rt, self.alloc, self.shared, &CoreFunctions);
         let (a, word, last) = (index_at(call, 1), at(call, 2), at(call, 3));
         match at(call, 0) {
@@ -118,15 +115,11 @@ impl<'a, 'b, R: Wait, C: Ledger, A: Ledger, K: Ledger> On<'a, 'b, R, C, A, K> {
         }
     }
 
-    pub(crate) fn agent(&self, call: &[&'static str]) -> Said {
+    pub(crate) fn agent(&self, call: &[&str]) -> Said {
         let (rt, alloc, shared, funs) = (self.rt, self.alloc, self.shared, &CoreFunctions);
         let g = index_at(call, 1);
         match at(call, 0) {
-            "send" => fault(alloc, shared.send(rt, g, action_at(alloc, call, 2)?)),
-            "carry" => {
-                let action = carrying_at(alloc, call, 2, g.saturating_add(1))?;
-                fault(alloc, shared.send(rt, g, action))
-            }
+            "send" | "carry" => fault(alloc, shared.send(rt, g, action_of(alloc, call)?)),
             "restart" => {
                 let state = value(alloc, at(call, 2))?;
                 fault(
@@ -136,12 +129,12 @@ impl<'a, 'b, R: Wait, C: Ledger, A: Ledger, K: Ledger> On<'a, 'b, R, C, A, K> {
             }
             "continue" => fault(alloc, shared.set_error_mode(rt, g, ErrorMode::Continue)),
             "error" => fault(alloc, shared.error_of(rt, g).map_or(Ok(()), Err)),
-            _ => no_call(alloc),
+            _ => text(alloc, NO_CALL),
         }
     }
 
-    // Waits for all agents of a row.
-    pub(crate) fn await_all(&self, call: &[&'static str]) -> Said {
+    // Waits for all agents of a call.
+    pub(crate) fn await_all(&self, call: &[&str]) -> Said {
         let mut agents = Vec::new(self.alloc);
         for i in 1..call.len() {
             agents.push(index_at(call, i))?;
@@ -152,8 +145,8 @@ impl<'a, 'b, R: Wait, C: Ledger, A: Ledger, K: Ledger> On<'a, 'b, R, C, A, K> {
         )
     }
 
-    // Runs an action. A sink that says something of one that is put back is told apart.
-    pub(crate) fn work(&self, call: &[&'static str]) -> Said {
+    // Runs an action.
+    pub(crate) fn work(&self, call: &[&str]) -> Said {
         let (rt, alloc, shared, funs) = (self.rt, self.alloc, self.shared, table_at(call, 1));
         let mut ear = new_ear(alloc)?;
         let first = match shared.work_once(rt, alloc, &funs, &mut Open, &mut ear) {
@@ -161,26 +154,17 @@ impl<'a, 'b, R: Wait, C: Ledger, A: Ledger, K: Ledger> On<'a, 'b, R, C, A, K> {
             Ok(Worked::Closed) => text(alloc, "closed"),
             Err(fault) => format!(in alloc; "{fault}"),
         };
-        both(first?, &ear.heard)
+        with_heard(first, &ear)
     }
 
-    // Folds, or releases, or closes.
-    pub(crate) fn end(&self, call: &[&'static str]) -> Said {
-        let (rt, alloc, shared, point) = (
-            self.rt,
-            self.alloc,
-            self.shared,
-            u64::from(number_at(call, 1)),
-        );
+    // Folds, releases or closes.
+    pub(crate) fn end(&self, call: &[&str]) -> Said {
+        let (rt, alloc, shared) = (self.rt, self.alloc, self.shared);
+        let (g, point) = (index_at(call, 1), u64::from(number_at(call, 1)));
         match at(call, 0) {
-            "fold" => said(alloc, shared.fold_agent(rt, index_at(call, 1))),
-            "release" if at(call, 1).starts_with("g") => {
-                said(
-                    alloc,
-                    Ok::<bool, AllocError>(shared.release_carried(rt, index_at(call, 1))),
-                )
-            }
-            "release" => said(alloc, Ok::<bool, AllocError>(shared.release(rt, point))),
+            "fold" => truth(alloc, shared.fold_agent(rt, g)),
+            "release" if point > 0 => truth::<AtomFault>(alloc, Ok(shared.release(rt, point))),
+            "release" => truth::<AtomFault>(alloc, Ok(shared.release_carried(rt, g))),
             "checkpoint" => said(alloc, shared.checkpoint(rt, alloc, &CoreFunctions, point)),
             "bites" => {
                 let (funs, bite) = (table_at(call, 3), count_at(call, 2));
@@ -196,8 +180,8 @@ impl<'a, 'b, R: Wait, C: Ledger, A: Ledger, K: Ledger> On<'a, 'b, R, C, A, K> {
         }
     }
 
-    // How many receipts the share has, once it has forgotten some if the row says so.
-    pub(crate) fn receipts(&self, share: &mut Share<C, A, K>, call: &[&'static str]) -> Said {
+    // How many receipts the share has, once it has forgotten some if it is to.
+    pub(crate) fn receipts(&self, share: &mut Share<C, A, K>, call: &[&str]) -> Said {
         match (at(call, 0), at(call, 1)) {
             ("forget", "") => self.shared.forget(self.rt, share),
             ("forget", _) => share.forget(u64::from(number_at(call, 1))),

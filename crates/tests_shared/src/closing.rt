@@ -1,8 +1,8 @@
-//! What rows say of the world that comes out of a shared one, and of an end that is refused.
+//! What is said of the world that comes out of a shared one, and of an end that is refused.
 use crate::numbers::int_of;
-use crate::rows::{Row, Wrong, is_of_end};
+use crate::rows::{Wrong, is_of_end, parts};
 use crate::scenarios::Inspection;
-use crate::texts::{Said, add_item, at, index_at, no_call, number, text, words};
+use crate::texts::{NO_CALL, Said, add_item, at, index_at, number, text, words};
 use crate::worlds::Stop;
 use ref_agents::Account;
 use ref_fun::Core;
@@ -13,23 +13,17 @@ use ref_world::{Share, Totals, World};
 use std::alloc::Global;
 use std::sync::ledger::Ledger;
 
-// As `1/0`.
-fn stamp_text(alloc: Global, transaction: &Transaction) -> Said {
-    let stamp = transaction.stamp;
-    format!(in alloc; "{}/{}", stamp.worker, stamp.step)
-}
-
 // As `1/0 at 0`, by its read point; or as `1/0 10`, by the kept answer of its first operation.
 fn transaction_text(alloc: Global, transaction: &Transaction, by_answer: bool) -> Said {
-    let stamp = stamp_text(alloc, transaction)?;
+    let (stamp, point) = (transaction.stamp, transaction.read_point);
     if !by_answer {
-        return format!(in alloc; "{stamp} at {}", transaction.read_point);
+        return format!(in alloc; "{}/{} at {point}", stamp.worker, stamp.step);
     }
     let answer = match transaction.dones.get(0) {
         Some(done) => number(alloc, int_of(&done.answer))?,
         None => text(alloc, "none")?,
     };
-    format!(in alloc; "{stamp} {answer}")
+    format!(in alloc; "{}/{} {answer}", stamp.worker, stamp.step)
 }
 
 // All transactions of a log.
@@ -43,30 +37,27 @@ fn transactions_text(alloc: Global, log: &PVec<Entry>, by_answer: bool) -> Said 
     Ok(list)
 }
 
-// What the account of an agent shows: its start, how many actions ended since then and in all, and how many wait.
 fn account_text(alloc: Global, account: &Account, word: &str) -> Said {
     match word {
         "start" => number(alloc, int_of(account.start())),
         "handled" => format!(in alloc; "{}", account.handled().len()),
         "number" => format!(in alloc; "{}", account.number()),
         "waiting" => format!(in alloc; "{}", account.waiting()),
-        _ => no_call(alloc),
+        _ => text(alloc, NO_CALL),
     }
 }
 
-// Of the base its point, and what its first ref holds.
 fn base_text<C: Ledger, A: Ledger, K: Ledger>(alloc: Global, world: &World<Core, C, A, K>) -> Said {
     let base = world.base();
     let first = number(alloc, base.refs.get(0).and_then(int_of))?;
     format!(in alloc; "{} {first}", base.point)
 }
 
-// Totals and books are commits, added and taken.
 fn of_world<C: Ledger, A: Ledger, K: Ledger>(
     alloc: Global,
     world: &World<Core, C, A, K>,
     totals: Totals,
-    call: &[&'static str],
+    call: &[&str],
 ) -> Said {
     match at(call, 1) {
         "entries" => format!(in alloc; "{}", world.log().len()),
@@ -78,62 +69,54 @@ fn of_world<C: Ledger, A: Ledger, K: Ledger>(
         "base" => base_text(alloc, world),
         word => match world.account(index_at(call, 2)) {
             Some(account) => account_text(alloc, account, word),
-            None => no_call(alloc),
+            None => text(alloc, NO_CALL),
         },
     }
 }
 
-// The row that says how the end is refused.
-fn refused_row(rows: &[Row]) -> Row {
-    for row in rows {
-        if row.0 == "end refused" {
-            return *row;
-        }
-    }
-    ("end", "a world")
-}
-
-// What the rows of one world say of its end: the first that is wrong, and what is said.
+// What the rows of one world say of its end.
 #[derive(Clone, Copy, Drop)]
-pub(crate) struct Ends(pub(crate) &'static [Row]);
+pub(crate) struct Ends<'t>(pub(crate) &'t [&'t str]);
 
-impl Inspection for Ends {
-    type Seen = Wrong;
+impl<'t> Inspection for Ends<'t> {
+    type Seen = Wrong<'t>;
 
     fn inspect<C: Ledger, A: Ledger, K: Ledger>(
         &self,
         alloc: Global,
-        world: &World<Core, C, A, K>,
+        world: &mut World<Core, C, A, K>,
         totals: Totals,
-    ) -> Result<Wrong, Stop> {
+    ) -> Result<Wrong<'t>, Stop> {
         for row in self.0 {
+            let (call, reply) = parts(row);
             if is_of_end(row) {
-                let answer = of_world(alloc, world, totals, &words(alloc, row.0)?)?;
-                if answer.as_str() != row.1 {
-                    return Ok(Some((*row, answer)));
+                let answer = of_world(alloc, world, totals, &words(alloc, call)?)?;
+                if answer.as_str() != reply {
+                    return Ok(Some((row, answer)));
                 }
             }
         }
         Ok(None)
     }
 
+    // There is to be one row of the end, which says it.
     fn refused<C: Ledger, A: Ledger, K: Ledger>(
         &self,
         alloc: Global,
         world: &World<Core, C, A, K>,
         share: &Share<C, A, K>,
         fault: GatherFault,
-    ) -> Result<Wrong, Stop> {
+    ) -> Result<Wrong<'t>, Stop> {
         let (whole, receipts) = (share.is_whole(), share.receipts().len());
         let commits = world.commits();
         let answer = format!(in alloc;
             "{fault}: whole {whole}, receipts {receipts}, commits {commits}"
         )?;
-        let row = refused_row(self.0);
-        Ok(if answer.as_str() == row.1 {
-            None
-        } else {
-            Some((row, answer))
-        })
+        for row in self.0 {
+            if is_of_end(row) && parts(row) == ("end refused", answer.as_str()) {
+                return Ok(None);
+            }
+        }
+        Ok(Some(("end refused", answer)))
     }
 }

@@ -9,35 +9,24 @@ use std::alloc::{AllocError, Global};
 use std::process::Abort;
 use std::test::Fail;
 
-const STEPS: &[rows::Row] = &[
-    // Steps that rise are in order.
-    ("new", "0"),
-    ("begin t", "0"),
-    ("commit t 0 0", "1"),
-    ("begin t", "1"),
-    ("commit t 0 1", "2"),
-    ("end count", "2"),
-    // Steps that fall are out of order.
-    ("new", "0"),
-    ("begin t", "0"),
-    ("commit t 0 1", "1"),
-    ("begin t", "1"),
-    ("commit t 0 0", "2"),
-    (
-        "end refused",
-        "the steps of a worker are out of order: whole true, receipts 2, commits 2",
-    ),
-    // A step that is begun before the last one ended is out of order.
-    ("new", "0"),
-    ("begin t", "0"),
-    ("begin u", "0"),
-    ("commit t 0 0", "1"),
-    ("commit u 0 1", "2"),
-    (
-        "end refused",
-        "the steps of a worker are out of order: whole true, receipts 2, commits 2",
-    ),
-];
+const STEPS: &str = "
+// Steps that rise are in order.
+== 0
+begin t; commit t 0 0 → 0; 1
+begin t; commit t 0 1 → 1; 2
+end count → 2
+
+// Steps that fall are out of order.
+== 0
+begin t; commit t 0 1 → 0; 1
+begin t; commit t 0 0 → 1; 2
+end refused → the steps of a worker are out of order: whole true, receipts 2, commits 2
+
+// A step that is begun before the last one ended is out of order.
+== 0
+begin t; begin u; commit t 0 0; commit u 0 1 → 0; 0; 1; 2
+end refused → the steps of a worker are out of order: whole true, receipts 2, commits 2
+";
 
 #[test]
 fn steps_of_a_worker_are_to_rise(rt: HostRuntime) -> Result<(), Fail> {
@@ -76,15 +65,13 @@ fn transaction(alloc: Global, stamp: Stamp, text: &str) -> Result<Transaction, A
     })
 }
 
-fn reset(alloc: Global) -> Result<Entry, AllocError> {
-    let (new, answer) = (value(alloc, "5")?, value(alloc, "5")?);
-    Ok(Entry::Atom(0, Op::Set(new), answer))
-}
-
 fn entry(alloc: Global, kind: &Kind) -> Result<Entry, AllocError> {
     match kind {
         Kind::Set(stamp, text) => Ok(Entry::Trans(transaction(alloc, *stamp, text)?)),
-        Kind::Reset => reset(alloc),
+        Kind::Reset => {
+            let (new, answer) = (value(alloc, "5")?, value(alloc, "5")?);
+            Ok(Entry::Atom(0, Op::Set(new), answer))
+        }
         Kind::MadeRef => Ok(Entry::MadeRef(value(alloc, "5")?)),
     }
 }

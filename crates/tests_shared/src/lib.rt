@@ -3,10 +3,10 @@
 //!
 //! | Modules | |
 //! |---|---|
-//! | `rows`, over `texts`, `acting`, `transacting` and `closing` | calls as rows of texts, with what they say; of these are most tests |
+//! | `rows`, over `texts`, `acting`, `transacting` and `closing` | calls as rows of text, with what they say; most tests are tables of them |
 //! | `calls`, `conflicts`, `finishing` | each call, what is made, transactions that are tried again, the end |
 //! | `work`, `kept` | agents, how a sink hears of their actions, and what a world has when it comes out again |
-//! | `folds`, `bites` | what is dropped: receipts of folded entries, and actions that ended; a log that is folded in bites |
+//! | `folds` | what is dropped: receipts of folded entries, and actions that ended; a log that is folded in bites |
 //! | `awaits`, `whens` | waiting for agents, and transactions that wait, where neither has to sleep |
 //! | `seconds`, `missing` | each call on the second reference of its kind, and on one that isn't there |
 //! | `strangers` | transactions that were begun in another world |
@@ -21,8 +21,6 @@
 mod acting;
 #[cfg(test)]
 mod awaits;
-#[cfg(test)]
-mod bites;
 #[cfg(test)]
 mod calls;
 #[cfg(test)]

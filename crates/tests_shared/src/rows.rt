@@ -1,46 +1,49 @@
-//! Calls of a shared world by one thread as rows of texts, each with what it says.
+//! Calls of shared worlds by one thread as rows of text, with what they say.
 //!
-//! A row `("new", START)` begins a shared world of its own, on which the rows behind it make their calls. START has the values of refs, atoms
-//! and agents, with `|` between these; or it is `a tally`, one ref of 0 that is the tally, or `two agents`, those of [`jobs`](crate::jobs).
-//! A reference is `r0`, `a0` or `g0`, a function `+` or `-` with one argument, or one that the table lacks. A rule asks for at least a
-//! number.
+//! A row is a line `CALLS → REPLY`, with "; " between the calls. Each call but the last says `ok`, or the reply has what it says and then "; ".
+//! A row without a reply wants `ok`. Lines that begin with `//` are comments.
+//!
+//! A row `== START` begins a shared world of its own, on which the rows behind it make their calls. START has the values of refs, atoms and
+//! agents, with `|` between these; or it is `a tally`, one ref of 0 that is the tally, or `two agents`, those of [`jobs`](crate::jobs).
+//! A reference is `r0`, `a0` or `g0`, a function `+` or `-` with one argument, or one that the table lacks. A rule asks for at least a number.
 //!
 //! | Call | Says |
 //! |---|---|
 //! | `value r0`, `values r` | a number, or `none`; those of all refs |
 //! | `rule r0 5`, `rule r0` | `ok` |
-//! | `watch r0 :k`, `unwatch r0 :k` | whether it did so |
+//! | `watch r0 :k`, `unwatch r0 :k` | `ok` or `no` |
 //! | `make ref 5`, `make ref 5 0` with a rule; so `tally`, `atom`, `agent` and `patient`, which goes on where an action fails | its number |
 //! | `swap a0 + 1`, `reset a0 5` | the numbers before and after, and the notices |
-//! | `compare a0 4 5` | whether it did so, and the notices |
+//! | `compare a0 4 5` | `ok` or `no`, and the notices |
 //! | `send g0 + 1`, `carry g0 + 1`, with which `+ 1` goes to the next agent | `ok` |
 //! | `restart g0 5`, `restart g0 5 clear`, `continue g0` | `ok` |
 //! | `error g0`, `await g0 g1` | `ok`, or the error or fault |
-//! | `work`, `work no-memory`, `work no-predicates`, with a table that lacks these | the agent, or `closed`, and what the sink hears |
-//! | `begin t`, `t: set r0 5`, `commit t 1 0`, by worker and step; so `u` | the read point; a number; the point, and the notices |
-//! | `transact 3 1: alter r0 + 1, deref r1` | the number of the last operation, and the notices. At most 3 tries; behind 1 body another caller sets r0 to 10 |
+//! | `work`; `work no-memory` and `work no-predicates`, with a table that lacks these | the agent, or `closed`, and what the sink hears |
+//! | `begin t`, `t: set r0 5`, `commit t 1 0`, by worker and step; so with `u` | the read point; a number; the point, and the notices |
+//! | `transact 3 1: alter r0 + 1, deref r1` | the last number, and the notices. There are 3 tries, and after the first body another caller sets r0 to 10 |
 //! | `transact 3 1 before: ..`, `transact 3 0 no-predicates: ..` | the same, where that caller comes before the body, or the table lacks predicates |
-//! | `when 3 1 wait ready: ..` | the same, of `transact_when`: the first body isn't ready, the second is, and one that is `refused` ends it |
+//! | `when 3 1 wait ready: ..` | the same of `transact_when`: the first body isn't ready, and the second one is. One that is `refused` ends it |
 //! | `last` | how many bodies the last of these began, by its gate, and called, and how many receipts the share had then, without that caller's |
-//! | `stranger 1`; `leave t` | `t` is one of a world with one commit; what comes of a `transact` whose body leaves `t` in the place of its own |
-//! | `fold g0`, `release g0`, `release 1`, `checkpoint 2` | whether it did so, or how many entries were folded |
-//! | `bites 7 3`, `bites 7 3 no-memory` | how many entries were folded, three at a time |
+//! | `stranger 1` | `ok`: `t` is a transaction of a world with one commit |
+//! | `leave t` | what comes of a `transact` whose body leaves `t` in the place of its own |
+//! | `fold g0`, `release g0`, `release 1` | `ok` or `no` |
+//! | `checkpoint 2`, `bites 7 3`, `bites 7 3 no-memory` | how many entries are folded; three at a time |
 //! | `forget`, `forget 2`, `receipts` | how many receipts the share has then |
 //! | `close` | `ok` |
-//! | `end entries`, `end base` | of the world that comes out: how many entries, the base's point and what r0 was there |
-//! | `end commits`, `end answers` | each transaction by worker and step, with its read point, or its first kept answer |
-//! | `end totals`, `end books`, `end count` | commits, added, taken; commits alone, by the totals |
-//! | `end start g0`, `end handled g0`, `end number g0`, `end waiting g0` | the account: its start, how many actions ended since then and in all, and how many wait |
-//! | `end refused` | why no world comes out, and what comes back |
 //!
-//! A fault stands in the place of each of them. A call with other words says `no such call`.
+//! Rows that begin with `end` are of the world that comes out: `end entries`, how many there are; `end base`, its point and r0 there;
+//! `end commits` and `end answers`, each transaction by worker and step with its read point or its first kept answer; `end totals` and
+//! `end books`, commits, added and taken; `end count`, the commits of the totals; and of the account of an agent `end start g0`,
+//! `end handled g0`, `end number g0` and `end waiting g0`. If none comes out, `end refused` says why, and what comes back.
+//!
+//! In the place of each of these a fault may be said. What means no call says so.
 use crate::acting::On;
 use crate::closing::Ends;
 use crate::jobs::two_agents;
 use crate::same::same;
 use crate::scenarios::{Scenario, run_to_end};
-use crate::texts::{Said, at, words};
-use crate::transacting::{Acts, no_acts};
+use crate::texts::{Said, at, text, words};
+use crate::transacting::Acts;
 use crate::worlds::{Stop, agent, plain_start, value};
 use ref_edn::read_all;
 use ref_fun::Core;
@@ -52,58 +55,76 @@ use std::sync::Wait;
 use std::sync::ledger::Ledger;
 use std::test::Fail;
 
-// A call, and what it says.
-pub(crate) type Row = (&'static str, &'static str);
+// A row that is wrong, and what is said.
+pub(crate) type Wrong<'t> = Option<(&'t str, String)>;
 
-// The first row that is wrong, and what is said.
-pub(crate) type Wrong = Option<(Row, String)>;
+// The calls of a row, and its reply.
+pub(crate) fn parts(row: &str) -> (&str, &str) {
+    row.split_once(" → ").unwrap_or((row, "ok"))
+}
+
+pub(crate) fn is_of_end(row: &str) -> bool {
+    row.starts_with("end ")
+}
+
+// The rows of a text.
+pub(crate) fn rows_of<'t>(alloc: Global, text: &'t str) -> Result<Vec<&'t str>, AllocError> {
+    let mut rows = Vec::new(alloc);
+    for line in text.lines() {
+        let line = line.trim();
+        if !line.is_empty() && !line.starts_with("//") {
+            rows.push(line)?;
+        }
+    }
+    Ok(rows)
+}
 
 // ---- The start
 
 fn tally_start(alloc: Global) -> Result<Start, AllocError> {
     let mut start = plain_start(alloc, "", "")?;
-    let tally = RefStart {
-        value: value(alloc, "0")?,
+    let value = value(alloc, "0")?;
+    start.refs.push(RefStart {
+        value,
         rule: None,
         tally: true,
-    };
-    start.refs.push(tally)?;
+    })?;
     Ok(start)
 }
 
-fn with_agents(alloc: Global, start: Start, values: &str) -> Result<Start, AllocError> {
-    let mut start = start;
-    for value in read_all(alloc, values.as_bytes()).map_err(|_| AllocError)? {
+fn plain_world(alloc: Global, text: &str) -> Result<Start, AllocError> {
+    let (refs, others) = text.split_once("|").unwrap_or((text, ""));
+    let (atoms, agents) = others.split_once("|").unwrap_or((others, ""));
+    let mut start = plain_start(alloc, refs, atoms)?;
+    for value in read_all(alloc, agents.as_bytes()).map_err(|_| AllocError)? {
         start.agents.push(agent(value, None))?;
     }
     Ok(start)
 }
 
-fn start(alloc: Global, text: &'static str) -> Result<Start, AllocError> {
+fn start(alloc: Global, text: &str) -> Result<Start, AllocError> {
     match text {
-        "two agents" => return two_agents(alloc),
-        "a tally" => return tally_start(alloc),
-        _ => {}
+        "two agents" => two_agents(alloc),
+        "a tally" => tally_start(alloc),
+        _ => plain_world(alloc, text),
     }
-    let (refs, others) = text.split_once("|").unwrap_or((text, ""));
-    let (atoms, agents) = others.split_once("|").unwrap_or((others, ""));
-    with_agents(alloc, plain_start(alloc, refs, atoms)?, agents)
 }
 
 // ---- The calls
 
-// The rows of one world that make calls on it: those of its end are left out.
-#[derive(Clone, Copy, Drop)]
-pub(crate) struct Rows(pub(crate) &'static [Row]);
-
-pub(crate) fn is_of_end(row: &Row) -> bool {
-    row.0.starts_with("end ")
-}
-
 impl<'a, 'b, R: Wait, C: Ledger, A: Ledger, K: Ledger> On<'a, 'b, R, C, A, K> {
+    fn of_agents(&self, call: &[&str]) -> Said {
+        match at(call, 0) {
+            "await" => self.await_all(call),
+            "work" => self.work(call),
+            "fold" | "release" | "checkpoint" | "bites" | "close" => self.end(call),
+            _ => self.agent(call),
+        }
+    }
+
     // Makes a call. Behind ": " are the operations of a transaction.
-    fn answer(&self, share: &mut Share<C, A, K>, acts: &mut Acts, row: &'static str) -> Said {
-        let (head, body) = row.split_once(": ").unwrap_or((row, ""));
+    fn make_call(&self, share: &mut Share<C, A, K>, acts: &mut Acts, call: &str) -> Said {
+        let (head, body) = call.split_once(": ").unwrap_or((call, ""));
         let call = words(self.alloc, head)?;
         let call = call.as_slice();
         match at(call, 0) {
@@ -119,18 +140,26 @@ impl<'a, 'b, R: Wait, C: Ledger, A: Ledger, K: Ledger> On<'a, 'b, R, C, A, K> {
         }
     }
 
-    fn of_agents(&self, call: &[&'static str]) -> Said {
-        match at(call, 0) {
-            "await" => self.await_all(call),
-            "work" => self.work(call),
-            "fold" | "release" | "checkpoint" | "bites" | "close" => self.end(call),
-            _ => self.agent(call),
+    fn answer(&self, share: &mut Share<C, A, K>, acts: &mut Acts, calls: &str) -> Said {
+        let (mut all, mut last) = (text(self.alloc, "")?, text(self.alloc, "ok")?);
+        for call in calls.split("; ") {
+            if last.as_str() != "ok" {
+                all.push_str(&last)?;
+                all.push_str("; ")?;
+            }
+            last = self.make_call(share, acts, call)?;
         }
+        all.push_str(&last)?;
+        Ok(all)
     }
 }
 
-impl<R: Wait> Scenario<R> for Rows {
-    type Outcome = Wrong;
+// The rows of one world, of which those of its end aren't calls.
+#[derive(Clone, Copy, Drop)]
+pub(crate) struct Rows<'t>(pub(crate) &'t [&'t str]);
+
+impl<'t, R: Wait> Scenario<R> for Rows<'t> {
+    type Outcome = Wrong<'t>;
 
     fn run<C: Ledger, A: Ledger, K: Ledger>(
         &self,
@@ -138,14 +167,22 @@ impl<R: Wait> Scenario<R> for Rows {
         alloc: Global,
         shared: &Shared<Core, C, A, K>,
         share: &mut Share<C, A, K>,
-    ) -> Result<Wrong, Stop> {
+    ) -> Result<Wrong<'t>, Stop> {
         let on = On { rt, alloc, shared };
-        let mut acts = no_acts(alloc)?;
+        let mut acts = Acts {
+            t: None,
+            u: None,
+            step: 0,
+            begun: 0,
+            called: 0,
+            receipts: 0,
+        };
         for row in self.0 {
+            let (calls, reply) = parts(row);
             if !is_of_end(row) {
-                let answer = on.answer(share, &mut acts, row.0)?;
-                if answer.as_str() != row.1 {
-                    return Ok(Some((*row, answer)));
+                let answer = on.answer(share, &mut acts, calls)?;
+                if answer.as_str() != reply {
+                    return Ok(Some((row, answer)));
                 }
             }
         }
@@ -155,30 +192,27 @@ impl<R: Wait> Scenario<R> for Rows {
 
 // ---- Worlds
 
-// The rows up to the next world.
-fn of_one_world(rows: &'static [Row]) -> &'static [Row] {
-    for (i, row) in rows.iter().enumerate() {
-        if row.0 == "new" {
-            return rows.get(..i).unwrap_or(rows);
-        }
-    }
-    rows
+// The rows of one world say what they are to say.
+fn check_world(rt: &(impl Abort + AllocGlobal + Wait), world: &str) -> Result<(), Fail> {
+    let alloc = rt.alloc();
+    let (first, rest) = world.split_once("\n").unwrap_or((world, ""));
+    let rows = rows_of(alloc, rest)?;
+    let (rows, start) = (rows.as_slice(), start(alloc, first)?);
+    let wrong = run_to_end(rt, alloc, start, &Rows(rows), &Ends(rows))?;
+    same(rt, wrong, (None, None));
+    Ok(())
 }
 
-// Each call of each world says what its row has.
-pub(crate) fn check(
-    rt: &(impl Abort + AllocGlobal + Wait),
-    rows: &'static [Row],
-) -> Result<(), Fail> {
-    let alloc = rt.alloc();
-    same(rt, rows.first().map(|row| row.0), Some("new"));
-    for (i, row) in rows.iter().enumerate() {
-        if row.0 == "new" {
-            let world = of_one_world(rows.get(i.saturating_add(1)..).unwrap_or(&[]));
-            let start = start(alloc, row.1)?;
-            let wrong = run_to_end(rt, alloc, start, &Rows(world), &Ends(world))?;
-            same(rt, wrong, (None, None));
+// All rows of all worlds do.
+pub(crate) fn check(rt: &(impl Abort + AllocGlobal + Wait), table: &str) -> Result<(), Fail> {
+    let mut is_before = true;
+    for world in table.split("== ") {
+        if is_before {
+            same(rt, rows_of(rt.alloc(), world)?.len(), 0);
+        } else {
+            check_world(rt, world)?;
         }
+        is_before = false;
     }
     Ok(())
 }

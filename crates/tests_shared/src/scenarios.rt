@@ -2,8 +2,8 @@
 ghost use Rattle.std.specs.Prelude.{◌≡◌};
 ghost use Rattle.ref_world.specs.Shares.{IsBlank};
 
-use crate::worlds::{Stop, all_commits, opened};
-use ref_fun::Core;
+use crate::worlds::{Stop, all_commits};
+use ref_fun::{Core, CoreFunctions};
 use ref_log::Stamp;
 use ref_shared::{GatherFault, Shared};
 use ref_world::{ALL_PARTS, Share, Start, Totals, World};
@@ -15,6 +15,16 @@ use std::sync::ledger::{Blank, Ledger};
 /// What a test does with a shared world and its whole share.
 pub trait Scenario<R> {
     type Outcome: Drop;
+
+    /// What is done with the world and the share before the world is shared.
+    fn prepare<C: Ledger, A: Ledger, K: Ledger>(
+        &self,
+        _alloc: Global,
+        _world: &mut World<Core, C, A, K>,
+        _share: &mut Share<C, A, K>,
+    ) -> Result<(), Stop> {
+        Ok(())
+    }
 
     fn run<C: Ledger, A: Ledger, K: Ledger>(
         &self,
@@ -32,7 +42,7 @@ pub trait Inspection {
     fn inspect<C: Ledger, A: Ledger, K: Ledger>(
         &self,
         alloc: Global,
-        world: &World<Core, C, A, K>,
+        world: &mut World<Core, C, A, K>,
         totals: Totals,
     ) -> Result<Self::Seen, Stop>;
 
@@ -58,7 +68,7 @@ impl Inspection for CommitCount {
     fn inspect<C: Ledger, A: Ledger, K: Ledger>(
         &self,
         _alloc: Global,
-        _world: &World<Core, C, A, K>,
+        _world: &mut World<Core, C, A, K>,
         totals: Totals,
     ) -> Result<u64, Stop> {
         Ok(totals.commits)
@@ -82,7 +92,7 @@ impl Inspection for AllCommits {
     fn inspect<C: Ledger, A: Ledger, K: Ledger>(
         &self,
         alloc: Global,
-        world: &World<Core, C, A, K>,
+        world: &mut World<Core, C, A, K>,
         totals: Totals,
     ) -> Result<Commits, Stop> {
         Ok(Commits {
@@ -135,7 +145,24 @@ fn run_to_end_in<C: Ledger, A: Ledger, K: Ledger, R: Wait, S: Scenario<R>, I: In
     requires added { IsBlank added A.name A.parts }
     requires taken { IsBlank taken K.name K.parts }
 {
-    let (shared, mut share) = opened::<C, A, K>(alloc, start, commits, added, taken)?;
+    match World::<Core, C, A, K>::new(alloc, &CoreFunctions, &start, commits, added, taken) {
+        Ok((world, share)) => run_world(rt, alloc, world, share, scenario, inspection),
+        Err(_) => Err(Stop::Refused),
+    }
+}
+
+fn run_world<C: Ledger, A: Ledger, K: Ledger, R: Wait, S: Scenario<R>, I: Inspection>(
+    rt: &R,
+    alloc: Global,
+    mut world: World<Core, C, A, K>,
+    mut share: Share<C, A, K>,
+    scenario: &S,
+    inspection: &I,
+) -> Result<(S::Outcome, I::Seen), Stop> {
+    if let Err(stop) = scenario.prepare(alloc, &mut world, &mut share) {
+        return Err(stop);
+    }
+    let shared = Shared::new(world);
     match scenario.run(rt, alloc, &shared, &mut share) {
         Ok(outcome) => match seen_at_end(alloc, shared, share, inspection) {
             Ok(seen) => Ok((outcome, seen)),
@@ -157,7 +184,7 @@ pub fn seen_at_end<C: Ledger, A: Ledger, K: Ledger, I: Inspection>(
         return Err(Stop::Refused);
     }
     match shared.finish(alloc, share) {
-        Ok((world, totals)) => inspection.inspect(alloc, &world, totals),
+        Ok((mut world, totals)) => inspection.inspect(alloc, &mut world, totals),
         Err((world, share, fault)) => inspection.refused(alloc, &world, &share, fault),
     }
 }

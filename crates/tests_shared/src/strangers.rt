@@ -1,6 +1,6 @@
 //! Transactions that were begun in another shared world than the one in which they are committed.
 use crate::acting::On;
-use crate::rows::{Row, check};
+use crate::rows::check;
 use crate::scenarios::{Scenario, run_shared};
 use crate::steps::{commit_set, set};
 use crate::texts::{Said, at, number_at, text};
@@ -48,15 +48,7 @@ fn replace(tx: &mut Tx<Core>, stranger: &mut Option<Tx<Core>>) -> Result<(), TxF
 }
 
 impl<'a, 'b, R: Wait, C: Ledger, A: Ledger, K: Ledger> On<'a, 'b, R, C, A, K> {
-    // A transaction of another world is `t` from now on.
-    fn stranger(&self, acts: &mut Acts, commits: u32) -> Said {
-        let start = plain_start(self.alloc, "0", "")?;
-        let tx = run_shared(self.rt, self.alloc, start, &Begun { commits }).ok();
-        acts.put(tx);
-        text(self.alloc, "ok")
-    }
-
-    // Why a `transact` ends whose body leaves `t` in the place of its own transaction.
+    // What comes of a `transact` whose body leaves a transaction in the place of its own.
     fn leave(&self, share: &mut Share<C, A, K>, stranger: Option<Tx<Core>>) -> Said {
         let (rt, alloc, funs, mut stranger) = (self.rt, self.alloc, &CoreFunctions, stranger);
         let committed = self.shared.transact(
@@ -80,67 +72,44 @@ impl<'a, 'b, R: Wait, C: Ledger, A: Ledger, K: Ledger> On<'a, 'b, R, C, A, K> {
         &self,
         share: &mut Share<C, A, K>,
         acts: &mut Acts,
-        call: &[&'static str],
+        call: &[&str],
     ) -> Said {
-        match at(call, 0) {
-            "leave" => self.leave(share, acts.taken()),
-            _ => self.stranger(acts, number_at(call, 1)),
+        if at(call, 0) == "leave" {
+            return self.leave(share, acts.t.take());
         }
+        let commits = number_at(call, 1);
+        let start = plain_start(self.alloc, "0", "")?;
+        acts.t = run_shared(self.rt, self.alloc, start, &Begun { commits }).ok();
+        text(self.alloc, "ok")
     }
 }
 
-const NO_REF: &str = "a transaction of another store: there is no ref 0 here";
-
-const ANOTHER_VALUE: &str = "a transaction of another store: ref 0 had another value here";
-
-const STILL_TO_COME: &str = "a transaction of another store: point 1 is still to come";
-
-const TALLY: &str =
-    "a transaction of another store: the tally here can only be added to and taken from";
-
 // A transaction that is refused comes back, and is refused again. So is one that a body leaves.
-const FOREIGN: &[Row] = &[
-    ("new", ""),
-    ("stranger 0", "ok"),
-    ("commit t", NO_REF),
-    ("commit t", NO_REF),
-    (
-        "leave t",
-        "the commit was refused: a transaction of another store: there is no ref 0 here",
-    ),
-    ("receipts", "0"),
-    ("value r0", "none"),
-    ("new", "5"),
-    ("stranger 0", "ok"),
-    ("commit t", ANOTHER_VALUE),
-    ("commit t", ANOTHER_VALUE),
-    (
-        "leave t",
-        "the commit was refused: a transaction of another store: ref 0 had another value here",
-    ),
-    ("receipts", "0"),
-    ("value r0", "5"),
-    ("new", "0"),
-    ("stranger 1", "ok"),
-    ("commit t", STILL_TO_COME),
-    ("commit t", STILL_TO_COME),
-    (
-        "leave t",
-        "the commit was refused: a transaction of another store: point 1 is still to come",
-    ),
-    ("receipts", "0"),
-    ("value r0", "0"),
-    ("new", "a tally"),
-    ("stranger 0", "ok"),
-    ("commit t", TALLY),
-    ("commit t", TALLY),
-    (
-        "leave t",
-        "the commit was refused: a transaction of another store: the tally here can only be added to and taken from",
-    ),
-    ("receipts", "0"),
-    ("value r0", "0"),
-];
+const FOREIGN: &str = "
+== |
+stranger 0; commit t → a transaction of another store: there is no ref 0 here
+commit t → a transaction of another store: there is no ref 0 here
+leave t → the commit was refused: a transaction of another store: there is no ref 0 here
+receipts; value r0 → 0; none
+
+== 5
+stranger 0; commit t → a transaction of another store: ref 0 had another value here
+commit t → a transaction of another store: ref 0 had another value here
+leave t → the commit was refused: a transaction of another store: ref 0 had another value here
+receipts; value r0 → 0; 5
+
+== 0
+stranger 1; commit t → a transaction of another store: point 1 is still to come
+commit t → a transaction of another store: point 1 is still to come
+leave t → the commit was refused: a transaction of another store: point 1 is still to come
+receipts; value r0 → 0; 0
+
+== a tally
+stranger 0; commit t → a transaction of another store: the tally here can only be added to and taken from
+commit t → a transaction of another store: the tally here can only be added to and taken from
+leave t → the commit was refused: a transaction of another store: the tally here can only be added to and taken from
+receipts; value r0 → 0; 0
+";
 
 #[test]
 fn what_is_foreign_is_refused(rt: HostRuntime) -> Result<(), Fail> {

@@ -1,4 +1,4 @@
-//! The words of a row, and what calls answer as text.
+//! The words of a call, and what calls say as text.
 ghost use Rattle.std.specs.Prelude.{◌<◌};
 
 use crate::tables::Poor;
@@ -13,10 +13,12 @@ use std::fmt::Display;
 
 pub(crate) type Said = Result<String, AllocError>;
 
+// What is said of words that mean no call.
+pub(crate) const NO_CALL: &str = "no such call";
+
 // ---- Words
 
-// The words of a text.
-pub(crate) fn words(alloc: Global, text: &'static str) -> Result<Vec<&'static str>, AllocError> {
+pub(crate) fn words<'t>(alloc: Global, text: &'t str) -> Result<Vec<&'t str>, AllocError> {
     let mut words = Vec::new(alloc);
     for word in text.split_whitespace() {
         words.push(word)?;
@@ -25,54 +27,46 @@ pub(crate) fn words(alloc: Global, text: &'static str) -> Result<Vec<&'static st
 }
 
 // The word of this place, or an empty one.
-pub(crate) fn at(call: &[&'static str], i: usize) -> &'static str {
+pub(crate) fn at<'t>(call: &[&'t str], i: usize) -> &'t str {
     match call.get(i) {
         Some(word) => word,
         None => "",
     }
 }
 
-fn number_in(word: &str) -> Option<u32> {
-    word.parse::<u32>().ok()
-}
-
 // The number of this place, or 0.
-pub(crate) fn number_at(call: &[&'static str], i: usize) -> u32 {
-    number_in(at(call, i)).unwrap_or(0)
+pub(crate) fn number_at(call: &[&str], i: usize) -> u32 {
+    at(call, i).parse::<u32>().unwrap_or(0)
 }
 
 // The number of this place, which is to be at least 1.
-pub(crate) fn count_at(call: &[&'static str], i: usize) -> u32
+pub(crate) fn count_at(call: &[&str], i: usize) -> u32
     ensures { 0 < result }
 {
     let count = number_at(call, i);
     if count > 0 { count } else { 1 }
 }
 
-fn who_of(word: &str) -> Option<Who> {
-    if let Some(n) = word.strip_prefix("r") {
-        return Some(Who::Ref(number_in(n)?));
-    }
-    if let Some(n) = word.strip_prefix("a") {
-        return Some(Who::Atom(number_in(n)?));
-    }
-    Some(Who::Agent(number_in(word.strip_prefix("g")?)?))
+// The number of the reference of this place, or one of which there is none.
+pub(crate) fn index_at(call: &[&str], i: usize) -> u32 {
+    let digits = at(call, i).get(1..).unwrap_or("");
+    digits.parse::<u32>().unwrap_or(u32::MAX)
 }
 
-// The reference of this place, or one that isn't there.
-pub(crate) fn who_at(call: &[&'static str], i: usize) -> Who {
-    who_of(at(call, i)).unwrap_or(Who::Ref(u32::MAX))
-}
-
-// The number of the reference of this place.
-pub(crate) fn index_at(call: &[&'static str], i: usize) -> u32 {
-    match who_at(call, i) {
-        Who::Ref(n) | Who::Atom(n) | Who::Agent(n) => n,
+// The reference of this place.
+pub(crate) fn who_at(call: &[&str], i: usize) -> Who {
+    let (word, n) = (at(call, i), index_at(call, i));
+    if word.starts_with("r") {
+        Who::Ref(n)
+    } else if word.starts_with("a") {
+        Who::Atom(n)
+    } else {
+        Who::Agent(n)
     }
 }
 
 // The code of the function of this place, or one that the table lacks.
-pub(crate) fn code_at(call: &[&'static str], i: usize) -> u32 {
+pub(crate) fn code_at(call: &[&str], i: usize) -> u32 {
     match at(call, i) {
         "+" => PLUS,
         "-" => MINUS,
@@ -81,7 +75,7 @@ pub(crate) fn code_at(call: &[&'static str], i: usize) -> u32 {
 }
 
 // The table of this place.
-pub(crate) fn table_at(call: &[&'static str], i: usize) -> Poor {
+pub(crate) fn table_at(call: &[&str], i: usize) -> Poor {
     let word = at(call, i);
     Poor {
         has_memory: word != "no-memory",
@@ -90,36 +84,21 @@ pub(crate) fn table_at(call: &[&'static str], i: usize) -> Poor {
 }
 
 // The rule of this place, if there is one.
-pub(crate) fn rule_at(
-    alloc: Global,
-    call: &[&'static str],
-    i: usize,
-) -> Result<Option<Rule>, AllocError> {
+pub(crate) fn rule_at(alloc: Global, call: &[&str], i: usize) -> Result<Option<Rule>, AllocError> {
     match at(call, i) {
         "" => Ok(None),
         bound => Ok(Some(at_least(alloc, bound)?)),
     }
 }
 
-// The action whose function is in this place, and its argument in the next.
-pub(crate) fn action_at(
-    alloc: Global,
-    call: &[&'static str],
-    i: usize,
-) -> Result<Action, AllocError> {
-    action(alloc, code_at(call, i), at(call, i.saturating_add(1)))
-}
-
-// The same, which carries `+ 1` for an agent.
-pub(crate) fn carrying_at(
-    alloc: Global,
-    call: &[&'static str],
-    i: usize,
-    g: u32,
-) -> Result<Action, AllocError> {
-    let (code, args) = (PLUS, one_arg(alloc, "1")?);
-    let mut action = action_at(alloc, call, i)?;
-    action.carries = Carries::of(alloc, vec![in alloc; Carry { g, code, args }]?)?;
+// The action of a call to an agent. What is carried is `+ 1` for the next agent.
+pub(crate) fn action_of(alloc: Global, call: &[&str]) -> Result<Action, AllocError> {
+    let mut action = action(alloc, code_at(call, 2), at(call, 3))?;
+    if at(call, 0) == "carry" {
+        let g = index_at(call, 1).saturating_add(1);
+        let (code, args) = (PLUS, one_arg(alloc, "1")?);
+        action.carries = Carries::of(alloc, vec![in alloc; Carry { g, code, args }]?)?;
+    }
     Ok(action)
 }
 
@@ -127,11 +106,6 @@ pub(crate) fn carrying_at(
 
 pub(crate) fn text(alloc: Global, words: &str) -> Said {
     String::from_str(alloc, words)
-}
-
-// What is said of a row that means no call.
-pub(crate) fn no_call(alloc: Global) -> Said {
-    text(alloc, "no such call")
 }
 
 pub(crate) fn said<T: Display + Drop, E: Display + Drop>(
@@ -144,22 +118,20 @@ pub(crate) fn said<T: Display + Drop, E: Display + Drop>(
     }
 }
 
+// `ok`, or the fault.
 pub(crate) fn fault<E: Display + Drop>(alloc: Global, answer: Result<(), E>) -> Said {
     said(alloc, answer.map(|()| "ok"))
+}
+
+// `ok` where it did so and `no` where it didn't, or the fault.
+pub(crate) fn truth<E: Display + Drop>(alloc: Global, answer: Result<bool, E>) -> Said {
+    said(alloc, answer.map(|done| if done { "ok" } else { "no" }))
 }
 
 pub(crate) fn number(alloc: Global, n: Option<i64>) -> Said {
     match n {
         Some(n) => format!(in alloc; "{n}"),
         None => text(alloc, "none"),
-    }
-}
-
-pub(crate) fn name(alloc: Global, who: Who) -> Said {
-    match who {
-        Who::Ref(n) => format!(in alloc; "r{n}"),
-        Who::Atom(n) => format!(in alloc; "a{n}"),
-        Who::Agent(n) => format!(in alloc; "g{n}"),
     }
 }
 
@@ -171,27 +143,22 @@ pub(crate) fn add_item(list: &mut String, item: &str) -> Result<(), AllocError> 
     list.push_str(item)
 }
 
-// Two texts, with a comma between them if neither is empty.
-pub(crate) fn both(first: String, second: &str) -> Said {
-    let mut list = first;
-    add_item(&mut list, second)?;
-    Ok(list)
-}
-
 // As `r0 :k 1 -> 2`.
 fn notice_text(alloc: Global, notice: &Notice) -> Said {
     let (who, is_k, before, after) = told_of(notice);
-    let (who, before, after) = (
-        name(alloc, who)?,
-        number(alloc, before)?,
-        number(alloc, after)?,
-    );
+    let (kind, n) = match who {
+        Who::Ref(n) => ("r", n),
+        Who::Atom(n) => ("a", n),
+        Who::Agent(n) => ("g", n),
+    };
+    let (before, after) = (number(alloc, before)?, number(alloc, after)?);
     let key = if is_k { ":k" } else { "another" };
-    format!(in alloc; "{who} {key} {before} -> {after}")
+    format!(in alloc; "{kind}{n} {key} {before} -> {after}")
 }
 
-pub(crate) fn notices_text(alloc: Global, notices: &[Notice]) -> Said {
-    let mut list = text(alloc, "")?;
+// A text, and the notices behind it.
+pub(crate) fn with_notices(first: Said, alloc: Global, notices: &[Notice]) -> Said {
+    let mut list = first?;
     for notice in notices {
         add_item(&mut list, &notice_text(alloc, notice)?)?;
     }
@@ -207,8 +174,6 @@ fn end_text(alloc: Global, g: u32, finished: &Finished) -> Said {
     }
 }
 
-// ---- What a sink hears
-
 // A sink that stores what it hears as text, up to where there is no memory.
 #[derive(Drop)]
 pub(crate) struct Ear {
@@ -216,29 +181,30 @@ pub(crate) struct Ear {
     pub(crate) heard: String,
 }
 
-impl Ear {
-    fn hear(&mut self, item: Said) {
-        if let Ok(item) = item {
+impl WatchSink for Ear {
+    ghost ends = { λ _ _ _ _. Unit {0} };
+
+    fn told(&mut self, notice: &Notice) {
+        if let Ok(item) = notice_text(self.alloc, notice) {
+            let _ = add_item(&mut self.heard, &item);
+        }
+    }
+
+    fn ended(&mut self, agent: u32, finished: &Finished) {
+        if let Ok(item) = end_text(self.alloc, agent, finished) {
             let _ = add_item(&mut self.heard, &item);
         }
     }
 }
 
-impl WatchSink for Ear {
-    ghost ends = { λ _ _ _ _. Unit {0} };
-
-    fn told(&mut self, notice: &Notice) {
-        self.hear(notice_text(self.alloc, notice));
-    }
-
-    fn ended(&mut self, agent: u32, finished: &Finished) {
-        self.hear(end_text(self.alloc, agent, finished));
-    }
+// What is said first, and what a sink heard.
+pub(crate) fn with_heard(first: Said, ear: &Ear) -> Said {
+    let mut list = first?;
+    add_item(&mut list, &ear.heard)?;
+    Ok(list)
 }
 
 pub(crate) fn new_ear(alloc: Global) -> Result<Ear, AllocError> {
-    Ok(Ear {
-        alloc,
-        heard: text(alloc, "")?,
-    })
+    let heard = text(alloc, "")?;
+    Ok(Ear { alloc, heard })
 }
