@@ -2,18 +2,16 @@
 use crate::rows::check;
 use std::test::Fail;
 
-const GONE: &str = "
+const AWAITS: &str = "
 // Where nothing waits, nobody is waited for.
 == two agents
 await; await g0; await g1 g0 g1
 send g0 + 1; await; await g1
 work; await g0 → g0, g0 changed; ok
-
 // g0 is failed, and nothing waits behind the failure.
 == two agents
 send g0 + :k; work → g0, g0 failed: refused: wrong kind of value
 await g0; await g1 g0
-
 // What a restart drops is not waited for, and what it leaves is.
 == two agents
 send g0 + :k; send g0 + 1; work → g0, g0 failed: refused: wrong kind of value
@@ -24,21 +22,12 @@ restart g0 0; close; await g0 → closed before all was done
 == two agents
 send g0 + :k; send g0 + 1; work → g0, g0 failed: refused: wrong kind of value
 restart g0 0; work; await g0 → g0, g0 changed; ok
-";
-
-#[test]
-fn where_nothing_waits_nobody_is_waited_for(rt: HostRuntime) -> Result<(), Fail> {
-    check(&rt, GONE)
-}
-
-const NAMED: &str = "
 // An agent that isn't there is named, the first of them.
 == two agents
 await g2 → there is no agent 2
 send g0 + 1; await g0 g7 g8 → there is no agent 7
 == two agents
 close; await g9 g1 → there is no agent 9
-
 // An agent that is failed with a queue is named.
 == two agents
 send g0 + :k; send g0 + 1; work → g0, g0 failed: refused: wrong kind of value
@@ -48,21 +37,12 @@ await g0 g1 → agent 0 is failed
 await g1 g0 → agent 0 is failed
 send g1 + 1; await g0 g1 → agent 0 is failed
 await g1 g0 → agent 0 is failed
-
 // Both are failed with a queue: the first of them is named.
 == two agents
 send g0 + :k; send g0 + 1; work → g0, g0 failed: refused: wrong kind of value
 send g1 + :k; send g1 + 1; work → g1, g1 failed: refused: wrong kind of value
 await g0 g1 → agent 0 is failed
 await g1 g0 → agent 1 is failed
-";
-
-#[test]
-fn an_agent_that_is_not_there_or_failed_is_named(rt: HostRuntime) -> Result<(), Fail> {
-    check(&rt, NAMED)
-}
-
-const CLOSED: &str = "
 // In a closed world what is left is not waited for.
 == two agents
 close; await g0 g1
@@ -72,12 +52,10 @@ await g0 g1 → closed before all was done
 await g1 g0 → closed before all was done
 await g1
 work; await g0 → g0, g0 changed; ok
-
 // A fold drops nothing that waits.
 == two agents
 send g0 + 1; work → g0, g0 changed
 send g0 + 1; fold g0; close; await g0 → closed before all was done
-
 // A failure is named all the same.
 == two agents
 send g0 + :k; send g0 + 1; work → g0, g0 failed: refused: wrong kind of value
@@ -85,6 +63,6 @@ close; await g0 → agent 0 is failed
 ";
 
 #[test]
-fn in_a_closed_world_what_is_left_is_not_waited_for(rt: HostRuntime) -> Result<(), Fail> {
-    check(&rt, CLOSED)
+fn who_waits_for_agents_learns_what_is_known(rt: HostRuntime) -> Result<(), Fail> {
+    check(&rt, AWAITS)
 }

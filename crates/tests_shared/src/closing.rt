@@ -1,6 +1,6 @@
 //! What is said of the world that comes out of a shared one, and of an end that is refused.
 use crate::numbers::int_of;
-use crate::rows::{Wrong, is_of_end, parts};
+use crate::rows::{Wrong, parts};
 use crate::scenarios::Inspection;
 use crate::texts::{NO_CALL, Said, add_item, at, index_at, number, text, words};
 use crate::worlds::Stop;
@@ -47,12 +47,6 @@ fn account_text(alloc: Global, account: &Account, word: &str) -> Said {
     }
 }
 
-fn base_text<C: Ledger, A: Ledger, K: Ledger>(alloc: Global, world: &World<Core, C, A, K>) -> Said {
-    let base = world.base();
-    let first = number(alloc, base.refs.get(0).and_then(int_of))?;
-    format!(in alloc; "{} {first}", base.point)
-}
-
 fn of_world<C: Ledger, A: Ledger, K: Ledger>(
     alloc: Global,
     world: &World<Core, C, A, K>,
@@ -66,7 +60,11 @@ fn of_world<C: Ledger, A: Ledger, K: Ledger>(
         "count" => format!(in alloc; "{}", totals.commits),
         "totals" => format!(in alloc; "{} {} {}", totals.commits, totals.added, totals.taken),
         "books" => format!(in alloc; "{} {} {}", world.commits(), world.added(), world.taken()),
-        "base" => base_text(alloc, world),
+        "base" => {
+            let base = world.base();
+            let first = number(alloc, base.refs.get(0).and_then(int_of))?;
+            format!(in alloc; "{} {first}", base.point)
+        }
         word => match world.account(index_at(call, 2)) {
             Some(account) => account_text(alloc, account, word),
             None => text(alloc, NO_CALL),
@@ -89,7 +87,7 @@ impl<'t> Inspection for Ends<'t> {
     ) -> Result<Wrong<'t>, Stop> {
         for row in self.0 {
             let (call, reply) = parts(row);
-            if is_of_end(row) {
+            if row.starts_with("end ") {
                 let answer = of_world(alloc, world, totals, &words(alloc, call)?)?;
                 if answer.as_str() != reply {
                     return Ok(Some((row, answer)));
@@ -113,7 +111,7 @@ impl<'t> Inspection for Ends<'t> {
             "{fault}: whole {whole}, receipts {receipts}, commits {commits}"
         )?;
         for row in self.0 {
-            if is_of_end(row) && parts(row) == ("end refused", answer.as_str()) {
+            if parts(row) == ("end refused", answer.as_str()) {
                 return Ok(None);
             }
         }

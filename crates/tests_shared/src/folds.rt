@@ -11,7 +11,6 @@ use ref_fun::{Core, CoreFunctions};
 use ref_shared::{Gate, Quiet, Shared, Spot, Worked};
 use ref_world::Share;
 use std::alloc::Global;
-use std::process::Abort;
 use std::sync::Wait;
 use std::sync::ledger::Ledger;
 use std::test::Fail;
@@ -30,13 +29,11 @@ end count → 2
 transact 1: set r0 1; transact 1: set r0 2 → 1; 2
 checkpoint 2; forget → 2; 0
 end count → 2
-
 // Nor are they if the share says how far.
 == 0
 transact 1: set r0 1; transact 1: set r0 2 → 1; 2
 checkpoint 2; forget 2 → 2; 0
 end count → 2
-
 // Those past the base are.
 == 0
 transact 1: set r0 1; transact 1: set r0 2 → 1; 2
@@ -121,17 +118,7 @@ transact 1: set r0 5; transact 1: set r0 5; transact 1: set r0 5 → 5; 5; 5
 transact 1: alter r0 + 1; transact 1: alter r0 + 1 → 6; 7
 transact 1: alter r0 + 1; transact 1: alter r0 + 1 → 8; 9";
 
-// The rows of a table, in which TEN and BITE stand for these commits and a number.
-fn check_bites(
-    rt: &(impl Abort + AllocGlobal + Wait),
-    table: &str,
-    bite: &str,
-) -> Result<(), Fail> {
-    let alloc = rt.alloc();
-    let table = table.replace(alloc, "TEN", TEN)?;
-    check(rt, &table.replace(alloc, "BITE", bite)?)
-}
-
+// TEN and BITE stand for these commits and a number.
 const ANY_SIZE: &str = "
 == 0
 TEN
@@ -150,14 +137,6 @@ end base → 0 0
 end entries → 10
 ";
 
-#[test]
-fn all_up_to_a_point_is_folded_in_bites_of_any_size(rt: HostRuntime) -> Result<(), Fail> {
-    for bite in ["1", "3", "5", "9", "10", "11", "4294967295"] {
-        check_bites(&rt, ANY_SIZE, bite)?;
-    }
-    Ok(())
-}
-
 const REFUSED: &str = "
 // A point past the present is refused, and nothing is folded.
 == 0
@@ -167,7 +146,6 @@ bites 11 3 → there is no such point in the log
 value r0 → 9
 end base → 0 0
 end entries → 10
-
 // Bites before a refused one stay folded.
 == 0
 TEN
@@ -187,6 +165,11 @@ end entries → 10
 ";
 
 #[test]
-fn bites_before_a_refused_one_stay_folded(rt: HostRuntime) -> Result<(), Fail> {
-    check_bites(&rt, REFUSED, "")
+fn a_log_is_folded_in_bites_of_any_size(rt: HostRuntime) -> Result<(), Fail> {
+    let alloc = rt.alloc();
+    let table = ANY_SIZE.replace(alloc, "TEN", TEN)?;
+    for bite in ["1", "3", "5", "9", "10", "11", "4294967295"] {
+        check(&rt, &table.replace(alloc, "BITE", bite)?)?;
+    }
+    check(&rt, &REFUSED.replace(alloc, "TEN", TEN)?)
 }

@@ -2,13 +2,12 @@
 use crate::jobs::two_agents;
 use crate::same::same;
 use crate::scenarios::{Inspection, Scenario, run_to_end};
-use crate::worlds::{STAMP, Stop, action, done, one_arg, value};
+use crate::worlds::{STAMP, Stop, action, done, value};
 use ref_agents::{AgentError, ErrorMode, Finished, Job};
 use ref_fun::codes::PLUS;
-use ref_fun::{Action, Cause, Core, CoreFunctions};
+use ref_fun::{Cause, Core, CoreFunctions};
 use ref_log::Who;
 use ref_shared::Shared;
-use ref_tx::Tx;
 use ref_world::{Share, Totals, World};
 use std::alloc::{AllocError, Global};
 use std::sync::ledger::Ledger;
@@ -65,23 +64,6 @@ fn continued<C: Ledger, A: Ledger, K: Ledger>(
     }
 }
 
-// Adds a watch to the ref, and sends h, which goes on after an error, an action that its function refuses.
-fn watch_and_send<C: Ledger, A: Ledger, K: Ledger>(
-    alloc: Global,
-    world: &mut World<Core, C, A, K>,
-) -> Result<(), Stop> {
-    let key = value(alloc, ":w")?;
-    done(world.add_watch(Who::Ref(0), key))?;
-    done(world.set_error_mode(1, ErrorMode::Continue))?;
-    let action = action(alloc, PLUS, ":k")?;
-    done(world.send(1, action))
-}
-
-fn send_one(alloc: Global, tx: &mut Tx<Core>) -> Result<(), Stop> {
-    let one = one_arg(alloc, "1")?;
-    done(tx.send(alloc, &CoreFunctions, 0, Action::new(PLUS, one)))
-}
-
 // Commits `send g + 1`, which is held, at point 1.
 fn commit_send<C: Ledger, A: Ledger, K: Ledger>(
     alloc: Global,
@@ -89,18 +71,8 @@ fn commit_send<C: Ledger, A: Ledger, K: Ledger>(
     share: &mut Share<C, A, K>,
 ) -> Result<(), Stop> {
     let mut tx = world.begin(alloc)?;
-    send_one(alloc, &mut tx)?;
+    done(tx.send(alloc, &CoreFunctions, 0, action(alloc, PLUS, "1")?))?;
     done(world.commit_with(alloc, &CoreFunctions, share, STAMP, tx)).map(drop)
-}
-
-// Whose jobs are taken before and after the release of what a commit sent, and whether that was held.
-fn taken_around_release<C: Ledger, A: Ledger, K: Ledger>(
-    world: &mut World<Core, C, A, K>,
-) -> Result<([Option<u32>; 2], bool), AllocError> {
-    let before = taken(world)?;
-    let was_held = world.release(1);
-    let after = taken(world)?;
-    Ok(([before, after], was_held))
 }
 
 // What the world has: the error with which h goes on, whose jobs are taken before and after the release, whether it had sends, and
@@ -127,7 +99,10 @@ impl<R> Scenario<R> for Keeping {
         world: &mut World<Core, C, A, K>,
         share: &mut Share<C, A, K>,
     ) -> Result<(), Stop> {
-        watch_and_send(alloc, world)?;
+        let (key, action) = (value(alloc, ":w")?, action(alloc, PLUS, ":k")?);
+        done(world.add_watch(Who::Ref(0), key))?;
+        done(world.set_error_mode(1, ErrorMode::Continue))?;
+        done(world.send(1, action))?;
         commit_send(alloc, world, share)
     }
 
@@ -153,10 +128,11 @@ impl Inspection for Keeping {
     ) -> Result<Kept, Stop> {
         let key = value(alloc, ":w")?;
         let first = continued(alloc, world)?;
-        let (others, was_held) = taken_around_release(world)?;
+        let before = taken(world)?;
+        let was_held = world.release(1);
         Ok(Kept {
             first,
-            others,
+            others: [before, taken(world)?],
             was_held,
             was_watched: world.remove_watch(Who::Ref(0), &key),
         })

@@ -44,11 +44,11 @@ use crate::same::same;
 use crate::scenarios::{Scenario, run_to_end};
 use crate::texts::{Said, at, text, words};
 use crate::transacting::Acts;
-use crate::worlds::{Stop, agent, plain_start, value};
+use crate::worlds::{Stop, agent, plain_start};
 use ref_edn::read_all;
 use ref_fun::Core;
 use ref_shared::Shared;
-use ref_world::{RefStart, Share, Start};
+use ref_world::{Share, Start};
 use std::alloc::{AllocError, Global};
 use std::process::Abort;
 use std::sync::Wait;
@@ -63,10 +63,6 @@ pub(crate) fn parts(row: &str) -> (&str, &str) {
     row.split_once(" → ").unwrap_or((row, "ok"))
 }
 
-pub(crate) fn is_of_end(row: &str) -> bool {
-    row.starts_with("end ")
-}
-
 // The rows of a text.
 pub(crate) fn rows_of<'t>(alloc: Global, text: &'t str) -> Result<Vec<&'t str>, AllocError> {
     let mut rows = Vec::new(alloc);
@@ -79,49 +75,27 @@ pub(crate) fn rows_of<'t>(alloc: Global, text: &'t str) -> Result<Vec<&'t str>, 
     Ok(rows)
 }
 
-// ---- The start
-
-fn tally_start(alloc: Global) -> Result<Start, AllocError> {
-    let mut start = plain_start(alloc, "", "")?;
-    let value = value(alloc, "0")?;
-    start.refs.push(RefStart {
-        value,
-        rule: None,
-        tally: true,
-    })?;
-    Ok(start)
-}
-
-fn plain_world(alloc: Global, text: &str) -> Result<Start, AllocError> {
+fn start(alloc: Global, text: &str) -> Result<Start, AllocError> {
+    if text == "two agents" {
+        return two_agents(alloc);
+    }
+    let is_tally = text == "a tally";
+    let text = if is_tally { "0" } else { text };
     let (refs, others) = text.split_once("|").unwrap_or((text, ""));
     let (atoms, agents) = others.split_once("|").unwrap_or((others, ""));
     let mut start = plain_start(alloc, refs, atoms)?;
+    if let Some(first) = start.refs.get_mut(0) {
+        first.tally = is_tally;
+    }
     for value in read_all(alloc, agents.as_bytes()).map_err(|_| AllocError)? {
         start.agents.push(agent(value, None))?;
     }
     Ok(start)
 }
 
-fn start(alloc: Global, text: &str) -> Result<Start, AllocError> {
-    match text {
-        "two agents" => two_agents(alloc),
-        "a tally" => tally_start(alloc),
-        _ => plain_world(alloc, text),
-    }
-}
-
 // ---- The calls
 
 impl<'a, 'b, R: Wait, C: Ledger, A: Ledger, K: Ledger> On<'a, 'b, R, C, A, K> {
-    fn of_agents(&self, call: &[&str]) -> Said {
-        match at(call, 0) {
-            "await" => self.await_all(call),
-            "work" => self.work(call),
-            "fold" | "release" | "checkpoint" | "bites" | "close" => self.end(call),
-            _ => self.agent(call),
-        }
-    }
-
     // Makes a call. Behind ": " are the operations of a transaction.
     fn make_call(&self, share: &mut Share<C, A, K>, acts: &mut Acts, call: &str) -> Said {
         let (head, body) = call.split_once(": ").unwrap_or((call, ""));
@@ -136,7 +110,10 @@ impl<'a, 'b, R: Wait, C: Ledger, A: Ledger, K: Ledger> On<'a, 'b, R, C, A, K> {
             "stranger" | "leave" => self.foreign(share, acts, call),
             "last" => format!(in self.alloc; "{} {} {}", acts.begun, acts.called, acts.receipts),
             "receipts" | "forget" => self.receipts(share, call),
-            _ => self.of_agents(call),
+            "fold" | "release" | "checkpoint" | "bites" | "close" => self.end(call),
+            "await" => self.await_all(call),
+            "work" => self.work(call),
+            _ => self.agent(call),
         }
     }
 
@@ -179,7 +156,7 @@ impl<'t, R: Wait> Scenario<R> for Rows<'t> {
         };
         for row in self.0 {
             let (calls, reply) = parts(row);
-            if !is_of_end(row) {
+            if !row.starts_with("end ") {
                 let answer = on.answer(share, &mut acts, calls)?;
                 if answer.as_str() != reply {
                     return Ok(Some((row, answer)));

@@ -145,20 +145,17 @@ fn run_to_end_in<C: Ledger, A: Ledger, K: Ledger, R: Wait, S: Scenario<R>, I: In
     requires added { IsBlank added A.name A.parts }
     requires taken { IsBlank taken K.name K.parts }
 {
-    match World::<Core, C, A, K>::new(alloc, &CoreFunctions, &start, commits, added, taken) {
-        Ok((world, share)) => run_world(rt, alloc, world, share, scenario, inspection),
-        Err(_) => Err(Stop::Refused),
-    }
-}
-
-fn run_world<C: Ledger, A: Ledger, K: Ledger, R: Wait, S: Scenario<R>, I: Inspection>(
-    rt: &R,
-    alloc: Global,
-    mut world: World<Core, C, A, K>,
-    mut share: Share<C, A, K>,
-    scenario: &S,
-    inspection: &I,
-) -> Result<(S::Outcome, I::Seen), Stop> {
+    let (mut world, mut share) = match World::<Core, C, A, K>::new(
+        alloc,
+        &CoreFunctions,
+        &start,
+        commits,
+        added,
+        taken,
+    ) {
+        Ok(made) => made,
+        Err(_) => return Err(Stop::Refused),
+    };
     if let Err(stop) = scenario.prepare(alloc, &mut world, &mut share) {
         return Err(stop);
     }

@@ -41,12 +41,6 @@ impl<R: Wait> Scenario<R> for Begun {
     }
 }
 
-// What a body returns that may be called once.
-fn replace(tx: &mut Tx<Core>, stranger: &mut Option<Tx<Core>>) -> Result<(), TxFault> {
-    *tx = stranger.take().ok_or(TxFault::NotMet)?;
-    Ok(())
-}
-
 impl<'a, 'b, R: Wait, C: Ledger, A: Ledger, K: Ledger> On<'a, 'b, R, C, A, K> {
     // What comes of a `transact` whose body leaves a transaction in the place of its own.
     fn leave(&self, share: &mut Share<C, A, K>, stranger: Option<Tx<Core>>) -> Said {
@@ -60,7 +54,10 @@ impl<'a, 'b, R: Wait, C: Ledger, A: Ledger, K: Ledger> On<'a, 'b, R, C, A, K> {
             3,
             &mut Open,
             &mut Quiet,
-            |tx: &mut Tx<Core>| replace(tx, &mut stranger),
+            |tx: &mut Tx<Core>| {
+                *tx = stranger.take().ok_or(TxFault::NotMet)?;
+                Ok(())
+            },
         );
         match committed {
             Ok(_) => text(alloc, "committed"),
@@ -91,19 +88,16 @@ stranger 0; commit t → a transaction of another store: there is no ref 0 here
 commit t → a transaction of another store: there is no ref 0 here
 leave t → the commit was refused: a transaction of another store: there is no ref 0 here
 receipts; value r0 → 0; none
-
 == 5
 stranger 0; commit t → a transaction of another store: ref 0 had another value here
 commit t → a transaction of another store: ref 0 had another value here
 leave t → the commit was refused: a transaction of another store: ref 0 had another value here
 receipts; value r0 → 0; 5
-
 == 0
 stranger 1; commit t → a transaction of another store: point 1 is still to come
 commit t → a transaction of another store: point 1 is still to come
 leave t → the commit was refused: a transaction of another store: point 1 is still to come
 receipts; value r0 → 0; 0
-
 == a tally
 stranger 0; commit t → a transaction of another store: the tally here can only be added to and taken from
 commit t → a transaction of another store: the tally here can only be added to and taken from

@@ -165,16 +165,7 @@ pub(crate) fn with_notices(first: Said, alloc: Global, notices: &[Notice]) -> Sa
     Ok(list)
 }
 
-// As `g0 changed`, or `g0 failed` and `g0 went on` with the error.
-fn end_text(alloc: Global, g: u32, finished: &Finished) -> Said {
-    match finished {
-        Finished::Changed(_) => format!(in alloc; "g{g} changed"),
-        Finished::Failed(error) => format!(in alloc; "g{g} failed: {error}"),
-        Finished::Continued(error) => format!(in alloc; "g{g} went on: {error}"),
-    }
-}
-
-// A sink that stores what it hears as text, up to where there is no memory.
+// A sink that stores what it hears as text, up to where there is no memory: notices, and ends as `g0 changed`.
 #[derive(Drop)]
 pub(crate) struct Ear {
     pub(crate) alloc: Global,
@@ -191,7 +182,12 @@ impl WatchSink for Ear {
     }
 
     fn ended(&mut self, agent: u32, finished: &Finished) {
-        if let Ok(item) = end_text(self.alloc, agent, finished) {
+        let end = match finished {
+            Finished::Changed(_) => format!(in self.alloc; "g{agent} changed"),
+            Finished::Failed(error) => format!(in self.alloc; "g{agent} failed: {error}"),
+            Finished::Continued(error) => format!(in self.alloc; "g{agent} went on: {error}"),
+        };
+        if let Ok(item) = end {
             let _ = add_item(&mut self.heard, &item);
         }
     }

@@ -177,15 +177,17 @@ impl<'a, 'b, R: Wait, C: Ledger, A: Ledger, K: Ledger> On<'a, 'b, R, C, A, K> {
         }
     }
 
-    // Makes one of these two next to a gate, which has this share and gives it back.
-    fn beside(
+    // Makes one of these two next to a gate, which has a part of the share, and gives it back.
+    pub(crate) fn transacted(
         &self,
         share: &mut Share<C, A, K>,
         acts: &mut Acts,
         call: &[&str],
         body: &str,
-        other: Share<C, A, K>,
-    ) -> (Said, Share<C, A, K>) {
+    ) -> Said {
+        let Some(other) = share.split(1) else {
+            return text(self.alloc, "no share");
+        };
         let mut gate = Between {
             rt: self.rt,
             alloc: self.alloc,
@@ -210,21 +212,6 @@ impl<'a, 'b, R: Wait, C: Ledger, A: Ledger, K: Ledger> On<'a, 'b, R, C, A, K> {
         } = gate;
         acts.begun = bodies;
         acts.step = acts.step.saturating_add(1);
-        (said, other)
-    }
-
-    // The same, where the gate has a part of the share, which is joined again.
-    pub(crate) fn transacted(
-        &self,
-        share: &mut Share<C, A, K>,
-        acts: &mut Acts,
-        call: &[&str],
-        body: &str,
-    ) -> Said {
-        let Some(other) = share.split(1) else {
-            return text(self.alloc, "no share");
-        };
-        let (said, other) = self.beside(share, acts, call, body, other);
         acts.receipts = share.receipts().len();
         match share.join(other) {
             Ok(()) => said,

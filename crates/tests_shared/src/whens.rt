@@ -3,14 +3,13 @@
 use crate::rows::check;
 use std::test::Fail;
 
-const COMMITTED: &str = "
+const WHENS: &str = "
 // A body that is ready is committed.
 == two agents
 rule r0 0; watch r0 :k; close; when 1 0 ready: send g1 + 4, alter r0 + 1 → 1, r0 :k 0 -> 1
 last; value r0; work → 1 1 1; 1; g1, g1 changed
 end commits → 0/0 at 0
 end count → 1
-
 // After an entry the body is called again.
 == two agents
 rule r0 0; watch r0 :k; close; when 1 1 wait ready: send g1 + 4, alter r0 + 1 → 11, r0 :k 10 -> 11
@@ -22,21 +21,12 @@ rule r0 0; watch r0 :k; close; when 1 3 wait wait wait ready: send g1 + 4, alter
 last; value r0; work → 4 4 1; 11; g1, g1 changed
 end commits → 1/0 at 0, 1/1 at 1, 1/2 at 2, 0/0 at 3
 end count → 4
-
 // After a conflict the body may wait too.
 == two agents
 rule r0 0; watch r0 :k; close; when 2 2 ready wait ready: send g1 + 4, alter r0 + 1 → 11, r0 :k 10 -> 11
 last; value r0; work → 3 3 1; 11; g1, g1 changed
 end commits → 1/0 at 0, 1/1 at 1, 0/0 at 2
 end count → 3
-";
-
-#[test]
-fn a_body_that_is_ready_is_committed(rt: HostRuntime) -> Result<(), Fail> {
-    check(&rt, COMMITTED)
-}
-
-const ENDED: &str = "
 // A closed world ends the waiting for an entry.
 == two agents
 rule r0 0; watch r0 :k; close; when 1 0: send g1 + 4, alter r0 + 1 → closed before it was ready
@@ -48,7 +38,6 @@ rule r0 0; watch r0 :k; close; when 1 2: send g1 + 4, alter r0 + 1 → closed be
 last; value r0; work → 3 3 0; 10; closed
 end commits → 1/0 at 0, 1/1 at 1
 end count → 2
-
 // A fault of the body ends the waiting.
 == two agents
 rule r0 0; watch r0 :k; close; when 3 0 refused: send g1 + 4, alter r0 + 1 → the body ended it: the requirement is not met
@@ -61,7 +50,6 @@ when 3 1 wait refused ready: send g1 + 4, alter r0 + 1 → the body ended it: th
 last; value r0; work → 2 2 0; 10; closed
 end commits → 1/0 at 0
 end count → 1
-
 // So does a refused commit.
 == two agents
 rule r0 0; watch r0 :k; close
@@ -69,14 +57,6 @@ when 3 0 ready ready: send g1 + 4, alter r0 - 1 → the commit was refused: the 
 last; value r0; work → 1 1 0; 0; closed
 end entries → 0
 end count → 0
-";
-
-#[test]
-fn a_closed_world_or_a_fault_ends_the_waiting(rt: HostRuntime) -> Result<(), Fail> {
-    check(&rt, ENDED)
-}
-
-const CONFLICTS: &str = "
 // Tries count conflicts alone. The conflict that is returned is the last one.
 == two agents
 rule r0 0; watch r0 :k; close; when 1 1 ready: send g1 + 4, alter r0 + 1 → gave up after 1: r0 read at 0, changed at 1
@@ -98,6 +78,6 @@ end count → 2
 ";
 
 #[test]
-fn tries_count_conflicts_alone(rt: HostRuntime) -> Result<(), Fail> {
-    check(&rt, CONFLICTS)
+fn who_waits_for_an_entry_is_committed_or_learns_why_not(rt: HostRuntime) -> Result<(), Fail> {
+    check(&rt, WHENS)
 }

@@ -161,14 +161,6 @@ pub fn told_of(notice: &Notice) -> Told {
     )
 }
 
-pub fn all_told(alloc: Global, notices: &[Notice]) -> Result<Vec<Told>, AllocError> {
-    let mut all = Vec::new(alloc);
-    for notice in notices {
-        all.push(told_of(notice))?;
-    }
-    Ok(all)
-}
-
 /// The stamp and the read point of each transaction of a log.
 pub fn all_commits(alloc: Global, log: &PVec<Entry>) -> Result<Vec<(Stamp, u64)>, AllocError> {
     let mut all = Vec::new(alloc);
