@@ -1,5 +1,5 @@
 //! Single steps on a shared world that are not to be refused.
-use crate::worlds::{Stop, action, add, done, value};
+use crate::worlds::{Stop, action, done, value};
 use ref_fun::{Core, CoreFunctions};
 use ref_log::{Stamp, Who};
 use ref_shared::Shared;
@@ -67,18 +67,4 @@ pub fn commit_set<C: Ledger, A: Ledger, K: Ledger, R: Wait>(
     let mut tx = shared.begin(rt, alloc)?;
     set(alloc, &mut tx, 0, text)?;
     commit(rt, alloc, shared, share, stamp, tx)
-}
-
-/// Commits `alter 0 + 1`.
-pub fn commit_add<C: Ledger, A: Ledger, K: Ledger, R: Wait>(
-    rt: &R,
-    alloc: Global,
-    shared: &Shared<Core, C, A, K>,
-    share: &mut Share<C, A, K>,
-    stamp: Stamp,
-) -> Result<(), Stop> {
-    let mut tx = shared.begin(rt, alloc)?;
-    add(alloc, &mut tx, 0, "1")?;
-    let _ = commit(rt, alloc, shared, share, stamp, tx)?;
-    Ok(())
 }

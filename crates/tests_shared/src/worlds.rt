@@ -10,7 +10,7 @@ use ref_fun::codes::{AT_LEAST, PLUS};
 use ref_fun::{Action, Args, Core, CoreFunctions, Rule};
 use ref_log::{Entry, Notice, Stamp, Who};
 use ref_pvec::PVec;
-use ref_shared::{Shared, WatchSink};
+use ref_shared::Shared;
 use ref_tx::Tx;
 use ref_world::{AgentStart, AtomStart, RefStart, Share, Start, Totals, World};
 use std::alloc::{AllocError, AllocFailed, Global};
@@ -72,14 +72,6 @@ pub fn at_least(alloc: Global, bound: &str) -> Result<Rule, AllocError> {
     })
 }
 
-pub fn plain_ref(value: Value) -> RefStart {
-    RefStart {
-        value,
-        rule: None,
-        tally: false,
-    }
-}
-
 /// The refs and the atoms of two texts, without rules, and no agent.
 pub fn plain_start(alloc: Global, refs: &str, atoms: &str) -> Result<Start, AllocError> {
     let mut start = Start {
@@ -88,7 +80,11 @@ pub fn plain_start(alloc: Global, refs: &str, atoms: &str) -> Result<Start, Allo
         agents: Vec::new(alloc),
     };
     for value in read_all(alloc, refs.as_bytes()).map_err(|_| AllocError)? {
-        start.refs.push(plain_ref(value))?;
+        start.refs.push(RefStart {
+            value,
+            rule: None,
+            tally: false,
+        })?;
     }
     for value in read_all(alloc, atoms.as_bytes()).map_err(|_| AllocError)? {
         start.atoms.push(AtomStart { value, rule: None })?;
@@ -163,26 +159,6 @@ pub fn told_of(notice: &Notice) -> Told {
         int_of(&notice.before),
         int_of(&notice.after),
     )
-}
-
-pub fn all_told(alloc: Global, notices: &[Notice]) -> Result<Vec<Told>, AllocError> {
-    let mut all = Vec::new(alloc);
-    for notice in notices {
-        all.push(told_of(notice))?;
-    }
-    Ok(all)
-}
-
-/// A sink that stores what it gets, up to where there is no memory.
-#[derive(Drop)]
-pub struct Listener {
-    pub told: Vec<Told>,
-}
-
-impl WatchSink for Listener {
-    fn told(&mut self, notice: &Notice) {
-        let _ = self.told.push(told_of(notice));
-    }
 }
 
 /// The stamp and the read point of each transaction of a log.
