@@ -6,7 +6,7 @@ ghost use Rattle.ref_forms.specs.Reading.{Reads};
 
 use crate::makings::{made_in, making_of};
 use crate::references::Numbered;
-use crate::words::{
+use ref_calls::{
     ActWord, AgentWord, AtomWord, JobWord, MakingWord, ReferenceWord, TxWord, WorldWord,
 };
 use ref_forms::carrying::carrying_on;
