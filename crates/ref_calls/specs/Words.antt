@@ -1,8 +1,8 @@
 -- The words that steps, operations and acts begin with, each a keyword. Those of marks stand in ref_forms and ref_plan.
 use Rattle.std.specs.Prelude.{ℕ, if◌then◌else◌, Bool, true, false, List, [], ◌∷◌, Option, None, Some, option_and_then, codes}
 use Rattle.ref_value.specs.Names.{bytes_eq}
-use Rattle.ref_calls.specs.declared.table.Stands.{Stands}
-use Rattle.ref_calls.specs.declared.table.Stands.TheVariants.{Step, Operation, Act, StepAndAct, OperationAndAct, Anywhere}
+use Rattle.ref_calls.specs.declared.rows.Stands.{Stands}
+use Rattle.ref_calls.specs.declared.rows.Stands.TheVariants.{Step, Operation, Act, StepAndAct, OperationAndAct, Anywhere}
 use Rattle.ref_calls.specs.declared.words.Version.{Version}
 use Rattle.ref_calls.specs.declared.words.Version.TheVariants.{One, Two}
 use Rattle.ref_calls.specs.declared.words.StepWord.{StepWord}

@@ -3,8 +3,8 @@ ghost use Rattle.std.specs.Option.{option_copied};
 ghost use Rattle.std.specs.Prelude.{◌≡◌, map, option_map};
 ghost use Rattle.ref_calls.specs.Words.{act_at, act_named, has_word, operation_at, operation_named, row_named, step_at, step_named, words};
 
-use crate::table::{Stands, WORDS, Word};
-use crate::words::{ActWord, OperationWord, StepWord, Version};
+use crate::rows::{Stands, Word};
+use crate::words::{ActWord, OperationWord, StepWord, Version, WORDS};
 use ref_forms::plain::is_same;
 
 fn row_named(rows: &'static [Word], name: &[u8]) -> Option<&'static Word>

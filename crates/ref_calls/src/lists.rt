@@ -1,8 +1,10 @@
-//! Words and forms as they are written.
+//! Words, forms and names as they are written.
 use crate::finding::word_named;
+use crate::rows::Word;
 use crate::slots::Slot;
-use crate::table::{WORDS, Word};
-use crate::words::{Sentence, Version};
+use crate::words::{Sentence, Version, WORDS};
+use ref_fun::codes::{AT_LEAST, DISJ, IS_SOME, PLUS};
+use ref_fun::name_of;
 use std::alloc::{AllocError, Global};
 
 impl Sentence {
@@ -99,4 +101,27 @@ impl Word {
         }
         Ok(text)
     }
+}
+
+fn names(alloc: Global, first: u32, last: u32) -> Result<String, AllocError> {
+    let mut text = String::new(alloc);
+    for code in first..=last {
+        if let Some(name) = name_of(code) {
+            if !text.is_empty() {
+                text.push_str(" ")?;
+            }
+            text.push_str(name)?;
+        }
+    }
+    Ok(text)
+}
+
+/// The names of the functions of Core, with a blank between two.
+pub fn functions(alloc: Global) -> Result<String, AllocError> {
+    names(alloc, PLUS, DISJ)
+}
+
+/// The names of the predicates of Core, with a blank between two.
+pub fn predicates(alloc: Global) -> Result<String, AllocError> {
+    names(alloc, AT_LEAST, IS_SOME)
 }
