@@ -14,7 +14,7 @@
 --   :release P, :checkpoint P                 at the point P
 --   :make-ref V, :make-atom V, :make-agent V  then RULE or nil, then, for a ref, :tally, or, for an agent, :fail or :continue
 --
--- RULE is `[P ARG ..]`. What a form doesn't say is None here.
+-- RULE is `[P ARG ..]`. ref_calls has the words. What a form doesn't say is None here.
 use Rattle.std.specs.Prelude.{ℕ, ◌+◌, Bool, true, false, if◌then◌else◌, nat_le, List, [], ◌∷◌, Option, None, Some, option_map, option_and_then}
 use Rattle.ref_value.specs.Edn.{Edn, symbol, vector, list_of, nesting, keyword_of}
 use Rattle.ref_value.specs.Names.{bytes_eq}
@@ -36,23 +36,24 @@ use Rattle.ref_plan.specs.Words.{tally_word}
 use Rattle.ref_play.specs.declared.events.Act.{Act}
 use Rattle.ref_play.specs.declared.events.Act.TheVariants as acts
 use Rattle.ref_play.specs.declared.events.Event.{Event}
-use Rattle.ref_events.specs.Words.{act_words, agent_word, atom_word, ref_word, word_named}
-use Rattle.ref_events.specs.declared.words.ActWord.{ActWord}
-use Rattle.ref_events.specs.declared.words.ActWord.TheVariants as words
-use Rattle.ref_events.specs.declared.words.AgentWord.{AgentWord}
-use Rattle.ref_events.specs.declared.words.AgentWord.TheVariants as agents
-use Rattle.ref_events.specs.declared.words.AtomWord.{AtomWord}
-use Rattle.ref_events.specs.declared.words.AtomWord.TheVariants as atoms
-use Rattle.ref_events.specs.declared.words.JobWord.{JobWord}
-use Rattle.ref_events.specs.declared.words.JobWord.TheVariants as jobs
-use Rattle.ref_events.specs.declared.words.MakingWord.{MakingWord}
-use Rattle.ref_events.specs.declared.words.MakingWord.TheVariants as makings
-use Rattle.ref_events.specs.declared.words.ReferenceWord.{ReferenceWord}
-use Rattle.ref_events.specs.declared.words.ReferenceWord.TheVariants as references
-use Rattle.ref_events.specs.declared.words.TxWord.{TxWord}
-use Rattle.ref_events.specs.declared.words.TxWord.TheVariants as txs
-use Rattle.ref_events.specs.declared.words.WorldWord.{WorldWord}
-use Rattle.ref_events.specs.declared.words.WorldWord.TheVariants as worlds
+use Rattle.ref_events.specs.Words.{agent_word, atom_word, ref_word}
+use Rattle.ref_calls.specs.Words.{act_named}
+use Rattle.ref_calls.specs.declared.words.ActWord.{ActWord}
+use Rattle.ref_calls.specs.declared.words.ActWord.TheVariants as words
+use Rattle.ref_calls.specs.declared.words.AgentWord.{AgentWord}
+use Rattle.ref_calls.specs.declared.words.AgentWord.TheVariants as agents
+use Rattle.ref_calls.specs.declared.words.AtomWord.{AtomWord}
+use Rattle.ref_calls.specs.declared.words.AtomWord.TheVariants as atoms
+use Rattle.ref_calls.specs.declared.words.JobWord.{JobWord}
+use Rattle.ref_calls.specs.declared.words.JobWord.TheVariants as jobs
+use Rattle.ref_calls.specs.declared.words.MakingWord.{MakingWord}
+use Rattle.ref_calls.specs.declared.words.MakingWord.TheVariants as makings
+use Rattle.ref_calls.specs.declared.words.ReferenceWord.{ReferenceWord}
+use Rattle.ref_calls.specs.declared.words.ReferenceWord.TheVariants as references
+use Rattle.ref_calls.specs.declared.words.TxWord.{TxWord}
+use Rattle.ref_calls.specs.declared.words.TxWord.TheVariants as txs
+use Rattle.ref_calls.specs.declared.words.WorldWord.{WorldWord}
+use Rattle.ref_calls.specs.declared.words.WorldWord.TheVariants as worlds
 use Rattle.ref_fun.specs.Limits.{most_nested_result}
 
 -- ---- references
@@ -198,7 +199,7 @@ abbrev pub most_nested_event : ℕ
 most_nested_event = most_nested_result + 1
 
 abbrev pub word_said : Edn → Option ActWord
-word_said x = option_and_then (word_named act_words) (keyword_of x)
+word_said x = option_and_then act_named (keyword_of x)
 
 -- The stamp of a commit is the number of its actor and that of the event.
 abbrev pub with_word : NamesSeen → ℕ → Option ℕ → Option ActWord → List Edn → Option Event

@@ -10,7 +10,7 @@ ghost use Rattle.ref_events.specs.Words.{events_word};
 
 use crate::events::events_in;
 use crate::faults::ScriptFault;
-use crate::references::Numbered;
+use crate::references::EventNames;
 use ref_agents::Start;
 use ref_forms::Names;
 use ref_forms::maps::{are_known, count, forms_of, map_in, vector_under};
@@ -180,7 +180,7 @@ pub fn script_of(alloc: Global, value: &Value) -> Result<Script, ScriptFault>
     let (declared, start) = declarations(alloc, refs, atoms, agents, false)?;
     let events = events_in(
         alloc,
-        &Numbered {
+        &EventNames {
             declared: &declared,
         },
         forms,

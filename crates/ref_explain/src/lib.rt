@@ -37,12 +37,11 @@ mod steps;
 mod surroundings;
 mod verdicts;
 pub mod warnings;
-mod words;
 mod writing;
 
 pub use explaining::{Mistake, explain, explain_start};
 pub use keys::FORMAT_VERSION;
-pub use refusals::{Reason, Refused, explain_refused};
+pub use refusals::{Refused, WrongCall, explain_refused};
 pub use remembering::Remembering;
 pub use reports::{RefusedSteps, Watching};
 pub use warnings::warnings_of;

@@ -12,8 +12,8 @@ use Rattle.ref_plan.specs.Plan.{PlanSeen}
 use Rattle.ref_plan.specs.Steps.{worker_of}
 use Rattle.ref_plan.specs.Words.{agents_word, atoms_word, refs_word, workers_word}
 use Rattle.ref_plan.specs.Workload.{HasParts, HasReferences, IsWorkload, version_form}
-use Rattle.ref_plan.specs.declared.versions.Version.{Version}
-use Rattle.ref_plan.specs.declared.versions.Version.TheVariants.{One, Two}
+use Rattle.ref_calls.specs.declared.words.Version.{Version}
+use Rattle.ref_calls.specs.declared.words.Version.TheVariants.{One, Two}
 
 one_version : (a b : Version) → version_form a ≡ version_form b → a ≡ b
 one_version One One e = refl
