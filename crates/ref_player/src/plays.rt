@@ -47,7 +47,10 @@ fn begin<F: Functions<Core>, C: Ledger, A: Ledger, K: Ledger>(
     ensures fault { IfErr result (λ e. e.1 ≢ makes.Memory → start_refusal (F.knows funs.now) start.now.refs.items
         start.now.atoms.items start.now.agents.items ≡ Some e) }
 {
-    Sim::new(alloc, funs, start, commits, added, taken)
+    match Sim::new(alloc, funs, start, commits, added, taken) {
+        Ok(sim) => Ok(sim),
+        Err(refused) => Err(refused),
+    }
 }
 
 // The line of a start that is refused, if it isn't for lack of memory.
