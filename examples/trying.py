@@ -72,11 +72,10 @@ def text_of(head):
         return dump_of(head[4:], VERSION_3)
     if not head.startswith("<<\\"):
         return head[3:].encode()
+    repeated = re.sub(r"\\\*(\d+)'([^']*)'", lambda it: it[2] * int(it[1]), head[4:])
     escapes = {"n": b"\n", "\\": b"\\"}
-    parts = re.findall(r"\\x(..)|\\\*(\d+)'([^']*)'|\\(.)|([^\\]+)", head[4:])
-    return b"".join(
-        bytes.fromhex(x) if x else part.encode() * int(n) if n else escapes[c] if c else plain.encode() for x, n, part, c, plain in parts
-    )
+    parts = re.findall(r"\\x(..)|\\(.)|([^\\]+)", repeated)
+    return b"".join(bytes.fromhex(x) if x else escapes[c] if c else plain.encode() for x, c, plain in parts)
 
 
 def short_rows(line):
