@@ -101,7 +101,6 @@ const CALLS: &[Call] = &[
     (3, "0", "[]", "None"),
 ];
 
-// A table has Core without these codes.
 fn check_table(
     rt: &(impl Abort + AllocGlobal),
     table: &FunTable,
