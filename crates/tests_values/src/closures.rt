@@ -68,7 +68,6 @@ fn core_without(alloc: Global, without: &[u32]) -> Result<Option<FunTable>, Allo
     Ok(Some(table))
 }
 
-// Codes, those of functions and of predicates among them.
 const CODES: &[u32] = &[0, 1, 2, 4, 7, 10, 11, 100, 101, 102, 109, 110, u32::MAX];
 
 fn check_codes(rt: &(impl Abort + AllocGlobal), table: &FunTable, without: &[u32]) {
@@ -101,7 +100,6 @@ const CALLS: &[Call] = &[
     (3, "0", "[]", "None"),
 ];
 
-// A table has Core without these codes.
 fn check_table(
     rt: &(impl Abort + AllocGlobal),
     table: &FunTable,

@@ -2,7 +2,6 @@
 use std::fmt::Debug;
 use std::process::Abort;
 
-/// Ends the test where these two differ.
 pub(crate) fn same<T: Debug + PartialEq + Drop>(
     rt: &(impl Abort + AllocGlobal),
     got: T,

@@ -38,7 +38,6 @@ fn draw(seed: &mut u64, below: usize) -> usize {
     if below == 0 { 0 } else { high % below }
 }
 
-/// The value of a lawful node.
 pub(crate) fn value_of(node: Node) -> Result<Value, Fail> {
     match Value::of(node) {
         Ok(value) => Ok(value),

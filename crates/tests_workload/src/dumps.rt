@@ -163,7 +163,6 @@ const DEEPEST: &[(&str, usize)] = &[
     ("carried in a transaction", 56),
 ];
 
-// A value stands at a place.
 fn acts_with(alloc: Global, place: &str, value: &str) -> Result<Vec<Event>, Fail> {
     let mut events = makings(alloc, if place == "ref" { value } else { "0" })?;
     let act = match place {

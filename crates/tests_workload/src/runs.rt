@@ -88,7 +88,6 @@ where
     }
 }
 
-// So many gates, with these roles.
 fn make_gates<'a, 'b, R: Clock>(
     rt: &'a R,
     alloc: Global,
