@@ -15,7 +15,7 @@
 //! | `make ref 5`, `make ref 5 0` with a rule; so `tally`, `atom`, `agent` and `patient`, which goes on where an action fails | its number |
 //! | `swap a0 + 1`, `reset a0 5` | the numbers before and after, and the notices |
 //! | `compare a0 4 5` | `ok` or `no`, and the notices |
-//! | `send g0 + 1`, `carry g0 + 1`, with which `+ 1` goes to the next agent | `ok` |
+//! | `send g0 + 1`, `carry g0 + 1`, with which `+ 1` goes to the next agent, or `carry g0 + 1 4` | `ok` |
 //! | `restart g0 5`, `restart g0 5 clear`, `continue g0` | `ok` |
 //! | `error g0`, `await g0 g1` | `ok`, or the error or fault |
 //! | `work`; `work no-memory` and `work no-predicates`, with a table that lacks these | the agent, or `closed`, and what the sink hears |

@@ -1,16 +1,16 @@
 //! Running a scenario on a new shared world. A shared world and its share are dropped in this module alone: a scenario is lent both.
-ghost use Rattle.std.specs.Prelude.{◌≡◌};
-ghost use Rattle.ref_world.specs.Shares.{IsBlank};
+ghost use Rattle.tests_shared.specs.Ledgers.{AreBlank};
 
-use crate::worlds::{Stop, all_commits};
-use ref_fun::{Core, CoreFunctions};
+use crate::blanks::Blanks;
+use crate::worlds::{Stop, all_commits, made};
+use ref_fun::Core;
 use ref_log::Stamp;
 use ref_shared::{GatherFault, Shared};
-use ref_world::{ALL_PARTS, Share, Start, Totals, World};
+use ref_world::{Share, Start, Totals, World};
 use std::alloc::Global;
 use std::marker::Brand;
 use std::sync::Wait;
-use std::sync::ledger::{Blank, Ledger};
+use std::sync::ledger::Ledger;
 
 /// What a test does with a shared world and its whole share.
 pub trait Scenario<R> {
@@ -121,14 +121,8 @@ pub fn run_to_end<R: Wait, S: Scenario<R>, I: Inspection>(
     scenario: &S,
     inspection: &I,
 ) -> Result<(S::Outcome, I::Seen), Stop> {
-    let (commits, added, taken) = (
-        Blank::new(ALL_PARTS),
-        Blank::new(ALL_PARTS),
-        Blank::new(ALL_PARTS),
-    );
-    run_to_end_in::<Brand, Brand, Brand, R, S, I>(
-        rt, alloc, start, scenario, inspection, commits, added, taken,
-    )
+    let blanks = Blanks::new();
+    run_to_end_in::<Brand, Brand, Brand, R, S, I>(rt, alloc, start, scenario, inspection, blanks)
 }
 
 fn run_to_end_in<C: Ledger, A: Ledger, K: Ledger, R: Wait, S: Scenario<R>, I: Inspection>(
@@ -137,25 +131,11 @@ fn run_to_end_in<C: Ledger, A: Ledger, K: Ledger, R: Wait, S: Scenario<R>, I: In
     start: Start,
     scenario: &S,
     inspection: &I,
-    commits: Blank,
-    added: Blank,
-    taken: Blank,
+    blanks: Blanks,
 ) -> Result<(S::Outcome, I::Seen), Stop>
-    requires commits { IsBlank commits C.name C.parts }
-    requires added { IsBlank added A.name A.parts }
-    requires taken { IsBlank taken K.name K.parts }
+    requires { AreBlank blanks C.name C.parts A.name A.parts K.name K.parts }
 {
-    let (mut world, mut share) = match World::<Core, C, A, K>::new(
-        alloc,
-        &CoreFunctions,
-        &start,
-        commits,
-        added,
-        taken,
-    ) {
-        Ok(made) => made,
-        Err(_) => return Err(Stop::Refused),
-    };
+    let (mut world, mut share) = made::<C, A, K>(alloc, start, blanks)?;
     if let Err(stop) = scenario.prepare(alloc, &mut world, &mut share) {
         return Err(stop);
     }

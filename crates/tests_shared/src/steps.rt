@@ -35,13 +35,6 @@ pub fn send<C: Ledger, A: Ledger, K: Ledger, R: Wait>(
     done(shared.send(rt, g, action))
 }
 
-/// `ref-set r text`.
-pub fn set(alloc: Global, tx: &mut Tx<Core>, r: u32, text: &str) -> Result<(), Stop> {
-    let new = value(alloc, text)?;
-    let _ = done(tx.ref_set(alloc, r, new))?;
-    Ok(())
-}
-
 /// Commits a transaction, and returns the point.
 pub fn commit<C: Ledger, A: Ledger, K: Ledger, R: Wait>(
     rt: &R,
@@ -65,6 +58,6 @@ pub fn commit_set<C: Ledger, A: Ledger, K: Ledger, R: Wait>(
     text: &str,
 ) -> Result<u64, Stop> {
     let mut tx = shared.begin(rt, alloc)?;
-    set(alloc, &mut tx, 0, text)?;
+    let _ = done(tx.ref_set(alloc, 0, value(alloc, text)?))?;
     commit(rt, alloc, shared, share, stamp, tx)
 }

@@ -2,10 +2,10 @@
 use crate::acting::On;
 use crate::rows::check;
 use crate::scenarios::{Scenario, run_shared};
-use crate::steps::{commit_set, set};
+use crate::steps::commit_set;
 use crate::texts::{Said, at, number_at, text};
 use crate::transacting::{Acts, fault_text};
-use crate::worlds::{STAMP, Stop, plain_start};
+use crate::worlds::{STAMP, Stop, done, plain_start, value};
 use ref_fun::{Core, CoreFunctions};
 use ref_log::Stamp;
 use ref_shared::{Open, Quiet, Shared};
@@ -36,7 +36,7 @@ impl<R: Wait> Scenario<R> for Begun {
             let _ = commit_set(rt, alloc, shared, share, Stamp { worker: 0, step }, "0")?;
         }
         let mut tx = shared.begin(rt, alloc)?;
-        set(alloc, &mut tx, 0, "7")?;
+        let _ = done(tx.ref_set(alloc, 0, value(alloc, "7")?))?;
         Ok(tx)
     }
 }

@@ -91,12 +91,13 @@ pub(crate) fn rule_at(alloc: Global, call: &[&str], i: usize) -> Result<Option<R
     }
 }
 
-// The action of a call to an agent. What is carried is `+ 1` for the next agent.
+// The action of a call to an agent. What is carried goes to the next agent: `+ 1`, or with another argument.
 pub(crate) fn action_of(alloc: Global, call: &[&str]) -> Result<Action, AllocError> {
     let mut action = action(alloc, code_at(call, 2), at(call, 3))?;
     if at(call, 0) == "carry" {
         let g = index_at(call, 1).saturating_add(1);
-        let (code, args) = (PLUS, one_arg(alloc, "1")?);
+        let argument = if call.len() > 4 { at(call, 4) } else { "1" };
+        let (code, args) = (PLUS, one_arg(alloc, argument)?);
         action.carries = Carries::of(alloc, vec![in alloc; Carry { g, code, args }]?)?;
     }
     Ok(action)

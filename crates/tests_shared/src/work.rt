@@ -57,6 +57,13 @@ begin t; t: send g1 + 4; commit t 0 0 → 0; 0; 1
 close; work → closed
 release 1; release 1 → no
 work; value g1 → g1, g1 changed; 4
+// What an action carried is released in the end, and nothing of one that fails.
+== two agents
+carry g0 + 1 4; send g0 + 2; close; work → g0, g0 changed
+release g0; work; work; value g0; value g1 → no; g1, g1 changed; g0, g0 changed; 3; 4
+== two agents
+carry g0 - 1 4; send g0 + 2; close; work → g0, g0 failed: the rule doesn't accept the value
+release g0; work; work; value g0; value g1 → no; closed; closed; 0; 0
 // A sink is told what an action changed, in the order of adding.
 == two agents
 watch g1 :k; watch g1 :j; send g1 + 4; work → g1, g1 :k 0 -> 4, g1 another 0 -> 4, g1 changed

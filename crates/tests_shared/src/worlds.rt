@@ -1,7 +1,7 @@
 //! Making shared worlds and values, and what is read of them.
-ghost use Rattle.std.specs.Prelude.{◌≡◌};
-ghost use Rattle.ref_world.specs.Shares.{IsBlank};
+ghost use Rattle.tests_shared.specs.Ledgers.{AreBlank};
 
+use crate::blanks::Blanks;
 use crate::numbers::int_of;
 use ref_agents::ErrorMode;
 use ref_edn::names::is_same;
@@ -15,7 +15,7 @@ use ref_tx::Tx;
 use ref_world::{AgentStart, AtomStart, RefStart, Share, Start, Totals, World};
 use std::alloc::{AllocError, AllocFailed, Global};
 use std::sync::Wait;
-use std::sync::ledger::{Blank, Ledger};
+use std::sync::ledger::Ledger;
 
 /// The stamp of a commit where nothing hangs on it.
 pub const STAMP: Stamp = Stamp { worker: 0, step: 0 };
@@ -101,27 +101,23 @@ pub fn agent(value: Value, rule: Option<Rule>) -> AgentStart {
     }
 }
 
-/// A shared world of these references, and its whole share.
-pub fn opened<C: Ledger, A: Ledger, K: Ledger>(
+/// A world of these references, and its whole share.
+pub fn made<C: Ledger, A: Ledger, K: Ledger>(
     alloc: Global,
     start: Start,
-    commits: Blank,
-    added: Blank,
-    taken: Blank,
-) -> Result<(Shared<Core, C, A, K>, Share<C, A, K>), Stop>
-    requires commits { IsBlank commits C.name C.parts }
-    requires added { IsBlank added A.name A.parts }
-    requires taken { IsBlank taken K.name K.parts }
+    blanks: Blanks,
+) -> Result<(World<Core, C, A, K>, Share<C, A, K>), Stop>
+    requires { AreBlank blanks C.name C.parts A.name A.parts K.name K.parts }
 {
-    let (world, share) = done(World::<Core, C, A, K>::new(
-        alloc,
-        &CoreFunctions,
-        &start,
+    let Blanks {
         commits,
         added,
         taken,
-    ))?;
-    Ok((Shared::new(world), share))
+    } = blanks;
+    match World::new(alloc, &CoreFunctions, &start, commits, added, taken) {
+        Ok(made) => Ok(made),
+        Err(_) => Err(Stop::Refused),
+    }
 }
 
 /// The world that a shared world ends with, and its totals, where the share is whole and log and receipts fit.

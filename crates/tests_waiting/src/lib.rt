@@ -6,6 +6,7 @@
 //!
 //! | Modules | |
 //! |---|---|
+//! | `cases`, `same` | each case on a shared world of its own; an assertion |
 //! | `awaits` | by two: who waits for agents returns once all is gone that was there when it came, and not before |
 //! | `turns` | by four: of three who wait for an agent each returns in its turn |
 //! | `whens` | by two: a transaction that waits is woken by each entry of another thread, and at the end |
@@ -17,9 +18,13 @@
 #[cfg(test)]
 mod awaits;
 #[cfg(test)]
+mod cases;
+#[cfg(test)]
 mod many;
 #[cfg(test)]
 mod releasing;
+#[cfg(test)]
+mod same;
 #[cfg(test)]
 mod sleepers;
 #[cfg(test)]

@@ -1,8 +1,8 @@
-//! When a shared world releases what an action carried: after its sink got the notices of that action and heard how it ended, and not
-//! where it failed.
+//! When a shared world releases what an action carried: after its sink got the notices of that action and heard how it ended. That it isn't
+//! where the action failed is among the rows of `tests_shared`.
 use ref_agents::Finished;
-use ref_fun::codes::{MINUS, PLUS};
-use ref_fun::{Action, Carries, Carry, Core, CoreFunctions};
+use ref_fun::codes::PLUS;
+use ref_fun::{Carries, Carry, Core, CoreFunctions};
 use ref_log::{Notice, Who};
 use ref_shared::{Open, Shared, WatchSink, Worked};
 use ref_world::Share;
@@ -13,25 +13,17 @@ use std::test::Fail;
 use tests_shared::jobs::{CLOSED, Work, agents_at, two_agents, work};
 use tests_shared::scenarios::{Scenario, run_shared};
 use tests_shared::steps::{send, watch};
-use tests_shared::worlds::{Stop, done, one_arg};
+use tests_shared::worlds::{Stop, action, done, one_arg};
 
-// For g an action by this function, which carries `+ 4` for h, and behind it `+ 2`.
+// For g `+ 1`, which carries `+ 4` for h, and behind it `+ 2`.
 fn send_two<R: Wait, C: Ledger, A: Ledger, K: Ledger>(
     rt: &R,
     alloc: Global,
     shared: &Shared<Core, C, A, K>,
-    code: u32,
 ) -> Result<(), Stop> {
-    let carry = Carry {
-        g: 1,
-        code: PLUS,
-        args: one_arg(alloc, "4")?,
-    };
-    let action = Action {
-        code,
-        args: one_arg(alloc, "1")?,
-        carries: Carries::of(alloc, vec![in alloc; carry]?)?,
-    };
+    let (g, code, args) = (1, PLUS, one_arg(alloc, "4")?);
+    let mut action = action(alloc, PLUS, "1")?;
+    action.carries = Carries::of(alloc, vec![in alloc; Carry { g, code, args }]?)?;
     done(shared.send(rt, 0, action))?;
     send(rt, alloc, shared, 0, PLUS, "2")
 }
@@ -62,24 +54,6 @@ struct Seen {
     values: (Option<i64>, Option<i64>),
 }
 
-fn seen_after<R: Wait, C: Ledger, A: Ledger, K: Ledger>(
-    rt: &R,
-    alloc: Global,
-    shared: &Shared<Core, C, A, K>,
-    worked: Work,
-    at_sink: Option<(Work, bool)>,
-) -> Seen {
-    let later = shared.release_carried(rt, 0);
-    let next = (work(rt, alloc, shared), work(rt, alloc, shared));
-    Seen {
-        worked,
-        at_sink,
-        later,
-        next,
-        values: agents_at(rt, shared),
-    }
-}
-
 #[derive(Drop)]
 struct AtSink;
 
@@ -94,7 +68,7 @@ impl<R: Wait> Scenario<R> for AtSink {
         _share: &mut Share<C, A, K>,
     ) -> Result<Seen, Stop> {
         watch(rt, alloc, shared, Who::Agent(0), ":k")?;
-        send_two(rt, alloc, shared, PLUS)?;
+        send_two(rt, alloc, shared)?;
         shared.close(rt);
         let mut sink = Releaser {
             rt,
@@ -103,7 +77,15 @@ impl<R: Wait> Scenario<R> for AtSink {
             told: None,
         };
         let worked = shared.work_once(rt, alloc, &CoreFunctions, &mut Open, &mut sink);
-        Ok(seen_after(rt, alloc, shared, worked, sink.told))
+        let later = shared.release_carried(rt, 0);
+        let next = (work(rt, alloc, shared), work(rt, alloc, shared));
+        Ok(Seen {
+            worked,
+            at_sink: sink.told,
+            later,
+            next,
+            values: agents_at(rt, shared),
+        })
     }
 }
 
@@ -117,60 +99,6 @@ fn what_was_carried_is_held_while_the_sink_is_told(rt: HostRuntime) -> Result<()
         later: false,
         next: (Ok(Worked::Did(1)), Ok(Worked::Did(0))),
         values: (Some(3), Some(4)),
-    };
-    assert_eq!(rt; seen, wanted);
-    Ok(())
-}
-
-// By this function.
-#[derive(Drop)]
-struct Alone {
-    code: u32,
-}
-
-impl<R: Wait> Scenario<R> for Alone {
-    type Outcome = Seen;
-
-    fn run<C: Ledger, A: Ledger, K: Ledger>(
-        &self,
-        rt: &R,
-        alloc: Global,
-        shared: &Shared<Core, C, A, K>,
-        _share: &mut Share<C, A, K>,
-    ) -> Result<Seen, Stop> {
-        send_two(rt, alloc, shared, self.code)?;
-        shared.close(rt);
-        let worked = work(rt, alloc, shared);
-        Ok(seen_after(rt, alloc, shared, worked, None))
-    }
-}
-
-#[test]
-fn what_was_carried_is_released_in_the_end(rt: HostRuntime) -> Result<(), Fail> {
-    let alloc = rt.alloc();
-    let seen = run_shared(&rt, alloc, two_agents(alloc)?, &Alone { code: PLUS })?;
-    let wanted = Seen {
-        worked: Ok(Worked::Did(0)),
-        at_sink: None,
-        later: false,
-        next: (Ok(Worked::Did(1)), Ok(Worked::Did(0))),
-        values: (Some(3), Some(4)),
-    };
-    assert_eq!(rt; seen, wanted);
-    Ok(())
-}
-
-// g has to be at least 0.
-#[test]
-fn an_action_that_fails_carries_nothing_out(rt: HostRuntime) -> Result<(), Fail> {
-    let alloc = rt.alloc();
-    let seen = run_shared(&rt, alloc, two_agents(alloc)?, &Alone { code: MINUS })?;
-    let wanted = Seen {
-        worked: Ok(Worked::Did(0)),
-        at_sink: None,
-        later: false,
-        next: (CLOSED, CLOSED),
-        values: (Some(0), Some(0)),
     };
     assert_eq!(rt; seen, wanted);
     Ok(())
@@ -218,7 +146,7 @@ impl<R: Wait> Scenario<R> for AtEnd {
         shared: &Shared<Core, C, A, K>,
         _share: &mut Share<C, A, K>,
     ) -> Result<Heard, Stop> {
-        send_two(rt, alloc, shared, PLUS)?;
+        send_two(rt, alloc, shared)?;
         shared.close(rt);
         let mut sink = Ender {
             rt,
