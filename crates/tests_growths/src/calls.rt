@@ -117,9 +117,9 @@ impl<'a, R: Input + Wait, C: Ledger, A: Ledger, K: Ledger> Lent<'a, R, C, A, K> 
     // With a body that is ready at once.
     fn transact_when(&self, share: &mut Share<C, A, K>) -> Said {
         let (rt, alloc, funs, shared) = (self.rt, self.alloc, &CoreFunctions, self.shared);
-        let work = &mut |tx: &mut Tx<Core>| body(alloc, tx, 0, SENT_TO).map(Some);
+        let mut work = |tx: &mut Tx<Core>| body(alloc, tx, 0, SENT_TO).map(Some);
         let (gate, sink) = (&mut Open, &mut Quiet);
-        match shared.transact_when(rt, alloc, funs, share, STAMP, 3, gate, sink, work) {
+        match shared.transact_when(rt, alloc, funs, share, STAMP, 3, gate, sink, &mut work) {
             Ok(landed) => transacted(Ok(landed)),
             Err(WaitFault::Transact(fault)) => transacted(Err(fault)),
             Err(WaitFault::Closed) => Err(Stop::Refused),

@@ -33,7 +33,6 @@ fn end<R: Input + Print>(rt: &R, group: &str, calls: &[bool]) -> Result<(), Stop
     Ok(())
 }
 
-// The table has `>=` alone.
 fn of_data(funs: &FunTable, args: &[Value], map: &PMap<u64>, list: &PVec<u64>) -> [bool; 19] {
     let [value] = args else {
         return [false; 19];
@@ -81,7 +80,6 @@ fn call_on_data<R: Input + Print>(rt: &R, alloc: Global) -> Result<(), Stop> {
         list.push(alloc, item)?;
     }
     refuse(rt, EACH);
-    let _none = FunTable::empty(alloc);
     end(rt, "data", &of_data(&funs, args.as_slice(), &map, &list))
 }
 
@@ -140,9 +138,11 @@ fn of_agents<C: Ledger, A: Ledger, K: Ledger>(
         Ok(ran) => ran.into_job(),
         Err((job, _)) => job,
     };
-    let left = world.put_back(job);
-    let is_back = left.is_ok();
-    if let Err(job) | Ok(Some(job)) = left.map(|_| world.take().ok().flatten()) {
+    let (is_back, job) = match world.put_back(job) {
+        Ok(()) => (true, world.take().ok().flatten()),
+        Err(job) => (false, Some(job)),
+    };
+    if let Some(job) = job {
         job.forsake();
     }
     [

@@ -8,7 +8,7 @@ pub(crate) const EACH: usize = 255;
 
 // What a read of so many bytes gives, if it gives one byte.
 fn asked<R: Input>(rt: &R, length: usize) -> Option<u8> {
-    let mut room = [0u8; EACH + 1];
+    let mut room = [0u8; 256];
     let part = room.get_mut(..length)?;
     match rt.reader().read(part) {
         Ok(1) => Some(room[0]),

@@ -151,9 +151,9 @@ fn events(alloc: Global, state: u32, call: Call) -> Result<Vec<Event>, Stop> {
     }
     if let Call::End = call {
         push(&mut all, Act::Send(G, action_for(alloc, G)?))?;
-        for act in [Act::Begin, Act::Take, Act::Run] {
-            push(&mut all, act)?;
-        }
+        push(&mut all, Act::Begin)?;
+        push(&mut all, Act::Take)?;
+        push(&mut all, Act::Run)?;
     }
     Ok(all)
 }
