@@ -186,7 +186,7 @@ fn play_text(alloc: Global) -> Result<String, AllocError> {
     format!(in alloc; "Acts:{acts}\n\n{PLAY_MORE}")
 }
 
-pub(crate) fn texts(alloc: Global) -> Result<Texts, AllocError> {
+pub(crate) fn help_texts(alloc: Global) -> Result<Texts, AllocError> {
     Ok(Texts {
         version: format!(in alloc; "format {FORMAT_VERSION}")?,
         run: run_text(alloc)?,

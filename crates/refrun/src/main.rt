@@ -29,7 +29,7 @@ mod telling;
 
 use clap::Error;
 use clap::error::ErrorKind;
-use commands::{Act, Wanted, arguments, matches_of, names_file_of, texts, wanted_of};
+use commands::{Act, Wanted, arguments, help_texts, matches_of, names_file_of, wanted_of};
 use explaining::explain_fault;
 use faults::Fault;
 use lines::say;
@@ -69,7 +69,7 @@ where
         Ok(words) => words,
         Err(error) => return no_arguments(rt, &error),
     };
-    let Ok(texts) = texts(rt.alloc()) else {
+    let Ok(texts) = help_texts(rt.alloc()) else {
         return no_memory(rt);
     };
     match matches_of(rt.alloc(), &texts, words.as_slice()) {
