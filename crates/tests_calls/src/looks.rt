@@ -33,7 +33,7 @@ pub(crate) enum What {
 /// makes the world, or plays an event, where an `x` stands in `tables`.
 #[derive(Drop)]
 pub(crate) struct Look<'a> {
-    pub what: Option<What>,
+    pub what: What,
     pub tables: &'a str,
     pub bits: String,
     pub codes: Vec<u32>,
@@ -42,7 +42,7 @@ pub(crate) struct Look<'a> {
 impl<'a> Look<'a> {
     pub(crate) fn of(alloc: Global, what: What, tables: &'a str) -> Look<'a> {
         Look {
-            what: Some(what),
+            what,
             tables,
             bits: String::new(alloc),
             codes: Vec::new(alloc),
@@ -65,19 +65,25 @@ impl<'a> Scenario for Look<'a> {
         self.tables.as_bytes().get(place) == Some(&b'x')
     }
 
-    fn refuse(&self, alloc: Global, who: Who, fault: MakeFault) -> Result<String, AllocError> {
+    fn refuse(self, alloc: Global, who: Who, fault: MakeFault) -> Result<String, AllocError> {
         format!(in alloc; "{who:?} {fault}")
     }
 
     fn look<C: Ledger, A: Ledger, K: Ledger>(
-        &mut self,
+        self,
         alloc: Global,
         world: &mut World<Core, C, A, K>,
         share: &mut Share<C, A, K>,
         rest: &[Event],
     ) -> Result<String, AllocError> {
-        match self.what.take().unwrap_or(What::Nothing) {
-            What::Nothing => format!(in alloc; "{} {:?}", self.bits, self.codes),
+        let Look {
+            what,
+            bits,
+            codes,
+            ..
+        } = self;
+        match what {
+            What::Nothing => format!(in alloc; "{bits} {codes:?}"),
             What::Commit(tx, table) => committed(alloc, world, share, &table, tx),
             What::Left => left(alloc, world, share),
             What::Split => split(alloc, world, share, rest),
@@ -120,12 +126,12 @@ impl Scenario for Beginning {
         false
     }
 
-    fn refuse(&self, _alloc: Global, _who: Who, _fault: MakeFault) -> Result<Tx<Core>, AllocError> {
+    fn refuse(self, _alloc: Global, _who: Who, _fault: MakeFault) -> Result<Tx<Core>, AllocError> {
         Err(AllocError)
     }
 
     fn look<C: Ledger, A: Ledger, K: Ledger>(
-        &mut self,
+        self,
         alloc: Global,
         world: &mut World<Core, C, A, K>,
         _share: &mut Share<C, A, K>,

@@ -47,16 +47,12 @@ fn outcome(alloc: Global, way: Way, row: &str) -> Result<String, AllocError> {
     match way {
         Way::Served => {
             let (tables, row) = parted(row)?;
-            run(alloc, row, &mut Look::of(alloc, What::Nothing, tables))
+            run(alloc, row, Look::of(alloc, What::Nothing, tables))
         }
         Way::Commit(table) => {
             let (there, here) = parted(row)?;
-            let tx = run(alloc, there, &mut Beginning)?;
-            run(
-                alloc,
-                here,
-                &mut Look::of(alloc, What::Commit(tx, table), ""),
-            )
+            let tx = run(alloc, there, Beginning)?;
+            run(alloc, here, Look::of(alloc, What::Commit(tx, table), ""))
         }
         Way::Job => {
             let (there, here) = parted(row)?;
@@ -65,13 +61,13 @@ fn outcome(alloc: Global, way: Way, row: &str) -> Result<String, AllocError> {
         Way::Agent => lacked(alloc, row),
         Way::Land(at, room) => {
             let (there, here) = parted(row)?;
-            landed(alloc, run(alloc, there, &mut Beginning)?, here, at, room)
+            landed(alloc, run(alloc, there, Beginning)?, here, at, room)
         }
         Way::Change(at, table) => changed(alloc, row, at, &table),
         Way::Replay => replayed(alloc, row),
-        Way::Left => run(alloc, row, &mut Look::of(alloc, What::Left, "")),
-        Way::Split => run(alloc, row, &mut Look::of(alloc, What::Split, "")),
-        Way::Forget => run(alloc, row, &mut Look::of(alloc, What::Forget, "")),
+        Way::Left => run(alloc, row, Look::of(alloc, What::Left, "")),
+        Way::Split => run(alloc, row, Look::of(alloc, What::Split, "")),
+        Way::Forget => run(alloc, row, Look::of(alloc, What::Forget, "")),
     }
 }
 

@@ -14,7 +14,7 @@ use std::marker::Brand;
 use std::sync::ledger::{Blank, Ledger};
 
 /// What a test does with a world.
-pub trait Scenario {
+pub trait Scenario: Drop + Sized {
     type Seen: Drop;
 
     /// Takes the reply to an event, if one was played, and whether the table with fewer functions serves what there is now.
@@ -24,11 +24,11 @@ pub trait Scenario {
     fn has_fewer(&self, place: usize) -> bool;
 
     /// Returns what is seen where there is no world.
-    fn refuse(&self, alloc: Global, who: Who, fault: MakeFault) -> Result<Self::Seen, AllocError>;
+    fn refuse(self, alloc: Global, who: Who, fault: MakeFault) -> Result<Self::Seen, AllocError>;
 
     /// Makes calls on the world and the whole share that are left, and returns what is seen.
     fn look<C: Ledger, A: Ledger, K: Ledger>(
-        &mut self,
+        self,
         alloc: Global,
         world: &mut World<Core, C, A, K>,
         share: &mut Share<C, A, K>,
@@ -72,7 +72,7 @@ fn play_front<C: Ledger, A: Ledger, K: Ledger, S: Scenario>(
 }
 
 /// Does what a test does with the world of a row.
-pub fn run<S: Scenario>(alloc: Global, row: &str, scenario: &mut S) -> Result<S::Seen, AllocError> {
+pub fn run<S: Scenario>(alloc: Global, row: &str, scenario: S) -> Result<S::Seen, AllocError> {
     let (commits, added, taken) = (
         Blank::new(ALL_PARTS),
         Blank::new(ALL_PARTS),
@@ -84,7 +84,7 @@ pub fn run<S: Scenario>(alloc: Global, row: &str, scenario: &mut S) -> Result<S:
 fn run_in<C: Ledger, A: Ledger, K: Ledger, S: Scenario>(
     alloc: Global,
     row: &str,
-    scenario: &mut S,
+    scenario: S,
     commits: Blank,
     added: Blank,
     taken: Blank,
@@ -105,9 +105,9 @@ fn run_sim<C: Ledger, A: Ledger, K: Ledger, S: Scenario>(
     alloc: Global,
     mut sim: Sim<Core, C, A, K>,
     events: &[Event],
-    scenario: &mut S,
+    mut scenario: S,
 ) -> Result<S::Seen, AllocError> {
-    let played = play_front(alloc, &mut sim, events, scenario);
+    let played = play_front(alloc, &mut sim, events, &mut scenario);
     let (mut world, mut share) = sim.end();
     match played {
         Ok(front) => {
