@@ -78,12 +78,14 @@ pub fn run<S: Scenario>(alloc: Global, row: &str, scenario: S) -> Result<S::Seen
         Blank::new(ALL_PARTS),
         Blank::new(ALL_PARTS),
     );
-    run_in::<Brand, Brand, Brand, S>(alloc, row, scenario, commits, added, taken)
+    let parts = parts_of(alloc, row)?;
+    run_in::<Brand, Brand, Brand, S>(alloc, parts, scenario, commits, added, taken)
 }
 
+// It takes no `&str`: no names are picked for the books at a call that passes one.
 fn run_in<C: Ledger, A: Ledger, K: Ledger, S: Scenario>(
     alloc: Global,
-    row: &str,
+    parts: ScriptParts,
     scenario: S,
     commits: Blank,
     added: Blank,
@@ -93,7 +95,7 @@ fn run_in<C: Ledger, A: Ledger, K: Ledger, S: Scenario>(
     requires added { IsBlank added A.name A.parts }
     requires taken { IsBlank taken K.name K.parts }
 {
-    let ScriptParts { start, events, .. } = parts_of(alloc, row)?;
+    let ScriptParts { start, events, .. } = parts;
     let table = if scenario.has_fewer(0) { FEWER } else { FULL };
     match Sim::<Core, C, A, K>::new(alloc, &table, &start, commits, added, taken) {
         Ok(sim) => run_sim(alloc, sim, &events, scenario),
