@@ -6,6 +6,7 @@ use crate::worlds::Scenario;
 use ref_fun::Core;
 use ref_log::{MakeFault, Stamp, Who};
 use ref_play::{Act, Event, Reply};
+use ref_refs::CommitFault;
 use ref_tx::{Tx, TxFault};
 use ref_world::{Share, World};
 use std::alloc::{AllocError, Global};
@@ -92,6 +93,21 @@ impl<'a> Scenario for Look<'a> {
     }
 }
 
+// Whether a transaction is refused for this fault.
+fn is_refused<C: Ledger, A: Ledger, K: Ledger>(
+    alloc: Global,
+    world: &mut World<Core, C, A, K>,
+    share: &mut Share<C, A, K>,
+    table: &Table,
+    tx: Tx<Core>,
+    fault: CommitFault,
+) -> bool {
+    match world.commit_with(alloc, table, share, STAMP, tx) {
+        Ok(_receipt) => false,
+        Err((_tx, again)) => again == fault,
+    }
+}
+
 /// What comes of a commit. A refused one is refused again, for the same fault.
 pub(crate) fn committed<C: Ledger, A: Ledger, K: Ledger>(
     alloc: Global,
@@ -101,13 +117,16 @@ pub(crate) fn committed<C: Ledger, A: Ledger, K: Ledger>(
     tx: Tx<Core>,
 ) -> Result<String, AllocError> {
     let before = world.point();
-    let (tx, fault) = match world.commit_with(alloc, table, share, STAMP, tx) {
-        Ok(receipt) => return format!(in alloc; "point {}", receipt.point),
-        Err(refused) => refused,
-    };
     match world.commit_with(alloc, table, share, STAMP, tx) {
-        Err((_tx, again)) if again == fault && world.point() == before => fault.to_string(alloc),
-        _ => String::from_str(alloc, "another outcome"),
+        Ok(receipt) => format!(in alloc; "point {}", receipt.point),
+        Err((tx, fault)) => {
+            let again = is_refused(alloc, world, share, table, tx, fault);
+            if again && world.point() == before {
+                fault.to_string(alloc)
+            } else {
+                String::from_str(alloc, "another outcome")
+            }
+        }
     }
 }
 

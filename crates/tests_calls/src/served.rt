@@ -23,7 +23,10 @@ pub(crate) fn said(reply: &Reply) -> Option<u32> {
         Reply::MakeAgent(Err(MakeFault::NoSuchFun(code))) => Some(*code),
         Reply::Run(Err(JobFault::NoSuchFun(code))) => Some(*code),
         Reply::Checkpoint(Err(CheckpointFault::NoSuchFun(code))) => Some(*code),
-        Reply::Checkpoint(Ok(folded)) => Some((*folded as u32).wrapping_add(1000)),
+        Reply::Checkpoint(Ok(folded)) => {
+            let folded = u32::try_from(*folded).ok()?;
+            Some(folded.saturating_add(1000))
+        }
         _ => None,
     }
 }
