@@ -1,7 +1,7 @@
 //! Calls but for those of transactions.
 use crate::numbers::int_of;
 use crate::texts::{
-    NO_CALL, Said, action_of, add_item, at, code_at, count_at, fault, index_at, new_ear, number,
+    Ear, NO_CALL, Said, action_of, add_item, at, code_at, count_at, fault, index_at, number,
     number_at, rule_at, said, table_at, text, truth, who_at, with_heard, with_notices,
 };
 use crate::worlds::{int_at, one_arg, value};
@@ -148,7 +148,8 @@ impl<'a, 'b, R: Wait, C: Ledger, A: Ledger, K: Ledger> On<'a, 'b, R, C, A, K> {
     // Runs an action.
     pub(crate) fn work(&self, call: &[&str]) -> Said {
         let (rt, alloc, shared, funs) = (self.rt, self.alloc, self.shared, table_at(call, 1));
-        let mut ear = new_ear(alloc)?;
+        let heard = text(alloc, "")?;
+        let mut ear = Ear { alloc, heard };
         let first = match shared.work_once(rt, alloc, &funs, &mut Open, &mut ear) {
             Ok(Worked::Did(g)) => format!(in alloc; "g{g}"),
             Ok(Worked::Closed) => text(alloc, "closed"),

@@ -73,18 +73,6 @@ fn entry(alloc: Global, kind: &Kind) -> Result<Entry, AllocError> {
     }
 }
 
-fn receipts_of(alloc: Global, kinds: &[(u64, Kind)]) -> Result<Vec<LogReceipt>, AllocError> {
-    let mut receipts = Vec::new(alloc);
-    for (point, kind) in kinds {
-        let entry = entry(alloc, kind)?;
-        receipts.push(LogReceipt {
-            point: *point,
-            entry,
-        })?;
-    }
-    Ok(receipts)
-}
-
 // Its name, the point of the base, what a log has past it, the receipts, and whether they match.
 type Row = (
     &'static str,
@@ -95,7 +83,11 @@ type Row = (
 );
 
 fn matched(alloc: Global, row: &Row) -> Result<bool, AllocError> {
-    let receipts = receipts_of(alloc, row.3)?;
+    let mut receipts = Vec::new(alloc);
+    for (point, kind) in row.3 {
+        let (point, entry) = (*point, entry(alloc, kind)?);
+        receipts.push(LogReceipt { point, entry })?;
+    }
     let mut log = Vec::new(alloc);
     for kind in row.2 {
         log.push(entry(alloc, kind)?)?;

@@ -42,7 +42,7 @@ use crate::closing::Ends;
 use crate::jobs::two_agents;
 use crate::same::same;
 use crate::scenarios::{Scenario, run_to_end};
-use crate::texts::{Said, at, text, words};
+use crate::texts::{Said, add_reply, at, text, words};
 use crate::transacting::Acts;
 use crate::worlds::{Stop, agent, plain_start};
 use ref_edn::read_all;
@@ -117,17 +117,32 @@ impl<'a, 'b, R: Wait, C: Ledger, A: Ledger, K: Ledger> On<'a, 'b, R, C, A, K> {
         }
     }
 
+    // Makes all calls of a row.
     fn answer(&self, share: &mut Share<C, A, K>, acts: &mut Acts, calls: &str) -> Said {
-        let (mut all, mut last) = (text(self.alloc, "")?, text(self.alloc, "ok")?);
+        let mut all = text(self.alloc, "")?;
         for call in calls.split("; ") {
-            if last.as_str() != "ok" {
-                all.push_str(&last)?;
-                all.push_str("; ")?;
-            }
-            last = self.make_call(share, acts, call)?;
+            add_reply(&mut all, self.make_call(share, acts, call))?;
         }
-        all.push_str(&last)?;
         Ok(all)
+    }
+
+    // The first row that is wrong.
+    fn wrong_of<'t>(
+        &self,
+        share: &mut Share<C, A, K>,
+        acts: &mut Acts,
+        rows: &'t [&'t str],
+    ) -> Result<Wrong<'t>, AllocError> {
+        for row in rows {
+            let (calls, reply) = parts(row);
+            if !row.starts_with("end ") {
+                let answer = self.answer(share, acts, calls)?;
+                if answer.as_str() != reply {
+                    return Ok(Some((row, answer)));
+                }
+            }
+        }
+        Ok(None)
     }
 }
 
@@ -154,16 +169,10 @@ impl<'t, R: Wait> Scenario<R> for Rows<'t> {
             called: 0,
             receipts: 0,
         };
-        for row in self.0 {
-            let (calls, reply) = parts(row);
-            if !row.starts_with("end ") {
-                let answer = on.answer(share, &mut acts, calls)?;
-                if answer.as_str() != reply {
-                    return Ok(Some((row, answer)));
-                }
-            }
+        match on.wrong_of(share, &mut acts, self.0) {
+            Ok(wrong) => Ok(wrong),
+            Err(AllocError) => Err(Stop::Memory),
         }
-        Ok(None)
     }
 }
 
@@ -185,7 +194,8 @@ pub(crate) fn check(rt: &(impl Abort + AllocGlobal + Wait), table: &str) -> Resu
     let mut is_before = true;
     for world in table.split("== ") {
         if is_before {
-            same(rt, rows_of(rt.alloc(), world)?.len(), 0);
+            let count = rows_of(rt.alloc(), world).map(|rows| rows.len());
+            same(rt, count, Ok(0));
         } else {
             check_world(rt, world)?;
         }

@@ -102,17 +102,6 @@ impl Inspection for AllCommits {
     }
 }
 
-/// Runs a scenario and ends the shared world, where log and receipts have to fit, and returns the scenario's outcome.
-pub fn run_shared<R: Wait, S: Scenario<R>>(
-    rt: &R,
-    alloc: Global,
-    start: Start,
-    scenario: &S,
-) -> Result<S::Outcome, Stop> {
-    let (outcome, _commits) = run_to_end(rt, alloc, start, scenario, &CommitCount)?;
-    Ok(outcome)
-}
-
 /// Runs a scenario and ends the shared world, and returns the outcome, and what is read at the end.
 pub fn run_to_end<R: Wait, S: Scenario<R>, I: Inspection>(
     rt: &R,

@@ -1,7 +1,7 @@
 //! Transactions that were begun in another shared world than the one in which they are committed.
 use crate::acting::On;
 use crate::rows::check;
-use crate::scenarios::{Scenario, run_shared};
+use crate::scenarios::{CommitCount, Scenario, run_to_end};
 use crate::steps::commit_set;
 use crate::texts::{Said, at, number_at, text};
 use crate::transacting::{Acts, fault_text};
@@ -12,6 +12,7 @@ use ref_shared::{Open, Quiet, Shared};
 use ref_tx::{Tx, TxFault};
 use ref_world::Share;
 use std::alloc::Global;
+use std::mem::replace;
 use std::sync::Wait;
 use std::sync::ledger::Ledger;
 use std::test::Fail;
@@ -65,6 +66,14 @@ impl<'a, 'b, R: Wait, C: Ledger, A: Ledger, K: Ledger> On<'a, 'b, R, C, A, K> {
         }
     }
 
+    // A transaction of a world with so many commits, if it can be made.
+    fn stranger(&self, commits: u32) -> Option<Tx<Core>> {
+        let start = plain_start(self.alloc, "0", "").ok()?;
+        let begun = Begun { commits };
+        let ended = run_to_end(self.rt, self.alloc, start, &begun, &CommitCount).ok();
+        ended.map(|ended| ended.0)
+    }
+
     pub(crate) fn foreign(
         &self,
         share: &mut Share<C, A, K>,
@@ -74,9 +83,7 @@ impl<'a, 'b, R: Wait, C: Ledger, A: Ledger, K: Ledger> On<'a, 'b, R, C, A, K> {
         if at(call, 0) == "leave" {
             return self.leave(share, acts.t.take());
         }
-        let commits = number_at(call, 1);
-        let start = plain_start(self.alloc, "0", "")?;
-        acts.t = run_shared(self.rt, self.alloc, start, &Begun { commits }).ok();
+        drop(replace(&mut acts.t, self.stranger(number_at(call, 1))));
         text(self.alloc, "ok")
     }
 }

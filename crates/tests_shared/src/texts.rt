@@ -144,6 +144,17 @@ pub(crate) fn add_item(list: &mut String, item: &str) -> Result<(), AllocError> 
     list.push_str(item)
 }
 
+// Adds a reply to those of the calls before it in a row, without their `ok` if the last of them said that.
+pub(crate) fn add_reply(list: &mut String, reply: Said) -> Result<(), AllocError> {
+    let reply = reply?;
+    if list.as_str() == "ok" || list.ends_with("; ok") {
+        let _ = (list.pop(), list.pop());
+    } else if !list.is_empty() {
+        list.push_str("; ")?;
+    }
+    list.push_str(&reply)
+}
+
 // As `r0 :k 1 -> 2`.
 fn notice_text(alloc: Global, notice: &Notice) -> Said {
     let (who, is_k, before, after) = told_of(notice);
@@ -199,9 +210,4 @@ pub(crate) fn with_heard(first: Said, ear: &Ear) -> Said {
     let mut list = first?;
     add_item(&mut list, &ear.heard)?;
     Ok(list)
-}
-
-pub(crate) fn new_ear(alloc: Global) -> Result<Ear, AllocError> {
-    let heard = text(alloc, "")?;
-    Ok(Ear { alloc, heard })
 }

@@ -3,8 +3,8 @@ use crate::acting::On;
 use crate::numbers::int_of;
 use crate::steps::commit_set;
 use crate::texts::{
-    Ear, NO_CALL, Said, action_of, at, code_at, count_at, index_at, new_ear, number_at, said,
-    table_at, text, with_heard, with_notices, words,
+    Ear, NO_CALL, Said, action_of, at, code_at, count_at, index_at, number_at, said, table_at,
+    text, with_heard, with_notices, words,
 };
 use crate::worlds::{one_arg, value};
 use ref_fun::{Core, CoreFunctions};
@@ -13,6 +13,7 @@ use ref_shared::{Gate, Shared, Spot, TransactFault, WaitFault};
 use ref_tx::{Tx, TxFault};
 use ref_world::{Receipt, Share};
 use std::alloc::{AllocError, Global};
+use std::mem::replace;
 use std::sync::Wait;
 use std::sync::ledger::Ledger;
 
@@ -116,7 +117,8 @@ impl<'a, 'b, R: Wait, C: Ledger, A: Ledger, K: Ledger> On<'a, 'b, R, C, A, K> {
     ) -> Said {
         let (rt, alloc, shared, funs) = (self.rt, self.alloc, self.shared, table_at(call, 3));
         let (worker, step, tries) = (0, acts.step, count_at(call, 1));
-        let (mut ear, mut called) = (new_ear(alloc)?, 0u32);
+        let (heard, mut called) = (text(alloc, "")?, 0u32);
+        let mut ear = Ear { alloc, heard };
         let answer = shared.transact(
             rt,
             alloc,
@@ -149,7 +151,8 @@ impl<'a, 'b, R: Wait, C: Ledger, A: Ledger, K: Ledger> On<'a, 'b, R, C, A, K> {
     ) -> Said {
         let (rt, alloc, shared, funs) = (self.rt, self.alloc, self.shared, &CoreFunctions);
         let (worker, step, tries) = (0, acts.step, count_at(call, 1));
-        let (mut ear, mut called) = (new_ear(alloc)?, 0u32);
+        let (heard, mut called) = (text(alloc, "")?, 0u32);
+        let mut ear = Ear { alloc, heard };
         let answer = shared.transact_when(
             rt,
             alloc,
@@ -271,11 +274,8 @@ impl<'a, 'b, R: Wait, C: Ledger, A: Ledger, K: Ledger> On<'a, 'b, R, C, A, K> {
         let is_u = at(call, 0) == "u" || at(call, 1) == "u";
         let tx = if is_u { acts.u.take() } else { acts.t.take() };
         let (said, tx) = self.on_tx(share, call, body, tx);
-        if is_u {
-            acts.u = tx;
-        } else {
-            acts.t = tx;
-        }
+        let place = if is_u { &mut acts.u } else { &mut acts.t };
+        drop(replace(place, tx));
         said
     }
 }

@@ -11,7 +11,7 @@ use std::sync::Wait;
 use std::sync::ledger::Ledger;
 use std::test::Fail;
 use tests_shared::jobs::{CLOSED, Work, agents_at, two_agents, work};
-use tests_shared::scenarios::{Scenario, run_shared};
+use tests_shared::scenarios::{CommitCount, Scenario, run_to_end};
 use tests_shared::steps::{send, watch};
 use tests_shared::worlds::{Stop, action, done, one_arg};
 
@@ -92,7 +92,7 @@ impl<R: Wait> Scenario<R> for AtSink {
 #[test]
 fn what_was_carried_is_held_while_the_sink_is_told(rt: HostRuntime) -> Result<(), Fail> {
     let alloc = rt.alloc();
-    let seen = run_shared(&rt, alloc, two_agents(alloc)?, &AtSink)?;
+    let (seen, _) = run_to_end(&rt, alloc, two_agents(alloc)?, &AtSink, &CommitCount)?;
     let wanted = Seen {
         worked: Ok(Worked::Did(0)),
         at_sink: Some((CLOSED, true)),
@@ -170,7 +170,7 @@ impl<R: Wait> Scenario<R> for AtEnd {
 #[test]
 fn what_was_carried_is_held_while_the_sink_hears_of_the_end(rt: HostRuntime) -> Result<(), Fail> {
     let alloc = rt.alloc();
-    let heard = run_shared(&rt, alloc, two_agents(alloc)?, &AtEnd)?;
+    let (heard, _) = run_to_end(&rt, alloc, two_agents(alloc)?, &AtEnd, &CommitCount)?;
     let wanted = Heard {
         at_sink: Some((CLOSED, Some(false))),
         folded: Some(true),
