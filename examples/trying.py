@@ -60,7 +60,10 @@ def dump_of(keys, version={}):
 
 
 def text_of(head):
-    """The text of a row: behind `<<`, with escapes behind `<<\\`, or as the keys of a dump behind `<<+`, or `<<2` and `<<3` in versions 2 and 3."""
+    """The text of a row: behind `<<`, with escapes behind `<<\\`, or as the keys of a dump behind `<<+`, or `<<2` and `<<3` in versions 2 and 3.
+
+    The escapes are \\n, \\x and two digits, \\\\, and \\*N'PART', which is N times the part.
+    """
     if head.startswith("<<+"):
         return dump_of(head[4:])
     if head.startswith("<<2"):
@@ -69,16 +72,45 @@ def text_of(head):
         return dump_of(head[4:], VERSION_3)
     if not head.startswith("<<\\"):
         return head[3:].encode()
+    repeated = re.sub(r"\\\*(\d+)'([^']*)'", lambda it: it[2] * int(it[1]), head[4:])
     escapes = {"n": b"\n", "\\": b"\\"}
-    parts = re.findall(r"\\x(..)|\\(.)|([^\\]+)", head[4:])
+    parts = re.findall(r"\\x(..)|\\(.)|([^\\]+)", repeated)
     return b"".join(bytes.fromhex(x) if x else escapes[c] if c else plain.encode() for x, c, plain in parts)
+
+
+def short_rows(line):
+    """The rows of a line in short: texts, two or more spaces apart, and what comes of each of them. Behind → stands what is printed, where a
+    lone @ is the text itself; behind ✗ the name of a fault. It lies at the first byte, or where ¦ stands in the text, which is no part of it.
+    The line may begin with `<<\\`, for escapes in all of them. A row is a text, what is printed or the fault, and the fault's place or none."""
+    escaped, texts, mark, wanted = re.fullmatch(r"(<<\\ )?(.*?) *([→✗]) *(.*)", line).groups()
+
+    def plain(text):
+        return text_of((escaped or "<< ") + text)
+
+    for marked in re.split(r" {2,}", texts):
+        before, _, behind = marked.rpartition("¦")
+        text = plain(before) + plain(behind)
+        yield text, text.decode() if wanted == "@" else plain(wanted).decode(), len(plain(before)) if mark == "✗" else None
+
+
+def is_short(line):
+    return line[:1] != ";" and ("→" in line or "✗" in line)
+
+
+def cases_of(file):
+    """The rows of a table all of whose lines are in short."""
+    for line in file.read_text(encoding="utf-8").split("\n"):
+        if is_short(line):
+            yield from short_rows(line)
 
 
 def lines_of_rows(file):
     """The rows of a table: each is a text, and the lines behind it."""
     rows = []
     for line in file.read_text(encoding="utf-8").split("\n"):
-        if line.startswith("<<"):
+        if is_short(line):
+            rows.extend((text, [wanted if place is None else f"!! 3 {wanted} at {place}"]) for text, wanted, place in short_rows(line))
+        elif line.startswith("<<"):
             rows.append((text_of(line), []))
         elif line and line[0] != ";":
             rows[-1][1].append(line)
@@ -101,12 +133,18 @@ def wanted_of(lines):
     return refused(int(fault[1]), fault[2].replace("EXAMPLES", str(HERE))) if fault else printed(joined(lines))
 
 
-def shown_rows(file):
-    """The rows of examples/shown.rows: each is a text, a command, and what is wanted of it."""
+def rows_of_commands(file):
+    """The rows of a table where commands stand behind `$`: each is a text, a command, and the lines below it."""
     for text, lines in lines_of_rows(file):
         starts = [at for at, line in enumerate(lines) if line.startswith("$ ")]
         for at, end in zip(starts, [*starts[1:], len(lines)]):
-            yield text, lines[at][2:].replace("EXAMPLES", str(HERE)), wanted_of(lines[at + 1 : end])
+            yield text, lines[at][2:].replace("EXAMPLES", str(HERE)), lines[at + 1 : end]
+
+
+def shown_rows(file):
+    """The rows of such a table: each is a text, a command, and what is wanted of it."""
+    for text, command, lines in rows_of_commands(file):
+        yield text, command, wanted_of(lines)
 
 
 def explained_rows(file):

@@ -286,9 +286,9 @@ class Source:
 
 
 def command_of(file):
-    """What the program takes, as this source says: its functions `command`, and `version` or `texts`."""
+    """What the program takes, as this source says: its functions `command` and `help_texts`."""
     source = Source(file)
-    made = "texts" if "texts" in source.functions else "version"
+    made = "help_texts"
     try:
         return source.call("command", [None, source.call(made, [None])])
     except (IndexError, KeyError, TypeError, AttributeError) as error:

@@ -116,7 +116,7 @@ impl<'a, C: Ledger, A: Ledger, K: Ledger> Bank<'a, C, A, K> {
 
     fn watch(&mut self, who: Who) -> Result<(), AllocError> {
         let key = value(self.alloc, ":teller")?;
-        match self.world.add_watch(self.alloc, who, key) {
+        match self.world.add_watch(who, key) {
             Ok(_) => Ok(()),
             Err(_) => Err(AllocError),
         }

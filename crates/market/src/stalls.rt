@@ -168,7 +168,7 @@ impl<'a, F: Functions<Core>, C: Ledger, A: Ledger, K: Ledger> Market<'a, F, C, A
 
     fn watch<R: Wait>(&self, rt: &R, who: Who) -> Result<(), Trouble> {
         let key = value(self.alloc, ":board")?;
-        match self.shared.add_watch(rt, self.alloc, who, key) {
+        match self.shared.add_watch(rt, who, key) {
             Ok(_) => Ok(()),
             Err(_) => Err(Trouble),
         }

@@ -4,4 +4,3 @@ pub mod Jobs
 pub mod Agents
 pub mod Make
 pub mod Ends
-pub mod Faults

@@ -1,6 +1,5 @@
 //! Why a call on an agent is refused, and why an agent failed.
 ghost use Rattle.std.specs.Prelude.{◌≡◌};
-ghost use Rattle.ref_agents.specs.Faults.{finish_fault_number, job_fault_number, mode_fault_number, restart_fault_number, send_fault_number};
 
 use ref_fun::Cause;
 use std::alloc::{AllocError, AllocFailed};
@@ -25,17 +24,6 @@ pub enum ModeFault {
     NoSuchAgent,
 }
 
-impl ModeFault {
-    /// The number of the fault.
-    pub fn number(&self) -> u8
-        ensures { result ≡ mode_fault_number self.now }
-    {
-        match self {
-            ModeFault::NoSuchAgent => 1,
-        }
-    }
-}
-
 /// Why an action isn't queued. The store is as it was.
 #[derive(Clone, Copy, Debug, Drop, PartialEq, Eq, Error)]
 pub enum SendFault {
@@ -47,19 +35,6 @@ pub enum SendFault {
     Failed,
     #[error("out of memory")]
     Memory,
-}
-
-impl SendFault {
-    /// The number of the fault: its place in the order of the tests.
-    pub fn number(&self) -> u8
-        ensures { result ≡ send_fault_number self.now }
-    {
-        match self {
-            SendFault::NoSuchAgent => 1,
-            SendFault::Failed => 2,
-            SendFault::Memory => 3,
-        }
-    }
 }
 
 impl From<AllocError> for SendFault {
@@ -92,18 +67,6 @@ pub enum JobFault {
     Memory,
 }
 
-impl JobFault {
-    /// The number of the fault: its place in the order of the tests.
-    pub fn number(&self) -> u8
-        ensures { result ≡ job_fault_number self.now }
-    {
-        match self {
-            JobFault::NoSuchFun(_) => 1,
-            JobFault::Memory => 2,
-        }
-    }
-}
-
 /// Why a job isn't finished. The store is as it was.
 #[derive(Clone, Copy, Debug, Drop, PartialEq, Eq, Error)]
 pub enum FinishFault {
@@ -115,19 +78,6 @@ pub enum FinishFault {
     /// The table has no predicate of this code, which the agent's rule names.
     #[error("the table lacks code {0}")]
     NoSuchFun(u32),
-}
-
-impl FinishFault {
-    /// The number of the fault. `NoSuchFun` comes right after `Foreign`.
-    pub fn number(&self) -> u8
-        ensures { result ≡ finish_fault_number self.now }
-    {
-        match self {
-            FinishFault::Foreign => 1,
-            FinishFault::Memory => 2,
-            FinishFault::NoSuchFun(_) => 9,
-        }
-    }
 }
 
 impl From<AllocError> for FinishFault {
@@ -157,21 +107,6 @@ pub enum RestartFault {
     /// The table has no predicate of this code, which the agent's rule names.
     #[error("the table lacks code {0}")]
     NoSuchFun(u32),
-}
-
-impl RestartFault {
-    /// The number of the fault. `NoSuchFun` comes right after `NoSuchAgent`.
-    pub fn number(&self) -> u8
-        ensures { result ≡ restart_fault_number self.now }
-    {
-        match self {
-            RestartFault::NoSuchAgent => 1,
-            RestartFault::NotFailed => 2,
-            RestartFault::Invalid => 3,
-            RestartFault::Memory => 4,
-            RestartFault::NoSuchFun(_) => 9,
-        }
-    }
 }
 
 impl From<AllocError> for RestartFault {

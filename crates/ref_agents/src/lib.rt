@@ -18,6 +18,7 @@
 //! | [`Account`] | what an agent was given to do: its start, the actions that ended since then, and those that wait |
 //! | [`Handled`], [`Mark`], [`Queued`], [`SentBy`] | an action that ended, and how; one that waits, and what sent it |
 //! | [`Job`], [`Ran`], [`Finished`] | an action on its way; one that has run; how it ended. The first two have to be spent |
+//! | [`Start`], [`RefStart`], [`AtomStart`], [`AgentStart`] | what a world begins with: values, rules and marks. Below `ref_world`, for those who read one |
 //! | [`SendFault`], [`JobFault`], [`FinishFault`], [`RestartFault`], [`ModeFault`] | why a call was refused, which changes nothing |
 //!
 //! Take it where a program has agents alone; otherwise take `ref_world`, where transactions send to them, or `ref_shared`, where each
@@ -46,6 +47,7 @@ mod releasing;
 mod restarting;
 mod rules;
 mod sends;
+pub mod starts;
 mod taking;
 
 pub use accounts::{Account, Handled, Mark, Queued, SentBy};
@@ -53,3 +55,4 @@ pub use agents::{Agent, AgentStore, ErrorMode};
 pub use ends::Finished;
 pub use faults::{AgentError, FinishFault, JobFault, ModeFault, RestartFault, SendFault};
 pub use jobs::{Job, Ran};
+pub use starts::{AgentStart, AtomStart, RefStart, Start};

@@ -10,7 +10,7 @@ use crate::agents::AgentStore;
 use crate::faults::RestartFault;
 use ref_fun::{Functions, Meaning};
 use ref_value::Value;
-use std::alloc::{AllocError, Global};
+use std::alloc::AllocError;
 
 impl<M: Meaning> AgentStore<M> {
     /// Restarts a failed agent with this state, which its rule has to accept, as Clojure's `restart-agent`: it takes sends
@@ -18,7 +18,6 @@ impl<M: Meaning> AgentStore<M> {
     /// changes nothing.
     pub fn restart<F: Functions<M>>(
         &mut self,
-        _alloc: Global,
         funs: &F,
         g: u32,
         state: Value,

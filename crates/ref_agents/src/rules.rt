@@ -10,7 +10,6 @@ use crate::agents::{AgentStore, value_at};
 use ref_fun::{Functions, Meaning, Rule};
 use ref_log::{RuleFault, WatchFault};
 use ref_value::Value;
-use std::alloc::Global;
 
 impl<M: Meaning> AgentStore<M> {
     /// The rule of an agent, if it has one. It takes no memory.
@@ -48,7 +47,7 @@ impl<M: Meaning> AgentStore<M> {
 
     /// Adds a watch to an agent, behind its others, and answers whether the key is new; a key that is there stays where it is.
     /// Linear in the number of the agent's watches. A refused call changes nothing.
-    pub fn add_watch(&mut self, _alloc: Global, g: u32, key: Value) -> Result<bool, WatchFault>
+    pub fn add_watch(&mut self, g: u32, key: Value) -> Result<bool, WatchFault>
         ensures new { IfOk result (λ is_new. is_new ≡ not (has_key (keys_at self.old.guards g) key)) }
         ensures adds { OnOk result (self.new ≡ with_guards self.old (with_watch self.old.guards g key)) }
         ensures here { OnOk result (g < length self.old.agents) }

@@ -11,12 +11,12 @@ use crate::agents::AgentStore;
 use crate::faults::SendFault;
 use ref_fun::{Action, Carry, Meaning, absent_agent};
 use ref_log::Sent;
-use std::alloc::{AllocError, Global};
+use std::alloc::AllocError;
 
 impl<M: Meaning> AgentStore<M> {
     /// Sends an action to an agent, outside of a transaction: it waits behind the others, and may be taken at once. A failed
     /// agent takes none. The agents that it carries sends to have to be here. A refused call changes nothing.
-    pub fn send(&mut self, _alloc: Global, g: u32, action: Action) -> Result<(), SendFault>
+    pub fn send(&mut self, g: u32, action: Action) -> Result<(), SendFault>
         ensures refused { TellsThenMemory faults.Memory (send_refusal self.old.agents g action) result }
         ensures sends { OnOk result (self.new ≡ with_agents self.old (with_send self.old.agents g (outside action))) }
         ensures err { OnErr result (self.new ≡ self.old) }
@@ -36,7 +36,7 @@ impl<M: Meaning> AgentStore<M> {
 
     /// Adds the sends of the commit at a new point to their agents' queues, in order. They are held until the commit is
     /// released. A failed agent takes them too. One to an agent that isn't here is left out. A refused call changes nothing.
-    pub fn send_held(&mut self, _alloc: Global, at: u64, sends: &[Sent]) -> Result<(), AllocError>
+    pub fn send_held(&mut self, at: u64, sends: &[Sent]) -> Result<(), AllocError>
         ensures ok { OnOk result (self.new ≡ with_commit self.old at sends.now) }
         ensures memory { OnErr result (sends.now ≢ []) }
         ensures err { OnErr result (self.new ≡ self.old) }

@@ -1,4 +1,3 @@
 -- To be read and believed: all.
 pub mod Atoms
 pub mod Change
-pub mod AtomFault

@@ -112,7 +112,7 @@ impl<M: Meaning> AtomStore<M> {
 
     /// Adds a watch to an atom, behind its others, and answers whether the key is new; a key that is there stays where it is.
     /// Linear in the number of the atom's watches. A refused call changes nothing.
-    pub fn add_watch(&mut self, _alloc: Global, a: u32, key: Value) -> Result<bool, WatchFault>
+    pub fn add_watch(&mut self, a: u32, key: Value) -> Result<bool, WatchFault>
         ensures new { IfOk result (λ is_new. is_new ≡ not (has_key (keys_at self.old.guards a) key)) }
         ensures adds { OnOk result (self.new ≡ with_guards self.old (with_watch self.old.guards a key)) }
         ensures here { OnOk result (a < length self.old.values) }

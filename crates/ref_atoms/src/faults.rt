@@ -1,6 +1,5 @@
 //! Why an atom isn't changed.
 ghost use Rattle.std.specs.Prelude.{◌≡◌};
-ghost use Rattle.ref_atoms.specs.AtomFault.{atom_fault_number};
 ghost use Rattle.ref_atoms.specs.declared.faults.AtomFault.TheVariants.{Memory};
 
 use ref_fun::Cause;
@@ -27,22 +26,6 @@ pub enum AtomFault {
     PointLimit,
     #[error("out of memory")]
     Memory,
-}
-
-impl AtomFault {
-    /// The number of the fault: its place in the order of the tests.
-    pub fn number(&self) -> u8
-        ensures { result ≡ atom_fault_number self.now }
-    {
-        match self {
-            AtomFault::NoSuchAtom => 1,
-            AtomFault::NoSuchFun(_) => 2,
-            AtomFault::Refused(_) => 3,
-            AtomFault::Invalid => 4,
-            AtomFault::PointLimit => 5,
-            AtomFault::Memory => 6,
-        }
-    }
 }
 
 impl From<AllocError> for AtomFault {

@@ -40,14 +40,8 @@ map_none (Some n) e = absurd cc
 pub named_all : (w : WorldSeen) → dump_refusal w ≡ None → unnamed w ≡ None
 named_all w e = map_none (unnamed w) (first_none (unnamed_refusal w) (depth_refusal (dumped w)) e)
 
-same_verdict : (v : Verdict) (r : Result Verdict DumpFault) → r ≡ Ok v → r ≡ Ok verdicts.Ok → v ≡ verdicts.Ok
-same_verdict v r p q = cc
-
 pub own_ok : (w : WorldSeen) → IsTold w → dump_refusal w ≡ None → verdict_on (dump_of (dumped w)) ≡ Ok verdicts.Ok
 own_ok w told fine = own_verdict w told (named_all w fine)
-
-pub own_audit : (w : WorldSeen) (x : Edn) (v : Verdict) → (dump_refusal w ≡ None → verdict_on (dump_of (dumped w)) ≡ Ok verdicts.Ok) → dump_refusal w ≡ None → x ≡ dumped w → verdict_on (dump_of x) ≡ Ok v → v ≡ verdicts.Ok
-own_audit w x v law fine is says = same_verdict v (verdict_on (dump_of x)) says (ap (λ y. verdict_on (dump_of y)) is ∙ law fine)
 
 -- ---- what a world's dump says names functions and predicates of Core alone
 

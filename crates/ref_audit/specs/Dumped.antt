@@ -213,8 +213,3 @@ unnamed_refusal world = option_map faults.Unnamed (unnamed world)
 
 abbrev pub dump_refusal : WorldSeen → Option DumpMakeFault
 dump_refusal world = option_or (unnamed_refusal world) (depth_refusal (dumped world))
-
-abbrev pub dump_make_fault_number : DumpMakeFault → ℕ
-dump_make_fault_number faults.TooDeep = 1
-dump_make_fault_number faults.Memory = 2
-dump_make_fault_number (faults.Unnamed code) = 3

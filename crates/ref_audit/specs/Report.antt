@@ -13,7 +13,7 @@ use Rattle.ref_fun.specs.declared.faults.Cause.{Cause}
 use Rattle.ref_fun.specs.declared.faults.Cause.TheVariants.{WrongKind, WrongArity, Overflow, TooDeep}
 use Rattle.ref_agents.specs.declared.agents.Agent.{Agent}
 use Rattle.ref_world.specs.Seen.{WorldSeen}
-use Rattle.ref_start.specs.Names.{NamesSeen}
+use Rattle.ref_forms.specs.Names.{NamesSeen}
 use Rattle.ref_audit.specs.declared.reports.Reason.{Reason}
 use Rattle.ref_audit.specs.declared.reports.Reason.TheVariants as reasons
 use Rattle.ref_audit.specs.declared.reports.Refusal.{Refusal}

@@ -1,6 +1,5 @@
 //! Why a world isn't dumped.
 ghost use Rattle.std.specs.Prelude.{◌≡◌};
-ghost use Rattle.ref_audit.specs.Dumped.{dump_make_fault_number};
 
 use std::alloc::{AllocError, AllocFailed};
 use thiserror::Error;
@@ -16,19 +15,6 @@ pub enum DumpMakeFault {
     /// The log's sends or the agents' accounts name this code, the least that no function of Core has. This is asked first.
     #[error("no function has code {0}")]
     Unnamed(u32),
-}
-
-impl DumpMakeFault {
-    /// The number of the fault.
-    pub fn number(&self) -> u8
-        ensures { result ≡ dump_make_fault_number self.now }
-    {
-        match self {
-            DumpMakeFault::TooDeep => 1,
-            DumpMakeFault::Memory => 2,
-            DumpMakeFault::Unnamed(_) => 3,
-        }
-    }
 }
 
 impl From<AllocError> for DumpMakeFault {

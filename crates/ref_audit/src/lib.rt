@@ -1,8 +1,8 @@
 //! Dumps of worlds, the audit of a world's own dump, and the report of a run.
 //!
 //! [`dump`] makes one EDN value of a world (docs/DUMPS.md), which [`audit`] of `ref_verdict` judges, and [`reporting`] writes the lines of
-//! a report. [`audit_own_dump`] audits the dump of a world that is there, [`audit_world`] returns the same verdict without the dump, and
-//! [`own_dump_is_ok`] is the law that they return ok.
+//! a report. [`audit_world`] returns the verdict on the dump of a world that is there, without the dump, and [`own_dump_is_ok`] is the law
+//! that it is ok.
 //!
 //! | Type | Is |
 //! |---|---|
@@ -26,7 +26,7 @@ pub mod words;
 
 pub use dumping::dump;
 pub use faults::DumpMakeFault;
-pub use own_audit::{audit_own_dump, audit_world, own_dump_is_ok};
+pub use own_audit::{audit_world, own_dump_is_ok};
 pub use ref_verdict::{
     Changed, DumpFault, Kept, KeptAgent, Key, Verdict, audit, auditor, read_dump, reading,
 };

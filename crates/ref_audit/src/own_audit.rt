@@ -13,15 +13,15 @@ pub(crate) mod parts;
 pub(crate) mod references;
 pub(crate) mod seen;
 
-use crate::dumping::{dump, tell_few, unnamed_in};
+use crate::dumping::{tell_few, unnamed_in};
 use crate::faults::DumpMakeFault;
 use crate::own_audit::parts::tell_entries;
 use crate::own_audit::references::{tell_accounts, tell_agents, tell_atoms, tell_refs};
 use crate::own_audit::seen::dump_seen;
 use ref_fun::{Core, Functions};
 use ref_log::Who;
+use ref_verdict::Verdict;
 use ref_verdict::verdicts::verdict;
-use ref_verdict::{Verdict, audit};
 use ref_world::World;
 use std::alloc::Global;
 use std::sync::ledger::Ledger;
@@ -33,26 +33,6 @@ pub fn own_dump_is_ok<C: Ledger, A: Ledger, K: Ledger>(world: &World<Core, C, A,
     ensures { dump_refusal world.now ≡ None → verdict_on (dump_of (dumped world.now)) ≡ Ok verdicts.Ok }
 {
     tell(world);
-}
-
-/// Dumps a world, and audits the dump: where that is done, the verdict is ok, by [`own_dump_is_ok`]. It is refused where [`dump`]
-/// is.
-pub fn audit_own_dump<F: Functions<Core>, C: Ledger, A: Ledger, K: Ledger>(
-    alloc: Global,
-    funs: &F,
-    world: &World<Core, C, A, K>,
-) -> Result<Verdict, DumpMakeFault>
-    requires core { HasCore (F.knows funs.now) }
-    ensures ok { IfOk result (λ verdict. verdict ≡ verdicts.Ok) }
-    ensures refused { TellsOrMemory faults.Memory (unnamed_refusal world.now) (dump_refusal world.now) result }
-{
-    own_dump_is_ok(world);
-    let value = dump(alloc, world)?;
-    match audit(alloc, funs, &value) {
-        Ok(verdict) => Ok(verdict),
-        // The value is a dump, so that only memory was refused.
-        Err(_) => Err(DumpMakeFault::Memory),
-    }
 }
 
 /// The verdict on a world's dump, without the dump: what the dump says is taken from the world, and judged as what a dump says is. So it

@@ -1,7 +1,7 @@
 //! What a report says.
+pub use ref_forms::Names;
 use ref_fun::Cause;
 use ref_log::Stamp;
-pub use ref_start::Names;
 pub use ref_verdict::reports::Verdict;
 
 /// Why a step was refused.

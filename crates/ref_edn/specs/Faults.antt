@@ -8,24 +8,7 @@ use Rattle.ref_edn.specs.declared.faults.ReadError.TheVariants as errors
 use Rattle.ref_edn.specs.declared.faults.ReadFault.{ReadFault}
 use Rattle.ref_edn.specs.declared.faults.ReadFault.TheVariants as faults
 
--- the number, the name and the place of a fault
-abbrev pub number_of : ReadFault → ℕ
-number_of (faults.Nothing place) = 1
-number_of (faults.EndsEarly place) = 2
-number_of (faults.BadByte place) = 3
-number_of (faults.BadNumber place) = 4
-number_of (faults.TooLarge place) = 5
-number_of (faults.BadEscape place) = 6
-number_of (faults.BadName place) = 7
-number_of (faults.WrongClose place) = 8
-number_of (faults.Duplicate place) = 9
-number_of (faults.OddMap place) = 10
-number_of (faults.TooDeep place) = 11
-number_of (faults.LeftOut place) = 12
-number_of (faults.NotUtf8 place) = 13
-number_of (faults.Trailing place) = 14
-number_of faults.Memory = 15
-
+-- the name and the place of a fault
 abbrev pub name_of : ReadFault → List ℕ
 name_of (faults.Nothing place) = codes "Nothing"
 name_of (faults.EndsEarly place) = codes "EndsEarly"

@@ -1,7 +1,7 @@
 //! Why a text is no EDN data, and where.
 ghost use Rattle.std.specs.Prelude.{◌≡◌, length};
 ghost use Rattle.ref_edn.specs.declared.faults.ReadError.TheVariants.{Memory};
-ghost use Rattle.ref_edn.specs.Faults.{fault_at, number_of, name_of, place_of};
+ghost use Rattle.ref_edn.specs.Faults.{fault_at, name_of, place_of};
 
 use std::alloc::{AllocError, AllocFailed};
 use thiserror::Error;
@@ -123,29 +123,6 @@ pub enum ReadFault {
 }
 
 impl ReadFault {
-    /// The number of the fault, from 1 to 15 in the order of the variants.
-    pub fn number(&self) -> u8
-        ensures { result ≡ number_of self.now }
-    {
-        match self {
-            ReadFault::Nothing(_) => 1,
-            ReadFault::EndsEarly(_) => 2,
-            ReadFault::BadByte(_) => 3,
-            ReadFault::BadNumber(_) => 4,
-            ReadFault::TooLarge(_) => 5,
-            ReadFault::BadEscape(_) => 6,
-            ReadFault::BadName(_) => 7,
-            ReadFault::WrongClose(_) => 8,
-            ReadFault::Duplicate(_) => 9,
-            ReadFault::OddMap(_) => 10,
-            ReadFault::TooDeep(_) => 11,
-            ReadFault::LeftOut(_) => 12,
-            ReadFault::NotUtf8(_) => 13,
-            ReadFault::Trailing(_) => 14,
-            ReadFault::Memory => 15,
-        }
-    }
-
     /// The name of the fault, as its variant is called.
     pub fn name(&self) -> &'static str
         ensures { result.now ≡ name_of self.now }

@@ -2,7 +2,7 @@
 use Rattle.std.proofs.Common.{◌≡◌, ℕ, ◌+◌, ◌<◌, List, [], ◌∷◌, ◌++◌, drop, length, get_or, refl, sym, ◌∙◌, ap, suc, add-one, append_assoc, drop-cons, Option, None, Some}
 use Rattle.std.specs.Prelude.{option_map}
 use Rattle.ref_value.specs.Edn.{Edn}
-use Rattle.ref_start.specs.Names.{NamesSeen}
+use Rattle.ref_forms.specs.Names.{NamesSeen}
 use Rattle.ref_forms.specs.Plain.{and_said}
 use Rattle.ref_play.specs.declared.events.Event.{Event}
 use Rattle.ref_events.specs.Acts.{event_said, events_said}

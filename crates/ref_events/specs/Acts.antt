@@ -9,12 +9,12 @@
 --   :take, :run, :put-back, :finish           the actor's job
 --   :swap X F ARG .., :reset X V, :cas X OLD NEW
 --   :send G F ARG .., :send-carry G [F ARG ..] [H F ARG ..] .., :release-carried G
---   :restart G V, :restart G V :clear, :set-error-mode G :fail or :continue, :error-of G
---   :set-validator NAME RULE or nil, :add-watch NAME KEY, :remove-watch NAME KEY, :value-of NAME
+--   :restart G V, :restart G V :clear, :set-error-mode G :fail or :continue, :error-of G, :fold G
+--   :set-validator NAME RULE or nil, :add-watch NAME KEY, :remove-watch NAME KEY, :value-of NAME, :rule-of NAME
 --   :release P, :checkpoint P                 at the point P
 --   :make-ref V, :make-atom V, :make-agent V  then RULE or nil, then, for a ref, :tally, or, for an agent, :fail or :continue
 --
--- RULE is `[P ARG ..]`. What a form doesn't say is None here.
+-- RULE is `[P ARG ..]`. ref_calls has the words. What a form doesn't say is None here.
 use Rattle.std.specs.Prelude.{ℕ, ◌+◌, Bool, true, false, if◌then◌else◌, nat_le, List, [], ◌∷◌, Option, None, Some, option_map, option_and_then}
 use Rattle.ref_value.specs.Edn.{Edn, symbol, vector, list_of, nesting, keyword_of}
 use Rattle.ref_value.specs.Names.{bytes_eq}
@@ -25,7 +25,7 @@ use Rattle.ref_log.specs.declared.notices.Who.{Who}
 use Rattle.ref_log.specs.declared.notices.Who.TheVariants.{Ref, Atom, Agent}
 use Rattle.ref_agents.specs.declared.agents.ErrorMode.{ErrorMode}
 use Rattle.ref_agents.specs.declared.agents.ErrorMode.TheVariants as modes
-use Rattle.ref_start.specs.Names.{NamesSeen}
+use Rattle.ref_forms.specs.Names.{NamesSeen}
 use Rattle.ref_forms.specs.Calls.{action_said, any, mode_said, rule_of, rule_said, value_said}
 use Rattle.ref_forms.specs.Plain.{alone_said, and_said, elements_of, mark_said, number_of, one_said, only_if, stamp_number, then_said, two_said}
 use Rattle.ref_forms.specs.References.{carrying_said, number_said, state_said}
@@ -36,23 +36,24 @@ use Rattle.ref_plan.specs.Words.{tally_word}
 use Rattle.ref_play.specs.declared.events.Act.{Act}
 use Rattle.ref_play.specs.declared.events.Act.TheVariants as acts
 use Rattle.ref_play.specs.declared.events.Event.{Event}
-use Rattle.ref_events.specs.Words.{act_words, agent_word, atom_word, ref_word, word_named}
-use Rattle.ref_events.specs.declared.words.ActWord.{ActWord}
-use Rattle.ref_events.specs.declared.words.ActWord.TheVariants as words
-use Rattle.ref_events.specs.declared.words.AgentWord.{AgentWord}
-use Rattle.ref_events.specs.declared.words.AgentWord.TheVariants as agents
-use Rattle.ref_events.specs.declared.words.AtomWord.{AtomWord}
-use Rattle.ref_events.specs.declared.words.AtomWord.TheVariants as atoms
-use Rattle.ref_events.specs.declared.words.JobWord.{JobWord}
-use Rattle.ref_events.specs.declared.words.JobWord.TheVariants as jobs
-use Rattle.ref_events.specs.declared.words.MakingWord.{MakingWord}
-use Rattle.ref_events.specs.declared.words.MakingWord.TheVariants as makings
-use Rattle.ref_events.specs.declared.words.ReferenceWord.{ReferenceWord}
-use Rattle.ref_events.specs.declared.words.ReferenceWord.TheVariants as references
-use Rattle.ref_events.specs.declared.words.TxWord.{TxWord}
-use Rattle.ref_events.specs.declared.words.TxWord.TheVariants as txs
-use Rattle.ref_events.specs.declared.words.WorldWord.{WorldWord}
-use Rattle.ref_events.specs.declared.words.WorldWord.TheVariants as worlds
+use Rattle.ref_events.specs.Words.{agent_word, atom_word, ref_word}
+use Rattle.ref_calls.specs.Words.{act_named}
+use Rattle.ref_calls.specs.declared.words.ActWord.{ActWord}
+use Rattle.ref_calls.specs.declared.words.ActWord.TheVariants as words
+use Rattle.ref_calls.specs.declared.words.AgentWord.{AgentWord}
+use Rattle.ref_calls.specs.declared.words.AgentWord.TheVariants as agents
+use Rattle.ref_calls.specs.declared.words.AtomWord.{AtomWord}
+use Rattle.ref_calls.specs.declared.words.AtomWord.TheVariants as atoms
+use Rattle.ref_calls.specs.declared.words.JobWord.{JobWord}
+use Rattle.ref_calls.specs.declared.words.JobWord.TheVariants as jobs
+use Rattle.ref_calls.specs.declared.words.MakingWord.{MakingWord}
+use Rattle.ref_calls.specs.declared.words.MakingWord.TheVariants as makings
+use Rattle.ref_calls.specs.declared.words.ReferenceWord.{ReferenceWord}
+use Rattle.ref_calls.specs.declared.words.ReferenceWord.TheVariants as references
+use Rattle.ref_calls.specs.declared.words.TxWord.{TxWord}
+use Rattle.ref_calls.specs.declared.words.TxWord.TheVariants as txs
+use Rattle.ref_calls.specs.declared.words.WorldWord.{WorldWord}
+use Rattle.ref_calls.specs.declared.words.WorldWord.TheVariants as worlds
 use Rattle.ref_fun.specs.Limits.{most_nested_result}
 
 -- ---- references
@@ -161,12 +162,14 @@ agent_said names agents.ReleaseCarried parts = option_map acts.ReleaseCarried (o
 agent_said names agents.Restart parts = option_map (λ p. acts.Restart p.0 p.1.0 p.1.1) (restart_said names parts)
 agent_said names agents.SetErrorMode parts = option_map (λ p. acts.SetErrorMode p.0 p.1) (two_said (place_said names kinds.Agent) mode_said parts)
 agent_said names agents.ErrorOf parts = option_map acts.ErrorOf (one_said (place_said names kinds.Agent) parts)
+agent_said names agents.Fold parts = option_map acts.Fold (one_said (place_said names kinds.Agent) parts)
 
 abbrev pub reference_said : NamesSeen → ReferenceWord → List Edn → Option Act
 reference_said names references.SetValidator parts = option_map (λ p. acts.SetValidator p.0 p.1) (two_said (who_said names) (rule_of any) parts)
 reference_said names references.AddWatch parts = option_map (λ p. acts.AddWatch p.0 p.1) (watch_said names parts)
 reference_said names references.RemoveWatch parts = option_map (λ p. acts.RemoveWatch p.0 p.1) (watch_said names parts)
 reference_said names references.ValueOf parts = option_map acts.ValueOf (one_said (who_said names) parts)
+reference_said names references.RuleOf parts = option_map acts.RuleOf (one_said (who_said names) parts)
 
 abbrev pub world_said : WorldWord → List Edn → Option Act
 world_said worlds.Release parts = option_map acts.Release (point_said parts)
@@ -196,7 +199,7 @@ abbrev pub most_nested_event : ℕ
 most_nested_event = most_nested_result + 1
 
 abbrev pub word_said : Edn → Option ActWord
-word_said x = option_and_then (word_named act_words) (keyword_of x)
+word_said x = option_and_then act_named (keyword_of x)
 
 -- The stamp of a commit is the number of its actor and that of the event.
 abbrev pub with_word : NamesSeen → ℕ → Option ℕ → Option ActWord → List Edn → Option Event

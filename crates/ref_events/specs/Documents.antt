@@ -4,14 +4,14 @@
 --    :refs [REF ..] :atoms [ATOM ..] :agents [AGENT ..]
 --    :events [[ACTOR ACT ARG ..] ..]}
 --
--- All keys but the first may be left out: what is a vector is empty then. References are written and limited as in a workload, and
--- events as specs/Acts.antt says. There are at most as many events as a workload has steps.
-use Rattle.std.specs.Prelude.{◌≡◌, ◌≤◌, ℕ, pos, true, List, Some, length}
+-- All keys but the first may be left out: what is a vector is empty then. References are written and limited as in a workload, but what
+-- they begin with isn't judged, and events as specs/Acts.antt says. There are at most as many events as a workload has steps.
+use Rattle.std.specs.Prelude.{◌≡◌, ◌≤◌, ℕ, pos, true, false, List, Some, length}
 use Rattle.ref_value.specs.Edn.{Edn, int}
-use Rattle.ref_start.specs.Names.{NamesSeen}
-use Rattle.ref_start.specs.declared.starts.AgentStart.{AgentStart}
-use Rattle.ref_start.specs.declared.starts.AtomStart.{AtomStart}
-use Rattle.ref_start.specs.declared.starts.RefStart.{RefStart}
+use Rattle.ref_forms.specs.Names.{NamesSeen}
+use Rattle.ref_agents.specs.declared.starts.AgentStart.{AgentStart}
+use Rattle.ref_agents.specs.declared.starts.AtomStart.{AtomStart}
+use Rattle.ref_agents.specs.declared.starts.RefStart.{RefStart}
 use Rattle.ref_forms.specs.Plain.{are_known, forms_under, is_vector_or_none, map_said, under}
 use Rattle.ref_plan.specs.Declarations.{AreReferences}
 use Rattle.ref_plan.specs.Limits.{most_declared}
@@ -59,6 +59,6 @@ pub record IsScript (x : Edn) (script : ScriptSeen) : Type 0 where
   pub entries : List (Edn × Edn)
   pub is_map : map_said x ≡ Some entries
   pub parts : HasParts entries
-  pub references : AreReferences (forms_under entries refs_word) (forms_under entries atoms_word) (forms_under entries agents_word) script.names script.refs script.atoms script.agents
+  pub references : AreReferences false (forms_under entries refs_word) (forms_under entries atoms_word) (forms_under entries agents_word) script.names script.refs script.atoms script.agents
   pub forms : script.forms ≡ forms_under entries events_word
   pub events : events_said script.names 0 script.forms ≡ Some script.events

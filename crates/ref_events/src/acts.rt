@@ -5,8 +5,8 @@ ghost use Rattle.ref_forms.specs.Plain.{alone_said};
 ghost use Rattle.ref_forms.specs.Reading.{Reads};
 
 use crate::makings::{made_in, making_of};
-use crate::references::Numbered;
-use crate::words::{
+use crate::references::EventNames;
+use ref_calls::{
     ActWord, AgentWord, AtomWord, JobWord, MakingWord, ReferenceWord, TxWord, WorldWord,
 };
 use ref_forms::carrying::carrying_on;
@@ -46,7 +46,7 @@ fn point_alone(mut parts: Iter<'_>) -> Result<u64, Wrong>
 
 fn tx_act_in(
     alloc: Global,
-    names: &Numbered<'_>,
+    names: &EventNames<'_>,
     stamp: Stamp,
     word: TxWord,
     parts: Iter<'_>,
@@ -100,7 +100,7 @@ fn job_act_in(word: JobWord, parts: Iter<'_>) -> Result<Act, Wrong>
 
 fn atom_act_in(
     alloc: Global,
-    names: &Numbered<'_>,
+    names: &EventNames<'_>,
     word: AtomWord,
     parts: Iter<'_>,
 ) -> Result<Act, Wrong>
@@ -124,7 +124,7 @@ fn atom_act_in(
 
 fn agent_act_in(
     alloc: Global,
-    names: &Numbered<'_>,
+    names: &EventNames<'_>,
     word: AgentWord,
     parts: Iter<'_>,
 ) -> Result<Act, Wrong>
@@ -153,12 +153,13 @@ fn agent_act_in(
             Ok(Act::SetErrorMode(g, mode))
         }
         AgentWord::ErrorOf => Ok(Act::ErrorOf(number_alone(names, Kind::Agent, parts)?)),
+        AgentWord::Fold => Ok(Act::Fold(number_alone(names, Kind::Agent, parts)?)),
     }
 }
 
 fn reference_act_in(
     alloc: Global,
-    names: &Numbered<'_>,
+    names: &EventNames<'_>,
     word: ReferenceWord,
     parts: Iter<'_>,
 ) -> Result<Act, Wrong>
@@ -178,6 +179,7 @@ fn reference_act_in(
             Ok(Act::RemoveWatch(who, key))
         }
         ReferenceWord::ValueOf => Ok(Act::ValueOf(who_alone(names, parts)?)),
+        ReferenceWord::RuleOf => Ok(Act::RuleOf(who_alone(names, parts)?)),
     }
 }
 
@@ -202,7 +204,7 @@ fn making_act_in(alloc: Global, word: MakingWord, parts: Iter<'_>) -> Result<Act
 /// The act that a word and what stands behind it say.
 pub(crate) fn act_in(
     alloc: Global,
-    names: &Numbered<'_>,
+    names: &EventNames<'_>,
     stamp: Stamp,
     word: ActWord,
     parts: Iter<'_>,

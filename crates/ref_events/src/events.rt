@@ -7,7 +7,7 @@ ghost use Rattle.ref_forms.specs.Reading.{Reads};
 
 use crate::acts::act_in;
 use crate::faults::ScriptFault;
-use crate::references::Numbered;
+use crate::references::EventNames;
 use crate::words::word_in;
 use ref_forms::Wrong;
 use ref_forms::plain::{elements_in, stamp_number_in};
@@ -30,7 +30,7 @@ fn is_shallow(form: &Value) -> bool
 // `ACTOR ACT ARG ..`, as the event of this number.
 fn parts_in(
     alloc: Global,
-    names: &Numbered<'_>,
+    names: &EventNames<'_>,
     number: u32,
     mut parts: Iter<'_>,
 ) -> Result<Event, Wrong>
@@ -53,7 +53,12 @@ fn parts_in(
 }
 
 // What a form says as the event of this number.
-fn event_in(alloc: Global, names: &Numbered<'_>, number: u32, form: &Value) -> Result<Event, Wrong>
+fn event_in(
+    alloc: Global,
+    names: &EventNames<'_>,
+    number: u32,
+    form: &Value,
+) -> Result<Event, Wrong>
     ensures { Reads (event_said names.now number form.now) result }
 {
     if !is_shallow(form) {
@@ -79,7 +84,7 @@ fn fault_of(wrong: Wrong, number: u32) -> ScriptFault
 /// What these forms say.
 pub(crate) fn events_in(
     alloc: Global,
-    names: &Numbered<'_>,
+    names: &EventNames<'_>,
     forms: &Items,
 ) -> Result<Vec<Event>, ScriptFault>
     requires { length forms.now ≤ most_events }

@@ -17,7 +17,7 @@ pub mod faults;
 mod makings;
 mod references;
 pub mod scripts;
-pub mod words;
+mod words;
 
 pub use faults::ScriptFault;
 pub use scripts::{Script, ScriptParts, script_of};

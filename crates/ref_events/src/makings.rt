@@ -4,8 +4,8 @@ ghost use Rattle.ref_events.specs.Acts.{made_said, marked_said, mode_mark_said};
 ghost use Rattle.ref_forms.specs.Reading.{Reads};
 
 use crate::acts::alone;
-use crate::words::MakingWord;
 use ref_agents::ErrorMode;
+use ref_calls::MakingWord;
 use ref_forms::calls::rule_in;
 use ref_forms::marks::{is_marked, mode_in};
 use ref_forms::{AnyValue, Wrong};

@@ -13,12 +13,12 @@ use std::marker::Model;
 
 /// The references that a list of events declares, and those that it makes. Contracts see the names of the first.
 #[derive(Drop)]
-pub(crate) struct Numbered<'a> {
+pub(crate) struct EventNames<'a> {
     pub declared: &'a Declared,
 }
 
-impl<'a> Model for Numbered<'a> {
-    ghost use Rattle.ref_start.specs.Names.{NamesSeen};
+impl<'a> Model for EventNames<'a> {
+    ghost use Rattle.ref_forms.specs.Names.{NamesSeen};
 
     ghost Value = { NamesSeen };
 
@@ -51,7 +51,7 @@ fn numbered_in(mut parts: Iter<'_>) -> Option<Who>
     who_at(word, number)
 }
 
-impl<'a> Naming for Numbered<'a> {
+impl<'a> Naming for EventNames<'a> {
     ghost named = { who_said };
 
     fn who_in(&self, form: &Value) -> Result<Who, Wrong> {
@@ -67,7 +67,7 @@ impl<'a> Naming for Numbered<'a> {
 }
 
 // How deep a value may be nested is asked of the whole event.
-impl<'a> Values for Numbered<'a> {
+impl<'a> Values for EventNames<'a> {
     ghost is_value = { any };
 
     // The toolchain asks for the clause of the trait here.

@@ -10,12 +10,13 @@ ghost use Rattle.ref_events.specs.Words.{events_word};
 
 use crate::events::events_in;
 use crate::faults::ScriptFault;
-use crate::references::Numbered;
+use crate::references::EventNames;
+use ref_agents::Start;
+use ref_forms::Names;
 use ref_forms::maps::{are_known, count, forms_of, map_in, vector_under};
 use ref_plan::planning::declarations::{MOST_DECLARED, declarations};
 use ref_plan::planning::parts::version_of;
 use ref_play::Event;
-use ref_start::{Names, Start};
 use ref_value::{Entries, Items, Value};
 use std::alloc::Global;
 use std::marker::Model;
@@ -176,10 +177,10 @@ pub fn script_of(alloc: Global, value: &Value) -> Result<Script, ScriptFault>
     let atoms = forms_of(parts.atoms, &empty);
     let agents = forms_of(parts.agents, &empty);
     let forms = forms_of(parts.events, &empty);
-    let (declared, start) = declarations(alloc, refs, atoms, agents)?;
+    let (declared, start) = declarations(alloc, refs, atoms, agents, false)?;
     let events = events_in(
         alloc,
-        &Numbered {
+        &EventNames {
             declared: &declared,
         },
         forms,

@@ -2,8 +2,8 @@
 use Rattle.std.specs.Prelude.{ℕ, ◌+◌, suc, Bool, List, [], ◌∷◌, ◌==◌, ◌&&◌, cond, count_by, nat_le, nat_lt}
 
 -- one, and the newlines before
-abbrev pub line_of : List ℕ → ℕ
-line_of before = count_by (λ b. b == 10) before + 1
+abbrev pub line_at : List ℕ → ℕ
+line_at before = count_by (λ b. b == 10) before + 1
 
 -- Bytes from 128 to 191 go on in a character that began before.
 abbrev pub goes_on : ℕ → Bool
@@ -17,5 +17,5 @@ abbrev pub column_from : ℕ → List ℕ → ℕ
 column_from column [] = column
 column_from column (b ∷ bs) = column_from (next_column column b) bs
 
-abbrev pub column_of : List ℕ → ℕ
-column_of before = column_from 1 before
+abbrev pub column_at : List ℕ → ℕ
+column_at before = column_from 1 before

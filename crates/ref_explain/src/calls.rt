@@ -1,8 +1,8 @@
 //! The functions that a sentence calls: its own, and those of the sends that it carries.
 use crate::forms::{Form, Members};
 use crate::sentences::{Said, is_name, write_bad_arguments};
-use crate::words::{Sentence, Slot};
 use crate::writing::Writing;
+use ref_calls::{Sentence, Slot};
 use ref_fun::MOST_CARRIES;
 use std::alloc::AllocError;
 

@@ -8,9 +8,12 @@ use crate::references::{
 use crate::steps::{Part, write_event_fault, write_step_fault};
 use crate::verdicts::{write_no_point, write_verdict};
 use crate::writing::Writing;
-use ref_edn::ReadFault;
+use ref_edn::{ReadFault, read_one};
 use ref_events::ScriptFault;
+use ref_forms::maps::{forms_of, map_in, vector_under};
 use ref_plan::PlanFault;
+use ref_plan::planning::declarations::{MOST_DECLARED, declarations};
+use ref_value::Items;
 use ref_verdict::Verdict;
 use ref_verdict::reading::faults::DumpFault;
 use std::alloc::{AllocError, Global};
@@ -79,6 +82,33 @@ fn write_dump(writing: &mut Writing<'_>, fault: DumpFault) -> Result<(), AllocEr
         DumpFault::BadPart(key) => write_bad_part(writing, key),
         DumpFault::BadEntry(number) => write_bad_entry(writing, number),
         DumpFault::Memory => Ok(()),
+    }
+}
+
+// What of the references of a list of events is judged to be wrong, if anything is.
+fn start_fault_of(alloc: Global, text: &[u8]) -> Option<PlanFault> {
+    let value = read_one(alloc, text).ok()?;
+    let entries = map_in(&value)?;
+    let Ok(empty) = Items::of(alloc, Vec::new(alloc)) else {
+        return None;
+    };
+    let refs = forms_of(vector_under(entries, b"refs")?, &empty);
+    let atoms = forms_of(vector_under(entries, b"atoms")?, &empty);
+    let agents = forms_of(vector_under(entries, b"agents")?, &empty);
+    if refs.len() > MOST_DECLARED || atoms.len() > MOST_DECLARED || agents.len() > MOST_DECLARED {
+        return None;
+    }
+    match declarations(alloc, refs, atoms, agents, true) {
+        Ok(_) => None,
+        Err(fault) => Some(fault),
+    }
+}
+
+/// Why no world begins with the references of a list of events, as [`explain`] says it of a workload; nothing where one does.
+pub fn explain_start(alloc: Global, text: &[u8]) -> Result<String, AllocError> {
+    match start_fault_of(alloc, text) {
+        Some(fault) => explain(alloc, text, Mistake::Workload(fault)),
+        None => Ok(String::new(alloc)),
     }
 }
 

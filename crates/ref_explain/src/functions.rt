@@ -2,6 +2,7 @@
 use crate::forms::Form;
 use crate::nearest::{Nearest, with_hint};
 use crate::writing::Writing;
+use ref_calls::{functions, predicates};
 use ref_fun::codes::{ASSOC, AT_LEAST, DEC, DISJ, INC, IS_SOME, PLUS};
 use ref_fun::{code_of, is_function, is_predicate, name_of};
 use std::alloc::{AllocError, Global};
@@ -61,7 +62,9 @@ pub(crate) fn write_no_function(
     let found = nearest_function(writing.alloc, word)?;
     let message = with_hint(writing.alloc, "no function has this name", "", found)?;
     writing.mark(form, message.as_str())?;
-    writing.note("the functions are + - inc dec max min conj assoc dissoc disj")
+    let all = functions(writing.alloc)?;
+    let message = format!(in writing.alloc; "the functions are {all}")?;
+    writing.note(message.as_str())
 }
 
 /// Says that no predicate has a name.
@@ -76,5 +79,7 @@ pub(crate) fn write_no_predicate(
     let found = nearest_predicate(writing.alloc, word)?;
     let message = with_hint(writing.alloc, "no predicate has this name", "", found)?;
     writing.mark(form, message.as_str())?;
-    writing.note("the predicates are >= <= = int? string? vector? map? set? some?")
+    let all = predicates(writing.alloc)?;
+    let message = format!(in writing.alloc; "the predicates are {all}")?;
+    writing.note(message.as_str())
 }

@@ -4,6 +4,7 @@
 //! | Name | Is |
 //! |---|---|
 //! | [`explain`], [`Mistake`] | the explanation of a fault of reading, of a plan, of a list of events or of a dump, or of a verdict |
+//! | [`explain_start`] | why no world begins with the references of a list of events |
 //! | [`explain_refused`], [`Refused`] | the texts of the steps that a run refused |
 //! | [`warnings_of`] | what of a workload can never work |
 //! | [`Remembering`] | a reader that remembers what was read, for the two above |
@@ -36,12 +37,11 @@ mod steps;
 mod surroundings;
 mod verdicts;
 pub mod warnings;
-mod words;
 mod writing;
 
-pub use explaining::{Mistake, explain};
+pub use explaining::{Mistake, explain, explain_start};
 pub use keys::FORMAT_VERSION;
-pub use refusals::{Reason, Refused, explain_refused};
+pub use refusals::{Refused, WrongCall, explain_refused};
 pub use remembering::Remembering;
 pub use reports::{RefusedSteps, Watching};
 pub use warnings::warnings_of;

@@ -1,6 +1,6 @@
 //! Lines and columns.
 ghost use Rattle.std.specs.Prelude.{◌≡◌, ◌≤◌, ◌+◌, ◌^◌, ◌<◌};
-ghost use Rattle.ref_explain.specs.Places.{column_of, goes_on, line_of, next_column};
+ghost use Rattle.ref_explain.specs.Places.{column_at, goes_on, line_at, next_column};
 
 /// Whether a byte goes on in a character that began before it.
 pub(crate) fn goes_on(b: u8) -> bool
@@ -10,8 +10,8 @@ pub(crate) fn goes_on(b: u8) -> bool
 }
 
 /// The line of the place behind these bytes, from 1.
-pub fn line_of(before: &[u8]) -> usize
-    ensures { result ≡ line_of before.now }
+pub fn line_at(before: &[u8]) -> usize
+    ensures { result ≡ line_at before.now }
 {
     before.iter().filter(|b| **b == b'\n').count() + 1
 }
@@ -32,8 +32,8 @@ fn next_column(column: usize, b: u8) -> usize
 
 /// The column of the place behind these bytes, in characters, from 1.
 #[tactic(auto, using(crate::proofs::Columns::column_from_at))]
-pub fn column_of(before: &[u8]) -> usize
-    ensures { result ≡ column_of before.now }
+pub fn column_at(before: &[u8]) -> usize
+    ensures { result ≡ column_at before.now }
 {
     let mut column = 1;
     for b in before {

@@ -4,18 +4,18 @@ use crate::documents::step_of;
 use crate::forms::{Form, Members};
 use crate::functions::{function_of, wrong_count};
 use crate::sentences::{Said, said_in};
-use crate::words::Sentence;
 use crate::writing::Writing;
+use ref_calls::Sentence;
 use std::alloc::{AllocError, Global};
 
 /// So many refused steps, and so many warnings, are shown at most.
 pub const MOST_SHOWN: usize = 10;
 
-/// Why a step was refused, if its text can show it.
+/// What is wrong with a call in a step that was refused, if its text can show it.
 #[derive(Clone, Copy, Debug, Drop, PartialEq, Eq)]
-pub enum Reason {
-    WrongArity,
-    WrongKind,
+pub enum WrongCall {
+    Arity,
+    Kind,
 }
 
 /// A step that was refused.
@@ -23,7 +23,7 @@ pub enum Reason {
 pub struct Refused {
     pub worker: u32,
     pub step: u32,
-    pub reason: Reason,
+    pub wrong: WrongCall,
 }
 
 fn count_of(parts: Members<'_>) -> usize {
@@ -67,8 +67,8 @@ fn write_refused(writing: &mut Writing<'_>, refused: Refused) -> Result<(), Allo
     let Some(form) = step_of(writing.text, worker as usize, step as usize) else {
         return Ok(());
     };
-    match refused.reason {
-        Reason::WrongArity => {
+    match refused.wrong {
+        WrongCall::Arity => {
             let line = format!(in writing.alloc; "refused {worker} {step} wrong-arity")?;
             writing.line(line.as_str())?;
             let bad = match said_in(Sentence::Step, &form) {
@@ -80,7 +80,7 @@ fn write_refused(writing: &mut Writing<'_>, refused: Refused) -> Result<(), Allo
                 None => writing.mark(&form, "a function in it doesn't take so many arguments")?,
             }
         }
-        Reason::WrongKind => {
+        WrongCall::Kind => {
             let line = format!(in writing.alloc; "refused {worker} {step} wrong-kind")?;
             writing.line(line.as_str())?;
             writing.mark(

@@ -1,7 +1,7 @@
 //! A writer that looks for the refused steps of a report.
 ghost use Rattle.std.specs.Prelude.{◌≡◌};
 
-use crate::refusals::{MOST_SHOWN, Reason, Refused};
+use crate::refusals::{MOST_SHOWN, Refused, WrongCall};
 use ref_edn::{Failed, Sink};
 use std::alloc::Global;
 use std::str::from_utf8;
@@ -81,15 +81,15 @@ fn refused_in(line: &[u8]) -> Option<Refused> {
     let line = from_utf8(line).ok()?;
     let (worker, rest) = line.strip_prefix(REFUSED)?.split_once(' ')?;
     let (step, reason) = rest.split_once(' ')?;
-    let reason = match reason {
-        "wrong-arity" => Reason::WrongArity,
-        "wrong-kind" => Reason::WrongKind,
+    let wrong = match reason {
+        "wrong-arity" => WrongCall::Arity,
+        "wrong-kind" => WrongCall::Kind,
         _ => return None,
     };
     Some(Refused {
         worker: worker.parse::<u32>().ok()?,
         step: step.parse::<u32>().ok()?,
-        reason,
+        wrong,
     })
 }
 

@@ -4,8 +4,8 @@ use crate::documents::part_of;
 use crate::forms::{Form, Members};
 use crate::functions::{predicate_of, write_no_predicate};
 use crate::nearest::{Nearest, with_hint};
-use crate::words::{CARRYING, MOST_WORDS, Sentence, Slot, TRANSACTION, Word};
 use crate::writing::Writing;
+use ref_calls::{Sentence, Slot, StepWord, Version, WORDS, Word};
 use ref_fun::{MOST_ARGUMENTS, MOST_NESTED_RESULT};
 use std::alloc::AllocError;
 
@@ -13,13 +13,13 @@ use std::alloc::AllocError;
 #[derive(Clone, Copy, Debug)]
 pub(crate) struct Said<'a> {
     pub form: Form<'a>,
-    pub word: Word,
+    pub word: &'static Word,
     pub rest: Members<'a>,
 }
 
 impl Said<'_> {
     pub fn is_transaction(&self) -> bool {
-        self.word.word == TRANSACTION
+        self.word.stands.step() == Some(StepWord::Tx)
     }
 }
 
@@ -48,8 +48,8 @@ fn nearest_word(
     name: &[u8],
 ) -> Result<Option<&'static str>, AllocError> {
     let mut nearest = Nearest::to(name);
-    for place in 0..MOST_WORDS {
-        if let Some(word) = sentence.word_at(place) {
+    for word in WORDS {
+        if word.begins(sentence) {
             nearest.offer(writing.alloc, word.word)?;
         }
     }
@@ -59,17 +59,27 @@ fn nearest_word(
 // What is said of a word that another sentence has.
 fn elsewhere(sentence: Sentence, name: &[u8]) -> Option<&'static str> {
     match sentence {
-        Sentence::Operation if name == TRANSACTION.as_bytes() => {
-            Some("a transaction can't hold another one")
-        }
-        Sentence::Operation if Sentence::Step.find(name).is_some() => {
-            Some("this is a step, and stands outside of transactions")
-        }
-        Sentence::Step if Sentence::Operation.find(name).is_some() => {
+        Sentence::Operation => match Sentence::Step.find(name)?.stands.step() {
+            Some(StepWord::Tx) => Some("a transaction can't hold another one"),
+            _ => Some("this is a step, and stands outside of transactions"),
+        },
+        Sentence::Step => {
+            let _operation = Sentence::Operation.find(name)?;
             Some("this is an operation, and stands in a transaction: [:tx [:alter a + 1]]")
         }
-        _ => None,
+        Sentence::Act => None,
     }
+}
+
+// Says which words there are.
+fn write_words(writing: &mut Writing<'_>, sentence: Sentence) -> Result<(), AllocError> {
+    if sentence == Sentence::Act {
+        return writing.note("docs/EVENTS.md lists the acts");
+    }
+    let called = sentence.called();
+    let words = sentence.words(writing.alloc)?;
+    let message = format!(in writing.alloc; "the {called}s are {words}")?;
+    writing.note(message.as_str())
 }
 
 fn write_unknown_word(
@@ -86,7 +96,7 @@ fn write_unknown_word(
     let found = nearest_word(writing, sentence, name)?;
     let message = with_hint(writing.alloc, unknown.as_str(), ":", found)?;
     writing.mark(head, message.as_str())?;
-    writing.note(sentence.words())
+    write_words(writing, sentence)
 }
 
 // ---- what stands behind a word
@@ -363,13 +373,14 @@ pub(crate) fn write_bad_form(
         write_no_word(writing, sentence, form)?;
         return Ok(true);
     };
-    if sentence != Sentence::Act && said.word.word == CARRYING && !is_of_version_2(writing) {
+    if sentence != Sentence::Act && said.word.since == Version::Two && !is_of_version_2(writing) {
         writing.mark_start(form, "only a workload of version 2 has this word")?;
         return Ok(true);
     }
     let is_bad = !said.is_transaction() && write_bad_slots(writing, sentence, &said)?;
     if is_bad {
-        let message = format!(in writing.alloc; "it is written {}", said.word.form)?;
+        let written = said.word.written(writing.alloc, sentence)?;
+        let message = format!(in writing.alloc; "it is written {written}")?;
         writing.note(message.as_str())?;
     }
     Ok(is_bad)

@@ -4,8 +4,8 @@ use crate::documents::{Named, names_of, part_of};
 use crate::forms::{Form, Members};
 use crate::refusals::{MOST_SHOWN, bad_count};
 use crate::sentences::{Said, said_in};
-use crate::words::{Sentence, Slot};
 use crate::writing::Writing;
+use ref_calls::{Sentence, Slot};
 use std::alloc::{AllocError, Global};
 
 // The names that are declared, in order.

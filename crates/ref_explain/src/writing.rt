@@ -2,7 +2,7 @@
 use crate::excerpts::{MOST_SHOWN, excerpt_at, head_of, push_plain};
 use crate::forms::{Form, after_form};
 use crate::inside::{from, up_to};
-use crate::places::{column_of, line_of};
+use crate::places::{column_at, line_at};
 use std::alloc::{AllocError, Global};
 
 /// An explanation of what is wrong in a text, as far as it is written.
@@ -58,8 +58,8 @@ impl<'a> Writing<'a> {
     /// Shows the line where the bytes from `start` to `end` begin, and says this of them.
     pub fn mark_at(&mut self, start: usize, end: usize, message: &str) -> Result<(), AllocError> {
         let before = up_to(self.text, start);
-        let number = line_of(before);
-        let column = column_of(before);
+        let number = line_at(before);
+        let column = column_at(before);
         let shown = format!(in self.alloc; "{number}")?;
         self.width = shown.len().saturating_add(1);
         let excerpt = excerpt_at(self.alloc, self.text, start, end)?;

@@ -12,6 +12,7 @@
 //! | [`carrying`] | sends that carry sends |
 //! | [`maps`] | maps with keywords as keys |
 //! | [`marks`] | error modes, and marks that may be left out |
+//! | [`names`] | [`Names`]: the names of refs, atoms and agents, each kind by number |
 //! | [`wrong`] | why a form isn't read |
 //!
 //! Each contract has one clause: `Reads (said form) result`, where `said` is what the form says, or that it says nothing. All are
@@ -23,11 +24,13 @@ pub mod carrying;
 pub mod kinds;
 pub mod maps;
 pub mod marks;
+pub mod names;
 pub mod plain;
 pub mod references;
 pub mod wrong;
 
 pub use calls::{AnyValue, Values};
 pub use kinds::Kind;
+pub use names::Names;
 pub use references::Naming;
 pub use wrong::Wrong;

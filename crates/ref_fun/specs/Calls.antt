@@ -20,18 +20,6 @@ pub record Known : Type 0 where
   pub funs : ℕ → Bool
   pub preds : ℕ → Bool
 
--- ---- numbers
-
-abbrev pub call_fault_number : CallFault → ℕ
-call_fault_number (calls.NoSuchFun code) = 1
-call_fault_number (calls.Refused cause) = 2
-call_fault_number calls.Memory = 3
-
-abbrev pub add_fault_number : AddFault → ℕ
-add_fault_number adds.Taken = 1
-add_fault_number adds.Full = 2
-add_fault_number adds.Memory = 3
-
 -- ---- answers
 
 -- A cause is coded as its number.

@@ -1,7 +1,6 @@
 //! Why a function gives no value.
 ghost use Rattle.std.specs.Prelude.{◌≡◌};
-ghost use Rattle.ref_fun.specs.Calls.{add_fault_number, call_fault_number, call_fault_of};
-ghost use Rattle.ref_fun.specs.Cause.{cause_number};
+ghost use Rattle.ref_fun.specs.Calls.{call_fault_of};
 ghost use Rattle.ref_fun.specs.declared.faults.FunFault.TheVariants.{Refused, Memory};
 
 use std::alloc::AllocError;
@@ -22,20 +21,6 @@ pub enum Cause {
     /// The value would be nested too deep.
     #[error("nested too deep")]
     TooDeep,
-}
-
-impl Cause {
-    /// The number of the cause, from 1 to 4 in the order of the variants.
-    pub fn number(&self) -> u8
-        ensures { result ≡ cause_number self.now }
-    {
-        match self {
-            Cause::WrongKind => 1,
-            Cause::WrongArity => 2,
-            Cause::Overflow => 3,
-            Cause::TooDeep => 4,
-        }
-    }
 }
 
 /// Why a call gave no value.
@@ -75,19 +60,6 @@ pub enum CallFault {
     Memory,
 }
 
-impl CallFault {
-    /// The number of the fault, from 1 to 3 in the order of the variants.
-    pub fn number(&self) -> u8
-        ensures { result ≡ call_fault_number self.now }
-    {
-        match self {
-            CallFault::NoSuchFun(_) => 1,
-            CallFault::Refused(_) => 2,
-            CallFault::Memory => 3,
-        }
-    }
-}
-
 impl From<FunFault> for CallFault {
     ghost from_gives = { λ e f. f ≡ call_fault_of e };
 
@@ -110,17 +82,4 @@ pub enum AddFault {
     Full,
     #[error("out of memory")]
     Memory,
-}
-
-impl AddFault {
-    /// The number of the fault, from 1 to 3 in the order of the variants.
-    pub fn number(&self) -> u8
-        ensures { result ≡ add_fault_number self.now }
-    {
-        match self {
-            AddFault::Taken => 1,
-            AddFault::Full => 2,
-            AddFault::Memory => 3,
-        }
-    }
 }

@@ -2,7 +2,7 @@
 use Rattle.std.proofs.Common.{◌≡◌, ◌∙◌, ℕ, ◌==◌, Bool, true, false, List, [], ◌∷◌, ◌++◌, length, refl, ap, arith, append_assoc, codes}
 use Rattle.std.proofs.lemmas.Bool.Decides.{nat_tests}
 use Rattle.ref_fun.specs.declared.carries.Carry.{Carry}
-use Rattle.ref_start.specs.Names.{NamesSeen}
+use Rattle.ref_forms.specs.Names.{NamesSeen}
 use Rattle.ref_history.specs.Shown.{bracketed, carrying_head, carrying_send, carrying_text, plain_send}
 
 pub carrying_none : (names : NamesSeen) (agent call : List ℕ) (carries : List Carry) → (length carries == 0) ≡ true → carrying_text names agent call carries ≡ plain_send agent call

@@ -4,7 +4,7 @@ use Rattle.ref_fun.specs.Core.{core_means}
 use Rattle.ref_log.specs.Replay.{step}
 use Rattle.ref_log.specs.declared.entries.Entry.{Entry}
 use Rattle.ref_log.specs.declared.states.PlainState.{PlainState}
-use Rattle.ref_start.specs.Names.{NamesSeen}
+use Rattle.ref_forms.specs.Names.{NamesSeen}
 use Rattle.ref_history.specs.Changes.{change_line, changes_from, line_between}
 use Rattle.ref_history.specs.History.{chosen_from, entry_line, lines_from}
 use Rattle.ref_history.specs.Places.{is_chosen, place_after}

@@ -23,7 +23,7 @@ use Rattle.ref_log.specs.declared.notices.Who.{Who}
 use Rattle.ref_log.specs.declared.notices.Who.TheVariants as whos
 use Rattle.ref_log.specs.declared.operations.Done.{Done}
 use Rattle.ref_log.specs.declared.states.PlainState.{PlainState}
-use Rattle.ref_start.specs.Names.{NamesSeen}
+use Rattle.ref_forms.specs.Names.{NamesSeen}
 use Rattle.ref_verdict.specs.declared.reading.dumps.Dump.{Dump}
 use Rattle.ref_history.specs.History.{chosen_from, count_line, made_text, stamp_text}
 use Rattle.ref_history.specs.Places.{first_place, is_chosen, place_after}

@@ -13,7 +13,7 @@ use Rattle.ref_log.specs.declared.entries.Entry.TheVariants.{Trans, Atom, MadeRe
 use Rattle.ref_log.specs.declared.entries.Transaction.{Transaction}
 use Rattle.ref_log.specs.declared.notices.Who.{Who}
 use Rattle.ref_log.specs.declared.notices.Who.TheVariants as whos
-use Rattle.ref_start.specs.Names.{NamesSeen}
+use Rattle.ref_forms.specs.Names.{NamesSeen}
 use Rattle.ref_verdict.specs.declared.reading.dumps.Dump.{Dump}
 use Rattle.ref_history.specs.Places.{first_place, is_chosen, place_after}
 use Rattle.ref_history.specs.Shown.{answered_text, arrow, atom_word, done_text, newline, reference_text, send_text, space}

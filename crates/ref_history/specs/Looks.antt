@@ -2,7 +2,7 @@
 use Rattle.std.specs.Prelude.{ℕ, List, Result, Ok, Err}
 use Rattle.ref_log.specs.declared.faults.AuditFault.{AuditFault}
 use Rattle.ref_log.specs.declared.states.PlainState.{PlainState}
-use Rattle.ref_start.specs.Names.{NamesSeen}
+use Rattle.ref_forms.specs.Names.{NamesSeen}
 use Rattle.ref_verdict.specs.declared.reading.dumps.Dump.{Dump}
 use Rattle.ref_history.specs.Changes.{changes_text}
 use Rattle.ref_history.specs.History.{history_text}

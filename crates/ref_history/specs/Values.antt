@@ -9,7 +9,7 @@ use Rattle.ref_fun.specs.Core.{core_means}
 use Rattle.ref_log.specs.Replay.{point_after, replay}
 use Rattle.ref_log.specs.declared.faults.AuditFault.{AuditFault}
 use Rattle.ref_log.specs.declared.states.PlainState.{PlainState}
-use Rattle.ref_start.specs.Names.{NamesSeen}
+use Rattle.ref_forms.specs.Names.{NamesSeen}
 use Rattle.ref_verdict.specs.declared.reading.dumps.Dump.{Dump}
 use Rattle.ref_history.specs.Shown.{newline, space}
 

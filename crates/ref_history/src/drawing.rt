@@ -8,7 +8,7 @@ use crate::drawing::boxes::{append_picture, colour};
 use crate::drawing::escaping::append_escaped;
 use crate::drawing::frames::{Frame, MOST_DRAWN, Part};
 use crate::drawing::tallies::{Tally, tallies_of};
-use ref_start::Names;
+use ref_forms::Names;
 use ref_verdict::reading::dumps::Dump;
 use std::alloc::{AllocError, Global};
 

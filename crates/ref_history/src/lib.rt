@@ -12,7 +12,7 @@
 //! | [`page`] | a page in HTML: a picture of the entries of a [`Part`], and a table of the refs |
 //! | [`text_of`] | each of these but a page, by a [`Look`] |
 //!
-//! References are printed by the [`Names`](ref_start::Names) that a caller has, or as `ref 3`. All are linear in the dump and in what is
+//! References are printed by the [`Names`](ref_forms::Names) that a caller has, or as `ref 3`. All are linear in the dump and in what is
 //! printed, but for the functions that a replay calls.
 #![tactic(auto)]
 

@@ -9,9 +9,9 @@ use crate::change_lines::changes;
 use crate::entry_lines::history;
 use crate::places::Choice;
 use crate::values::{values_at, values_text};
+use ref_forms::Names;
 use ref_fun::{Core, Functions};
 use ref_log::AuditFault;
-use ref_start::Names;
 use ref_verdict::reading::dumps::Dump;
 use std::alloc::Global;
 

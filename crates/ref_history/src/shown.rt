@@ -6,9 +6,9 @@ ghost use Rattle.ref_history.specs.Shown.{answered_text, atom_word, bracketed, c
 
 use itoa::Buffer;
 use ref_edn::print;
+use ref_forms::Names;
 use ref_fun::{Carry, name_of};
 use ref_log::{Done, Op, Sent, Who};
-use ref_start::Names;
 use ref_value::{Text, Value};
 use std::alloc::{AllocError, Global};
 

@@ -7,9 +7,9 @@ ghost use Rattle.ref_history.specs.Values.{has_point, value_line, value_lines, v
 
 use crate::shown::append_number;
 use ref_edn::print;
+use ref_forms::Names;
 use ref_fun::{Core, Functions};
 use ref_log::{AuditFault, PlainState, replay_plain};
-use ref_start::Names;
 use ref_value::{Text, Value};
 use ref_verdict::reading::dumps::Dump;
 use std::alloc::{AllocError, Global};

@@ -1,8 +1,7 @@
--- To be read and believed: Limits, Told (what a refused call returns), Replay, Tally, Fold, Watches, Guards, Make, Faults.
+-- To be read and believed: Limits, Told (what a refused call returns), Replay, Tally, Fold, Watches, Guards, Make.
 -- Laws, TallyLaws, FoldLaws and Called are proved, for the owner of a log.
 pub mod Limits
 pub mod Told
-pub mod Faults
 pub mod Replay
 pub mod Tally
 pub mod Fold

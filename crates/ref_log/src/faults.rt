@@ -1,6 +1,5 @@
 //! Why a log has no replay, and why a store of references refuses what can be asked of each kind.
 ghost use Rattle.std.specs.Prelude.{◌≡◌};
-ghost use Rattle.ref_log.specs.Faults.{audit_fault_number, make_fault_number, rule_fault_number, watch_fault_number};
 ghost use Rattle.ref_log.specs.declared.faults.AuditFault.TheVariants.{Memory};
 ghost use Rattle.ref_log.specs.declared.faults.MakeFault.TheVariants as makes;
 ghost use Rattle.ref_log.specs.declared.faults.WatchFault.TheVariants as watches;
@@ -75,42 +74,11 @@ pub enum WatchFault {
     Memory,
 }
 
-impl AuditFault {
-    /// The number of the fault, from 1 to 4 in the order of the variants, and 9 where the table lacks a function.
-    pub fn number(&self) -> u8
-        ensures { result ≡ audit_fault_number self.now }
-    {
-        match self {
-            AuditFault::Answer(_) => 1,
-            AuditFault::Refuses(_) => 2,
-            AuditFault::NoSuch(_) => 3,
-            AuditFault::Memory => 4,
-            AuditFault::NoSuchFun(_) => 9,
-        }
-    }
-}
-
 impl From<AllocError> for AuditFault {
     ghost from_gives = { λ _ f. f ≡ Memory };
 
     fn from(_e: AllocError) -> AuditFault {
         AuditFault::Memory
-    }
-}
-
-impl MakeFault {
-    /// The number of the fault: its place in the order of the tests, and 9 where the table lacks a predicate.
-    pub fn number(&self) -> u8
-        ensures { result ≡ make_fault_number self.now }
-    {
-        match self {
-            MakeFault::Full => 1,
-            MakeFault::BadTally => 2,
-            MakeFault::Invalid => 3,
-            MakeFault::PointLimit => 4,
-            MakeFault::Memory => 5,
-            MakeFault::NoSuchFun(_) => 9,
-        }
     }
 }
 
@@ -127,32 +95,6 @@ impl<T: Drop> From<AllocFailed<T>> for MakeFault {
 
     fn from(_e: AllocFailed<T>) -> MakeFault {
         MakeFault::Memory
-    }
-}
-
-impl RuleFault {
-    /// The number of the fault.
-    pub fn number(&self) -> u8
-        ensures { result ≡ rule_fault_number self.now }
-    {
-        match self {
-            RuleFault::NoSuch => 1,
-            RuleFault::Invalid => 2,
-            RuleFault::Memory => 3,
-            RuleFault::NoSuchFun(_) => 9,
-        }
-    }
-}
-
-impl WatchFault {
-    /// The number of the fault.
-    pub fn number(&self) -> u8
-        ensures { result ≡ watch_fault_number self.now }
-    {
-        match self {
-            WatchFault::NoSuch => 1,
-            WatchFault::Memory => 2,
-        }
     }
 }
 

@@ -5,7 +5,7 @@ use Rattle.std.proofs.Common.{arith}
 use Rattle.ref_value.specs.Names.{bytes_eq}
 use Rattle.ref_log.specs.declared.notices.Who.{Who}
 use Rattle.ref_log.specs.declared.notices.Who.TheVariants.{Ref, Atom, Agent}
-use Rattle.ref_start.specs.Names.{NamesSeen}
+use Rattle.ref_forms.specs.Names.{NamesSeen}
 use Rattle.ref_plan.specs.Named.{IsNamed, or_else, place_of, who_named}
 
 both : (a b : Bool) → (a && b) ≡ true → (a ≡ true) × (b ≡ true)

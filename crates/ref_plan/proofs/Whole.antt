@@ -1,10 +1,10 @@
 -- What a value that isn't taken as a workload would have to be.
-use Rattle.std.proofs.Common.{◌≡◌, ℕ, List, None, Some, refl, sym, ◌∙◌, subst}
+use Rattle.std.proofs.Common.{◌≡◌, ℕ, true, List, None, Some, refl, sym, ◌∙◌, subst}
 use Rattle.ref_value.specs.Edn.{Edn}
-use Rattle.ref_start.specs.Names.{NamesSeen}
-use Rattle.ref_start.specs.declared.starts.AgentStart.{AgentStart}
-use Rattle.ref_start.specs.declared.starts.AtomStart.{AtomStart}
-use Rattle.ref_start.specs.declared.starts.RefStart.{RefStart}
+use Rattle.ref_forms.specs.Names.{NamesSeen}
+use Rattle.ref_agents.specs.declared.starts.AgentStart.{AgentStart}
+use Rattle.ref_agents.specs.declared.starts.AtomStart.{AtomStart}
+use Rattle.ref_agents.specs.declared.starts.RefStart.{RefStart}
 use Rattle.ref_forms.specs.Plain.{all_said, forms_under, map_said}
 use Rattle.ref_plan.specs.Declarations.{AreReferences}
 use Rattle.ref_plan.specs.Laws.{one_names}
@@ -12,8 +12,8 @@ use Rattle.ref_plan.specs.Plan.{PlanSeen}
 use Rattle.ref_plan.specs.Steps.{worker_of}
 use Rattle.ref_plan.specs.Words.{agents_word, atoms_word, refs_word, workers_word}
 use Rattle.ref_plan.specs.Workload.{HasParts, HasReferences, IsWorkload, version_form}
-use Rattle.ref_plan.specs.declared.versions.Version.{Version}
-use Rattle.ref_plan.specs.declared.versions.Version.TheVariants.{One, Two}
+use Rattle.ref_calls.specs.declared.words.Version.{Version}
+use Rattle.ref_calls.specs.declared.words.Version.TheVariants.{One, Two}
 
 one_version : (a b : Version) → version_form a ≡ version_form b → a ≡ b
 one_version One One e = refl
@@ -43,17 +43,17 @@ module _ (x : Edn) (entries : List (Edn × Edn)) (is_map : map_said x ≡ Some e
 
   module _ (refs atoms agents workers : List Edn) (is_refs : refs ≡ forms_under entries refs_word) (is_atoms : atoms ≡ forms_under entries atoms_word)
       (is_agents : agents ≡ forms_under entries agents_word) (is_workers : workers ≡ forms_under entries workers_word) where
-    its_references : AreReferences refs atoms agents p.names p.refs p.atoms p.agents
+    its_references : AreReferences true refs atoms agents p.names p.refs p.atoms p.agents
     its_references =
         let its : HasReferences entries p = subst (λ es. HasReferences es p) same_entries w.references in
-        subst (λ l. AreReferences l atoms agents p.names p.refs p.atoms p.agents) (sym is_refs)
-        (subst (λ l. AreReferences (forms_under entries refs_word) l agents p.names p.refs p.atoms p.agents) (sym is_atoms)
-        (subst (λ l. AreReferences (forms_under entries refs_word) (forms_under entries atoms_word) l p.names p.refs p.atoms p.agents) (sym is_agents) its))
+        subst (λ l. AreReferences true l atoms agents p.names p.refs p.atoms p.agents) (sym is_refs)
+        (subst (λ l. AreReferences true (forms_under entries refs_word) l agents p.names p.refs p.atoms p.agents) (sym is_atoms)
+        (subst (λ l. AreReferences true (forms_under entries refs_word) (forms_under entries atoms_word) l p.names p.refs p.atoms p.agents) (sym is_agents) its))
 
-    pub no_workers : (version : Version) (pool : ℕ) → HasParts entries version pool → (names : NamesSeen) (rs : List RefStart) (cells : List AtomStart) (gs : List AgentStart) → AreReferences refs atoms agents names rs cells gs
+    pub no_workers : (version : Version) (pool : ℕ) → HasParts entries version pool → (names : NamesSeen) (rs : List RefStart) (cells : List AtomStart) (gs : List AgentStart) → AreReferences true refs atoms agents names rs cells gs
         → all_said (worker_of version names) workers ≡ None → ⊥
     no_workers version pool has names rs cells gs known none =
-        let same = one_names refs atoms agents p.names names p.refs rs p.atoms cells p.agents gs its_references known in
+        let same = one_names true refs atoms agents p.names names p.refs rs p.atoms cells p.agents gs its_references known in
         let its : all_said (worker_of w.version p.names) (forms_under entries workers_word) ≡ Some p.workers = subst (λ es. all_said (worker_of w.version p.names) (forms_under es workers_word) ≡ Some p.workers) same_entries w.workers in
         let here : all_said (worker_of w.version p.names) workers ≡ Some p.workers = subst (λ l. all_said (worker_of w.version p.names) l ≡ Some p.workers) (sym is_workers) its in
         let named : all_said (worker_of w.version names) workers ≡ Some p.workers = subst (λ n. all_said (worker_of w.version n) workers ≡ Some p.workers) same here in

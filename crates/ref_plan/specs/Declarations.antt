@@ -1,5 +1,8 @@
 -- How references are declared: `[NAME VALUE]`, then RULE where there is one, and then, for a ref, `:tally` where it is the tally, or,
--- for an agent, `:fail` or `:continue`, its error mode. A rule accepts the value.
+-- for an agent, `:fail` or `:continue`, its error mode.
+--
+-- What a reference begins with may be judged: then its rule accepts the value, and the tally, of which there is at most one, is an
+-- integer of 0 or more. Of a workload it is judged. Of a list of events it isn't: there a world that can't begin so is a reply.
 use Rattle.std.specs.Prelude.{◌≡◌, ◌≤◌, ◌&&◌, ℕ, Bool, true, false, not, ◌||◌, List, [], ◌∷◌, Option, None, Some, count_by, option_and_then, option_map}
 use Rattle.ref_value.specs.Edn.{Edn, keyword, keyword_of, symbol_of}
 use Rattle.ref_value.specs.Names.{bytes_eq}
@@ -9,10 +12,10 @@ use Rattle.ref_fun.specs.Core.{core_accepts}
 use Rattle.ref_fun.specs.Rule.{passes}
 use Rattle.ref_fun.specs.declared.rules.Rule.{Rule}
 use Rattle.ref_log.specs.Tally.{is_count}
-use Rattle.ref_start.specs.declared.starts.AgentStart.{AgentStart}
-use Rattle.ref_start.specs.declared.starts.AtomStart.{AtomStart}
-use Rattle.ref_start.specs.declared.starts.RefStart.{RefStart}
-use Rattle.ref_start.specs.Names.{NamesSeen}
+use Rattle.ref_agents.specs.declared.starts.AgentStart.{AgentStart}
+use Rattle.ref_agents.specs.declared.starts.AtomStart.{AtomStart}
+use Rattle.ref_agents.specs.declared.starts.RefStart.{RefStart}
+use Rattle.ref_forms.specs.Names.{NamesSeen}
 use Rattle.ref_forms.specs.Calls.{mode_named, rule_said, value_said}
 use Rattle.ref_forms.specs.Plain.{both, elements_of, only_if}
 use Rattle.ref_plan.specs.Limits.{is_shallow}
@@ -64,13 +67,13 @@ abbrev pub tally_said : Option (List ℕ) → Option Bool
 tally_said None = Some false
 tally_said (Some word) = only_if (bytes_eq word tally_word) true
 
-abbrev pub ref_with : Declaration → Bool → Option (List ℕ × RefStart)
-ref_with d tally =
-    only_if ((not tally || is_count (d.value ∷ [])) && is_accepted d)
+abbrev pub ref_with : Bool → Declaration → Bool → Option (List ℕ × RefStart)
+ref_with judged d tally =
+    only_if (not judged || ((not tally || is_count (d.value ∷ [])) && is_accepted d))
     (d.name, record { value = d.value; rule = d.rule; tally = tally })
 
-abbrev pub ref_of : Edn → Option (List ℕ × RefStart)
-ref_of x = option_and_then (λ d. option_and_then (ref_with d) (tally_said d.mark)) (declaration_of x)
+abbrev pub ref_of : Bool → Edn → Option (List ℕ × RefStart)
+ref_of judged x = option_and_then (λ d. option_and_then (ref_with judged d) (tally_said d.mark)) (declaration_of x)
 
 -- ---- atoms
 
@@ -78,11 +81,11 @@ abbrev pub no_mark : Option (List ℕ) → Bool
 no_mark None = true
 no_mark (Some word) = false
 
-abbrev pub atom_with : Declaration → Option (List ℕ × AtomStart)
-atom_with d = only_if (no_mark d.mark && is_accepted d) (d.name, record { value = d.value; rule = d.rule })
+abbrev pub atom_with : Bool → Declaration → Option (List ℕ × AtomStart)
+atom_with judged d = only_if (no_mark d.mark && (not judged || is_accepted d)) (d.name, record { value = d.value; rule = d.rule })
 
-abbrev pub atom_of : Edn → Option (List ℕ × AtomStart)
-atom_of x = option_and_then atom_with (declaration_of x)
+abbrev pub atom_of : Bool → Edn → Option (List ℕ × AtomStart)
+atom_of judged x = option_and_then (atom_with judged) (declaration_of x)
 
 -- ---- agents
 
@@ -91,11 +94,11 @@ abbrev pub mode_marked : Option (List ℕ) → Option ErrorMode
 mode_marked None = Some Fail
 mode_marked (Some word) = mode_named word
 
-abbrev pub agent_with : Declaration → ErrorMode → Option (List ℕ × AgentStart)
-agent_with d mode = only_if (is_accepted d) (d.name, record { value = d.value; rule = d.rule; mode = mode })
+abbrev pub agent_with : Bool → Declaration → ErrorMode → Option (List ℕ × AgentStart)
+agent_with judged d mode = only_if (not judged || is_accepted d) (d.name, record { value = d.value; rule = d.rule; mode = mode })
 
-abbrev pub agent_of : Edn → Option (List ℕ × AgentStart)
-agent_of x = option_and_then (λ d. option_and_then (agent_with d) (mode_marked d.mark)) (declaration_of x)
+abbrev pub agent_of : Bool → Edn → Option (List ℕ × AgentStart)
+agent_of judged x = option_and_then (λ d. option_and_then (agent_with judged d) (mode_marked d.mark)) (declaration_of x)
 
 -- ---- all
 
@@ -105,10 +108,14 @@ AreDeclared said [] [] [] = Unit {0}
 AreDeclared said (x ∷ xs) (name ∷ names) (start ∷ starts) = (said x ≡ Some (name, start)) × AreDeclared said xs names starts
 AreDeclared said xs names starts = ⊥
 
--- The references of a workload, with their names: no two have one name, and at most one ref is the tally.
-pub record AreReferences (ref_forms atom_forms agent_forms : List Edn) (names : NamesSeen) (refs : List RefStart) (atoms : List AtomStart) (agents : List AgentStart) : Type 0 where
-  pub refs_are : AreDeclared ref_of ref_forms names.refs refs
-  pub atoms_are : AreDeclared atom_of atom_forms names.atoms atoms
-  pub agents_are : AreDeclared agent_of agent_forms names.agents agents
+-- how many of these refs are judged to be the tally
+abbrev pub tallies : Bool → List RefStart → ℕ
+tallies judged refs = count_by (λ s. judged && s.tally) refs
+
+-- The references that these forms declare, with their names: no two have one name, and at most one ref is judged to be the tally.
+pub record AreReferences (judged : Bool) (ref_forms atom_forms agent_forms : List Edn) (names : NamesSeen) (refs : List RefStart) (atoms : List AtomStart) (agents : List AgentStart) : Type 0 where
+  pub refs_are : AreDeclared (ref_of judged) ref_forms names.refs refs
+  pub atoms_are : AreDeclared (atom_of judged) atom_forms names.atoms atoms
+  pub agents_are : AreDeclared (agent_of judged) agent_forms names.agents agents
   pub apart : AreApart names
-  pub one_tally : count_by (λ s. s.tally) refs ≤ 1
+  pub one_tally : tallies judged refs ≤ 1

@@ -1,10 +1,10 @@
 -- Laws of Declarations, for a proof: forms declare one list of names.
-use Rattle.std.proofs.Common.{◌≡◌, ℕ, List, [], ◌∷◌, Option, None, Some, refl, sym, ◌∙◌, ap}
+use Rattle.std.proofs.Common.{◌≡◌, ℕ, Bool, List, [], ◌∷◌, Option, None, Some, refl, sym, ◌∙◌, ap}
 use Rattle.ref_value.specs.Edn.{Edn}
-use Rattle.ref_start.specs.Names.{NamesSeen}
-use Rattle.ref_start.specs.declared.starts.AgentStart.{AgentStart}
-use Rattle.ref_start.specs.declared.starts.AtomStart.{AtomStart}
-use Rattle.ref_start.specs.declared.starts.RefStart.{RefStart}
+use Rattle.ref_forms.specs.Names.{NamesSeen}
+use Rattle.ref_agents.specs.declared.starts.AgentStart.{AgentStart}
+use Rattle.ref_agents.specs.declared.starts.AtomStart.{AtomStart}
+use Rattle.ref_agents.specs.declared.starts.RefStart.{RefStart}
 use Rattle.ref_plan.specs.Declarations.{AreDeclared, AreReferences, agent_of, atom_of, ref_of}
 
 -- a form declares one name and one start
@@ -38,10 +38,10 @@ module _ {S : Type 0} (said : Edn → Option (List ℕ × S)) where
   same_names (x ∷ xs) (n ∷ ns) (m ∷ ms) (s ∷ ss) (t ∷ ts) p q = λ i. (one_said (said x) n m s t p.0 q.0).0 i ∷ same_names xs ns ms ss ts p.1 q.1 i
 
 -- references have one list of names
-pub one_names : (xs ys zs : List Edn) (ns ms : NamesSeen) (rs rs' : List RefStart) (cells cells' : List AtomStart) (gs gs' : List AgentStart)
-    → AreReferences xs ys zs ns rs cells gs → AreReferences xs ys zs ms rs' cells' gs' → ns ≡ ms
-one_names xs ys zs ns ms rs rs' cells cells' gs gs' p q =
-    let refs = same_names ref_of xs ns.refs ms.refs rs rs' p.refs_are q.refs_are in
-    let atoms = same_names atom_of ys ns.atoms ms.atoms cells cells' p.atoms_are q.atoms_are in
-    let agents = same_names agent_of zs ns.agents ms.agents gs gs' p.agents_are q.agents_are in
+pub one_names : (judged : Bool) (xs ys zs : List Edn) (ns ms : NamesSeen) (rs rs' : List RefStart) (cells cells' : List AtomStart) (gs gs' : List AgentStart)
+    → AreReferences judged xs ys zs ns rs cells gs → AreReferences judged xs ys zs ms rs' cells' gs' → ns ≡ ms
+one_names judged xs ys zs ns ms rs rs' cells cells' gs gs' p q =
+    let refs = same_names (ref_of judged) xs ns.refs ms.refs rs rs' p.refs_are q.refs_are in
+    let atoms = same_names (atom_of judged) ys ns.atoms ms.atoms cells cells' p.atoms_are q.atoms_are in
+    let agents = same_names (agent_of judged) zs ns.agents ms.agents gs gs' p.agents_are q.agents_are in
     λ i. record { refs = refs i; atoms = atoms i; agents = agents i }

@@ -1,7 +1,5 @@
--- To be read and believed: Plan, Workload with what it cites (Declarations, Steps, Operations, Named, Words, Limits), and PlanFaults,
--- which has numbers. Laws are proved. Tables is for private functions. What plain forms say stands in ref_forms.
+-- To be read and believed: Plan, Workload with what it cites (Declarations, Steps, Operations, Named, Words, Limits). Laws are proved. Tables is for private functions. What plain forms say stands in ref_forms.
 pub mod Plan
-pub mod PlanFaults
 pub mod Words
 pub mod Limits
 pub mod Named

@@ -2,7 +2,7 @@
 use Rattle.std.specs.Prelude.{◌≡◌, ℕ, suc, if◌then◌else◌, List, [], ◌∷◌, Option, None, Some, option_and_then, option_map, slice_get}
 use Rattle.ref_value.specs.Edn.{Edn, symbol_of}
 use Rattle.ref_value.specs.Names.{bytes_eq}
-use Rattle.ref_start.specs.Names.{NamesSeen}
+use Rattle.ref_forms.specs.Names.{NamesSeen}
 use Rattle.ref_log.specs.declared.notices.Who.{Who}
 use Rattle.ref_log.specs.declared.notices.Who.TheVariants.{Ref, Atom, Agent}
 

@@ -2,7 +2,7 @@
 use Rattle.std.specs.Prelude.{◌≡◌, ℕ, [], List, Option, None, Some, cond, nat_eq}
 use Rattle.std.specs.Cmp.Lexicographic.{pointwise}
 use Rattle.std.specs.Map.{lookup}
-use Rattle.ref_start.specs.Names.{NamesSeen}
+use Rattle.ref_forms.specs.Names.{NamesSeen}
 use Rattle.ref_log.specs.declared.notices.Who.{Who}
 use Rattle.ref_plan.specs.Named.{IsNamed}
 

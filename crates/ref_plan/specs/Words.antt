@@ -1,50 +1,6 @@
--- The words that stand in workloads, each a keyword. Those of error modes and of `:clear` stand in ref_forms.
+-- The words that stand in workloads, each a keyword. Those that steps and operations begin with stand in ref_calls, those of error modes
+-- and of `:clear` in ref_forms.
 use Rattle.std.specs.Prelude.{ℕ, List, [], ◌∷◌, codes}
-
--- what an operation begins with
-abbrev pub set_word : List ℕ
-set_word = codes "set"
-
-abbrev pub alter_word : List ℕ
-alter_word = codes "alter"
-
-abbrev pub commute_word : List ℕ
-commute_word = codes "commute"
-
-abbrev pub ensure_word : List ℕ
-ensure_word = codes "ensure"
-
-abbrev pub require_word : List ℕ
-require_word = codes "require"
-
--- operations and steps
-abbrev pub send_word : List ℕ
-send_word = codes "send"
-
-abbrev pub send_carry_word : List ℕ
-send_carry_word = codes "send-carry"
-
--- what a step begins with
-abbrev pub tx_word : List ℕ
-tx_word = codes "tx"
-
-abbrev pub swap_word : List ℕ
-swap_word = codes "swap"
-
-abbrev pub reset_word : List ℕ
-reset_word = codes "reset"
-
-abbrev pub cas_word : List ℕ
-cas_word = codes "cas"
-
-abbrev pub restart_word : List ℕ
-restart_word = codes "restart"
-
-abbrev pub mode_word : List ℕ
-mode_word = codes "mode"
-
-abbrev pub validator_word : List ℕ
-validator_word = codes "validator"
 
 -- behind the rule of a ref: that it is the tally
 abbrev pub tally_word : List ℕ

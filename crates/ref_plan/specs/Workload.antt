@@ -17,8 +17,8 @@ use Rattle.ref_plan.specs.Declarations.{AreReferences}
 use Rattle.ref_plan.specs.Limits.{most_pool, most_declared, most_steps, most_workers}
 use Rattle.ref_plan.specs.Plan.{PlanSeen}
 use Rattle.ref_plan.specs.Steps.{worker_of}
-use Rattle.ref_plan.specs.declared.versions.Version.{Version}
-use Rattle.ref_plan.specs.declared.versions.Version.TheVariants.{One, Two}
+use Rattle.ref_calls.specs.declared.words.Version.{Version}
+use Rattle.ref_calls.specs.declared.words.Version.TheVariants.{One, Two}
 use Rattle.ref_plan.specs.Words.{agents_word, atoms_word, known_words, pool_word, refs_word, version_word, workers_word}
 
 -- the number of threads for actions, 2 where it is left out
@@ -79,7 +79,7 @@ pub record HasForm (x : Edn) : Type 0 where
 -- the references that the entries declare
 abbrev pub HasReferences : List (Edn × Edn) → PlanSeen → Type 0
 HasReferences entries plan =
-    AreReferences (forms_under entries refs_word) (forms_under entries atoms_word) (forms_under entries agents_word)
+    AreReferences true (forms_under entries refs_word) (forms_under entries atoms_word) (forms_under entries agents_word)
     plan.names plan.refs plan.atoms plan.agents
 
 pub record IsWorkload (x : Edn) (plan : PlanSeen) : Type 0 where

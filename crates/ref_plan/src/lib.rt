@@ -1,14 +1,13 @@
 //! Workloads as plans: what the text of a workload says must be run.
 //!
 //! [`plan::plan`] tests that a value is a workload (docs/WORKLOADS.md), numbers its names, and returns a [`Plan`]. `ref_workload` runs
-//! plans; this crate needs no world for them.
+//! plans; this crate needs no world for them. `ref_calls` has the words that steps and operations begin with.
 //!
 //! | Type | Is |
 //! |---|---|
 //! | [`Plan`] | the references that are declared, with their names, the steps of each worker, and the size of the pool |
 //! | [`Step`] | what a worker does next |
 //! | [`PlannedOp`] | one operation of a transaction |
-//! | [`Version`] | which version of the form it has |
 //! | [`PlanFault`] | why a value is no workload |
 //!
 //! Planning is linear in the text, but for the look-ups of names. Guaranteed: a plan that is returned is what the workload says, and a
@@ -23,4 +22,3 @@ pub mod versions;
 
 pub use plan_faults::PlanFault;
 pub use plans::{Plan, PlannedOp, Step};
-pub use versions::Version;

@@ -33,7 +33,7 @@ pub fn plan(alloc: Global, value: &Value) -> Result<Plan, PlanFault>
     let atoms = forms_of(parts.atoms, &empty);
     let agents = forms_of(parts.agents, &empty);
     let forms = forms_of(parts.workers, &empty);
-    let (declared, start) = declarations(alloc, refs, atoms, agents)?;
+    let (declared, start) = declarations(alloc, refs, atoms, agents, true)?;
     match workers(alloc, parts.version, &declared, forms) {
         Ok(workers) => Ok(Plan::of(declared.into_names(), start, workers, parts.pool)),
         Err(fault) => Err(fault),

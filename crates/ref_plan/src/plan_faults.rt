@@ -1,6 +1,5 @@
 //! Why a value is no workload.
 ghost use Rattle.std.specs.Prelude.{◌≡◌};
-ghost use Rattle.ref_plan.specs.PlanFaults.{number_of};
 ghost use Rattle.ref_plan.specs.declared.plan_faults.PlanFault.TheVariants.{Memory};
 
 use ref_log::Who;
@@ -57,27 +56,6 @@ fn kind_of(who: &Who) -> &'static str {
 fn position_of(who: &Who) -> u32 {
     match who {
         Who::Ref(n) | Who::Atom(n) | Who::Agent(n) => *n,
-    }
-}
-
-impl PlanFault {
-    /// The number of the fault.
-    pub fn number(&self) -> u8
-        ensures { result ≡ number_of self.now }
-    {
-        match self {
-            PlanFault::NotWorkload => 1,
-            PlanFault::BadVersion => 2,
-            PlanFault::BadReference(_) => 3,
-            PlanFault::NameTwice(_) => 4,
-            PlanFault::StartInvalid(_) => 5,
-            PlanFault::BadTally(_) => 6,
-            PlanFault::BadStep { .. } => 7,
-            PlanFault::UnknownName { .. } => 8,
-            PlanFault::UnknownFun { .. } => 9,
-            PlanFault::TooMany => 10,
-            PlanFault::Memory => 11,
-        }
     }
 }
 

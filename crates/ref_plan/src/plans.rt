@@ -1,10 +1,10 @@
 //! Plans: what a workload says must be run.
 ghost use Rattle.std.specs.Prelude.{◌≡◌};
 
-use ref_agents::ErrorMode;
+use ref_agents::{ErrorMode, Start};
+use ref_forms::Names;
 use ref_fun::{Action, Rule};
 use ref_log::{Op, Sent, SharedVec, Who};
-use ref_start::{Names, Start};
 use ref_value::Value;
 use std::marker::Model;
 

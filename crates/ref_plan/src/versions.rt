@@ -3,13 +3,7 @@ ghost use Rattle.std.specs.Prelude.{◌≡◌, IfNone, IfSome};
 ghost use Rattle.ref_value.specs.Edn.{int};
 ghost use Rattle.ref_plan.specs.Workload.{version_form};
 
-/// The version of a workload.
-#[derive(Clone, Copy, Debug, Drop, PartialEq, Eq)]
-pub enum Version {
-    One,
-    /// An action may carry sends.
-    Two,
-}
+use ref_calls::Version;
 
 /// The version of this number, if there is one.
 pub fn version_numbered(n: i64) -> Option<Version>

@@ -51,6 +51,7 @@ use Rattle.ref_play.specs.Given.{accepted, action_of, carried_by, carried_out, c
 use Rattle.ref_play.proofs.Given.{each-length, given_freed, given_sends, see_more, seen_freed, seen_same}
 use Rattle.ref_play.proofs.Carried.{carried_changed, carried_commit, carried_made, carried_outside, carried_restarted, carrying_sends, queue_outside, queue_restarted, queue_sends}
 use Rattle.ref_play.proofs.CarriedOut.{carried_finish, carrying_finish, out_here, queue_finish}
+use Rattle.ref_play.proofs.Folded.{away_folded, carried_folded, carrying_folded, given_folded, handled_folded, not_folded, out_folded, queue_folded}
 use Rattle.ref_play.proofs.Freed.{carried_freed, carrying_freed, freed-length, queue_freed}
 use Rattle.ref_play.proofs.PlainLists.{all_map}
 use Rattle.ref_play.proofs.Receivers.{AreHere, all_here, here_by, none_later, or_parts}
@@ -58,7 +59,7 @@ use Rattle.ref_play.proofs.Taken.{answered_out, carried_here, may_be_taken}
 use Rattle.std.proofs.Common.{◌<◌}
 use Rattle.std.proofs.Common.{◌==◌}
 use Rattle.ref_play.specs.Machine.{Look, look_at, looked}
-use Rattle.ref_play.specs.Present.{AddsWatch, Anything, Becomes, Enters, Calls, Compares, IsCompared, MakesAtom, ReadsPoint, ReadsValue, RemovesWatch, value_at, watches_of, with_atom, with_made_atom, with_made_ref, found, unfound, Aborts, Acts, Begins, Commits, Derefs, IsCommitted, IsSwapped, IsTaken, Finishes, HeldSeen, MakesAgent, MakesRef, Operates, Present, PutsBack, Releases, ReleasesCarried, Requires, Restarts, Runs, Sends, SendsInTx, SetsMode, Takes, TakesAny, WithJob, WithRun, ran_of, run, run_refusal, with_job, with_store, SetsRule, Swaps, WithTx, begun, guards_of, with_guards, with_tx}
+use Rattle.ref_play.specs.Present.{AddsWatch, Anything, Becomes, Enters, Calls, Compares, IsCompared, MakesAtom, ReadsPoint, ReadsRule, ReadsValue, RemovesWatch, value_at, watches_of, with_atom, with_made_atom, with_made_ref, found, unfound, Aborts, Acts, Begins, Commits, Derefs, IsCommitted, IsSwapped, IsTaken, Finishes, FoldsAgent, HeldSeen, MakesAgent, MakesRef, Operates, Present, PutsBack, Releases, ReleasesCarried, Requires, Restarts, Runs, Sends, SendsInTx, SetsMode, Takes, TakesAny, WithJob, WithRun, ran_of, run, run_refusal, with_job, with_store, SetsRule, Swaps, WithTx, begun, guards_of, with_guards, with_tx}
 use Rattle.ref_play.specs.Runs.{AreCarried, AreJobs, IsHeld, IsLook, IsOpen, IsServed, is_out_at}
 use Rattle.ref_play.specs.Laws.{IsFrom, IsInner, IsJudged, IsNativeReply, IsPlaced, IsStateAt, IsTold, MayTake, Of, PlacedAt, committed, entered, is_refused, placed_value, with_all_counted}
 use Rattle.ref_world.specs.Seen.{ShareSeen}
@@ -99,7 +100,7 @@ use Rattle.ref_fun.specs.declared.actions.Action.{Action}
 use Rattle.ref_fun.specs.declared.faults.Cause.{Cause}
 use Rattle.ref_log.specs.Guards.{rule_at}
 use Rattle.ref_agents.specs.Agents as agents
-use Rattle.ref_agents.specs.Agents.{change_agent, moded, outed, outside, put_agent, queuing, revived, with_agents, with_out, with_send}
+use Rattle.ref_agents.specs.Agents.{can_fold_at, change_agent, folding, moded, outed, outside, put_agent, queuing, revived, with_agents, with_out, with_send}
 use Rattle.ref_agents.specs.Ends as ends
 use Rattle.ref_agents.specs.Ends.{IsAnswerOf, ending, has_carry, restart_refusal, restart_refusal_if_here, with_finish}
 use Rattle.ref_agents.specs.Make as agent_makes
@@ -716,6 +717,12 @@ module _ (means : Means) (accepts : Accepts) (knows : Known) (base : Base) (log 
       acted_call act replies.ValueOf _ _ reply added new was (λ f fits. formal act (replies.ValueOf (Err f)) refl tt tt tt (λ g. (refl, refl, refl, refl)) (kept_from (old.txs a)) refl)
       (λ v fits ok. undone act (replies.ValueOf (Ok v)) (replies.ValueOf (Ok v)) added new was (formal act (replies.ValueOf (Ok v)) refl tt fits.0 tt (λ g. (refl, refl, refl, refl)) (kept_from (old.txs a)) refl) refl ok) did
 
+  acted_rule_of : (w : Who) (reply : Reply) (added : List Entry) (new : Present) → Was → ReadsRule old w reply added new → Acted (acts.RuleOf w) reply added new
+  acted_rule_of w reply added new was did =
+      let act = acts.RuleOf w in
+      acted_call act replies.RuleOf _ _ reply added new was (λ f fits. formal act (replies.RuleOf (Err f)) refl tt tt tt (λ g. (refl, refl, refl, refl)) (kept_from (old.txs a)) refl)
+      (λ rule fits ok. undone act (replies.RuleOf (Ok rule)) (replies.RuleOf (Ok rule)) added new was (formal act (replies.RuleOf (Ok rule)) refl tt fits.0 tt (λ g. (refl, refl, refl, refl)) (kept_from (old.txs a)) refl) refl ok) did
+
   -- ---- acts on agents
 
   -- where only agents and jobs change
@@ -848,6 +855,22 @@ module _ (means : Means) (accepts : Accepts) (knows : Known) (base : Base) (log 
       (λ are g. handled_same old.agents.agents h g (moded mode) (λ agent. refl))
       (kept_all means old (with_store old (agents.with_mode old.agents h mode)) refl (λ n job out. out_mode old.agents.agents h mode n job out)
       (λ n is_out. sym (away_same old.agents.agents h n (moded mode) (λ agent. refl)) ∙ is_out)))) did
+
+  acted_fold : (h : ℕ) (reply : Reply) (added : List Entry) (new : Present) → Was → FoldsAgent old h reply added new → Acted (acts.Fold h) reply added new
+  acted_fold h reply added new was did =
+      let act = acts.Fold h in
+      acted_call act replies.Fold _ _ reply added new was (λ f fits. formal act (replies.Fold (Err f)) refl tt tt tt (λ g. (refl, refl, refl, refl)) (kept_from (old.txs a)) refl) (λ done fits ok. by done fits.0 ok) did where
+        by : (done : Bool) → done ≡ can_fold_at old.agents.agents h → Becomes (with_store old (agents.with_fold old.agents h)) added new → Acted (acts.Fold h) (replies.Fold (Ok done)) added new
+        by false can ok = undone (acts.Fold h) (replies.Fold (Ok false)) (replies.Fold (Ok false)) added new was
+            (formal (acts.Fold h) (replies.Fold (Ok false)) refl tt can tt (λ g. (refl, refl, refl, refl)) (kept_from (old.txs a)) refl) refl (ok.0, ok.1 ∙ ap (with_store old) (not_folded old.agents h (sym can)))
+        by true can ok = by_equations (acts.Fold h) (replies.Fold (Ok true)) (replies.Fold (Ok true)) added [] new (with_store old (agents.with_fold old.agents h)) refl ok.0 ok.1
+            (acted_agents (acts.Fold h) (replies.Fold (Ok true)) (agents.with_fold old.agents h) old.jobs was refl (changed_count h folding) (past_still was) (λ all. all) (λ b other. refl) tt can tt (kept_from (old.txs a)) refl refl
+            (λ so g. given_folded old.agents.agents h g (sym can))
+            (λ so g. queue_folded old.agents.agents h g)
+            (λ so g. carrying_folded old.agents.agents h g)
+            (λ so. carried_folded old.agents.agents h (sym can) (changed_count h folding) so.2)
+            (λ are g. handled_folded old.agents.agents h g (sym can))
+            (kept_all means old (with_store old (agents.with_fold old.agents h)) refl (λ n job out. out_folded old.agents.agents h n job out) (λ n is_out. sym (away_folded old.agents.agents h n) ∙ is_out)))
 
   acted_make_agent : (value : Edn) (rule : Option Rule) (mode : ErrorMode) (reply : Reply) (added : List Entry) (new : Present) → Was → MakesAgent accepts knows old value rule mode reply added new → Acted (acts.MakeAgent value rule mode) reply added new
   acted_make_agent value rule mode reply added new was did =
@@ -1001,6 +1024,7 @@ module _ (means : Means) (accepts : Accepts) (knows : Known) (base : Base) (log 
   acted acts.Finish reply added new was did = acted_finish reply added new was did
   acted (acts.Restart g state clear) reply added new was did = acted_restart g state clear reply added new was did
   acted (acts.SetErrorMode g mode) reply added new was did = acted_mode g mode reply added new was did
+  acted (acts.Fold g) reply added new was did = acted_fold g reply added new was did
   acted (acts.SetValidator w rule) reply added new was did = acted_rule w rule reply added new was did
   acted (acts.AddWatch w key) reply added new was did = acted_add_watch w key reply added new was did
   acted (acts.RemoveWatch w key) reply added new was did = acted_remove_watch w key reply added new was did
@@ -1009,4 +1033,5 @@ module _ (means : Means) (accepts : Accepts) (knows : Known) (base : Base) (log 
   acted (acts.MakeAgent value rule mode) reply added new was did = acted_make_agent value rule mode reply added new was did
   acted (acts.Checkpoint p) reply added new was did = undone (acts.Checkpoint p) reply (replies.Checkpoint did.0) added new was (formal (acts.Checkpoint p) (replies.Checkpoint did.0) refl tt tt tt (λ g. (refl, refl, refl, refl)) (kept_from (old.txs a)) refl) did.1 did.2
   acted (acts.ValueOf w) reply added new was did = acted_value w reply added new was did
+  acted (acts.RuleOf w) reply added new was did = acted_rule_of w reply added new was did
   acted (acts.ErrorOf g) reply added new was did = undone (acts.ErrorOf g) reply _ added new was (formal (acts.ErrorOf g) (replies.ErrorOf _) refl tt tt tt (λ h. (refl, refl, refl, refl)) (kept_from (old.txs a)) refl) did.0 did.1

@@ -186,6 +186,7 @@ module _ (means : Means) (accepts : Accepts) (knows : Known) (old : Present) (a 
   left acts.Finish reply added new did = left_finish reply added new did
   left (acts.Restart g state clear) reply added new did = calls (acts.Restart g state clear) replies.Restart _ _ reply added new (λ f. refl) (λ f. refl) (λ u ok. stays (acts.Restart g state clear) (replies.Restart (Ok u)) (replies.Restart (Ok u)) new _ refl ok.1 refl refl refl (λ e. e)) did
   left (acts.SetErrorMode g mode) reply added new did = calls (acts.SetErrorMode g mode) replies.SetErrorMode _ _ reply added new (λ f. refl) (λ f. refl) (λ u ok. stays (acts.SetErrorMode g mode) (replies.SetErrorMode (Ok u)) (replies.SetErrorMode (Ok u)) new _ refl ok.1 refl refl refl (λ e. e)) did
+  left (acts.Fold g) reply added new did = calls (acts.Fold g) replies.Fold _ _ reply added new (λ f. refl) (λ f. refl) (λ done ok. stays (acts.Fold g) (replies.Fold (Ok done)) (replies.Fold (Ok done)) new _ refl ok.1 refl refl refl (λ e. e)) did
   left (acts.SetValidator w rule) reply added new did = calls (acts.SetValidator w rule) replies.SetValidator _ _ reply added new (λ f. refl) (λ f. refl) (λ u ok. stays (acts.SetValidator w rule) (replies.SetValidator (Ok u)) (replies.SetValidator (Ok u)) new _ refl ok.1 (guards_txs w _) (guards_jobs w _) refl (λ e. e)) did
   left (acts.AddWatch w key) reply added new did = calls (acts.AddWatch w key) replies.AddWatch _ _ reply added new (λ f. refl) (λ f. refl) (λ is_new ok. stays (acts.AddWatch w key) (replies.AddWatch (Ok is_new)) (replies.AddWatch (Ok is_new)) new _ refl ok.1 (guards_txs w _) (guards_jobs w _) refl (λ e. e)) did
   left (acts.RemoveWatch w key) reply added new did = stays (acts.RemoveWatch w key) reply _ new _ did.0 did.1.1 (guards_txs w _) (guards_jobs w _) refl (λ e. e)
@@ -194,4 +195,5 @@ module _ (means : Means) (accepts : Accepts) (knows : Known) (old : Present) (a 
   left (acts.MakeAgent value rule mode) reply added new did = calls (acts.MakeAgent value rule mode) replies.MakeAgent _ _ reply added new (λ f. refl) (λ f. refl) (λ g ok. stays (acts.MakeAgent value rule mode) (replies.MakeAgent (Ok g)) (replies.MakeAgent (Ok g)) new _ refl ok.1.1 refl refl refl (λ e. e)) did
   left (acts.Checkpoint p) reply added new did = stays (acts.Checkpoint p) reply (replies.Checkpoint did.0) new old did.1 did.2.1 refl refl refl (λ e. e)
   left (acts.ValueOf w) reply added new did = calls (acts.ValueOf w) replies.ValueOf _ _ reply added new (λ f. refl) (λ f. refl) (λ v ok. stays (acts.ValueOf w) (replies.ValueOf (Ok v)) (replies.ValueOf (Ok v)) new old refl ok.1 refl refl refl (λ e. e)) did
+  left (acts.RuleOf w) reply added new did = calls (acts.RuleOf w) replies.RuleOf _ _ reply added new (λ f. refl) (λ f. refl) (λ rule ok. stays (acts.RuleOf w) (replies.RuleOf (Ok rule)) (replies.RuleOf (Ok rule)) new old refl ok.1 refl refl refl (λ e. e)) did
   left (acts.ErrorOf g) reply added new did = stays (acts.ErrorOf g) reply _ new old did.0 did.1.1 refl refl refl (λ e. e)

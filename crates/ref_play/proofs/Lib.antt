@@ -14,6 +14,7 @@ pub mod Held
 pub mod Carried
 pub mod CarriedOut
 pub mod Freed
+pub mod Folded
 pub mod Taken
 pub mod KeptJobs
 pub mod WorkDone
@@ -32,6 +33,7 @@ pub mod PlainFaults
 pub mod PlainOperations
 pub mod PlainSends
 pub mod PlainReleases
+pub mod PlainFolds
 pub mod PlainReplay
 pub mod PlainAtoms
 pub mod PlainMakes

@@ -162,7 +162,7 @@ job_out_means agents g job = (out_by agents g job, by_out agents g job)
 
 -- ---- one agent changes
 
-only_changed : (store : AgentsSeen) (g : ℕ) (change : Agent → Agent) (before : Agent) → slice_get store.agents g ≡ Some before → OnlyAgent g (change before) store (with_agents store (change_agent store.agents g change))
+pub only_changed : (store : AgentsSeen) (g : ℕ) (change : Agent → Agent) (before : Agent) → slice_get store.agents g ≡ Some before → OnlyAgent g (change before) store (with_agents store (change_agent store.agents g change))
 only_changed store g change before here =
     let changed : change_agent store.agents g change ≡ slice_set store.agents g (change before) = ap (put_agent store.agents g change) here in
     record {

@@ -14,7 +14,8 @@ use Rattle.ref_log.specs.declared.faults.RuleFault.{RuleFault}
 use Rattle.ref_log.specs.declared.faults.RuleFault.TheVariants as rule_faults
 use Rattle.ref_refs.specs.Make.{is_bad_tally}
 use Rattle.ref_refs.specs.Seen.{RefsSeen}
-use Rattle.ref_play.specs.PlainMakes.{HasRoom, IsBadTally, IsKnownRule, LacksRule, MakesSo, MakingsMean, RefusesIt, RulesMean, SetsSo, TakesValue}
+use Rattle.ref_play.specs.PlainMakes.{HasRoom, IsBadTally, IsKnownRule, LacksRule, MakesSo, MakingsMean, RefusesIt, RuleMeans, RulesMean, SetsSo, TakesValue}
+use Rattle.ref_play.proofs.PlainCommits.{has_rule, rule_is}
 
 -- ---- a rule, or none
 
@@ -166,3 +167,6 @@ module _ (accepts : Accepts) (knows : ℕ → Bool) (rule : Option Rule) where
 
 pub rules_mean : (accepts : Accepts) → RulesMean accepts
 rules_mean accepts knows value rule refusal = (λ is. subst (SetsSo accepts knows value rule) is (sets_so accepts knows rule value), sets_back accepts knows rule value refusal)
+
+pub rule_means : RuleMeans
+rule_means guards n rule = (has_rule guards n rule, rule_is guards n rule)

@@ -6,7 +6,7 @@ use Rattle.ref_agents.specs.Agents.{AgentsSeen}
 use Rattle.ref_agents.specs.Make.{agent_refusal, new_agent}
 use Rattle.ref_log.specs.declared.faults.MakeFault.{MakeFault}
 use Rattle.ref_log.specs.declared.notices.Who.{Who}
-use Rattle.ref_start.specs.declared.starts.AgentStart.{AgentStart}
+use Rattle.ref_agents.specs.declared.starts.AgentStart.{AgentStart}
 use Rattle.ref_world.specs.Starts.{and_made, made_all, no_agents, or_refused, with_agent}
 use Rattle.ref_world.specs.Starts as starts
 use Rattle.ref_agents.specs.Make as makes

@@ -1,8 +1,9 @@
--- What an agent was given since its last restart: the actions that it handled, and those that wait, with who sent them.
-use Rattle.std.specs.Prelude.{ℕ, ◌+◌, ◌==◌, Bool, false, List, [], ◌∷◌, ◌++◌, map, if◌then◌else◌, Option, None, Some, Ok, slice_get}
+-- What an agent was given since its last restart or fold: the actions that it handled, and those that wait, with who sent them. A fold
+-- leaves of the handled ones the one that failed it.
+use Rattle.std.specs.Prelude.{ℕ, ◌+◌, ◌==◌, Bool, true, false, List, [], ◌∷◌, ◌++◌, map, if◌then◌else◌, Option, None, Some, Ok, slice_get}
 use Rattle.ref_fun.specs.declared.actions.Action.{Action}
 use Rattle.ref_fun.specs.declared.carries.Carry.{Carry}
-use Rattle.ref_agents.specs.Account.{AccountSeen, released}
+use Rattle.ref_agents.specs.Account.{AccountSeen, failing, released}
 use Rattle.ref_agents.specs.Agents.{carried, is_carrying_at}
 use Rattle.ref_agents.specs.Ends.{has_carry}
 use Rattle.ref_agents.specs.declared.accounts.Queued.{Queued}
@@ -36,9 +37,17 @@ abbrev pub handled_if_here : Option Agent → List Action
 handled_if_here None = []
 handled_if_here (Some agent) = map (λ h. h.action) agent.account.handled
 
--- those that it handled since its last restart
+-- those that it handled since its last restart or fold
 abbrev pub handled_at : List Agent → ℕ → List Action
 handled_at agents g = handled_if_here (slice_get agents g)
+
+abbrev pub failed_if_here : Option Agent → List Action
+failed_if_here None = []
+failed_if_here (Some agent) = map (λ h. h.action) (failing agent.account.handled)
+
+-- those of them by which it failed: one where it is failed, the last, and else none
+abbrev pub failed_at : List Agent → ℕ → List Action
+failed_at agents g = failed_if_here (slice_get agents g)
 
 -- The handled ones are a prefix, by definition.
 abbrev pub given : AccountSeen → List Action
@@ -75,13 +84,16 @@ carried_by None finished g = []
 carried_by (Some held) finished g = those_to (λ c. c.g) carried g (goes_out finished held.job.action.carries)
 
 -- What an agent was given after an act: a send adds its action, an answered commit its sends, and the end of a job what goes out then;
--- a restart begins anew, with the actions that wait or, with clear, with none; and nothing else changes it.
+-- a restart begins anew, with the actions that wait or, with clear, with none; a fold that was made leaves those that wait, behind the one
+-- by which the agent failed; and nothing else changes it.
 abbrev pub accepted : Present → Option TxSeen → Option HeldSeen → Act → Reply → ℕ → List Action
 accepted old tx held (acts.Commit stamp) (replies.Commit (Ok receipt)) g = given_at old.agents.agents g ++ sent_by tx g
 accepted old tx held (acts.Send h action) (replies.Send (Ok u)) g = given_at old.agents.agents g ++ (if h == g then action ∷ [] else [])
 accepted old tx held acts.Finish (replies.Finish (Ok finished)) g = given_at old.agents.agents g ++ carried_by held finished g
 accepted old tx held (acts.Restart h state clear) (replies.Restart (Ok u)) g =
     if h == g then (if clear then [] else waiting_at old.agents.agents g) else given_at old.agents.agents g
+accepted old tx held (acts.Fold h) (replies.Fold (Ok true)) g =
+    if h == g then failed_at old.agents.agents g ++ waiting_at old.agents.agents g else given_at old.agents.agents g
 accepted old tx held act reply g = given_at old.agents.agents g
 
 -- the action of a job, if it is one of this agent
@@ -89,11 +101,12 @@ abbrev pub action_of : Option HeldSeen → ℕ → List Action
 action_of None g = []
 action_of (Some held) g = if held.job.agent == g then held.job.action ∷ [] else []
 
--- What it handled after an act: an answered finish adds the action of the job that the actor had; a restart begins anew; and
--- nothing else changes it.
+-- What it handled after an act: an answered finish adds the action of the job that the actor had; a restart begins anew; a fold that was
+-- made leaves the action by which it failed, if it is failed; and nothing else changes it.
 abbrev pub ended_by : Present → Option HeldSeen → Act → Reply → ℕ → List Action
 ended_by old held acts.Finish (replies.Finish (Ok finished)) g = handled_at old.agents.agents g ++ action_of held g
 ended_by old held (acts.Restart h state clear) (replies.Restart (Ok u)) g = if h == g then [] else handled_at old.agents.agents g
+ended_by old held (acts.Fold h) (replies.Fold (Ok true)) g = if h == g then failed_at old.agents.agents g else handled_at old.agents.agents g
 ended_by old held act reply g = handled_at old.agents.agents g
 
 -- ---- what is held

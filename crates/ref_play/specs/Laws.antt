@@ -27,13 +27,13 @@ use Rattle.ref_refs.specs.declared.faults.CommitFault.TheVariants as commits
 use Rattle.ref_world.specs.Seen.{ShareSeen}
 use Rattle.ref_world.specs.World.{values_now}
 use Rattle.ref_agents.specs.Account.{has_point}
-use Rattle.ref_agents.specs.Agents.{AgentsSeen, is_carrying_at}
+use Rattle.ref_agents.specs.Agents.{AgentsSeen, can_fold_at, is_carrying_at}
 use Rattle.ref_agents.specs.declared.accounts.Queued.{Queued}
 use Rattle.ref_agents.specs.declared.accounts.SentBy.{SentBy}
 use Rattle.ref_agents.specs.declared.accounts.SentBy.TheVariants.{Outside, Commit, Carried}
 use Rattle.ref_play.specs.Given.{accepted, carrying_after, ended_by, given_at, handled_at, queue_after, queue_at}
 use Rattle.ref_play.specs.Machine.{IsStep, Look, Machine, Run, history}
-use Rattle.ref_play.specs.Present.{HeldSeen, Present, WithJob, WithTx, value_at}
+use Rattle.ref_play.specs.Present.{HeldSeen, Present, WithJob, WithTx, rule_at, value_at}
 use Rattle.ref_play.specs.Runs.{AreJobs, AreOpen, IsLawful, IsServed}
 use Rattle.ref_play.specs.declared.events.Act.{Act}
 use Rattle.ref_play.specs.declared.events.Act.TheVariants as acts
@@ -87,6 +87,7 @@ is_refused replies.PutBack = false
 is_refused (replies.Finish told) = is_fault told
 is_refused (replies.Restart told) = is_fault told
 is_refused (replies.SetErrorMode told) = is_fault told
+is_refused (replies.Fold told) = is_fault told
 is_refused (replies.SetValidator told) = is_fault told
 is_refused (replies.AddWatch told) = is_fault told
 is_refused (replies.RemoveWatch was) = false
@@ -95,6 +96,7 @@ is_refused (replies.MakeAtom told) = is_fault told
 is_refused (replies.MakeAgent told) = is_fault told
 is_refused (replies.Checkpoint told) = is_fault told
 is_refused (replies.ValueOf told) = is_fault told
+is_refused (replies.RuleOf told) = is_fault told
 is_refused (replies.ErrorOf error) = false
 
 -- what is so of the transaction that an actor has open
@@ -124,8 +126,8 @@ pub record MayTake (store : AgentsSeen) (g : ℕ) : Type 0 where
   pub queue : queue_at store.agents g ≡ first ∷ rest
   pub is_free : IsFree store.unreleased first.by
 
--- What an actor is told: in a transaction the in-transaction value, outside of one the value now; the agent of a job that may be
--- taken; and whether anything that an agent carried was held.
+-- What an actor is told: in a transaction the in-transaction value, outside of one the value or the rule now; the agent of a job that may
+-- be taken; whether anything that an agent carried was held; and whether an account was one that can be folded.
 abbrev pub IsTold : Means → Accepts → Present → Option TxSeen → Act → Reply → Type 0
 IsTold means accepts now tx (acts.Deref r) (replies.Deref (Ok v)) = Of tx (λ t. inner_value means t r ≡ Some v)
 IsTold means accepts now tx (acts.RefSet r w) (replies.RefSet (Ok v)) = Of tx (IsInner means (Set w) r v)
@@ -138,8 +140,10 @@ IsTold means accepts now tx acts.ReadPoint (replies.ReadPoint p) = Of tx (λ t. 
 IsTold means accepts now tx (acts.Swap n code args) (replies.Swap (Ok s)) = (slice_get now.atoms.values n ≡ Some s.old) × (means code args s.old ≡ Ok s.new)
 IsTold means accepts now tx (acts.Reset n v) (replies.Reset (Ok s)) = (slice_get now.atoms.values n ≡ Some s.old) × (v ≡ s.new)
 IsTold means accepts now tx (acts.ValueOf w) (replies.ValueOf (Ok v)) = v ≡ value_at now w
+IsTold means accepts now tx (acts.RuleOf w) (replies.RuleOf (Ok rule)) = rule ≡ rule_at now w
 IsTold means accepts now tx acts.Take (replies.Take (Ok (Some told))) = MayTake now.agents told.0
 IsTold means accepts now tx (acts.ReleaseCarried g) (replies.ReleaseCarried was) = was ≡ is_carrying_at now.agents.agents g
+IsTold means accepts now tx (acts.Fold g) (replies.Fold (Ok done)) = done ≡ can_fold_at now.agents.agents g
 IsTold means accepts now tx act reply = Unit {0}
 
 -- ---- where a transaction begins

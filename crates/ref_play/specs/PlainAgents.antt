@@ -1,5 +1,5 @@
 -- What definitions say of agents, their jobs and what is sent to them, in plain words.
-use Rattle.std.specs.Prelude.{◌≡◌, ◌≢◌, ◌↔◌, ◌⊎◌, ◌==◌, ◌<◌, ◌≤◌, ℕ, Bool, true, false, List, [], ◌∷◌, ◌++◌, length, map, slice_get, Option, None, Some, Result, Ok, Err}
+use Rattle.std.specs.Prelude.{◌≡◌, ◌≢◌, ◌↔◌, ◌⊎◌, ◌==◌, ◌+◌, ◌^◌, ◌<◌, ◌≤◌, ℕ, Bool, true, false, List, [], ◌∷◌, ◌++◌, length, map, slice_get, Option, None, Some, Result, Ok, Err}
 use Rattle.std.specs.List.{AllByRecursion, filter}
 use Rattle.ref_value.specs.Edn.{Edn}
 use Rattle.ref_fun.specs.Rule.{Accepts}
@@ -10,9 +10,10 @@ use Rattle.ref_fun.specs.declared.rules.Rule.{Rule}
 use Rattle.ref_log.specs.declared.guards.Guard.{Guard}
 use Rattle.ref_log.specs.declared.sends.Sent.{Sent}
 use Rattle.ref_agents.specs.Account.{number_of}
-use Rattle.ref_agents.specs.Agents.{AgentsSeen, is_ready_at, job_out, next_job, send_refusal, with_carried_released, with_commit, with_release, with_restart}
+use Rattle.ref_agents.specs.Agents.{AgentsSeen, can_fold_at, is_ready_at, job_out, next_job, send_refusal, with_carried_released, with_commit, with_fold, with_release, with_restart}
 use Rattle.ref_agents.specs.Ends.{IsAnswerOf, restart_refusal, with_finish}
 use Rattle.ref_agents.specs.Jobs.{JobSeen, RanSeen}
+use Rattle.ref_agents.specs.declared.accounts.Handled.{Handled}
 use Rattle.ref_agents.specs.declared.accounts.Mark.TheVariants as marks
 use Rattle.ref_agents.specs.declared.accounts.Mark.{Mark}
 use Rattle.ref_agents.specs.declared.accounts.Queued.{Queued}
@@ -104,6 +105,43 @@ pub record IsRestarted (before after : Agent) (state : Edn) (clear : Bool) : Typ
 abbrev pub RestartMeans : Type 0
 RestartMeans = (store : AgentsSeen) (g : ℕ) (state : Edn) (clear : Bool) (before : Agent) → slice_get store.agents g ≡ Some before
     → (after : Agent) × OnlyAgent g after store (with_restart store g state clear) × IsRestarted before after state clear
+
+-- ---- a fold
+
+-- The account of an agent can be folded: what its last action carried is released, and fewer than 2^62 actions ended since its last
+-- restart.
+pub record CanFold (agents : List Agent) (g : ℕ) : Type 0 where
+  pub agent : Agent
+  pub here : slice_get agents g ≡ Some agent
+  pub released : agent.is_carrying ≡ false
+  pub few : agent.account.past + length agent.account.handled < 2 ^ 62
+
+-- None of these actions failed its agent.
+abbrev pub NoneFailed : List Handled → Type 0
+NoneFailed handled = AllByRecursion (λ h. h.mark ≢ marks.Failed) handled
+
+-- An agent whose account was folded starts from its state. Of the actions that it handled the one that failed it stays, the last, and
+-- none where none did. All else stays too, and so does the number of the actions that ended.
+pub record IsFolded (before after : Agent) : Type 0 where
+  pub start : after.account.start ≡ before.value
+  pub none : NoneFailed before.account.handled → after.account.handled ≡ []
+  pub last : (others : List Handled) (one : Handled) → before.account.handled ≡ others ++ one ∷ [] → NoneFailed others → one.mark ≡ marks.Failed
+      → after.account.handled ≡ one ∷ []
+  pub count : after.account.past + length after.account.handled ≡ before.account.past + length before.account.handled
+  pub queue : after.account.queue ≡ before.account.queue
+  pub value : after.value ≡ before.value
+  pub error : after.error ≡ before.error
+  pub mode : after.mode ≡ before.mode
+  pub out : after.is_out ≡ before.is_out
+  pub carrying : after.is_carrying ≡ before.is_carrying
+
+pub record FoldsMean : Type 0 where
+  pub when : (agents : List Agent) (g : ℕ) → can_fold_at agents g ≡ true ↔ CanFold agents g
+  pub folds : (store : AgentsSeen) (g : ℕ) (before : Agent) → slice_get store.agents g ≡ Some before → can_fold_at store.agents g ≡ true
+      → (after : Agent) × OnlyAgent g after store (with_fold store g) × IsFolded before after
+  pub stays : (store : AgentsSeen) (g : ℕ) → can_fold_at store.agents g ≡ false → with_fold store g ≡ store
+
+-- ---- the end of a job
 
 -- An agent with more in its queue.
 abbrev pub queued : Agent → List Queued → Agent

@@ -1,19 +1,21 @@
--- When a reference is made, and when it can get another rule, in plain words.
-use Rattle.std.specs.Prelude.{◌≡◌, ◌≢◌, ◌↔◌, ◌⊎◌, ℕ, pos, ◌<◌, ◌≤◌, Bool, true, false, length, Option, None, Some}
+-- When a reference is made, when it can get another rule, and which it has, in plain words.
+use Rattle.std.specs.Prelude.{◌≡◌, ◌≢◌, ◌↔◌, ◌⊎◌, ℕ, pos, ◌<◌, ◌≤◌, Bool, true, false, List, length, Option, None, Some}
 use Rattle.ref_value.specs.Edn.{Edn, int}
 use Rattle.ref_fun.specs.Rule.{Accepts}
 use Rattle.ref_fun.specs.declared.rules.Rule.{Rule}
-use Rattle.ref_log.specs.Guards.{rule_refusal}
+use Rattle.ref_log.specs.Guards.{rule_at, rule_refusal}
 use Rattle.ref_log.specs.Make as makes
 use Rattle.ref_log.specs.declared.faults.MakeFault.{MakeFault}
 use Rattle.ref_log.specs.declared.faults.MakeFault.TheVariants as make_faults
 use Rattle.ref_log.specs.declared.faults.RuleFault.{RuleFault}
 use Rattle.ref_log.specs.declared.faults.RuleFault.TheVariants as rule_faults
+use Rattle.ref_log.specs.declared.guards.Guard.{Guard}
 use Rattle.ref_refs.specs.Make as refs
 use Rattle.ref_refs.specs.Seen.{RefsSeen}
 use Rattle.ref_agents.specs.Agents.{AgentsSeen}
 use Rattle.ref_agents.specs.Make as agents
 use Rattle.ref_log.specs.Limits.{last_point, most_references}
+use Rattle.ref_play.specs.Plain.{HasRule}
 
 -- ---- a rule, or none
 
@@ -76,3 +78,8 @@ abbrev pub RulesMean : Accepts → Type 0
 RulesMean accepts =
     (knows : ℕ → Bool) (value : Option Edn) (rule : Option Rule) (refusal : Option RuleFault)
     → rule_refusal accepts knows value rule ≡ refusal ↔ SetsSo accepts knows value rule refusal
+
+-- ---- the rule of a reference
+
+abbrev pub RuleMeans : Type 0
+RuleMeans = (guards : List Guard) (n : ℕ) (rule : Rule) → rule_at guards n ≡ Some rule ↔ HasRule guards n rule

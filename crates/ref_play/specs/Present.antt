@@ -49,7 +49,7 @@ use Rattle.ref_atoms.specs.declared.faults.AtomFault.{AtomFault}
 use Rattle.ref_atoms.specs.declared.faults.AtomFault.TheVariants as atoms
 use Rattle.ref_agents.specs.Agents as agents
 use Rattle.ref_agents.specs.Account.{has_point}
-use Rattle.ref_agents.specs.Agents.{AgentsSeen, error_at, is_carrying_at, is_ready_at, next_job, outside, with_out, with_send}
+use Rattle.ref_agents.specs.Agents.{AgentsSeen, can_fold_at, error_at, is_carrying_at, is_ready_at, next_job, outside, with_out, with_send}
 use Rattle.ref_agents.specs.Ends.{IsAnswerOf, lacking, restart_refusal, with_finish}
 use Rattle.ref_agents.specs.Jobs.{JobSeen, RanSeen}
 use Rattle.ref_agents.specs.Make as agent_makes
@@ -303,6 +303,16 @@ FitsValue old w told = IfOk told (λ v. v ≡ value_at old w) × OnErr told (val
 abbrev pub ReadsValue : Present → Who → Reply → List Entry → Present → Type 0
 ReadsValue old w reply added new = Calls replies.ValueOf (FitsValue old w) (λ v. Becomes old added new) old reply added new
 
+-- the rule of a reference, if it has one
+abbrev pub rule_at : Present → Who → Option Rule
+rule_at now w = guards.rule_at (guards_of now w) (number_of w)
+
+abbrev pub TellsRule : Present → Who → Result (Option Rule) AllocError → Type 0
+TellsRule old w told = IfOk told (λ rule. rule ≡ rule_at old w) × OnErr told (rule_at old w ≢ None)
+
+abbrev pub ReadsRule : Present → Who → Reply → List Entry → Present → Type 0
+ReadsRule old w reply added new = Calls replies.RuleOf (TellsRule old w) (λ rule. Becomes old added new) old reply added new
+
 abbrev pub ReadsError : Present → ℕ → Reply → List Entry → Present → Type 0
 ReadsError old g reply added new = (reply ≡ replies.ErrorOf (error_at old.agents.agents g)) × Becomes old added new
 
@@ -360,6 +370,15 @@ FitsMode old g told = OnOk told (slice_get old.agents.agents g ≢ None) × OnEr
 abbrev pub SetsMode : Present → ℕ → ErrorMode → Reply → List Entry → Present → Type 0
 SetsMode old g mode reply added new =
     Calls replies.SetErrorMode (FitsMode old g) (λ u. Becomes (with_store old (agents.with_mode old.agents g mode)) added new) old reply added new
+
+-- whether the account can be folded; memory is asked for only where it can be
+abbrev pub FitsFold : Present → ℕ → Result Bool AllocError → Type 0
+FitsFold old g told = IfOk told (λ done. done ≡ can_fold_at old.agents.agents g) × OnErr told (can_fold_at old.agents.agents g ≡ true)
+
+-- An account that can't be folded stays as it is.
+abbrev pub FoldsAgent : Present → ℕ → Reply → List Entry → Present → Type 0
+FoldsAgent old g reply added new =
+    Calls replies.Fold (FitsFold old g) (λ done. Becomes (with_store old (agents.with_fold old.agents g)) added new) old reply added new
 
 -- ---- jobs
 
@@ -455,6 +474,7 @@ Acts means accepts knows old a acts.PutBack = PutsBack old a
 Acts means accepts knows old a acts.Finish = Finishes accepts knows old a
 Acts means accepts knows old a (acts.Restart g state clear) = Restarts accepts knows old g state clear
 Acts means accepts knows old a (acts.SetErrorMode g mode) = SetsMode old g mode
+Acts means accepts knows old a (acts.Fold g) = FoldsAgent old g
 Acts means accepts knows old a (acts.SetValidator w rule) = SetsRule accepts knows old w rule
 Acts means accepts knows old a (acts.AddWatch w key) = AddsWatch old w key
 Acts means accepts knows old a (acts.RemoveWatch w key) = RemovesWatch old w key
@@ -463,4 +483,5 @@ Acts means accepts knows old a (acts.MakeAtom value rule) = MakesAtom accepts kn
 Acts means accepts knows old a (acts.MakeAgent value rule mode) = MakesAgent accepts knows old value rule mode
 Acts means accepts knows old a (acts.Checkpoint p) = Checkpoints old
 Acts means accepts knows old a (acts.ValueOf w) = ReadsValue old w
+Acts means accepts knows old a (acts.RuleOf w) = ReadsRule old w
 Acts means accepts knows old a (acts.ErrorOf g) = ReadsError old g

@@ -57,6 +57,8 @@ pub enum Act {
     /// A failed agent, its new state, and whether the actions that wait are dropped.
     Restart(u32, Value, bool),
     SetErrorMode(u32, ErrorMode),
+    /// An agent: its state is its start from now on, and of the actions that ended only the one that failed it stays.
+    Fold(u32),
     SetValidator(Who, Option<Rule>),
     AddWatch(Who, Value),
     RemoveWatch(Who, Value),
@@ -66,6 +68,7 @@ pub enum Act {
     MakeAgent(Value, Option<Rule>, ErrorMode),
     Checkpoint(u64),
     ValueOf(Who),
+    RuleOf(Who),
     ErrorOf(u32),
 }
 
@@ -77,8 +80,8 @@ impl Drop for Act {
             Act::Deref(_) | Act::Ensure(_) | Act::Commit(_) => {}
             Act::Release(_) | Act::ReleaseCarried(_) => {}
             Act::Take | Act::Run | Act::PutBack | Act::Finish => {}
-            Act::SetErrorMode(_, _) | Act::Checkpoint(_) => {}
-            Act::ValueOf(_) | Act::ErrorOf(_) => {}
+            Act::SetErrorMode(_, _) | Act::Fold(_) | Act::Checkpoint(_) => {}
+            Act::ValueOf(_) | Act::RuleOf(_) | Act::ErrorOf(_) => {}
             Act::RefSet(_, _value) | Act::Reset(_, _value) => {}
             Act::Alter(_, _, _args) | Act::Commute(_, _, _args) => {}
             Act::Swap(_, _, _args) => {}
@@ -132,6 +135,8 @@ pub enum Reply {
     Finish(Result<Finished, FinishFault>),
     Restart(Result<(), RestartFault>),
     SetErrorMode(Result<(), ModeFault>),
+    /// Whether its account was folded.
+    Fold(Result<bool, AllocError>),
     SetValidator(Result<(), RuleFault>),
     /// Whether the key is new.
     AddWatch(Result<bool, WatchFault>),
@@ -144,6 +149,8 @@ pub enum Reply {
     Checkpoint(Result<u64, CheckpointFault>),
     /// `None` where there is no such reference.
     ValueOf(Result<Option<Value>, AllocError>),
+    /// `None` where there is no rule, or no such reference.
+    RuleOf(Result<Option<Rule>, AllocError>),
     ErrorOf(Option<AgentError>),
 }
 
@@ -172,11 +179,13 @@ impl Drop for Reply {
             Reply::Finish(_finished) => {}
             Reply::Restart(_restarted) => {}
             Reply::SetErrorMode(_set) => {}
+            Reply::Fold(_folded) => {}
             Reply::SetValidator(_set) => {}
             Reply::AddWatch(_added) => {}
             Reply::MakeRef(_made) | Reply::MakeAtom(_made) | Reply::MakeAgent(_made) => {}
             Reply::Checkpoint(_folded) => {}
             Reply::ValueOf(_value) => {}
+            Reply::RuleOf(_rule) => {}
             Reply::ErrorOf(_error) => {}
         }
     }

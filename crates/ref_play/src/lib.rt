@@ -15,7 +15,7 @@
 //! | Type | Is |
 //! |---|---|
 //! | [`Sim`] | a world, its share and its actors |
-//! | [`Event`], [`Act`] | an act of an actor, and the 32 kinds of acts |
+//! | [`Event`], [`Act`] | an act of an actor, and the 34 kinds of acts |
 //! | [`Reply`] | the reply to an actor |
 //!
 //! Use this to test how transactions, atoms and agents interact in a given order, without threads. Use `ref_world` for a program of one

@@ -1,7 +1,7 @@
 //! Acts on references of all kinds: rules, watches, and reads.
 ghost use Rattle.std.specs.Prelude.{ℕ, []};
 ghost use Rattle.ref_fun.specs.Calls.{Known};
-ghost use Rattle.ref_play.specs.Present.{ReadsError, ReadsValue};
+ghost use Rattle.ref_play.specs.Present.{ReadsError, ReadsRule, ReadsValue};
 ghost use Rattle.ref_play.specs.Sims.{Serves, SimSeen, present};
 ghost use Rattle.ref_play.specs.declared.events.Act.TheVariants as acts;
 
@@ -11,7 +11,7 @@ use ref_fun::{Functions, Meaning, Rule};
 use ref_log::{RuleFault, WatchFault, Who};
 use ref_value::Value;
 use ref_world::World;
-use std::alloc::{AllocError, Global};
+use std::alloc::AllocError;
 use std::sync::ledger::Ledger;
 
 // Gives a reference another rule, or none.
@@ -36,7 +36,6 @@ pub(crate) fn set_validator<M: Meaning, C: Ledger, A: Ledger, K: Ledger, F: Func
 
 // Adds a watch to a reference.
 pub(crate) fn add_watch<M: Meaning, C: Ledger, A: Ledger, K: Ledger>(
-    alloc: Global,
     world: &mut World<M, C, A, K>,
     who: Who,
     key: &Value,
@@ -48,7 +47,7 @@ pub(crate) fn add_watch<M: Meaning, C: Ledger, A: Ledger, K: Ledger>(
     let Ok(key) = key.share() else {
         return Reply::AddWatch(Err(WatchFault::Memory));
     };
-    match world.add_watch(alloc, who, key) {
+    match world.add_watch(who, key) {
         Ok(is_new) => Reply::AddWatch(Ok(is_new)),
         Err(fault) => Reply::AddWatch(Err(fault)),
     }
@@ -81,6 +80,23 @@ pub(crate) fn value_of<M: Meaning, C: Ledger, A: Ledger, K: Ledger>(
     match value.share() {
         Ok(value) => Reply::ValueOf(Ok(Some(value))),
         Err(_) => Reply::ValueOf(Err(AllocError)),
+    }
+}
+
+// The rule of a reference now, if it has one.
+pub(crate) fn rule_of<M: Meaning, C: Ledger, A: Ledger, K: Ledger>(
+    world: &World<M, C, A, K>,
+    who: Who,
+) -> Reply
+    ensures { (s : SimSeen) → ReadsRule (present (record s { world = world.now })) who result []
+        (present (record s { world = world.now })) }
+{
+    let Some(rule) = world.rule_of(who) else {
+        return Reply::RuleOf(Ok(None));
+    };
+    match rule.share() {
+        Ok(rule) => Reply::RuleOf(Ok(Some(rule))),
+        Err(_) => Reply::RuleOf(Err(AllocError)),
     }
 }
 

@@ -1,6 +1,6 @@
 //! What actors do with agents.
 ghost use Rattle.std.specs.Prelude.{◌≡◌, ◌≢◌, [], None, IfOk, OnErr};
-ghost use Rattle.ref_play.specs.Present.{MakesAgent, Releases, ReleasesCarried, Restarts, Sends, SetsMode};
+ghost use Rattle.ref_play.specs.Present.{FoldsAgent, MakesAgent, Releases, ReleasesCarried, Restarts, Sends, SetsMode};
 ghost use Rattle.ref_play.specs.Sims.{SimSeen, present};
 ghost use Rattle.ref_world.specs.World.{with_agents};
 
@@ -15,7 +15,6 @@ use std::sync::ledger::Ledger;
 
 // Sends an action to an agent.
 pub(crate) fn send<M: Meaning, C: Ledger, A: Ledger, K: Ledger>(
-    alloc: Global,
     world: &mut World<M, C, A, K>,
     g: u32,
     action: &Action,
@@ -27,7 +26,7 @@ pub(crate) fn send<M: Meaning, C: Ledger, A: Ledger, K: Ledger>(
     let Ok(action) = action.share() else {
         return Reply::Send(Err(SendFault::Memory));
     };
-    match world.send(alloc, g, action) {
+    match world.send(g, action) {
         Ok(()) => Reply::Send(Ok(())),
         Err(fault) => Reply::Send(Err(fault)),
     }
@@ -59,7 +58,6 @@ pub(crate) fn release_carried<M: Meaning, C: Ledger, A: Ledger, K: Ledger>(
 
 // Restarts a failed agent.
 pub(crate) fn restart<M: Meaning, C: Ledger, A: Ledger, K: Ledger, F: Functions<M>>(
-    alloc: Global,
     funs: &F,
     world: &mut World<M, C, A, K>,
     g: u32,
@@ -74,7 +72,7 @@ pub(crate) fn restart<M: Meaning, C: Ledger, A: Ledger, K: Ledger, F: Functions<
     let Ok(state) = state.share() else {
         return Reply::Restart(Err(RestartFault::Memory));
     };
-    match world.restart(alloc, funs, g, state, clear) {
+    match world.restart(funs, g, state, clear) {
         Ok(()) => Reply::Restart(Ok(())),
         Err(fault) => Reply::Restart(Err(fault)),
     }
@@ -93,6 +91,21 @@ pub(crate) fn set_error_mode<M: Meaning, C: Ledger, A: Ledger, K: Ledger>(
     match world.set_error_mode(g, mode) {
         Ok(()) => Reply::SetErrorMode(Ok(())),
         Err(fault) => Reply::SetErrorMode(Err(fault)),
+    }
+}
+
+// Folds the account of an agent.
+pub(crate) fn fold_agent<M: Meaning, C: Ledger, A: Ledger, K: Ledger>(
+    world: &mut World<M, C, A, K>,
+    g: u32,
+) -> Reply
+    ensures acts { (s : SimSeen) → FoldsAgent (present (record s { world = world.old })) g result []
+        (present (record s { world = world.new })) }
+    ensures rest { world.new ≡ with_agents world.old world.new.agents }
+{
+    match world.fold_agent(g) {
+        Ok(done) => Reply::Fold(Ok(done)),
+        Err(_) => Reply::Fold(Err(AllocError)),
     }
 }
 

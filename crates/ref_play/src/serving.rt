@@ -6,8 +6,10 @@ use crate::actors::Actors;
 use crate::changing::{checkpoint, commit, compare_and_set, make_atom, make_ref, reset, swap};
 use crate::events::{Act, Event, Reply};
 use crate::jobs::Jobs;
-use crate::looking::{add_watch, error_of, remove_watch, set_validator, value_of};
-use crate::sending::{make_agent, release, release_carried, restart, send, set_error_mode};
+use crate::looking::{add_watch, error_of, remove_watch, rule_of, set_validator, value_of};
+use crate::sending::{
+    fold_agent, make_agent, release, release_carried, restart, send, set_error_mode,
+};
 use crate::transacting::{
     abort, alter, begin, commute, deref, ensure, read_point, ref_set, require, send_in_tx,
 };
@@ -51,21 +53,23 @@ pub(crate) fn serve<M: Meaning, C: Ledger, A: Ledger, K: Ledger, F: Functions<M>
         Act::Swap(n, code, args) => swap(alloc, funs, world, share, *n, *code, args),
         Act::Reset(n, value) => reset(alloc, funs, world, share, *n, value),
         Act::CompareAndSet(n, old, new) => compare_and_set(alloc, funs, world, share, *n, old, new),
-        Act::Send(g, action) => send(alloc, world, *g, action),
+        Act::Send(g, action) => send(world, *g, action),
         Act::Take => take(world, jobs, actor),
         Act::Run => run(alloc, funs, jobs, actor),
         Act::PutBack => put_back(world, jobs, actor),
         Act::Finish => finish(alloc, funs, world, jobs, actor),
-        Act::Restart(g, state, clear) => restart(alloc, funs, world, *g, state, *clear),
+        Act::Restart(g, state, clear) => restart(funs, world, *g, state, *clear),
         Act::SetErrorMode(g, mode) => set_error_mode(world, *g, *mode),
+        Act::Fold(g) => fold_agent(world, *g),
         Act::SetValidator(who, rule) => set_validator(funs, world, *who, rule),
-        Act::AddWatch(who, key) => add_watch(alloc, world, *who, key),
+        Act::AddWatch(who, key) => add_watch(world, *who, key),
         Act::RemoveWatch(who, key) => remove_watch(world, *who, key),
         Act::MakeRef(value, rule, tally) => make_ref(alloc, funs, world, value, rule, *tally),
         Act::MakeAtom(value, rule) => make_atom(alloc, funs, world, value, rule),
         Act::MakeAgent(value, rule, mode) => make_agent(alloc, funs, world, value, rule, *mode),
         Act::Checkpoint(point) => checkpoint(alloc, funs, world, *point),
         Act::ValueOf(who) => value_of(world, *who),
+        Act::RuleOf(who) => rule_of(world, *who),
         Act::ErrorOf(g) => error_of(world, *g),
     }
 }

@@ -1,9 +1,9 @@
 //! Laws of the machine, and of the words that it shares with the calls of a world. Each function's contract is a law; none does anything.
 ghost use Rattle.ref_play.specs.Laws.{RunsHaveLaws, StepsHaveLaws};
 ghost use Rattle.ref_play.specs.Plain.{CommitsWhereItCan, LastsMean, NoticesMean, RefusalsSayWhy, ReplayMeans};
-ghost use Rattle.ref_play.specs.PlainAgents.{FinishMeans, JobOutMeans, NextJobMeans, ReadyMeans, ReleaseCarriedMeans, ReleaseMeans, RestartMeans, RestartRefusals, SendRefusals, SendsMean};
+ghost use Rattle.ref_play.specs.PlainAgents.{FinishMeans, FoldsMean, JobOutMeans, NextJobMeans, ReadyMeans, ReleaseCarriedMeans, ReleaseMeans, RestartMeans, RestartRefusals, SendRefusals, SendsMean};
 ghost use Rattle.ref_play.specs.PlainAtoms.{ChangesMean, ComparesMean};
-ghost use Rattle.ref_play.specs.PlainMakes.{MakingsMean, RulesMean};
+ghost use Rattle.ref_play.specs.PlainMakes.{MakingsMean, RuleMeans, RulesMean};
 ghost use Rattle.ref_play.specs.PlainTx.{InnerMeans, OperationsMean, RequirementsMean, SendsInTxMean, TxMeans};
 
 use ref_fun::Meaning;
@@ -100,6 +100,11 @@ pub fn restart_in_plain_words()
     ensures { RestartMeans }
 {}
 
+/// When an account can be folded, and what a fold leaves.
+pub fn folds_in_plain_words()
+    ensures { FoldsMean }
+{}
+
 /// A restart is refused with a fault exactly where that holds which the fault says, and nothing that is asked before it.
 pub fn restart_refusals_say_why<M: Meaning>()
     ensures { RestartRefusals M.accepts }
@@ -138,4 +143,9 @@ pub fn makings_in_plain_words<M: Meaning>()
 /// So it is where a reference is given another rule.
 pub fn rules_in_plain_words<M: Meaning>()
     ensures { RulesMean M.accepts }
+{}
+
+/// A reference has the rule that stands at its number, if there is one.
+pub fn rule_in_plain_words()
+    ensures { RuleMeans }
 {}

@@ -1,7 +1,9 @@
 -- The lines of a play: of each event its number, how it is written without the brackets, ` -> ` and the reply to its actor.
-use Rattle.std.specs.Prelude.{ℕ, ◌+◌, Bool, true, false, List, [], ◌∷◌, ◌++◌, Option, None, Some, Result, Ok, Err, codes, decimal}
+use Rattle.std.specs.Prelude.{ℕ, ◌+◌, Bool, true, false, List, [], ◌∷◌, ◌++◌, Option, None, Some, Result, Ok, Err, codes, decimal, unwrap_or}
 use Rattle.ref_value.specs.Edn.{Edn, vector, list_of}
 use Rattle.ref_edn.specs.Printed.{printed}
+use Rattle.ref_fun.specs.Names.{core_names, name_in}
+use Rattle.ref_fun.specs.declared.rules.Rule.{Rule}
 use Rattle.ref_log.specs.declared.faults.MakeFault.{MakeFault}
 use Rattle.ref_log.specs.declared.faults.MakeFault.TheVariants as makes
 use Rattle.ref_log.specs.declared.faults.RuleFault.{RuleFault}
@@ -66,6 +68,11 @@ numbered word n = word ++ space ++ decimal n
 
 abbrev pub valued : List ℕ → Edn → List ℕ
 valued word v = word ++ space ++ printed v
+
+-- each element, with a space in front
+abbrev pub spaced : List Edn → List ℕ
+spaced [] = []
+spaced (x ∷ xs) = space ++ printed x ++ spaced xs
 
 -- what a call answered, or its fault
 abbrev pub either : {T Fault : Type 0} → (T → List ℕ) → (Fault → List ℕ) → Result T Fault → List ℕ
@@ -204,6 +211,18 @@ abbrev pub value_if_there : Option Edn → List ℕ
 value_if_there None = none_text
 value_if_there (Some v) = value_text v
 
+-- the name of a predicate of Core; other codes have none
+abbrev pub predicate_name : ℕ → List ℕ
+predicate_name code = unwrap_or (name_in core_names code) []
+
+-- [P ARG ..]
+abbrev pub rule_text : Rule → List ℕ
+rule_text rule = codes "rule [" ++ predicate_name rule.code ++ spaced rule.args ++ codes "]"
+
+abbrev pub rule_if_there : Option Rule → List ℕ
+rule_if_there None = none_text
+rule_if_there (Some rule) = rule_text rule
+
 abbrev pub error_text : Option AgentError → List ℕ
 error_text None = none_text
 error_text (Some error) = agent_error_text error
@@ -235,6 +254,7 @@ reply_text replies.PutBack = ok_text
 reply_text (replies.Finish told) = either finished_text finish_fault_text told
 reply_text (replies.Restart told) = done_text restart_fault_text told
 reply_text (replies.SetErrorMode told) = done_text mode_fault_text told
+reply_text (replies.Fold told) = either flag_text (λ e. out_of_memory) told
 reply_text (replies.SetValidator told) = done_text rule_fault_text told
 reply_text (replies.AddWatch told) = either flag_text watch_fault_text told
 reply_text (replies.RemoveWatch was) = flag_text was
@@ -243,14 +263,10 @@ reply_text (replies.MakeAtom told) = either (numbered (codes "atom")) make_fault
 reply_text (replies.MakeAgent told) = either (numbered (codes "agent")) make_fault_text told
 reply_text (replies.Checkpoint told) = either (numbered (codes "folded")) checkpoint_fault_text told
 reply_text (replies.ValueOf told) = either value_if_there (λ e. out_of_memory) told
+reply_text (replies.RuleOf told) = either rule_if_there (λ e. out_of_memory) told
 reply_text (replies.ErrorOf error) = error_text error
 
 -- ---- lines
-
--- each element, with a space in front
-abbrev pub spaced : List Edn → List ℕ
-spaced [] = []
-spaced (x ∷ xs) = space ++ printed x ++ spaced xs
 
 abbrev pub form_text : Edn → List ℕ
 form_text (vector xs) = spaced (list_of xs)
@@ -258,6 +274,10 @@ form_text x = space ++ printed x
 
 abbrev pub event_line : ℕ → Edn → Reply → List ℕ
 event_line n form reply = decimal n ++ form_text form ++ codes " -> " ++ reply_text reply ++ newline
+
+-- the line of a start that is refused: the reference that can't begin so, and why
+abbrev pub start_line : Who → MakeFault → List ℕ
+start_line who fault = codes "start -> " ++ who_text who ++ space ++ make_fault_text fault ++ newline
 
 -- a line for each event that was answered, the first with this number
 abbrev pub event_lines : ℕ → List Edn → List Reply → List ℕ

@@ -1,20 +1,25 @@
 -- What a play of a list of events reads and writes.
-use Rattle.std.specs.Prelude.{◌≡◌, ◌≢◌, ℕ, List, [], ◌++◌, None, Ok}
+use Rattle.std.specs.Prelude.{◌≡◌, ◌≢◌, ◌⊎◌, ℕ, Bool, true, false, List, [], ◌∷◌, ◌++◌, Option, None, Some, Ok}
+use Rattle.std.specs.Option.{option_or}
 use Rattle.ref_value.specs.Edn.{Edn}
 use Rattle.ref_edn.specs.Grammar.{IsText}
+use Rattle.ref_edn.specs.Printed.{printed}
 use Rattle.ref_fun.specs.Calls.{HasCore, Known}
 use Rattle.ref_fun.specs.Core.{core_accepts, core_means}
-use Rattle.ref_start.specs.declared.starts.AgentStart.{AgentStart}
-use Rattle.ref_start.specs.declared.starts.AtomStart.{AtomStart}
-use Rattle.ref_start.specs.declared.starts.RefStart.{RefStart}
+use Rattle.ref_agents.specs.declared.starts.AgentStart.{AgentStart}
+use Rattle.ref_agents.specs.declared.starts.AtomStart.{AtomStart}
+use Rattle.ref_agents.specs.declared.starts.RefStart.{RefStart}
+use Rattle.ref_forms.specs.Names.{NamesSeen}
 use Rattle.ref_verdict.specs.DumpForm.{dump_of}
 use Rattle.ref_verdict.specs.Verdict.{verdict_on}
 use Rattle.ref_verdict.specs.declared.reports.Verdict.TheVariants as verdicts
+use Rattle.ref_log.specs.declared.faults.MakeFault.{MakeFault}
+use Rattle.ref_log.specs.declared.notices.Who.{Who}
 use Rattle.ref_audit.specs.Dumped.{dumped}
 use Rattle.ref_audit.specs.Report.{reported}
 use Rattle.ref_world.specs.Seen.{WorldSeen}
 use Rattle.ref_world.specs.Shares.{whole}
-use Rattle.ref_world.specs.Starts.{base_of, books_of, declared_agents, declared_atoms, declared_refs}
+use Rattle.ref_world.specs.Starts.{base_of, books_of, declared_agents, declared_atoms, declared_refs, refusal_of}
 use Rattle.ref_world.specs.World.{with_agents}
 use Rattle.ref_workload.specs.Streams.{IsFaultOfOne, IsInputAtFault}
 use Rattle.ref_workload.specs.declared.faults.RunFault.TheVariants as runs
@@ -23,7 +28,7 @@ use Rattle.ref_play.specs.declared.events.Event.{Event}
 use Rattle.ref_play.specs.declared.events.Reply.{Reply}
 use Rattle.ref_events.specs.Documents.{IsScript, ScriptSeen}
 use Rattle.ref_events.specs.declared.faults.ScriptFault.TheVariants as scripts
-use Rattle.ref_player.specs.Lines.{event_lines}
+use Rattle.ref_player.specs.Lines.{event_lines, start_line}
 use Rattle.ref_player.specs.declared.faults.PlayFault.{PlayFault}
 use Rattle.ref_player.specs.declared.faults.PlayFault.TheVariants as plays
 
@@ -37,6 +42,13 @@ pub record Begins (knows : Known) (refs : List RefStart) (atoms : List AtomStart
   pub books : first.world.books ≡ books_of first.world.refs
   pub share : first.share ≡ whole
   pub actors : (a : ℕ) → (txs_of first.slots a ≡ None) × (jobs_of first.jobs a ≡ None)
+
+-- Why no world begins with these: the first that can't be made, refs before atoms before agents.
+abbrev pub start_refusal : Known → List RefStart → List AtomStart → List AgentStart → Option (Who × MakeFault)
+start_refusal knows refs atoms agents =
+    option_or (refusal_of (declared_refs core_accepts knows.preds refs))
+    (option_or (refusal_of (declared_atoms core_accepts knows.preds atoms))
+    (refusal_of (declared_agents core_accepts knows.preds agents)))
 
 -- the world where each job was put back
 abbrev pub ended : SimSeen → WorldSeen
@@ -53,9 +65,22 @@ pub record Plays (knows : Known) (first : SimSeen) (events : List Event) (replie
   pub plays : PlaysTo knows first events replies last
   pub world_is : world ≡ ended last
 
--- The output is the lines of a play of these events, and then the report of the world that it came to. The audit of that world's dump
--- says ok.
-pub record IsPlayOf (script : ScriptSeen) (output : List ℕ) : Type 0 where
+-- the printed dump of a world and a newline, or else its report
+abbrev pub shown : Bool → NamesSeen → WorldSeen → List ℕ
+shown true names world = printed (dumped world) ++ 10 ∷ []
+shown false names world = reported names world [] verdicts.Ok
+
+-- There is no world, for this reason, and no event is played. The output is the line that says so.
+pub record IsRefusedStart (script : ScriptSeen) (output : List ℕ) : Type 0 where
+  pub knows : Known
+  pub core : HasCore knows
+  pub refused : Who × MakeFault
+  pub refusal : start_refusal knows script.refs script.atoms script.agents ≡ Some refused
+  pub output_is : output ≡ start_line refused.0 refused.1
+
+-- The output is the lines of a play of these events, and then the report or the dump of the world that it came to. The audit of that
+-- world's dump says ok.
+pub record IsPlayedOut (dump : Bool) (script : ScriptSeen) (output : List ℕ) : Type 0 where
   pub knows : Known
   pub core : HasCore knows
   pub first : SimSeen
@@ -64,15 +89,19 @@ pub record IsPlayOf (script : ScriptSeen) (output : List ℕ) : Type 0 where
   pub world : WorldSeen
   pub plays : Plays knows first script.events replies world
   pub audited : verdict_on (dump_of (dumped world)) ≡ Ok verdicts.Ok
-  pub output_is : output ≡ event_lines 0 script.forms replies ++ reported script.names world [] verdicts.Ok
+  pub output_is : output ≡ event_lines 0 script.forms replies ++ shown dump script.names world
+
+-- The start is refused, or the events are played: a world that begins with the references has none of them refused.
+abbrev pub IsPlayOf : Bool → ScriptSeen → List ℕ → Type 0
+IsPlayOf dump script output = IsRefusedStart script output ⊎ IsPlayedOut dump script output
 
 -- The text is a list of events, and the output is that of a play of them.
-pub record IsPlay (text output : List ℕ) : Type 0 where
+pub record IsPlay (dump : Bool) (text output : List ℕ) : Type 0 where
   pub value : Edn
   pub script : ScriptSeen
   pub belongs : IsText text value
   pub lawful : IsScript value script
-  pub play : IsPlayOf script output
+  pub play : IsPlayOf dump script output
 
 -- what a fault says of the text that was there to read
 abbrev pub IsAtFault : List ℕ → PlayFault → Type 0

@@ -1,10 +1,12 @@
 //! The lines of a play.
 ghost use Rattle.std.specs.Prelude.{◌≡◌, ◌++◌, IfOk, OnOk};
-ghost use Rattle.ref_player.specs.Lines.{event_line, event_lines, form_text, spaced};
+ghost use Rattle.ref_player.specs.Lines.{event_line, event_lines, form_text, spaced, start_line};
 
-use crate::replies::append_reply;
+use crate::fault_words::make_word;
+use crate::replies::{append_reply, append_who};
 use ref_audit::append_number;
 use ref_edn::print;
+use ref_log::{MakeFault, Who};
 use ref_play::Reply;
 use ref_value::{Items, Node, Value};
 use std::alloc::{AllocError, Global};
@@ -48,6 +50,19 @@ fn append_line(
     out.extend_from_slice(b" -> ")?;
     append_reply(alloc, reply, out)?;
     out.extend_from_slice(b"\n")
+}
+
+/// The line of a start that is refused: the reference that can't begin so, and why.
+pub fn start_line(alloc: Global, who: Who, fault: MakeFault) -> Result<Vec<u8>, AllocError>
+    ensures { IfOk result (λ text. text.items ≡ start_line who fault) }
+{
+    let mut text = Vec::new(alloc);
+    text.extend_from_slice(b"start -> ")?;
+    append_who(who, &mut text)?;
+    text.extend_from_slice(b" ")?;
+    text.extend_from_slice(make_word(fault).as_bytes())?;
+    text.extend_from_slice(b"\n")?;
+    Ok(text)
 }
 
 /// A line for each event that was answered: its number, how it is written, and the reply to its actor. Linear in the text.

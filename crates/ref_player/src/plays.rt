@@ -1,33 +1,36 @@
 //! The play of a list of events, by one thread.
-ghost use Rattle.std.specs.Prelude.{◌≡◌, ◌++◌, [], Ok, IfErr, IfOk, OnOk};
+ghost use Rattle.std.specs.Prelude.{◌≡◌, ◌≢◌, ◌++◌, ◌∷◌, [], Some, Ok, IfErr, IfOk, OnOk};
+ghost use Rattle.ref_edn.specs.Printed.{printed};
 ghost use Rattle.ref_fun.specs.Calls.{HasCore};
 ghost use Rattle.ref_verdict.specs.DumpForm.{dump_of};
 ghost use Rattle.ref_verdict.specs.Verdict.{verdict_on};
 ghost use Rattle.ref_verdict.specs.declared.reports.Verdict.TheVariants as verdicts;
 ghost use Rattle.ref_audit.specs.Dumped.{dumped};
-ghost use Rattle.ref_audit.specs.Report.{reported};
 ghost use Rattle.ref_events.specs.Documents.{ScriptSeen};
 ghost use Rattle.ref_play.specs.Sims.{Stands, machine_of};
-ghost use Rattle.ref_player.specs.Lines.{event_lines};
-ghost use Rattle.ref_player.specs.Plays.{Begins, IsPlayOf, Plays, PlaysTo};
+ghost use Rattle.ref_log.specs.declared.faults.MakeFault.TheVariants as makes;
+ghost use Rattle.ref_player.specs.Lines.{event_lines, start_line};
+ghost use Rattle.ref_player.specs.Plays.{Begins, IsPlayOf, Plays, PlaysTo, shown, start_refusal};
 ghost use Rattle.ref_workload.specs.Run.{IsOfPlan};
 ghost use Rattle.ref_world.specs.Shares.{IsBlank};
 
-use crate::lines::lines_of;
+use crate::lines::{lines_of, start_line};
+use ref_agents::Start;
 use ref_audit::{Verdict, report};
+use ref_edn::print;
 use ref_events::{Script, ScriptParts};
+use ref_forms::Names;
 use ref_fun::{Core, Functions};
-use ref_log::MakeFault;
+use ref_log::{MakeFault, Who};
 use ref_play::{Event, Reply, Sim};
-use ref_start::{Names, Start};
-use ref_value::Items;
+use ref_value::{Items, Value};
 use ref_workload::RunFault;
-use ref_workload::texts::check_audit;
+use ref_workload::texts::{audited, check_audit};
 use ref_world::World;
 use std::alloc::Global;
 use std::sync::ledger::{Blank, Ledger};
 
-// The world that is declared, on which no actor has acted.
+// The world that is declared, on which no actor has acted, or why there is none.
 fn begin<F: Functions<Core>, C: Ledger, A: Ledger, K: Ledger>(
     alloc: Global,
     funs: &F,
@@ -35,19 +38,33 @@ fn begin<F: Functions<Core>, C: Ledger, A: Ledger, K: Ledger>(
     commits: Blank,
     added: Blank,
     taken: Blank,
-) -> Result<Sim<Core, C, A, K>, RunFault>
+) -> Result<Sim<Core, C, A, K>, (Who, MakeFault)>
     requires commits { IsBlank commits C.name C.parts }
     requires added { IsBlank added A.name A.parts }
     requires taken { IsBlank taken K.name K.parts }
     ensures begins { IfOk result (Begins (F.knows funs.now) start.now.refs.items start.now.atoms.items
         start.now.agents.items) }
-    ensures inner { IfErr result IsOfPlan }
+    ensures fault { IfErr result (λ e. e.1 ≢ makes.Memory → start_refusal (F.knows funs.now) start.now.refs.items
+        start.now.atoms.items start.now.agents.items ≡ Some e) }
 {
     match Sim::new(alloc, funs, start, commits, added, taken) {
         Ok(sim) => Ok(sim),
-        Err((_, MakeFault::Memory)) => Err(RunFault::Memory),
-        // The rules of a list of events accept its values.
-        Err((_, _)) => Err(RunFault::Internal),
+        Err(refused) => Err(refused),
+    }
+}
+
+// The line of a start that is refused, if it isn't for lack of memory.
+fn refused_start(alloc: Global, who: Who, fault: MakeFault) -> Result<Vec<u8>, RunFault>
+    ensures text { IfOk result (λ text. text.items ≡ start_line who fault) }
+    ensures told { OnOk result (fault ≢ makes.Memory) }
+    ensures inner { IfErr result IsOfPlan }
+{
+    match fault {
+        MakeFault::Memory => Err(RunFault::Memory),
+        fault => match start_line(alloc, who, fault) {
+            Ok(text) => Ok(text),
+            Err(_) => Err(RunFault::Memory),
+        },
     }
 }
 
@@ -105,36 +122,74 @@ fn play<F: Functions<Core>, C: Ledger, A: Ledger, K: Ledger>(
     }
 }
 
-// The lines of a play, and then the report of the world that it came to, which is audited.
+// Appends the printed dump, and a newline.
+fn append_dump(alloc: Global, dumped: &Value, text: &mut Vec<u8>) -> Result<(), RunFault>
+    ensures ok { OnOk result (text.new.items ≡ text.old.items ++ (printed dumped.now ++ 10 ∷ [])) }
+    ensures inner { IfErr result IsOfPlan }
+{
+    if print(alloc, dumped, text).is_err() || text.push(b'\n').is_err() {
+        return Err(RunFault::Memory);
+    }
+    Ok(())
+}
+
+// Appends the report of a world that is audited, or its dump, which is.
+fn append_end<F: Functions<Core>, C: Ledger, A: Ledger, K: Ledger>(
+    alloc: Global,
+    funs: &F,
+    names: &Names,
+    world: &World<Core, C, A, K>,
+    dump: bool,
+    text: &mut Vec<u8>,
+) -> Result<(), RunFault>
+    requires { HasCore (F.knows funs.now) }
+    ensures audited { OnOk result (verdict_on (dump_of (dumped world.now)) ≡ Ok verdicts.Ok) }
+    ensures text { OnOk result (text.new.items ≡ text.old.items ++ shown dump names.now world.now) }
+    ensures inner { IfErr result IsOfPlan }
+{
+    if dump {
+        let dumped = audited(alloc, funs, world)?;
+        return append_dump(alloc, &dumped, text);
+    }
+    check_audit(alloc, funs, world)?;
+    match report(alloc, names, world, &[], &Verdict::Ok, text) {
+        Ok(()) => Ok(()),
+        Err(_) => Err(RunFault::Memory),
+    }
+}
+
+// The lines of a play, and then the report or the dump of the world that it came to, which is audited.
 fn text_of<F: Functions<Core>, C: Ledger, A: Ledger, K: Ledger>(
     alloc: Global,
     funs: &F,
     names: &Names,
     forms: &Items,
     played: &Played<C, A, K>,
+    dump: bool,
 ) -> Result<Vec<u8>, RunFault>
     requires { HasCore (F.knows funs.now) }
     ensures audited { OnOk result (verdict_on (dump_of (dumped played.now.world)) ≡ Ok verdicts.Ok) }
     ensures text { IfOk result (λ text. text.items ≡ event_lines 0 forms.now played.now.replies.items
-        ++ reported names.now played.now.world [] verdicts.Ok) }
+        ++ shown dump names.now played.now.world) }
     ensures inner { IfErr result IsOfPlan }
 {
-    check_audit(alloc, funs, &played.world)?;
     let Ok(mut text) = lines_of(alloc, forms, played.replies.as_slice()) else {
         return Err(RunFault::Memory);
     };
-    match report(alloc, names, &played.world, &[], &Verdict::Ok, &mut text) {
+    match append_end(alloc, funs, names, &played.world, dump, &mut text) {
         Ok(()) => Ok(text),
-        Err(_) => Err(RunFault::Memory),
+        Err(fault) => Err(fault),
     }
 }
 
-/// What is written of a list of events that is played by a table of Core's functions: a line for each event, and the report of the
-/// world that it came to, where all jobs were put back and all open transactions dropped. The blanks become the books.
+/// What is written of a list of events that is played by a table of Core's functions: a line for each event, and the report, or the dump,
+/// of the world that it came to, where all jobs were put back and all open transactions dropped. Where a rule or the tally refuses the start,
+/// it is the line that says so, and no event is played. The blanks become the books.
 pub fn output_of<F: Functions<Core>, C: Ledger, A: Ledger, K: Ledger>(
     alloc: Global,
     funs: &F,
     script: Script,
+    dump: bool,
     commits: Blank,
     added: Blank,
     taken: Blank,
@@ -143,7 +198,7 @@ pub fn output_of<F: Functions<Core>, C: Ledger, A: Ledger, K: Ledger>(
     requires commits { IsBlank commits C.name C.parts }
     requires added { IsBlank added A.name A.parts }
     requires taken { IsBlank taken K.name K.parts }
-    ensures ok { IfOk result (λ output. IsPlayOf script output.items) }
+    ensures ok { IfOk result (λ output. IsPlayOf dump script output.items) }
     ensures inner { IfErr result IsOfPlan }
 {
     let ScriptParts {
@@ -152,7 +207,11 @@ pub fn output_of<F: Functions<Core>, C: Ledger, A: Ledger, K: Ledger>(
         events,
         forms,
     } = script.into_parts();
-    let sim = begin::<F, C, A, K>(alloc, funs, &start, commits, added, taken)?;
-    let played = play(alloc, funs, sim, events.as_slice())?;
-    text_of(alloc, funs, &names, &forms, &played)
+    match begin::<F, C, A, K>(alloc, funs, &start, commits, added, taken) {
+        Ok(sim) => {
+            let played = play(alloc, funs, sim, events.as_slice())?;
+            text_of(alloc, funs, &names, &forms, &played, dump)
+        }
+        Err((who, fault)) => refused_start(alloc, who, fault),
+    }
 }

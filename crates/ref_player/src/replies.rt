@@ -1,6 +1,6 @@
 //! Replies to actors, as text.
 ghost use Rattle.std.specs.Prelude.{◌≡◌, ◌++◌, OnOk, codes};
-ghost use Rattle.ref_player.specs.Lines.{cas_text, checkpoint_fault_text, commit_fault_text, done_text, either, error_text, finish_fault_text, finished_text, flag_text, job_fault_text, make_fault_text, mode_fault_text, notice_text, notices_text, numbered, atom_fault_text, out_of_memory, point_text, receipt_text, reply_text, restart_fault_text, rule_fault_text, send_fault_text, swapped_text, taken_text, tx_fault_text, value_if_there, value_text, valued, watch_fault_text, who_text};
+ghost use Rattle.ref_player.specs.Lines.{cas_text, checkpoint_fault_text, commit_fault_text, done_text, either, error_text, finish_fault_text, finished_text, flag_text, job_fault_text, make_fault_text, mode_fault_text, notice_text, notices_text, numbered, atom_fault_text, out_of_memory, point_text, predicate_name, receipt_text, reply_text, restart_fault_text, rule_fault_text, rule_if_there, rule_text, send_fault_text, spaced, swapped_text, taken_text, tx_fault_text, value_if_there, value_text, valued, watch_fault_text, who_text};
 
 use crate::fault_words::{
     atom_word, cause_word, checkpoint_word, error_word, finish_word, job_word, make_word,
@@ -10,6 +10,8 @@ use ref_agents::{AgentError, FinishFault, Finished, JobFault, ModeFault, Restart
 use ref_atoms::{AtomFault, Cas, Swapped};
 use ref_audit::append_number;
 use ref_edn::print;
+use ref_fun::Rule;
+use ref_fun::names::name_of;
 use ref_log::{MakeFault, Notice, RuleFault, WatchFault, Who};
 use ref_play::Reply;
 use ref_refs::CommitFault;
@@ -55,7 +57,8 @@ fn flag_word(flag: bool) -> &'static str
 
 // ---- notices
 
-fn append_who(who: Who, out: &mut Vec<u8>) -> Result<(), AllocError>
+/// Appends a reference, by its kind and number.
+pub(crate) fn append_who(who: Who, out: &mut Vec<u8>) -> Result<(), AllocError>
     ensures { OnOk result (out.new.items ≡ out.old.items ++ who_text who) }
 {
     match who {
@@ -149,6 +152,15 @@ fn watch_told(told: &Result<bool, WatchFault>) -> &'static str
     match told {
         Ok(is_new) => flag_word(*is_new),
         Err(fault) => watch_word(*fault),
+    }
+}
+
+fn fold_told(told: &Result<bool, AllocError>) -> &'static str
+    ensures { result.now ≡ either flag_text (λ _. out_of_memory) told.now }
+{
+    match told {
+        Ok(done) => flag_word(*done),
+        Err(_) => "out-of-memory",
     }
 }
 
@@ -335,6 +347,50 @@ fn append_value_of(
     }
 }
 
+// The name of a predicate of Core. Other codes have none.
+fn predicate_name(code: u32) -> &'static str
+    ensures { result.now ≡ predicate_name code }
+{
+    match name_of(code) {
+        Some(name) => name,
+        None => "",
+    }
+}
+
+// Each argument, with a space in front.
+fn append_args(alloc: Global, args: &[Value], out: &mut Vec<u8>) -> Result<(), AllocError>
+    ensures { OnOk result (out.new.items ≡ out.old.items ++ spaced args.now) }
+{
+    for arg in args {
+        out.extend_from_slice(b" ")?;
+        print(alloc, arg, out)?;
+    }
+    Ok(())
+}
+
+fn append_rule(alloc: Global, rule: &Rule, out: &mut Vec<u8>) -> Result<(), AllocError>
+    ensures { OnOk result (out.new.items ≡ out.old.items ++ rule_text rule.now) }
+{
+    append_word("rule [", out)?;
+    append_word(predicate_name(rule.code), out)?;
+    append_args(alloc, rule.args.as_slice(), out)?;
+    append_word("]", out)
+}
+
+fn append_rule_of(
+    alloc: Global,
+    told: &Result<Option<Rule>, AllocError>,
+    out: &mut Vec<u8>,
+) -> Result<(), AllocError>
+    ensures { OnOk result (out.new.items ≡ out.old.items ++ either rule_if_there (λ _. out_of_memory) told.now) }
+{
+    match told {
+        Ok(None) => append_word("none", out),
+        Ok(Some(rule)) => append_rule(alloc, rule, out),
+        Err(_) => append_word("out-of-memory", out),
+    }
+}
+
 /// Appends the reply to an actor.
 pub(crate) fn append_reply(
     alloc: Global,
@@ -368,6 +424,7 @@ pub(crate) fn append_reply(
         Reply::Finish(told) => append_finished(alloc, told, out),
         Reply::Restart(told) => append_word(restart_done(told), out),
         Reply::SetErrorMode(told) => append_word(mode_done(told), out),
+        Reply::Fold(told) => append_word(fold_told(told), out),
         Reply::SetValidator(told) => append_word(rule_done(told), out),
         Reply::AddWatch(told) => append_word(watch_told(told), out),
         Reply::MakeRef(told) => append_made("ref", told, out),
@@ -375,6 +432,7 @@ pub(crate) fn append_reply(
         Reply::MakeAgent(told) => append_made("agent", told, out),
         Reply::Checkpoint(told) => append_folded(told, out),
         Reply::ValueOf(told) => append_value_of(alloc, told, out),
+        Reply::RuleOf(told) => append_rule_of(alloc, told, out),
         Reply::ErrorOf(error) => append_word(error_told(error), out),
     }
 }

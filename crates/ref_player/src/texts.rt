@@ -21,7 +21,7 @@ use std::marker::Brand;
 use std::sync::ledger::Blank;
 
 /// Reads a list of events to its end, plays it by a table of Core's functions, audits the world that it came to, and writes a line for
-/// each event and then the report.
+/// each event, and then the report, or, where it is asked for, the dump that was audited and a newline.
 ///
 /// Nothing is written before the play has ended. The reader is read to its end or to one byte more than an input may have.
 pub fn play_events<F: Functions<Core>, I: Source, O: Sink>(
@@ -29,23 +29,24 @@ pub fn play_events<F: Functions<Core>, I: Source, O: Sink>(
     funs: &F,
     reader: &mut I,
     writer: &mut O,
+    dump: bool,
 ) -> Result<(), PlayFault>
     requires { HasCore (F.knows funs.now) }
     // It reads no further than one byte past what an input may have.
     ensures taken { ConsumesUpTo (I.left reader.old) (I.left reader.new) (most_input + 1) }
-    ensures ok { OnOk result (HasWritten IsPlay (I.left reader.old) (I.left reader.new) (O.written writer.old)
+    ensures ok { OnOk result (HasWritten (IsPlay dump) (I.left reader.old) (I.left reader.new) (O.written writer.old)
         (O.written writer.new)) }
     // The text, its value or its length is at fault, where the fault says so.
     ensures fault { IfErr result (λ f. IfSome (I.left reader.old) (λ text. IsAtFault text f)) }
     ensures write { IfErr result (λ f. f ≡ plays.Run runs.Write
-        → HasBrokenOff IsPlay (I.left reader.old) (I.left reader.new) (O.written writer.old) (O.written writer.new)) }
+        → HasBrokenOff (IsPlay dump) (I.left reader.old) (I.left reader.new) (O.written writer.old) (O.written writer.new)) }
     // Before any other fault nothing was written.
     ensures silent { IfErr result (λ f. f ≢ plays.Run runs.Write → O.written writer.new ≡ O.written writer.old) }
     ensures reads { CountsReads (I.failures reader.old) (I.failures reader.new) result }
     ensures writes { CountsWrites (O.failures writer.old) (O.failures writer.new) result }
 {
     let input = read_input(alloc, reader)?;
-    let output = play_text(alloc, funs, &input)?;
+    let output = play_text(alloc, funs, &input, dump)?;
     write_output(writer, &output)?;
     Ok(())
 }
@@ -55,9 +56,10 @@ pub fn play_text<F: Functions<Core>>(
     alloc: Global,
     funs: &F,
     text: &[u8],
+    dump: bool,
 ) -> Result<Vec<u8>, PlayFault>
     requires { HasCore (F.knows funs.now) }
-    ensures ok { IfOk result (λ output. IsPlay text.now output.items) }
+    ensures ok { IfOk result (λ output. IsPlay dump text.now output.items) }
     ensures fault { IfErr result (λ f. IsAtFault text.now f) }
     ensures inner { IfErr result IsOfText }
 {
@@ -68,7 +70,7 @@ pub fn play_text<F: Functions<Core>>(
         Blank::new(ALL_PARTS),
         Blank::new(ALL_PARTS),
     );
-    match output_of::<F, Brand, Brand, Brand>(alloc, funs, script, commits, added, taken) {
+    match output_of::<F, Brand, Brand, Brand>(alloc, funs, script, dump, commits, added, taken) {
         Ok(output) => Ok(output),
         Err(fault) => Err(PlayFault::Run(fault)),
     }

@@ -1,4 +1,4 @@
--- To be read and believed: Seen, Commit, Watches, Make, Faults, and of Conflicts the first two definitions, the rest of which is
+-- To be read and believed: Seen, Commit, Watches, Make, and of Conflicts the first two definitions, the rest of which is
 -- proved. Rules, Smaller, Late, Chained and Falls are for private functions.
 pub mod Seen
 pub mod Rules
@@ -7,7 +7,6 @@ pub mod Smaller
 pub mod Commit
 pub mod Conflicts
 pub mod Make
-pub mod Faults
 pub mod Late
 pub mod Chained
 pub mod Falls

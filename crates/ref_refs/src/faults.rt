@@ -1,6 +1,5 @@
 //! Why a transaction isn't committed.
 ghost use Rattle.std.specs.Prelude.{◌≡◌};
-ghost use Rattle.ref_refs.specs.Faults.{alien_number, commit_fault_number};
 ghost use Rattle.ref_refs.specs.declared.faults.CommitFault.TheVariants as commits;
 
 use ref_fun::Cause;
@@ -66,37 +65,6 @@ pub enum CommitFault {
     /// The table has no function of this code, which a `commute` names, or no predicate of this code, which a rule names.
     #[error("the table lacks code {0}")]
     NoSuchFun(u32),
-}
-
-impl Alien {
-    // The number of the fault of it.
-    fn number(&self) -> u8
-        ensures { result ≡ alien_number self.now }
-    {
-        match self {
-            Alien::Ref(_) | Alien::Agent(_) | Alien::Tally | Alien::Point(_) => 1,
-            Alien::Value(_) => 3,
-        }
-    }
-}
-
-impl CommitFault {
-    /// The number of the fault: its place in the order of the tests, but 8 where a book is full, which is tested before memory, and
-    /// 9 where the table lacks a function or a predicate.
-    pub fn number(&self) -> u8
-        ensures { result ≡ commit_fault_number self.now }
-    {
-        match self {
-            CommitFault::Foreign(alien) => alien.number(),
-            CommitFault::Conflict(_) => 2,
-            CommitFault::Refused(_, _) => 4,
-            CommitFault::Invalid(_) => 5,
-            CommitFault::PointLimit => 6,
-            CommitFault::BookFull => 8,
-            CommitFault::Memory => 7,
-            CommitFault::NoSuchFun(_) => 9,
-        }
-    }
 }
 
 impl From<AllocError> for CommitFault {

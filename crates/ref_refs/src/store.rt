@@ -162,7 +162,7 @@ impl<M: Meaning> RefStore<M> {
 
     /// Adds a watch to a ref, behind its others, and answers whether the key is new; a key that is there stays where it is.
     /// Linear in the number of the ref's watches. A refused call changes nothing.
-    pub fn add_watch(&mut self, _alloc: Global, r: u32, key: Value) -> Result<bool, WatchFault>
+    pub fn add_watch(&mut self, r: u32, key: Value) -> Result<bool, WatchFault>
         ensures new { IfOk result (λ is_new. is_new ≡ not (has_key (keys_at self.old.guards r) key)) }
         ensures adds { OnOk result (self.new ≡ with_guards self.old (with_watch self.old.guards r key)) }
         ensures here { OnOk result (r < length self.old.values) }

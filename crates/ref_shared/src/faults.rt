@@ -1,6 +1,5 @@
 //! Why a call on a shared world is refused.
 ghost use Rattle.std.specs.Prelude.{◌≡◌};
-ghost use Rattle.ref_shared.specs.Faults.{await_fault_number, gather_fault_number, transact_fault_number, wait_fault_number, work_fault_number};
 ghost use Rattle.ref_shared.specs.declared.faults.GatherFault.TheVariants as gathers;
 
 use ref_agents::JobFault;
@@ -26,20 +25,6 @@ pub enum TransactFault<E> {
     Memory,
 }
 
-impl<E> TransactFault<E> {
-    /// The number of the fault.
-    pub fn number(&self) -> u8
-        ensures { result ≡ transact_fault_number self.now }
-    {
-        match self {
-            TransactFault::GaveUp { .. } => 1,
-            TransactFault::Body(_) => 2,
-            TransactFault::Commit(_) => 3,
-            TransactFault::Memory => 4,
-        }
-    }
-}
-
 /// Why a transaction that waits came to no commit. World and share are as they were. E is what the body may return.
 #[derive(Clone, Copy, Debug, Drop, PartialEq, Eq, Error)]
 #[error_bound(E: Display)]
@@ -50,18 +35,6 @@ pub enum WaitFault<E> {
     /// As of a transaction that doesn't wait.
     #[error("{0}")]
     Transact(TransactFault<E>),
-}
-
-impl<E> WaitFault<E> {
-    /// The number of the fault.
-    pub fn number(&self) -> u8
-        ensures { result ≡ wait_fault_number self.now }
-    {
-        match self {
-            WaitFault::Closed => 1,
-            WaitFault::Transact(_) => 2,
-        }
-    }
 }
 
 /// Why a call that waits for agents returned before all was gone that it waited for. Nothing was changed.
@@ -80,20 +53,6 @@ pub enum AwaitFault {
     Memory,
 }
 
-impl AwaitFault {
-    /// The number of the fault.
-    pub fn number(&self) -> u8
-        ensures { result ≡ await_fault_number self.now }
-    {
-        match self {
-            AwaitFault::NoSuchAgent(_) => 1,
-            AwaitFault::Failed(_) => 2,
-            AwaitFault::Closed => 3,
-            AwaitFault::Memory => 4,
-        }
-    }
-}
-
 /// Why an action wasn't run to its end.
 #[derive(Clone, Copy, Debug, Drop, PartialEq, Eq, Error)]
 pub enum WorkFault {
@@ -107,19 +66,6 @@ pub enum WorkFault {
     /// The job that was taken is no job of this world any more. A right program never meets this.
     #[error("the job isn't on its way here")]
     Foreign,
-}
-
-impl WorkFault {
-    /// The number of the fault.
-    pub fn number(&self) -> u8
-        ensures { result ≡ work_fault_number self.now }
-    {
-        match self {
-            WorkFault::NoSuchFun(_) => 1,
-            WorkFault::Memory => 2,
-            WorkFault::Foreign => 3,
-        }
-    }
 }
 
 impl From<JobFault> for WorkFault {
@@ -146,19 +92,6 @@ pub enum GatherFault {
     OutOfOrder,
     #[error("out of memory")]
     Memory,
-}
-
-impl GatherFault {
-    /// The number of the fault: its place in the order of the tests.
-    pub fn number(&self) -> u8
-        ensures { result ≡ gather_fault_number self.now }
-    {
-        match self {
-            GatherFault::ReceiptMissing => 1,
-            GatherFault::OutOfOrder => 2,
-            GatherFault::Memory => 3,
-        }
-    }
 }
 
 impl From<AllocError> for GatherFault {

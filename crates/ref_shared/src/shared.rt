@@ -160,14 +160,8 @@ impl<M: Meaning, C: Ledger, A: Ledger, K: Ledger> Shared<M, C, A, K> {
     }
 
     /// Adds a watch to a reference: see [`World::add_watch`].
-    pub fn add_watch<R: Wait>(
-        &self,
-        rt: &R,
-        alloc: Global,
-        who: Who,
-        key: Value,
-    ) -> Result<bool, WatchFault> {
-        self.lock(rt).world.add_watch(alloc, who, key)
+    pub fn add_watch<R: Wait>(&self, rt: &R, who: Who, key: Value) -> Result<bool, WatchFault> {
+        self.lock(rt).world.add_watch(who, key)
     }
 
     /// Takes a watch away from a reference: see [`World::remove_watch`].
@@ -292,14 +286,8 @@ impl<M: Meaning, C: Ledger, A: Ledger, K: Ledger> Shared<M, C, A, K> {
     }
 
     /// Sends an action to an agent, and wakes a thread that waits for an action to run: see [`World::send`].
-    pub fn send<R: Wait>(
-        &self,
-        rt: &R,
-        alloc: Global,
-        g: u32,
-        action: Action,
-    ) -> Result<(), SendFault> {
-        let sent = self.lock(rt).world.send(alloc, g, action);
+    pub fn send<R: Wait>(&self, rt: &R, g: u32, action: Action) -> Result<(), SendFault> {
+        let sent = self.lock(rt).world.send(g, action);
         if sent.is_ok() {
             self.ready.notify_one();
         }
@@ -310,7 +298,6 @@ impl<M: Meaning, C: Ledger, A: Ledger, K: Ledger> Shared<M, C, A, K> {
     pub fn restart<R: Wait, F: Functions<M>>(
         &self,
         rt: &R,
-        alloc: Global,
         funs: &F,
         g: u32,
         state: Value,
@@ -322,7 +309,7 @@ impl<M: Meaning, C: Ledger, A: Ledger, K: Ledger> Shared<M, C, A, K> {
         } else {
             0
         };
-        let restarted = held.world.restart(alloc, funs, g, state, clear);
+        let restarted = held.world.restart(funs, g, state, clear);
         held.note_restart(g, queued, &restarted);
         drop(held);
         if restarted.is_ok() {

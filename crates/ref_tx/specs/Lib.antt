@@ -1,7 +1,6 @@
--- To be read and believed: Snapshots, Seen, Inner, TxFault. Laws are proved; Own is for private functions and proofs.
+-- To be read and believed: Snapshots, Seen, Inner. Laws are proved; Own is for private functions and proofs.
 pub mod Snapshots
 pub mod Seen
 pub mod Inner
 pub mod Own
 pub mod Laws
-pub mod TxFault

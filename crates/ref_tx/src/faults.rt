@@ -1,6 +1,5 @@
 //! Why a transaction refuses a call.
 ghost use Rattle.std.specs.Prelude.{◌≡◌};
-ghost use Rattle.ref_tx.specs.TxFault.{tx_fault_number};
 ghost use Rattle.ref_tx.specs.declared.faults.TxFault.TheVariants.{Memory};
 
 use ref_fun::Cause;
@@ -33,24 +32,6 @@ pub enum TxFault {
     NotMet,
     #[error("out of memory")]
     Memory,
-}
-
-impl TxFault {
-    /// The number of the fault, from 1 to 8 in the order of the variants.
-    pub fn number(&self) -> u8
-        ensures { result ≡ tx_fault_number self.now }
-    {
-        match self {
-            TxFault::NoSuchRef => 1,
-            TxFault::SetAfterCommute => 2,
-            TxFault::TallyOnly => 3,
-            TxFault::Refused(_) => 4,
-            TxFault::NoSuchFun(_) => 5,
-            TxFault::NoSuchAgent => 6,
-            TxFault::NotMet => 7,
-            TxFault::Memory => 8,
-        }
-    }
 }
 
 impl From<AllocError> for TxFault {

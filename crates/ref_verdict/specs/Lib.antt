@@ -1,9 +1,8 @@
 -- To be read and believed: Words, DumpForm and Early (which data is a dump, what is read of it, and which faults are found first),
--- Verdict, Faults. OfCore says what `read_dump` promises to `verdict`. Reading is for private functions.
+-- Verdict. OfCore says what `read_dump` promises to `verdict`. Reading is for private functions.
 pub mod Words
 pub mod DumpForm
 pub mod Early
 pub mod Verdict
-pub mod Faults
 pub mod OfCore
 pub mod Reading

@@ -4,8 +4,8 @@ use Rattle.std.specs.Prelude.{position}
 use Rattle.ref_value.specs.Edn.{Edn}
 use Rattle.ref_log.specs.declared.states.Base.{Base}
 use Rattle.ref_workload.specs.Orderly.{base_declared}
-use Rattle.ref_start.specs.declared.starts.AtomStart.{AtomStart}
-use Rattle.ref_start.specs.declared.starts.RefStart.{RefStart}
+use Rattle.ref_agents.specs.declared.starts.AtomStart.{AtomStart}
+use Rattle.ref_agents.specs.declared.starts.RefStart.{RefStart}
 
 abbrev base_of : ℕ → List Edn → List ℕ → List Edn → Option ℕ → ℕ → ℕ → ℕ → Base
 base_of point refs last atoms tally commits added taken = record {

@@ -1,7 +1,6 @@
--- To be read and believed: Orderly, Reasons, Streams, Run, and RunFaults, which has numbers. Marks is for private functions. What a workload and
+-- To be read and believed: Orderly, Reasons, Streams, Run, and RunFaults. Marks is for private functions. What a workload and
 -- its plan are stands in ref_plan.
 pub use Rattle.ref_plan.specs.Plan
-pub use Rattle.ref_plan.specs.PlanFaults
 pub use Rattle.ref_plan.specs.Words
 pub use Rattle.ref_plan.specs.Named
 pub use Rattle.ref_plan.specs.Limits

@@ -17,8 +17,8 @@ use Rattle.ref_plan.specs.declared.plans.PlannedOp.TheVariants.{On, Require, Sen
 use Rattle.ref_plan.specs.declared.plans.Step.{Step}
 use Rattle.ref_plan.specs.declared.plans.Step.TheVariants.{Tx}
 use Rattle.ref_world.specs.Seen.{WorldSeen}
-use Rattle.ref_start.specs.declared.starts.AtomStart.{AtomStart}
-use Rattle.ref_start.specs.declared.starts.RefStart.{RefStart}
+use Rattle.ref_agents.specs.declared.starts.AtomStart.{AtomStart}
+use Rattle.ref_agents.specs.declared.starts.RefStart.{RefStart}
 
 -- ---- steps
 

@@ -1,5 +1,4 @@
--- The numbers of the faults of a run, and which of them others become.
-use Rattle.std.specs.Prelude.{ℕ}
+-- Which fault of a run others become.
 use Rattle.ref_edn.specs.declared.faults.ReadFault.{ReadFault}
 use Rattle.ref_edn.specs.declared.faults.ReadFault.TheVariants as reads
 use Rattle.ref_plan.specs.declared.plan_faults.PlanFault.{PlanFault}
@@ -8,15 +7,6 @@ use Rattle.ref_workload.specs.declared.faults.RunFault.{RunFault}
 use Rattle.ref_workload.specs.declared.faults.RunFault.TheVariants as faults
 use Rattle.ref_workload.specs.declared.faults.Stop.{Stop}
 use Rattle.ref_workload.specs.declared.faults.Stop.TheVariants as stops
-
-abbrev pub run_fault_number : RunFault → ℕ
-run_fault_number faults.Read = 1
-run_fault_number faults.InputTooLong = 2
-run_fault_number (faults.NotEdn fault) = 3
-run_fault_number (faults.Plan fault) = 4
-run_fault_number faults.Write = 5
-run_fault_number faults.Memory = 6
-run_fault_number faults.Internal = 7
 
 abbrev pub stop_fault_of : Stop → RunFault
 stop_fault_of stops.Memory = faults.Memory

@@ -1,6 +1,6 @@
 //! Why a workload isn't run to its end.
 ghost use Rattle.std.specs.Prelude.{◌≡◌};
-ghost use Rattle.ref_workload.specs.RunFaults.{edn_fault_of, plan_fault_of, run_fault_number, stop_fault_of};
+ghost use Rattle.ref_workload.specs.RunFaults.{edn_fault_of, plan_fault_of, stop_fault_of};
 
 use ref_edn::ReadFault;
 use ref_plan::PlanFault;
@@ -31,23 +31,6 @@ pub enum Stop {
     Memory,
     /// What a right program never meets.
     Internal,
-}
-
-impl RunFault {
-    /// The number of the fault, from 1 to 7 in the order of the variants.
-    pub fn number(&self) -> u8
-        ensures { result ≡ run_fault_number self.now }
-    {
-        match self {
-            RunFault::Read => 1,
-            RunFault::InputTooLong => 2,
-            RunFault::NotEdn(_) => 3,
-            RunFault::Plan(_) => 4,
-            RunFault::Write => 5,
-            RunFault::Memory => 6,
-            RunFault::Internal => 7,
-        }
-    }
 }
 
 impl From<Stop> for RunFault {

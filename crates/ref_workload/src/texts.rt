@@ -174,8 +174,8 @@ fn open_gates(alloc: Global, plan: &Plan) -> Result<Vec<Open>, RunFault>
     }
 }
 
-// The dump of a world, which was audited and is ok. A world that a plan was run in has one.
-fn audited<F: Functions<Core>, C: Ledger, A: Ledger, K: Ledger>(
+/// The dump of a world, which was audited and is ok. A world that a plan was run in has one.
+pub fn audited<F: Functions<Core>, C: Ledger, A: Ledger, K: Ledger>(
     alloc: Global,
     funs: &F,
     world: &World<Core, C, A, K>,

@@ -5,6 +5,5 @@ pub mod References
 pub mod Shares
 pub mod Starts
 pub mod Checkpoint
-pub mod Faults
 -- Proved of them, for the crates above: what is always so stays so with an entry more.
 pub mod Entered

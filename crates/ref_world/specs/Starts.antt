@@ -15,10 +15,10 @@ use Rattle.ref_log.specs.declared.states.Base.{Base}
 use Rattle.ref_refs.specs.Make as refs
 use Rattle.ref_refs.specs.Seen.{RefsSeen}
 use Rattle.ref_world.specs.Seen.{BooksSeen}
-use Rattle.ref_start.specs.declared.starts.AgentStart.{AgentStart}
-use Rattle.ref_start.specs.declared.starts.AtomStart.{AtomStart}
-use Rattle.ref_start.specs.declared.starts.RefStart.{RefStart}
-use Rattle.ref_start.specs.declared.starts.Start.{Start}
+use Rattle.ref_agents.specs.declared.starts.AgentStart.{AgentStart}
+use Rattle.ref_agents.specs.declared.starts.AtomStart.{AtomStart}
+use Rattle.ref_agents.specs.declared.starts.RefStart.{RefStart}
+use Rattle.ref_agents.specs.declared.starts.Start.{Start}
 
 -- A store's fault is returned with the number that the reference would have.
 abbrev pub or_refused : {Store : Type 0} → Who → Option MakeFault → Store → Result Store (Who × MakeFault)

@@ -49,14 +49,14 @@ impl<M: Meaning, C: Ledger, A: Ledger, K: Ledger> World<M, C, A, K> {
     /// Sends an action to an agent, as Clojure's `send` outside of a transaction: it waits behind the others, and may be taken at
     /// once. A failed agent takes none. The agents that it carries sends to have to be here. Whether a table has a function is asked
     /// where it is run. A refused call changes nothing.
-    pub fn send(&mut self, alloc: Global, g: u32, action: Action) -> Result<(), SendFault>
+    pub fn send(&mut self, g: u32, action: Action) -> Result<(), SendFault>
         ensures refused { TellsThenMemory sends.Memory (send_refusal self.old.agents.agents g action) result }
         ensures sends { OnOk result (self.new
             ≡ with_agents self.old
             (agents.with_agents self.old.agents (agents.with_send self.old.agents.agents g (outside action)))) }
         ensures err { OnErr result (self.new ≡ self.old) }
     {
-        self.agents.send(alloc, g, action)
+        self.agents.send(g, action)
     }
 
     /// Lets the sends of the commit at this point be taken, which is for when its notices were delivered, and answers whether
@@ -144,7 +144,6 @@ impl<M: Meaning, C: Ledger, A: Ledger, K: Ledger> World<M, C, A, K> {
     /// changes nothing.
     pub fn restart<F: Functions<M>>(
         &mut self,
-        alloc: Global,
         funs: &F,
         g: u32,
         state: Value,
@@ -156,7 +155,7 @@ impl<M: Meaning, C: Ledger, A: Ledger, K: Ledger> World<M, C, A, K> {
             ≡ with_agents self.old (agents.with_restart self.old.agents g state clear)) }
         ensures err { OnErr result (self.new ≡ self.old) }
     {
-        self.agents.restart(alloc, funs, g, state, clear)
+        self.agents.restart(funs, g, state, clear)
     }
 
     /// Sets what happens where an action of an agent fails. A failed agent stays failed. It takes no memory.

@@ -159,13 +159,13 @@ fn write<M: Meaning>(
 {
     if sends.is_empty() {
         log.push(alloc, entry)?;
-        match agents.send_held(alloc, at, sends) {
+        match agents.send_held(at, sends) {
             Ok(()) => Ok(()),
             Err(_) => unreachable!(),
         }
     } else {
         let longer = log.pushed(alloc, entry)?;
-        agents.send_held(alloc, at, sends)?;
+        agents.send_held(at, sends)?;
         *log = longer;
         Ok(())
     }

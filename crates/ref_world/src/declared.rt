@@ -7,13 +7,12 @@ ghost use Rattle.ref_log.specs.declared.notices.Who.{Who};
 ghost use Rattle.ref_refs.specs.Seen.{are_unchanged_since};
 ghost use Rattle.ref_world.specs.Starts.{base_of, declared_agents, declared_atoms, declared_refs, first_refused, no_agents, no_atoms, no_refs, refusal_of, with_agent, with_atom, with_ref};
 
-use ref_agents::AgentStore;
+use ref_agents::{AgentStart, AgentStore, AtomStart, RefStart};
 use ref_atoms::AtomStore;
 use ref_fun::{Functions, Meaning, Rule};
 use ref_log::counting::count;
 use ref_log::{Base, MakeFault, SharedVec, Who};
 use ref_refs::RefStore;
-use ref_start::{AgentStart, AtomStart, RefStart};
 use ref_value::Value;
 use std::alloc::{AllocError, Global};
 

@@ -1,6 +1,5 @@
 //! Why a checkpoint is refused.
 ghost use Rattle.std.specs.Prelude.{◌≡◌};
-ghost use Rattle.ref_world.specs.Faults.{checkpoint_fault_number};
 ghost use Rattle.ref_world.specs.declared.faults.CheckpointFault.TheVariants.{Memory};
 
 use std::alloc::{AllocError, AllocFailed};
@@ -17,19 +16,6 @@ pub enum CheckpointFault {
     /// The table has no function of this code, which an entry calls that would be folded.
     #[error("no function has code {0}")]
     NoSuchFun(u32),
-}
-
-impl CheckpointFault {
-    /// The number of the fault: 1, 2, and 9 where the table lacks a function.
-    pub fn number(&self) -> u8
-        ensures { result ≡ checkpoint_fault_number self.now }
-    {
-        match self {
-            CheckpointFault::NoSuchPoint => 1,
-            CheckpointFault::Memory => 2,
-            CheckpointFault::NoSuchFun(_) => 9,
-        }
-    }
 }
 
 impl From<AllocError> for CheckpointFault {

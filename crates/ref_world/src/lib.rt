@@ -53,7 +53,7 @@ pub mod worlds;
 pub use books::MOST_BOOKED;
 pub use commits::Receipt;
 pub use faults::CheckpointFault;
-pub use ref_start::{AgentStart, AtomStart, RefStart, Start, starts};
+pub use ref_agents::{AgentStart, AtomStart, RefStart, Start, starts};
 pub use shares::{ALL_PARTS, LogReceipt, Share};
 pub use views::View;
 pub use worlds::{Totals, World};

@@ -11,7 +11,6 @@ use crate::worlds::World;
 use ref_fun::{Functions, Meaning, Rule};
 use ref_log::{RuleFault, WatchFault, Who};
 use ref_value::Value;
-use std::alloc::Global;
 use std::sync::ledger::Ledger;
 
 impl<M: Meaning, C: Ledger, A: Ledger, K: Ledger> World<M, C, A, K> {
@@ -88,7 +87,7 @@ impl<M: Meaning, C: Ledger, A: Ledger, K: Ledger> World<M, C, A, K> {
 
     /// Adds a watch to a reference, behind its others, and answers whether the key is new; a key that is there stays where it
     /// is. Linear in the number of the reference's watches. A refused call changes nothing.
-    pub fn add_watch(&mut self, alloc: Global, who: Who, key: Value) -> Result<bool, WatchFault>
+    pub fn add_watch(&mut self, who: Who, key: Value) -> Result<bool, WatchFault>
         ensures new { IfOk result (λ is_new. is_new ≡ not (has_key (keys_at self.old who) key)) }
         ensures adds { OnOk result (self.new ≡ with_watch self.old who key) }
         ensures here { OnOk result (value_at self.old who ≢ None) }
@@ -97,9 +96,9 @@ impl<M: Meaning, C: Ledger, A: Ledger, K: Ledger> World<M, C, A, K> {
         ensures err { OnErr result (self.new ≡ self.old) }
     {
         match who {
-            Who::Ref(r) => self.refs.add_watch(alloc, r, key),
-            Who::Atom(a) => self.atoms.add_watch(alloc, a, key),
-            Who::Agent(g) => self.agents.add_watch(alloc, g, key),
+            Who::Ref(r) => self.refs.add_watch(r, key),
+            Who::Atom(a) => self.atoms.add_watch(a, key),
+            Who::Agent(g) => self.agents.add_watch(g, key),
         }
     }
 

@@ -1,16 +1,16 @@
 -- What a fault of a play leaves.
-use Rattle.std.proofs.Common.{◌≡◌, ℕ, List, Option, ap}
+use Rattle.std.proofs.Common.{◌≡◌, ℕ, Bool, List, Option, ap}
 use Rattle.std.specs.Prelude.{◌≢◌}
 use Rattle.ref_player.specs.Plays.{IsPlay}
 use Rattle.ref_player.specs.declared.faults.PlayFault.{PlayFault}
 use Rattle.ref_player.specs.declared.faults.PlayFault.TheVariants as plays
-use Rattle.ref_start.specs.Names.{NamesSeen}
+use Rattle.ref_forms.specs.Names.{NamesSeen}
 use Rattle.ref_workload.specs.Streams.{HasBrokenOff}
 use Rattle.ref_workload.specs.declared.faults.RunFault.TheVariants as runs
 use Rattle.refrun.specs.Tasks.{IsLeft, play_fault_of}
 use Rattle.refrun.specs.declared.tasks.Task.TheVariants.{Play}
 
-pub play_left : (names : NamesSeen) (f : PlayFault) (before after old new : Option (List ℕ)) → (f ≡ plays.Run runs.Write → HasBrokenOff IsPlay before after old new) → (f ≢ plays.Run runs.Write → new ≡ old)
-    → IsLeft names Play (play_fault_of f) before after old new
-play_left names (plays.Run fault) before after old new write silent = ((λ e. write (ap plays.Run e)), (λ other. silent (λ e. other cc)))
-play_left names (plays.Script fault) before after old new write silent = silent (λ e. cc)
+pub play_left : (names : NamesSeen) (dump : Bool) (f : PlayFault) (before after old new : Option (List ℕ)) → (f ≡ plays.Run runs.Write → HasBrokenOff (IsPlay dump) before after old new) → (f ≢ plays.Run runs.Write → new ≡ old)
+    → IsLeft names (Play dump) (play_fault_of f) before after old new
+play_left names dump (plays.Run fault) before after old new write silent = ((λ e. write (ap plays.Run e)), (λ other. silent (λ e. other cc)))
+play_left names dump (plays.Script fault) before after old new write silent = silent (λ e. cc)

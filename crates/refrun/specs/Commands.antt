@@ -73,15 +73,23 @@ pub record AreOptions (rows : List Row) (options : Options) (tells : Bool) : Typ
 abbrev pub IsRunOf : List Row → Task → Type 0
 IsRunOf rows (Run options tells) = AreOptions rows options tells
 IsRunOf rows Audit = ⊥
-IsRunOf rows Play = ⊥
+IsRunOf rows (Play dump) = ⊥
 IsRunOf rows (Look look) = ⊥
 IsRunOf rows (Draw part) = ⊥
+
+-- A play with the option that stands under its name.
+abbrev pub IsPlayOf : List Row → Task → Type 0
+IsPlayOf rows (Run options tells) = ⊥
+IsPlayOf rows Audit = ⊥
+IsPlayOf rows (Play dump) = IsFlag (one_of (codes "dump") rows) dump
+IsPlayOf rows (Look look) = ⊥
+IsPlayOf rows (Draw part) = ⊥
 
 -- The command of this name, with its options, is this act.
 abbrev pub IsAct : Text → List Row → Act → Type 0
 IsAct name rows (ByCore (Run options tells)) = (name ≡ codes "run") × AreOptions rows options tells
 IsAct name rows (ByCore Audit) = name ≡ codes "audit"
-IsAct name rows (ByCore Play) = name ≡ codes "play"
+IsAct name rows (ByCore (Play dump)) = (name ≡ codes "play") × IsFlag (one_of (codes "dump") rows) dump
 IsAct name rows (ByCore (Look look)) = IsLookOf name rows look
 IsAct name rows (ByCore (Draw part)) = (name ≡ codes "draw") × IsPart rows part
 IsAct name rows Check = name ≡ codes "check"

@@ -1,4 +1,4 @@
--- How a fault is reported: a number, a line on standard error, and a status of the program.
+-- How a fault is reported: a line on standard error, and a status of the program.
 use Rattle.std.specs.Prelude.{ℕ, List, ◌++◌, Option, Some, None, codes, decimal}
 use Rattle.ref_edn.specs.Faults.{name_of, place_of}
 use Rattle.ref_edn.specs.declared.faults.ReadFault.{ReadFault}
@@ -17,15 +17,6 @@ use Rattle.refrun.specs.declared.faults.AuditRunFault.{AuditRunFault}
 use Rattle.refrun.specs.declared.faults.AuditRunFault.TheVariants as audits
 use Rattle.refrun.specs.declared.faults.Fault.{Fault}
 use Rattle.refrun.specs.declared.faults.Fault.TheVariants.{Run, Audit, Script}
-
-abbrev pub audit_run_number_of : AuditRunFault → ℕ
-audit_run_number_of audits.Read = 1
-audit_run_number_of audits.InputTooLong = 2
-audit_run_number_of (audits.NotEdn fault) = 3
-audit_run_number_of (audits.Dump fault) = 4
-audit_run_number_of (audits.NoPoint point) = 5
-audit_run_number_of audits.Write = 6
-audit_run_number_of audits.Memory = 7
 
 -- The status that the program ends with: 3 where the input is refused, 4 where reading or writing failed, 5 where the audit of a run
 -- says no, and 6 for out of memory.

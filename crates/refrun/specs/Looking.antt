@@ -4,7 +4,7 @@ use Rattle.ref_value.specs.Edn.{Edn}
 use Rattle.ref_edn.specs.Grammar.{IsText}
 use Rattle.ref_log.specs.declared.faults.AuditFault.{AuditFault}
 use Rattle.ref_log.specs.declared.faults.AuditFault.TheVariants as replays
-use Rattle.ref_start.specs.Names.{NamesSeen}
+use Rattle.ref_forms.specs.Names.{NamesSeen}
 use Rattle.ref_audit.specs.DumpForm.{dump_of}
 use Rattle.ref_audit.specs.Report.{verdict_line}
 use Rattle.ref_verdict.specs.declared.reading.dumps.Dump.{Dump}

@@ -2,7 +2,7 @@
 use Rattle.std.specs.Prelude.{◌≡◌, ℕ, List}
 use Rattle.ref_value.specs.Edn.{Edn}
 use Rattle.ref_edn.specs.Grammar.{IsText}
-use Rattle.ref_start.specs.Names.{NamesSeen}
+use Rattle.ref_forms.specs.Names.{NamesSeen}
 use Rattle.ref_workload.specs.Plan.{PlanSeen}
 use Rattle.ref_workload.specs.Workload.{IsWorkload}
 

@@ -8,7 +8,7 @@ use Rattle.clap.specs.declared.error.kind.ErrorKind.TheVariants as kinds
 use Rattle.ref_edn.specs.Grammar.{AreTexts}
 use Rattle.ref_verdict.specs.declared.reports.Verdict.{Verdict}
 use Rattle.ref_verdict.specs.declared.reports.Verdict.TheVariants as verdicts
-use Rattle.ref_start.specs.Names.{NamesSeen}
+use Rattle.ref_forms.specs.Names.{NamesSeen}
 use Rattle.ref_workload.specs.Run as runs
 use Rattle.ref_workload.specs.Streams as streams
 use Rattle.ref_workload.specs.declared.faults.RunFault.TheVariants as run_faults

@@ -8,7 +8,7 @@ use Rattle.ref_workload.specs.declared.faults.RunFault.TheVariants as run_faults
 use Rattle.ref_player.specs.Plays as plays
 use Rattle.ref_player.specs.declared.faults.PlayFault.{PlayFault}
 use Rattle.ref_player.specs.declared.faults.PlayFault.TheVariants as play_faults
-use Rattle.ref_start.specs.Names.{NamesSeen}
+use Rattle.ref_forms.specs.Names.{NamesSeen}
 use Rattle.refrun.specs.Auditing as audits
 use Rattle.refrun.specs.Looking as looks
 use Rattle.refrun.specs.declared.faults.AuditRunFault.TheVariants as audit_faults
@@ -22,12 +22,12 @@ abbrev pub play_fault_of : PlayFault → Fault
 play_fault_of (play_faults.Run fault) = faults.Run fault
 play_fault_of (play_faults.Script fault) = faults.Script fault
 
--- The whole output was written: of a run its report or its dump, of an audit the line of its verdict, of a play its lines and its report,
--- of a dump what is shown of it. What was left to read and what was written are named before and after.
+-- The whole output was written: of a run its report or its dump, of an audit the line of its verdict, of a play its lines and its
+-- report or its dump, of a dump what is shown of it. What was left to read and what was written are named before and after.
 abbrev pub IsDone : NamesSeen → Task → Verdict → Option (List ℕ) → Option (List ℕ) → Option (List ℕ) → Option (List ℕ) → Type 0
 IsDone names (Run options tells) verdict before after old new = (verdict ≡ verdicts.Ok) × streams.HasWritten (runs.IsRun options.dump) before after old new
 IsDone names Audit verdict before after old new = streams.HasWritten (audits.IsAuditOf verdict) before after old new
-IsDone names Play verdict before after old new = (verdict ≡ verdicts.Ok) × streams.HasWritten plays.IsPlay before after old new
+IsDone names (Play dump) verdict before after old new = (verdict ≡ verdicts.Ok) × streams.HasWritten (plays.IsPlay dump) before after old new
 IsDone names (Look look) verdict before after old new = streams.HasWritten (looks.IsLookOf names look verdict) before after old new
 IsDone names (Draw part) verdict before after old new = (verdict ≡ verdicts.Ok) × streams.HasWritten looks.IsPageOf before after old new
 
@@ -37,8 +37,8 @@ IsFaultOf (Run options tells) before (faults.Run fault) = IfSome before (λ text
 IsFaultOf Audit before (faults.Audit fault) = IfSome before (λ text. audits.IsAtFault text fault)
 IsFaultOf (Look look) before (faults.Audit fault) = IfSome before (λ text. audits.IsAtFault text fault)
 IsFaultOf (Draw part) before (faults.Audit fault) = IfSome before (λ text. audits.IsAtFault text fault)
-IsFaultOf Play before (faults.Run fault) = IfSome before (λ text. plays.IsAtFault text (play_faults.Run fault))
-IsFaultOf Play before (faults.Script fault) = IfSome before (λ text. plays.IsAtFault text (play_faults.Script fault))
+IsFaultOf (Play dump) before (faults.Run fault) = IfSome before (λ text. plays.IsAtFault text (play_faults.Run fault))
+IsFaultOf (Play dump) before (faults.Script fault) = IfSome before (λ text. plays.IsAtFault text (play_faults.Script fault))
 IsFaultOf task before fault = ⊥
 
 -- Where the writer failed, a part of the output was written, from its start on, and before any other fault nothing.
@@ -51,9 +51,9 @@ IsLeft names (Look look) (faults.Audit fault) before after old new =
     (fault ≡ audit_faults.Write → streams.HasBrokenOff (looks.IsLook names look) before after old new) × (fault ≢ audit_faults.Write → new ≡ old)
 IsLeft names (Draw part) (faults.Audit fault) before after old new =
     (fault ≡ audit_faults.Write → streams.HasBrokenOff looks.IsPageOf before after old new) × (fault ≢ audit_faults.Write → new ≡ old)
-IsLeft names Play (faults.Run fault) before after old new =
-    (fault ≡ run_faults.Write → streams.HasBrokenOff plays.IsPlay before after old new) × (fault ≢ run_faults.Write → new ≡ old)
-IsLeft names Play (faults.Script fault) before after old new = new ≡ old
+IsLeft names (Play dump) (faults.Run fault) before after old new =
+    (fault ≡ run_faults.Write → streams.HasBrokenOff (plays.IsPlay dump) before after old new) × (fault ≢ run_faults.Write → new ≡ old)
+IsLeft names (Play dump) (faults.Script fault) before after old new = new ≡ old
 IsLeft names task fault before after old new = ⊥
 
 -- Only the fault for it reports a read that failed, and so for a write.

@@ -3,10 +3,11 @@ ghost use Rattle.std.specs.Prelude.{◌≡◌, ◌≢◌, IfSome, IsNone, false,
 ghost use Rattle.clap.specs.Simple.{subcommand_rows_of};
 ghost use Rattle.clap.specs.Matches.{found_of};
 ghost use Rattle.clap.specs.Walk.{one_of, rows_of};
-ghost use Rattle.refrun.specs.Commands.{IsAct, IsChoice, IsFlag, IsHistoryOf, IsNumber, IsPart, IsPoint, IsRunOf, IsTries, IsWanted, is_command};
+ghost use Rattle.refrun.specs.Commands.{IsAct, IsChoice, IsFlag, IsHistoryOf, IsNumber, IsPart, IsPlayOf, IsPoint, IsRunOf, IsTries, IsWanted, is_command};
 
 use crate::tasks::Task;
 use clap::{Arg, ArgAction, ArgMatches, Command, Error, value_parser};
+use ref_calls::{Sentence, functions, predicates};
 use ref_explain::FORMAT_VERSION;
 use ref_history::{Choice, Look, Part};
 use ref_workload::Options;
@@ -54,10 +55,7 @@ Statuses:
 
 const RUN: &str = "Reads a workload from standard input, runs it, audits it, and prints a report";
 
-const RUN_MORE: &str = "Functions of a workload: + - inc dec max min conj assoc dissoc disj
-Predicates of its rules: >= <= = int? string? vector? map? set? some?
-
-Example:
+const RUN_MORE: &str = "Example:
   echo '{:version 1 :refs [[a 0]] :workers [[[:tx [:alter a + 5]]]]}' | refrun run
 prints
   ref a 5
@@ -140,21 +138,72 @@ pub(crate) fn arguments<R: AllocGlobal + Env>(rt: &R) -> io::Result<Vec<String>>
     Ok(std::env::args(rt)?.collect(rt.alloc())?)
 }
 
-/// The newest version of workloads, as `--version` prints it.
-pub(crate) fn version(alloc: Global) -> Result<String, AllocError> {
-    format!(in alloc; "format {FORMAT_VERSION}")
+/// What is printed of the words that workloads and lists of events have.
+#[derive(Drop)]
+pub(crate) struct Texts {
+    // The newest version of workloads, as `--version` prints it.
+    version: String,
+    // What the help of `run` and of `play` say last.
+    run: String,
+    play: String,
+}
+
+// No line of a list is longer.
+const MOST_COLUMNS: usize = 78;
+
+// The words of a list, on lines that begin with two blanks.
+fn on_lines(alloc: Global, words: &str) -> Result<String, AllocError> {
+    let mut text = String::new(alloc);
+    let mut columns = MOST_COLUMNS;
+    for word in words.split(' ') {
+        columns = columns.saturating_add(word.len()).saturating_add(1);
+        if columns <= MOST_COLUMNS {
+            text.push_str(" ")?;
+        } else {
+            text.push_str("\n  ")?;
+            columns = word.len().saturating_add(2);
+        }
+        text.push_str(word)?;
+    }
+    Ok(text)
+}
+
+fn run_text(alloc: Global) -> Result<String, AllocError> {
+    let steps = Sentence::Step.words(alloc)?;
+    let steps = on_lines(alloc, steps.as_str())?;
+    let operations = Sentence::Operation.words(alloc)?;
+    let operations = on_lines(alloc, operations.as_str())?;
+    let functions = functions(alloc)?;
+    let predicates = predicates(alloc)?;
+    format!(in alloc;
+        "Steps of a worker:{steps}\nOperations of a transaction:{operations}\nFunctions of a workload: {functions}\nPredicates of its rules: {predicates}\n\n{RUN_MORE}"
+    )
+}
+
+fn play_text(alloc: Global) -> Result<String, AllocError> {
+    let acts = Sentence::Act.words(alloc)?;
+    let acts = on_lines(alloc, acts.as_str())?;
+    format!(in alloc; "Acts:{acts}\n\n{PLAY_MORE}")
+}
+
+pub(crate) fn help_texts(alloc: Global) -> Result<Texts, AllocError> {
+    Ok(Texts {
+        version: format!(in alloc; "format {FORMAT_VERSION}")?,
+        run: run_text(alloc)?,
+        play: play_text(alloc)?,
+    })
 }
 
 pub(crate) fn matches_of<'a>(
     alloc: Global,
-    version: &'a str,
+    texts: &'a Texts,
     words: &'a [String],
 ) -> Result<ArgMatches<'a>, Error> {
-    command(alloc, version)?.try_get_matches_from(words)
+    command(alloc, texts)?.try_get_matches_from(words)
 }
 
 // What the program takes.
-fn command<'a>(alloc: Global, version: &'a str) -> Result<Command<'a>, AllocError> {
+fn command<'a>(alloc: Global, texts: &'a Texts) -> Result<Command<'a>, AllocError> {
     let check = Command::new(alloc, "check")
         .about(CHECK)
         .after_help(CHECK_MORE)
@@ -168,7 +217,11 @@ fn command<'a>(alloc: Global, version: &'a str) -> Result<Command<'a>, AllocErro
         .arg(explain(alloc, EXPLAIN))?;
     let play = Command::new(alloc, "play")
         .about(PLAY)
-        .after_help(PLAY_MORE)
+        .after_help(texts.play.as_str())
+        .arg(dump(
+            alloc,
+            "Prints the dump of the world that it came to instead of the report",
+        ))?
         .arg(explain(alloc, EXPLAIN))?;
     let history = history(alloc)?;
     let at = at(alloc)?;
@@ -180,9 +233,9 @@ fn command<'a>(alloc: Global, version: &'a str) -> Result<Command<'a>, AllocErro
     Command::new(alloc, "refrun")
         .about(ABOUT)
         .after_help(ABOUT_MORE)
-        .version(version)
+        .version(texts.version.as_str())
         .subcommand_required(true)
-        .subcommand(run(alloc)?)?
+        .subcommand(run(alloc, texts.run.as_str())?)?
         .subcommand(check)?
         .subcommand(audit)?
         .subcommand(history)?
@@ -195,6 +248,13 @@ fn command<'a>(alloc: Global, version: &'a str) -> Result<Command<'a>, AllocErro
 fn explain<'a>(alloc: Global, help: &'a str) -> Arg<'a> {
     Arg::new(alloc, "explain")
         .long("explain")
+        .action(ArgAction::SetTrue)
+        .help(help)
+}
+
+fn dump<'a>(alloc: Global, help: &'a str) -> Arg<'a> {
+    Arg::new(alloc, "dump")
+        .long("dump")
         .action(ArgAction::SetTrue)
         .help(help)
 }
@@ -270,7 +330,7 @@ fn draw<'a>(alloc: Global) -> Result<Command<'a>, AllocError> {
         .arg(explain(alloc, EXPLAIN))
 }
 
-fn run<'a>(alloc: Global) -> Result<Command<'a>, AllocError> {
+fn run<'a>(alloc: Global, more: &'a str) -> Result<Command<'a>, AllocError> {
     let tries = Arg::new(alloc, "tries")
         .long("tries")
         .value_name("N")
@@ -279,10 +339,6 @@ fn run<'a>(alloc: Global) -> Result<Command<'a>, AllocError> {
         .help(
             "How often a transaction is tried that is in conflict, 1,000 times where nothing is said",
         );
-    let dump = Arg::new(alloc, "dump")
-        .long("dump")
-        .action(ArgAction::SetTrue)
-        .help("Prints the dump of the run instead of its report");
     let progress = Arg::new(alloc, "progress")
         .long("progress")
         .action(ArgAction::SetTrue)
@@ -294,9 +350,9 @@ fn run<'a>(alloc: Global) -> Result<Command<'a>, AllocError> {
         .help("Ends with the status 7 where a step was refused");
     Command::new(alloc, "run")
         .about(RUN)
-        .after_help(RUN_MORE)
+        .after_help(more)
         .arg(tries)?
-        .arg(dump)?
+        .arg(dump(alloc, "Prints the dump of the run instead of its report"))?
         .arg(progress)?
         .arg(strict)?
         .arg(explain(
@@ -345,7 +401,7 @@ fn act_of(name: &str, inner: &ArgMatches) -> Option<Act>
         "run" => Some(Act::ByCore(run_of(inner))),
         "check" => Some(Act::Check),
         "audit" => Some(Act::ByCore(Task::Audit)),
-        "play" => Some(Act::ByCore(Task::Play)),
+        "play" => Some(Act::ByCore(play_of(inner))),
         "history" => Some(Act::ByCore(Task::Look(history_of(inner)))),
         "at" => Some(Act::ByCore(Task::Look(Look::At(point_of(inner, "point", 0))))),
         "draw" => Some(Act::ByCore(Task::Draw(part_of(inner)))),
@@ -421,6 +477,15 @@ fn run_of(matches: &ArgMatches) -> Task
             dump: has_flag(matches, "dump"),
         },
         tells: has_flag(matches, "progress"),
+    }
+}
+
+// A play with the option that stands in the command.
+fn play_of(matches: &ArgMatches) -> Task
+    ensures { IsPlayOf (rows_of (found_of matches.now)) result }
+{
+    Task::Play {
+        dump: has_flag(matches, "dump"),
     }
 }
 

@@ -1,7 +1,7 @@
 //! What follows on standard error for people, where they ask for it: only what there is memory for.
 use crate::faults::{AuditRunFault, Fault};
 use ref_audit::Verdict;
-use ref_explain::{Mistake, RefusedSteps, explain, explain_refused, warnings_of};
+use ref_explain::{Mistake, RefusedSteps, explain, explain_refused, explain_start, warnings_of};
 use ref_workload::RunFault;
 use std::alloc::AllocError;
 
@@ -44,6 +44,11 @@ pub(crate) fn explain_fault<R: AllocGlobal + Eprint>(rt: &R, text: &[u8], fault:
     if let Some(mistake) = mistake_of(fault) {
         write(rt, explain(rt.alloc(), text, mistake));
     }
+}
+
+/// Shows which reference of a list of events no world begins with, if that is so.
+pub(crate) fn explain_refused_start<R: AllocGlobal + Eprint>(rt: &R, text: &[u8]) {
+    write(rt, explain_start(rt.alloc(), text));
 }
 
 /// Shows what of a dump an audit says no to.

@@ -1,6 +1,5 @@
 //! Why a command wasn't carried out.
 ghost use Rattle.std.specs.Prelude.{◌≡◌};
-ghost use Rattle.refrun.specs.Lines.{audit_run_number_of};
 ghost use Rattle.refrun.specs.Auditing.{dump_fault_of, edn_fault_of};
 
 use ref_audit::DumpFault;
@@ -22,23 +21,6 @@ pub enum AuditRunFault {
     /// The writer failed, or took nothing. A part of the output may be written.
     Write,
     Memory,
-}
-
-impl AuditRunFault {
-    /// The number of the fault, from 1 to 7 in the order of the variants.
-    pub fn number(&self) -> u8
-        ensures { result ≡ audit_run_number_of self.now }
-    {
-        match self {
-            AuditRunFault::Read => 1,
-            AuditRunFault::InputTooLong => 2,
-            AuditRunFault::NotEdn(_) => 3,
-            AuditRunFault::Dump(_) => 4,
-            AuditRunFault::NoPoint(_) => 5,
-            AuditRunFault::Write => 6,
-            AuditRunFault::Memory => 7,
-        }
-    }
 }
 
 impl From<ReadFault> for AuditRunFault {

@@ -29,7 +29,7 @@ mod telling;
 
 use clap::Error;
 use clap::error::ErrorKind;
-use commands::{Act, Wanted, arguments, matches_of, names_file_of, version, wanted_of};
+use commands::{Act, Wanted, arguments, help_texts, matches_of, names_file_of, wanted_of};
 use explaining::explain_fault;
 use faults::Fault;
 use lines::say;
@@ -69,10 +69,10 @@ where
         Ok(words) => words,
         Err(error) => return no_arguments(rt, &error),
     };
-    let Ok(version) = version(rt.alloc()) else {
+    let Ok(texts) = help_texts(rt.alloc()) else {
         return no_memory(rt);
     };
-    match matches_of(rt.alloc(), version.as_str(), words.as_slice()) {
+    match matches_of(rt.alloc(), &texts, words.as_slice()) {
         Ok(matches) => match wanted_of(&matches) {
             Some(wanted) => obey_with_names(rt, funs, wanted, names_file_of(&matches)),
             // The parser lets no other words pass.

@@ -8,7 +8,9 @@ ghost use Rattle.ref_workload.specs.Streams.{most_input};
 
 use crate::checking::check_text;
 use crate::commands::{Act, Wanted};
-use crate::explaining::{explain_fault, explain_refused_steps, explain_verdict, warn};
+use crate::explaining::{
+    explain_fault, explain_refused_start, explain_refused_steps, explain_verdict, warn,
+};
 use crate::faults::Fault;
 use crate::lines::say;
 use crate::printing::print_text;
@@ -129,6 +131,7 @@ fn explain_end<R: AllocGlobal + Eprint>(
         (_, Err(fault)) => explain_fault(rt, text, fault),
         (Act::Check, Ok(_)) => warn(rt, text),
         (Act::ByCore(Task::Run { .. }), Ok(_)) => explain_refused_steps(rt, text, steps),
+        (Act::ByCore(Task::Play { .. }), Ok(_)) => explain_refused_start(rt, text),
         (_, Ok(verdict)) => explain_verdict(rt, text, verdict),
     }
 }

@@ -29,7 +29,10 @@ pub(crate) enum Task {
         tells: bool,
     },
     Audit,
-    Play,
+    Play {
+        /// Whether the dump is written instead of the report.
+        dump: bool,
+    },
     Look(Look),
     Draw(Part),
 }
@@ -98,7 +101,7 @@ where
             Ok(()) => Ok(Verdict::Ok),
             Err(fault) => Err(Fault::Audit(fault)),
         },
-        Task::Play => match play_events(alloc, funs, reader, writer) {
+        Task::Play { dump } => match play_events(alloc, funs, reader, writer, dump) {
             Ok(()) => Ok(Verdict::Ok),
             Err(fault) => Err(fault_of(fault)),
         },

@@ -1,216 +1,235 @@
-//! The calls of rows, of which some are this crate's own.
-//!
-//! | Call | |
-//! |---|---|
-//! | `[begin 1]`, `[commit 1]` | transaction 1 begins; it is committed. A refused one is open still |
-//! | `[run]`, `[finish]` | a job is taken and run; it is finished. A refused one has run still |
-//! | `[checkpoint]` | all entries but the last are folded |
-//! | `[acts]`, `[releases]` | actions are run until no agent is ready; the sends of all commits are released |
-//!
-//! `n` stands for the number of the round, from 0 on, `n0` to `n9` for ten numbers that no other round has, and `p` for the present point.
-use crate::stages::Stage;
-use ref_edn::Value;
-use std::alloc::{AllocError, Global};
+//! The calls on a shared world that is lent, and what later calls show of it.
+use crate::refusing::{refuse, was_refused};
+use crate::worlds::{G, H, I, J, SENT_TO, action_for, body};
+use ref_fun::{Core, CoreFunctions};
+use ref_log::Stamp;
+use ref_refs::CommitFault;
+use ref_shared::{AwaitFault, Open, Quiet, Shared, TransactFault, WaitFault, WorkFault, Worked};
+use ref_tx::Tx;
+use ref_world::{Receipt, Share};
+use std::alloc::Global;
+use std::sync::Wait;
 use std::sync::ledger::Ledger;
-use tests_plain::memory::Memory;
-use tests_rows::answers::{number, truth};
-use tests_rows::calls::{answer, put_back, taken};
-use tests_rows::forms::{members, number_at, read, word_at};
-use tests_rows::jobs::finished_form;
-use tests_rows::subjects::Subject;
-use tests_rows::tables::Tables;
-use tests_rows::words::{form, open_form, told_form, variant_form, vector};
+use tests_shared::jobs::work;
+use tests_shared::worlds::{STAMP, Stop};
 
-// ---- Calls of this crate's own
-
-fn begin<R: Input, C: Ledger, A: Ledger, K: Ledger>(
-    tables: &Tables,
-    stage: &mut Stage<'_, R, C, A, K>,
-    i: usize,
-) -> Result<Value, AllocError> {
-    let alloc = tables.all.alloc;
-    stage.refuser().begin();
-    let begun = stage.rows.subject.begin(alloc);
-    stage.refuser().end();
-    let Ok(open) = begun else {
-        return form(alloc, ":memory");
-    };
-    let told = open_form(alloc, &open)?;
-    put_back(&mut stage.rows.open, i, open);
-    Ok(told)
+/// A call on a shared world. It is closed, so no call waits for anybody.
+#[derive(Clone, Copy, Drop, PartialEq)]
+pub(crate) enum Call {
+    Transact,
+    TransactWhen,
+    Commit,
+    /// `work_once`, where an action of this agent waits, which carries sends or doesn't.
+    Work(u32, bool),
+    Await,
+    Finish,
+    /// No call on a shared world: the end of what lists of events are played on, where a job has run.
+    End,
 }
 
-fn commit<R: Input, C: Ledger, A: Ledger, K: Ledger>(
-    tables: &Tables,
-    stage: &mut Stage<'_, R, C, A, K>,
-    i: usize,
-) -> Result<Value, AllocError> {
-    let alloc = tables.all.alloc;
-    let Some(open) = taken(&mut stage.rows.open, i) else {
-        return form(alloc, ":not-open");
-    };
-    match stage.rows.subject.commit(tables.all, open)? {
-        Ok(receipt) => {
-            let point = vec![in alloc; number(receipt.point)?]?;
-            told_form(alloc, point, &receipt.notices)
-        }
-        Err((open, fault)) => {
-            put_back(&mut stage.rows.open, i, open);
-            variant_form(alloc, &fault)
-        }
+/// All calls. That of `+` makes no request before the end of the action.
+pub(crate) const CASES: &[(&str, Call)] = &[
+    ("transact", Call::Transact),
+    ("transact_when", Call::TransactWhen),
+    ("commit", Call::Commit),
+    ("work_once, +", Call::Work(G, false)),
+    ("work_once, conj", Call::Work(I, false)),
+    ("work_once, conj that carries", Call::Work(I, true)),
+    ("await_agents", Call::Await),
+    ("finish", Call::Finish),
+];
+
+/// What a call returned; none if it was out of memory. It is the point of a commit and its notices, or the number of an agent.
+pub(crate) type Answer = Option<(u64, usize)>;
+
+type Said = Result<Answer, Stop>;
+
+type Begun = Option<Tx<Core>>;
+
+// What is returned where nothing is to be done.
+const CLOSED: Answer = Some((99, 0));
+
+// No call has a later point, and fewer actions wait.
+const LAST_POINT: u64 = 50;
+
+/// What is tried.
+#[derive(Clone, Copy, Drop)]
+pub(crate) struct Trial {
+    pub(crate) call: Call,
+    pub(crate) state: u32,
+    /// How often the call is made: a second time only if the first one was refused.
+    pub(crate) times: u32,
+    /// Which request of the first call is refused; 0 for none.
+    pub(crate) number: usize,
+}
+
+/// What came of the call: what it returned at last, whether a request was refused, whether the first call was, and what came later: of
+/// transactions that were open, of the share, and of further calls.
+#[derive(Drop)]
+pub(crate) struct Made {
+    pub(crate) answer: Answer,
+    pub(crate) was_hit: bool,
+    pub(crate) was_refused: bool,
+    pub(crate) later: Vec<Answer>,
+}
+
+/// A shared world that is lent.
+pub(crate) struct Lent<'a, R, C: Ledger, A: Ledger, K: Ledger> {
+    pub(crate) rt: &'a R,
+    pub(crate) alloc: Global,
+    pub(crate) shared: &'a Shared<Core, C, A, K>,
+}
+
+impl<'a, R, C: Ledger, A: Ledger, K: Ledger> Drop for Lent<'a, R, C, A, K> {
+    fn drop(self) {
+        let Lent {
+            rt: _,
+            alloc: _,
+            shared: _,
+        } = self;
     }
 }
 
-// Of a job that has run already nothing more is done.
-fn run<R: Input, C: Ledger, A: Ledger, K: Ledger>(
-    tables: &Tables,
-    stage: &mut Stage<'_, R, C, A, K>,
-) -> Result<Value, AllocError> {
-    let alloc = tables.all.alloc;
-    if stage.ran.is_some() {
-        return form(alloc, ":has-run");
-    }
-    let Some(job) = stage.rows.subject.take()? else {
-        return form(alloc, ":none");
-    };
-    let agent = job.agent();
-    match job.run(alloc, tables.all.funs) {
-        Ok(ran) => {
-            stage.hold(ran);
-            number(u64::from(agent))
-        }
-        Err((job, fault)) => {
-            job.forsake();
-            variant_form(alloc, &fault)
-        }
+// What a transaction came to. Its body is refused for memory alone.
+fn transacted(answer: Result<((), Receipt), TransactFault<Stop>>) -> Said {
+    match answer {
+        Ok((_, receipt)) => Ok(Some((receipt.point, receipt.notices.len()))),
+        Err(TransactFault::Memory) | Err(TransactFault::Body(_)) => Ok(None),
+        Err(_) => Err(Stop::Refused),
     }
 }
 
-fn finish<R: Input, C: Ledger, A: Ledger, K: Ledger>(
-    tables: &Tables,
-    stage: &mut Stage<'_, R, C, A, K>,
-) -> Result<Value, AllocError> {
-    let alloc = tables.all.alloc;
-    let Some(ran) = stage.ran.take() else {
-        return form(alloc, ":none");
-    };
-    match stage.rows.subject.finish(tables.all, ran) {
-        Ok(finished) => finished_form(alloc, &finished),
-        Err((ran, fault)) => {
-            stage.hold(ran);
-            variant_form(alloc, &fault)
-        }
+impl<'a, R: Input + Wait, C: Ledger, A: Ledger, K: Ledger> Lent<'a, R, C, A, K> {
+    // A transaction in which something was done.
+    fn begun(&self, r: u32) -> Result<Begun, Stop> {
+        let mut tx = self.shared.begin(self.rt, self.alloc)?;
+        body(self.alloc, &mut tx, r, SENT_TO)?;
+        Ok(Some(tx))
     }
-}
 
-fn checkpoint<R: Input, C: Ledger, A: Ledger, K: Ledger>(
-    tables: &Tables,
-    stage: &mut Stage<'_, R, C, A, K>,
-) -> Result<Value, AllocError> {
-    let point = stage.point().saturating_sub(1);
-    stage.refuser().begin();
-    let world = &mut stage.rows.subject.whole.world;
-    let folded = world.checkpoint(tables.all.alloc, tables.all.funs, point);
-    stage.refuser().end();
-    match folded {
-        Ok(count) => number(count),
-        Err(fault) => variant_form(tables.all.alloc, &fault),
+    fn transact(&self, share: &mut Share<C, A, K>) -> Said {
+        let (rt, alloc, funs, shared) = (self.rt, self.alloc, &CoreFunctions, self.shared);
+        let work = |tx: &mut Tx<Core>| body(alloc, tx, 0, SENT_TO);
+        let (gate, sink) = (&mut Open, &mut Quiet);
+        transacted(shared.transact(rt, alloc, funs, share, STAMP, 3, gate, sink, work))
     }
-}
 
-// The most actions that are run.
-const MOST_ACTIONS: usize = 200;
-
-fn act_all<R: Input, C: Ledger, A: Ledger, K: Ledger>(
-    tables: &Tables,
-    stage: &mut Stage<'_, R, C, A, K>,
-) -> Result<Value, AllocError> {
-    let alloc = tables.all.alloc;
-    let (act, none) = (read(alloc, "act")?, form(alloc, ":none")?);
-    let mut all = Vec::new(alloc);
-    for _ in 0..MOST_ACTIONS {
-        let acted = answer(tables, &mut stage.rows, &act)?.answer;
-        if acted == none {
-            return vector(alloc, all);
-        }
-        all.push(acted)?;
-    }
-    Err(AllocError)
-}
-
-fn release_all<R: Input, C: Ledger, A: Ledger, K: Ledger>(
-    alloc: Global,
-    stage: &mut Stage<'_, R, C, A, K>,
-) -> Result<Value, AllocError> {
-    let mut all = Vec::new(alloc);
-    for point in 0..stage.point() {
-        all.push(truth(stage.rows.subject.release(point.saturating_add(1)))?)?;
-    }
-    vector(alloc, all)
-}
-
-// ---- All calls
-
-/// What a call answers.
-pub(crate) fn told<R: Input, C: Ledger, A: Ledger, K: Ledger>(
-    tables: &Tables,
-    stage: &mut Stage<'_, R, C, A, K>,
-    call: &[Value],
-) -> Result<Value, AllocError> {
-    let i = number_at(call, 1) as usize;
-    match word_at(call, 0) {
-        "begin" => begin(tables, stage, i),
-        "commit" => commit(tables, stage, i),
-        "run" => run(tables, stage),
-        "finish" => finish(tables, stage),
-        "checkpoint" => checkpoint(tables, stage),
-        "acts" => act_all(tables, stage),
-        "releases" => release_all(tables.all.alloc, stage),
-        _ => Ok(answer(tables, &mut stage.rows, call)?.answer),
-    }
-}
-
-// The number that a word stands for in a round.
-fn number_of(word: &str, round: u64, point: u64) -> Option<u64> {
-    match word {
-        "n" => Some(round),
-        "p" => Some(point),
-        _ => {
-            let digit = word.strip_prefix("n")?.parse::<u64>().ok()?;
-            Some(
-                round
-                    .saturating_add(1)
-                    .saturating_mul(10)
-                    .saturating_add(digit),
-            )
+    // With a body that is ready at once.
+    fn transact_when(&self, share: &mut Share<C, A, K>) -> Said {
+        let (rt, alloc, funs, shared) = (self.rt, self.alloc, &CoreFunctions, self.shared);
+        let mut work = |tx: &mut Tx<Core>| body(alloc, tx, 0, SENT_TO).map(Some);
+        let (gate, sink) = (&mut Open, &mut Quiet);
+        match shared.transact_when(rt, alloc, funs, share, STAMP, 3, gate, sink, &mut work) {
+            Ok(landed) => transacted(Ok(landed)),
+            Err(WaitFault::Transact(fault)) => transacted(Err(fault)),
+            Err(WaitFault::Closed) => Err(Stop::Refused),
         }
     }
-}
 
-// The call of a form, with the numbers that its words stand for.
-fn call_of(alloc: Global, form: &Value, round: u64, point: u64) -> Result<Vec<Value>, AllocError> {
-    let mut call = members(alloc, form)?;
-    for i in 1..call.len() {
-        let said = number_of(word_at(&call, i), round, point);
-        if let (Some(said), Some(place)) = (said, call.get_mut(i)) {
-            *place = number(said)?;
+    // Commits a transaction, if there is one. A refused one is open still.
+    fn commit(&self, share: &mut Share<C, A, K>, stamp: Stamp, open: &mut Begun) -> Said {
+        let Some(tx) = open.take() else {
+            return Ok(CLOSED);
+        };
+        let (rt, alloc, funs) = (self.rt, self.alloc, &CoreFunctions);
+        match self.shared.commit(rt, alloc, funs, share, stamp, tx) {
+            Ok(receipt) => Ok(Some((receipt.point, receipt.notices.len()))),
+            Err((tx, CommitFault::Memory)) => {
+                let _ = open.insert(tx);
+                Ok(None)
+            }
+            Err(_) => Err(Stop::Refused),
         }
     }
-    Ok(call)
-}
 
-/// Makes the calls of a row in a round, and answers what the last of them answers.
-pub(crate) fn make<R: Input, C: Ledger, A: Ledger, K: Ledger>(
-    tables: &Tables,
-    stage: &mut Stage<'_, R, C, A, K>,
-    row: &str,
-    round: u64,
-) -> Result<Value, AllocError> {
-    let alloc = tables.all.alloc;
-    let mut last = form(alloc, ":none")?;
-    for form in read(alloc, row)? {
-        let call = call_of(alloc, &form, round, stage.point())?;
-        last = told(tables, stage, &call)?;
+    fn work(&self) -> Said {
+        match work(self.rt, self.alloc, self.shared) {
+            Ok(Worked::Did(agent)) => Ok(Some((u64::from(agent), 0))),
+            Ok(Worked::Closed) => Ok(CLOSED),
+            Err(WorkFault::Memory) => Ok(None),
+            Err(_) => Err(Stop::Refused),
+        }
     }
-    Ok(last)
+
+    fn wait(&self) -> Said {
+        match self.shared.await_agents(self.rt, self.alloc, &[I, G, H, J]) {
+            Ok(()) => Ok(Some((0, 0))),
+            Err(AwaitFault::Failed(g)) => Ok(Some((u64::from(g), 0))),
+            Err(AwaitFault::Closed) => Ok(CLOSED),
+            Err(AwaitFault::Memory) => Ok(None),
+            Err(AwaitFault::NoSuchAgent(_)) => Err(Stop::Refused),
+        }
+    }
+
+    // Makes a call, but for `finish`, which takes the shared world.
+    fn make(&self, share: &mut Share<C, A, K>, own: &mut Begun, call: Call) -> Said {
+        match call {
+            Call::Transact => self.transact(share),
+            Call::TransactWhen => self.transact_when(share),
+            Call::Commit => self.commit(share, STAMP, own),
+            Call::Work(_, _) => self.work(),
+            Call::Await => self.wait(),
+            Call::Finish | Call::End => Ok(CLOSED),
+        }
+    }
+
+    // Sends an action to each agent, and runs all that are ready. It shows which agents are failed, and whose turn it is.
+    fn send_all(&self, all: &mut Vec<Answer>) -> Result<(), Stop> {
+        for g in G..=J {
+            let sent = self.shared.send(self.rt, g, action_for(self.alloc, g)?);
+            all.push(Some((u64::from(sent.is_ok()), 0)))?;
+        }
+        for _ in 0..LAST_POINT {
+            let answer = self.work()?;
+            all.push(answer)?;
+            if answer == CLOSED {
+                return Ok(());
+            }
+        }
+        Err(Stop::Late)
+    }
+
+    // Releases all that is held. It shows which sends were.
+    fn release_all(&self, all: &mut Vec<Answer>) -> Result<(), Stop> {
+        for g in G..=J {
+            let had_carries = self.shared.release_carried(self.rt, g);
+            all.push(Some((u64::from(had_carries), 0)))?;
+        }
+        for point in 1..LAST_POINT {
+            let had_sends = self.shared.release(self.rt, point);
+            all.push(Some((u64::from(had_sends), 0)))?;
+        }
+        self.send_all(all)
+    }
+
+    /// Makes the calls of a trial, and later ones.
+    pub(crate) fn try_it(self, share: &mut Share<C, A, K>, trial: Trial) -> Result<Made, Stop> {
+        self.shared.close(self.rt);
+        let (is_commit, is_full) = (trial.call == Call::Commit, trial.state > 0);
+        let mut own = if is_commit { self.begun(0)? } else { None };
+        let mut other = if is_full { self.begun(2)? } else { None };
+        let (mut answer, mut was_hit) = (Ok(CLOSED), false);
+        if trial.times > 0 && trial.call != Call::Finish {
+            refuse(self.rt, trial.number);
+            answer = self.make(share, &mut own, trial.call);
+            was_hit = was_refused(self.rt);
+        }
+        let mut answer = answer?;
+        let was_refused = answer.is_none();
+        if trial.times > 1 && was_refused {
+            answer = self.make(share, &mut own, trial.call)?;
+        }
+        let mut later = Vec::new(self.alloc);
+        self.send_all(&mut later)?;
+        later.push(self.commit(share, Stamp { worker: 8, step: 0 }, &mut own)?)?;
+        later.push(self.commit(share, Stamp { worker: 9, step: 0 }, &mut other)?)?;
+        later.push(Some((share.parts(), share.receipts().len())))?;
+        self.release_all(&mut later)?;
+        Ok(Made {
+            answer,
+            was_hit,
+            was_refused,
+            later,
+        })
+    }
 }

@@ -1,141 +1,226 @@
-//! The calls that take no memory, each made while every request for memory is refused.
-ghost use Rattle.ref_world.specs.Shares.{IsBlank};
+//! The calls that take no memory, made while every request for memory is refused.
+ghost use Rattle.std.specs.Prelude.{◌≡◌, ◌≤◌, length};
+ghost use Rattle.ref_fun.specs.Core.{core_accepts};
+ghost use Rattle.ref_fun.specs.Limits.{most_arguments};
 
-mod agents;
-mod data;
-mod plays;
-mod shares;
-mod transactions;
-mod worlds;
-
-use crate::Trouble;
-use crate::calls::make;
-use crate::cases::FULL;
-use crate::refuser::Refuser;
-use crate::stages::Stage;
-use crate::tables::{FUNS, PREDS};
-use crate::trials::opened;
-use ref_world::ALL_PARTS;
-use std::marker::Brand;
+use crate::calls::Call;
+use crate::refusing::{EACH, refuse, was_refused};
+use crate::worlds::{G, H, Use, WATCHED, opened};
+use ref_agents::ErrorMode;
+use ref_fun::codes::{AT_LEAST, PLUS};
+use ref_fun::{
+    Core, CoreFunctions, FunTable, Functions, Pred, Rule, StoredPred, code_of, core_test, name_of,
+};
+use ref_log::Who;
+use ref_play::Sim;
+use ref_pmap::PMap;
+use ref_pvec::PVec;
+use ref_shared::Shared;
+use ref_value::{Node, Value};
+use ref_world::{Share, World};
+use std::alloc::Global;
 use std::sync::Wait;
-use std::sync::ledger::{Blank, Ledger};
-use tests_plain::memory::Memory;
-use tests_rows::tables::{ByTables, Tables, with_tables};
+use std::sync::ledger::Ledger;
+use tests_shared::worlds::{Stop, at_least, done, one_arg, value};
 
-/// Counts the calls that answered as they have to, without a request for memory, and prints the others.
-pub(crate) struct Free<'a, R: Input> {
-    rt: &'a R,
-    refuser: Refuser<'a, R>,
-    calls: u32,
-    others: u32,
-}
-
-impl<'a, R: Input> Drop for Free<'a, R> {
-    fn drop(self) {
-        let Free {
-            rt: _,
-            refuser: _refuser,
-            calls: _,
-            others: _,
-        } = self;
+// Ends a group of calls, of which each was right or not, and prints how many there are.
+fn end<R: Input + Print>(rt: &R, group: &str, calls: &[bool]) -> Result<(), Stop> {
+    let (was_hit, count) = (was_refused(rt), calls.len());
+    println!(rt; "{group} | {count}").map_err(|_| Stop::Late)?;
+    if was_hit || calls.contains(&false) {
+        return Err(Stop::Refused);
     }
-}
-
-impl<'a, R: Input + Print> Free<'a, R> {
-    /// A call begins.
-    pub(crate) fn begin(&mut self) {
-        self.refuser.arm_all();
-        self.refuser.begin();
-    }
-
-    /// It has ended, and answered as it has to or not.
-    pub(crate) fn end(&mut self, name: &str, is_answered: bool) {
-        self.refuser.end();
-        self.calls = self.calls.saturating_add(1);
-        if !is_answered || self.refuser.was_refused() {
-            self.others = self.others.saturating_add(1);
-            let _ = println!(self.rt; "{name} takes memory");
-        }
-    }
-}
-
-// Makes the calls on a full world.
-fn call_all<R: AllocGlobal + Input + Print + Wait, C: Ledger, A: Ledger, K: Ledger>(
-    free: &mut Free<'_, R>,
-    tables: &Tables,
-    stage: &mut Stage<'_, R, C, A, K>,
-) -> Result<(), Trouble> {
-    let _ = make(tables, stage, FULL, 0)?;
-    data::call_all(free, tables)?;
-    transactions::call_all(free, tables, stage)?;
-    worlds::call_all(free, tables, stage)?;
-    agents::call_all(free, tables, stage)?;
-    shares::call_all(free, &mut stage.rows.subject.whole.share);
     Ok(())
 }
 
-fn call_in<R: AllocGlobal + Input + Print + Wait, C: Ledger, A: Ledger, K: Ledger>(
-    free: &mut Free<'_, R>,
-    tables: &Tables,
-    commits: Blank,
-    added: Blank,
-    taken: Blank,
-) -> Result<(), Trouble>
-    requires commits { IsBlank commits C.name C.parts }
-    requires added { IsBlank added A.name A.parts }
-    requires taken { IsBlank taken K.name K.parts }
-{
-    let rt = free.rt;
-    let mut stage = opened::<R, C, A, K>(rt, tables, commits, added, taken)?;
-    call_all(free, tables, &mut stage)?;
-    shares::share_world(free, rt, tables.all.alloc, stage);
-    Ok(())
+fn of_data(funs: &FunTable, args: &[Value], map: &PMap<u64>, list: &PVec<u64>) -> [bool; 19] {
+    let [value] = args else {
+        return [false; 19];
+    };
+    let Node::Vector(items) = value.node() else {
+        return [false; 19];
+    };
+    [
+        Value::of(Node::Int(7)).is_ok(),
+        value.depth() == 2,
+        value.share().is_ok(),
+        items.len() == 3,
+        items.get(0).is_some(),
+        items.share().is_ok(),
+        code_of(b"+") == Some(PLUS),
+        name_of(PLUS) == Some("+"),
+        Functions::<Core>::test(funs, AT_LEAST, value, args) == Some(false),
+        Functions::<Core>::has_pred(funs, AT_LEAST),
+        !Functions::<Core>::has_fun(funs, PLUS),
+        map.len() == 2,
+        map.get(5).is_some(),
+        map.share().is_ok(),
+        PMap::<u64>::empty().is_empty(),
+        list.len() == 100,
+        list.get(50).is_some(),
+        list.share().is_ok(),
+        PVec::<u64>::empty().is_empty(),
+    ]
 }
 
-fn call_new<R: AllocGlobal + Input + Print + Wait>(
-    free: &mut Free<'_, R>,
-    tables: &Tables,
-) -> Result<(), Trouble> {
-    let (commits, added, taken) = (
-        Blank::new(ALL_PARTS),
-        Blank::new(ALL_PARTS),
-        Blank::new(ALL_PARTS),
-    );
-    call_in::<R, Brand, Brand, Brand>(free, tables, commits, added, taken)
+fn call_on_data<R: Input + Print>(rt: &R, alloc: Global) -> Result<(), Stop> {
+    let mut funs = FunTable::empty(alloc);
+    let run: Pred = Box::new(
+        alloc,
+        |state: &Value, args: &[Value]| -> bool
+            requires { length args.now ≤ most_arguments }
+            ensures { result ≡ core_accepts AT_LEAST args.now state.now }
+        { core_test(AT_LEAST, state, args) },
+    )?;
+    done(funs.add_pred(StoredPred::new(AT_LEAST, run)))?;
+    let args = one_arg(alloc, "[1 2 [3]]")?;
+    let map = PMap::empty().with(alloc, 5, 50)?.with(alloc, 70_000, 7)?;
+    let mut list = PVec::empty();
+    for item in 0..100 {
+        list.push(alloc, item)?;
+    }
+    refuse(rt, EACH);
+    end(rt, "data", &of_data(&funs, args.as_slice(), &map, &list))
 }
 
-// What is done by the tables of functions.
-struct Calls<'a, R> {
-    rt: &'a R,
+fn of_world<C: Ledger, A: Ledger, K: Ledger>(
+    alloc: Global,
+    world: &World<Core, C, A, K>,
+    rule: &Rule,
+) -> [bool; 18] {
+    let Ok(tx) = world.begin(alloc) else {
+        return [false; 18];
+    };
+    [
+        tx.deref(0).is_ok(),
+        tx.read_point() > 0,
+        tx.sends().is_empty(),
+        tx.require(&CoreFunctions, 0, rule).is_ok(),
+        tx.began().len() == 4,
+        tx.began().share().is_ok(),
+        tx.began().get(0).is_some(),
+        tx.began().last_change(0).is_some(),
+        world.account(H).is_some(),
+        world.error_of(H).is_some(),
+        world.rule_of(Who::Agent(G)).is_some(),
+        world.base().point == 0,
+        world.point() == world.log().len() as u64,
+        world.commits() == 2,
+        world.added() == 2,
+        world.taken() == 0,
+        world.served_by(&CoreFunctions),
+        matches!(world.view().map(|view| view.share()), Ok(Ok(_))),
+    ]
 }
 
-impl<'a, R> Drop for Calls<'a, R> {
-    fn drop(self) {
-        let Calls { rt: _ } = self;
+fn of_reference<C: Ledger, A: Ledger, K: Ledger>(
+    world: &mut World<Core, C, A, K>,
+    who: Who,
+    key: &Value,
+) -> [bool; 3] {
+    [
+        world.value_of(who).is_some(),
+        world.remove_watch(who, key),
+        world.set_validator(&CoreFunctions, who, None).is_ok(),
+    ]
+}
+
+// Takes a job, runs it and puts it back; takes it again and forsakes it. The sends of the commit at point 2 are held.
+fn of_agents<C: Ledger, A: Ledger, K: Ledger>(
+    alloc: Global,
+    world: &mut World<Core, C, A, K>,
+    zero: Value,
+) -> [bool; 6] {
+    let Some(job) = world.take().ok().flatten() else {
+        return [false; 6];
+    };
+    let job = match job.run::<Core, _>(alloc, &CoreFunctions) {
+        Ok(ran) => ran.into_job(),
+        Err((job, _)) => job,
+    };
+    let (is_back, job) = match world.put_back(job) {
+        Ok(()) => (true, world.take().ok().flatten()),
+        Err(job) => (false, Some(job)),
+    };
+    if let Some(job) = job {
+        job.forsake();
+    }
+    [
+        is_back,
+        world.set_error_mode(G, ErrorMode::Continue).is_ok(),
+        !world.release_carried(G),
+        world.release(2),
+        matches!(world.fold_agent(G), Ok(true)),
+        world.restart(&CoreFunctions, H, zero, false).is_ok(),
+    ]
+}
+
+fn of_share<C: Ledger, A: Ledger, K: Ledger>(share: &mut Share<C, A, K>) -> [bool; 3] {
+    let Some(part) = share.split(5) else {
+        return [false; 3];
+    };
+    let is_split = !share.is_whole();
+    let is_joined = share.join(part).is_ok();
+    share.forget(0);
+    [is_split, is_joined, share.is_whole()]
+}
+
+fn of_shared<R: Wait, C: Ledger, A: Ledger, K: Ledger>(
+    rt: &R,
+    alloc: Global,
+    shared: &Shared<Core, C, A, K>,
+) -> [bool; 4] {
+    shared.close(rt);
+    [
+        shared.begin(rt, alloc).is_ok(),
+        shared.value_of(rt, Who::Ref(0)).is_ok(),
+        shared.view(rt).is_ok(),
+        shared.error_of(rt, H).is_some(),
+    ]
+}
+
+fn call_on_world<R: Input + Print, C: Ledger, A: Ledger, K: Ledger>(
+    rt: &R,
+    alloc: Global,
+    world: &mut World<Core, C, A, K>,
+    share: &mut Share<C, A, K>,
+) -> Result<(), Stop> {
+    let (key, rule) = (value(alloc, ":k")?, at_least(alloc, "0")?);
+    let zero = value(alloc, "0")?;
+    refuse(rt, EACH);
+    end(rt, "agents", &of_agents(alloc, world, zero))?;
+    refuse(rt, EACH);
+    end(rt, "worlds", &of_world(alloc, world, &rule))?;
+    for who in WATCHED {
+        refuse(rt, EACH);
+        end(rt, "references", &of_reference(world, *who, &key))?;
+    }
+    refuse(rt, EACH);
+    end(rt, "shares", &of_share(share))
+}
+
+#[derive(Drop)]
+struct Calls;
+
+impl<R: AllocGlobal + Input + Print + Wait> Use<R> for Calls {
+    type Out = Result<(), Stop>;
+
+    fn used<C: Ledger, A: Ledger, K: Ledger>(self, rt: &R, sim: Sim<Core, C, A, K>) -> Self::Out {
+        let (alloc, Calls) = (rt.alloc(), self);
+        refuse(rt, EACH);
+        let (mut world, mut share) = sim.end();
+        let ended = end(rt, "end of a play", &[true]);
+        let called = call_on_world(rt, alloc, &mut world, &mut share);
+        refuse(rt, EACH);
+        let shared = Shared::new(world);
+        let closed = end(rt, "shared", &of_shared(rt, alloc, &shared));
+        ended.and(called).and(closed)
     }
 }
 
-impl<'a, R: AllocGlobal + Input + Print + Wait> ByTables for Calls<'a, R> {
-    type Out = Result<bool, Trouble>;
-
-    fn run(self, tables: &Tables) -> Result<bool, Trouble> {
-        let mut free = Free {
-            rt: self.rt,
-            refuser: Refuser::new(self.rt),
-            calls: 0,
-            others: 0,
-        };
-        call_new(&mut free, tables)?;
-        plays::call_all(&mut free, tables)?;
-        let (calls, others) = (free.calls, free.others);
-        println!(self.rt;
-            "calls with every request refused: {calls}, of which {others} take memory"
-        ).map_err(|_| Trouble)?;
-        Ok(others == 0)
-    }
-}
-
-/// Makes all calls that take no memory, and answers whether none took any.
-pub(crate) fn try_all<R: AllocGlobal + Input + Print + Wait>(rt: &R) -> Result<bool, Trouble> {
-    with_tables(rt.alloc(), FUNS, PREDS, Calls { rt })?
+/// Makes all calls that take no memory, and prints how many there are of each group.
+pub(crate) fn try_all<R: AllocGlobal + Input + Print + Wait>(rt: &R) -> Result<(), Stop> {
+    println!(rt; "with every request refused | calls").map_err(|_| Stop::Late)?;
+    call_on_data(rt, rt.alloc())?;
+    opened(rt, 1, Call::End, Calls)?
 }

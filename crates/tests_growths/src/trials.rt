@@ -1,253 +1,167 @@
-//! A call in a new world, with one of its requests for memory refused or none.
-ghost use Rattle.ref_world.specs.Shares.{IsBlank};
-
-use crate::Trouble;
-use crate::calls::make;
-use crate::cases::{Call, Case, DRAWN, FULL, STARTS};
-use crate::later::shown_later;
-use crate::refuser::Refuser;
-use crate::sharing::on_shared;
-use crate::stages::{Stage, shown};
-use ref_edn::Value;
+//! Each call in new worlds, without each of its requests for memory in turn, and the table of all.
+use crate::calls::{CASES, Call, Lent, Made, Trial};
+use crate::refusing::{EACH, refuse, was_refused};
+use crate::worlds::{STATES, Use, opened};
+use ref_audit::dump;
 use ref_fun::Core;
-use ref_world::{ALL_PARTS, World};
-use std::alloc::AllocError;
-use std::marker::Brand;
+use ref_play::Sim;
+use ref_shared::{GatherFault, Shared};
+use ref_value::Value;
+use ref_world::{Share, Totals, World};
+use std::alloc::Global;
 use std::sync::Wait;
-use std::sync::ledger::{Blank, Ledger};
-use tests_plain::drawing::Draws;
-use tests_plain::memory::Memory;
-use tests_rows::forms::read;
-use tests_rows::rows::starts_of;
-use tests_rows::tables::Tables;
-use tests_rows::whole::{Whole, declared};
-use tests_rows::words::form;
+use std::sync::ledger::Ledger;
+use tests_shared::worlds::{Stop, closed, done};
 
-/// In which state a call is made.
-#[derive(Clone, Copy, Debug, Drop)]
-pub(crate) enum State {
-    New,
-    /// In a full world, in which the call was made so many times before.
-    Full(u64),
-    /// After drawn rows, which this number decides.
-    Drawn(u64),
+/// What came of a call, and what the world shows then.
+#[derive(Drop)]
+pub(crate) struct Seen {
+    made: Made,
+    dump: Value,
+    totals: Totals,
 }
 
-impl State {
-    // The number of the round in which the call is made.
-    fn round(self) -> u64 {
-        match self {
-            State::New => 0,
-            State::Full(round) => round,
-            State::Drawn(_) => 9,
-        }
+impl Seen {
+    // Whether two worlds show the same.
+    fn is_as(&self, other: &Seen) -> bool {
+        self.made.later == other.made.later
+            && self.dump == other.dump
+            && self.totals == other.totals
     }
 }
 
-/// What is done in a world.
-#[derive(Clone, Copy, Drop, PartialEq)]
-pub(crate) enum Plan {
-    /// The call isn't made.
-    Never,
-    /// The call is made, and the request of this number is refused; for 0 none is.
-    Once(usize),
-    /// As `Once`, and if it was refused it is made once more with ample memory.
-    Again(usize),
-}
-
-impl Plan {
-    /// The number of the request that is refused, or 0.
-    pub(crate) fn number(self) -> usize {
-        match self {
-            Plan::Never => 0,
-            Plan::Once(number) | Plan::Again(number) => number,
-        }
-    }
-
-    /// Whether a refused call is made once more.
-    pub(crate) fn is_again(self) -> bool {
-        matches!(self, Plan::Again(_))
-    }
-}
-
-/// What came of a call.
-pub(crate) struct Trial {
-    /// What it answered; the second time, where it was made again.
-    pub(crate) answer: Value,
-    /// Whether a request was refused.
-    pub(crate) was_hit: bool,
-    /// Whether the call was refused.
-    pub(crate) was_refused: bool,
-    /// Whether all that shows is as before, if it was refused.
-    pub(crate) was_same: bool,
-    /// What the world shows at last.
-    pub(crate) shown: Value,
-}
-
-// A function of its own, which each place that drops one calls; a derived one would be written out there.
-impl Drop for Trial {
-    fn drop(self) {
-        let Trial {
-            answer: _answer,
-            was_hit: _,
-            was_refused: _,
-            was_same: _,
-            shown: _shown,
-        } = self;
-    }
-}
-
-/// A new world with its share, and what refuses.
-pub(crate) fn opened<'a, R: AllocGlobal + Input, C: Ledger, A: Ledger, K: Ledger>(
-    rt: &'a R,
-    tables: &Tables,
-    commits: Blank,
-    added: Blank,
-    taken: Blank,
-) -> Result<Stage<'a, R, C, A, K>, Trouble>
-    requires commits { IsBlank commits C.name C.parts }
-    requires added { IsBlank added A.name A.parts }
-    requires taken { IsBlank taken K.name K.parts }
-{
-    let alloc = rt.alloc();
-    let start = declared(alloc, starts_of(alloc, &read(alloc, STARTS)?)?)?;
-    match World::<Core, C, A, K>::new(alloc, tables.all.funs, &start, commits, added, taken) {
-        Ok((world, share)) => {
-            Stage::with_nothing_open(alloc, Refuser::new(rt), Whole { world, share })
-        }
-        Err(_) => Err(Trouble),
-    }
-}
-
-// Makes the rounds of a call, and what comes before the next one.
-fn make_rounds<R: Input, C: Ledger, A: Ledger, K: Ledger>(
-    tables: &Tables,
-    stage: &mut Stage<'_, R, C, A, K>,
-    case: &Case,
-    rounds: u64,
-) -> Result<(), AllocError> {
-    let row = case.row();
-    let _ = make(tables, stage, FULL, 0)?;
-    for round in 0..rounds {
-        let _ = make(tables, stage, case.before, round)?;
-        let _ = make(tables, stage, row, round)?;
-    }
-    Ok(())
-}
-
-// Makes up to forty drawn rows.
-fn make_drawn<R: Input, C: Ledger, A: Ledger, K: Ledger>(
-    tables: &Tables,
-    stage: &mut Stage<'_, R, C, A, K>,
-    number: u64,
-) -> Result<(), AllocError> {
-    let mut draws = Draws::of(number);
-    for _ in 0..draws.below(40) {
-        let (row, round) = (draws.below(DRAWN.len()), draws.below(9));
-        if let Some(row) = DRAWN.get(row) {
-            let _ = make(tables, stage, row, round as u64)?;
-        }
-    }
-    Ok(())
-}
-
-// Makes the state of a call.
-fn fill<R: Input, C: Ledger, A: Ledger, K: Ledger>(
-    tables: &Tables,
-    stage: &mut Stage<'_, R, C, A, K>,
-    case: &Case,
-    state: State,
-) -> Result<(), AllocError> {
-    if case.is_shared() {
-        // An entry, without which the end of a shared world makes no request.
-        let _ = make(tables, stage, "[reset y 1]", 0)?;
-    }
-    match state {
-        State::New => {}
-        State::Full(rounds) => make_rounds(tables, stage, case, rounds)?,
-        State::Drawn(number) => make_drawn(tables, stage, number)?,
-    }
-    let _ = make(tables, stage, case.before, state.round())?;
-    Ok(())
-}
-
-// Makes a call on a world.
-fn on_world<R: Input, C: Ledger, A: Ledger, K: Ledger>(
-    tables: &Tables,
-    stage: &mut Stage<'_, R, C, A, K>,
-    row: &str,
-    round: u64,
-    plan: Plan,
-) -> Result<Trial, Trouble> {
-    let alloc = tables.all.alloc;
-    let before = shown(alloc, stage)?;
-    stage.refuser().arm(plan.number());
-    let mut answer = make(tables, stage, row, round)?;
-    let was_hit = stage.refuser().was_refused();
-    stage.refuser().arm(0);
-    let was_refused = answer == form(alloc, ":memory")?;
-    let was_same = !was_refused || shown(alloc, stage)? == before;
-    if was_refused && plan.is_again() {
-        answer = make(tables, stage, row, round)?;
-    }
-    Ok(Trial {
-        answer,
-        was_hit,
-        was_refused,
-        was_same,
-        shown: shown_later(tables, stage)?,
-    })
-}
-
-// What a world shows in which the call isn't made.
-fn left<R: Input, C: Ledger, A: Ledger, K: Ledger>(
-    tables: &Tables,
-    stage: &mut Stage<'_, R, C, A, K>,
-) -> Result<Trial, Trouble> {
-    Ok(Trial {
-        answer: form(tables.all.alloc, ":none")?,
-        was_hit: false,
-        was_refused: false,
-        was_same: true,
-        shown: shown_later(tables, stage)?,
-    })
-}
-
-fn tried_in<R: AllocGlobal + Input + Wait, C: Ledger, A: Ledger, K: Ledger>(
+// Ends a shared world. If that was refused, it is done once more.
+fn end<R: Input, C: Ledger, A: Ledger, K: Ledger>(
     rt: &R,
-    tables: &Tables,
-    case: &Case,
-    state: State,
-    plan: Plan,
-    commits: Blank,
-    added: Blank,
-    taken: Blank,
-) -> Result<Trial, Trouble>
-    requires commits { IsBlank commits C.name C.parts }
-    requires added { IsBlank added A.name A.parts }
-    requires taken { IsBlank taken K.name K.parts }
-{
-    let mut stage = opened::<R, C, A, K>(rt, tables, commits, added, taken)?;
-    fill(tables, &mut stage, case, state)?;
-    match case.call {
-        _ if plan == Plan::Never => left(tables, &mut stage),
-        Call::Shared(call, _) => on_shared(rt, tables, stage, call, plan),
-        Call::Row(row) => on_world(tables, &mut stage, row, state.round(), plan),
+    alloc: Global,
+    shared: Shared<Core, C, A, K>,
+    share: Share<C, A, K>,
+    trial: Trial,
+    made: &mut Made,
+) -> Result<(World<Core, C, A, K>, Totals), Stop> {
+    if !share.is_whole() {
+        return Err(Stop::Refused);
+    }
+    if trial.times > 0 && trial.call == Call::Finish {
+        refuse(rt, trial.number);
+    }
+    let ended = shared.finish(alloc, share);
+    made.was_hit = was_refused(rt) || made.was_hit;
+    match ended {
+        Ok(ended) => Ok(ended),
+        Err((world, share, GatherFault::Memory)) => {
+            made.was_refused = true;
+            closed(alloc, Shared::new(world), share)
+        }
+        Err(_) => Err(Stop::Refused),
     }
 }
 
-/// Makes a call in a new world.
-pub(crate) fn tried<R: AllocGlobal + Input + Wait>(
+impl<R: AllocGlobal + Input + Wait> Use<R> for Trial {
+    type Out = Result<Seen, Stop>;
+
+    fn used<C: Ledger, A: Ledger, K: Ledger>(self, rt: &R, sim: Sim<Core, C, A, K>) -> Self::Out {
+        let alloc = rt.alloc();
+        let (world, mut share) = sim.end();
+        let shared = Shared::new(world);
+        let lent = Lent {
+            rt,
+            alloc,
+            shared: &shared,
+        };
+        let mut made = lent.try_it(&mut share, self)?;
+        let (world, totals) = end(rt, alloc, shared, share, self, &mut made)?;
+        let dump = done(dump(alloc, &world));
+        drop(world);
+        Ok(Seen {
+            made,
+            dump: dump?,
+            totals,
+        })
+    }
+}
+
+fn tried<R: AllocGlobal + Input + Wait>(rt: &R, trial: Trial) -> Result<Seen, Stop> {
+    opened(rt, trial.state, trial.call, trial)?
+}
+
+// What came of all trials of a call.
+#[derive(Clone, Copy, Default, Drop)]
+struct Counts {
+    refused: u32,
+    passed: u32,
+    wrong: u32,
+}
+
+impl Counts {
+    // A call without a request was right or not.
+    fn judge<R: Print>(&mut self, rt: &R, is_right: bool, trial: Trial) {
+        if !is_right {
+            self.wrong = self.wrong.saturating_add(1);
+            let (state, times, number) = (trial.state, trial.times, trial.number);
+            let _ = println!(rt; "state {state}, {times} calls, request {number}: wrong");
+        }
+    }
+}
+
+// Refuses a request of a call, and answers whether the call made it. Made again, it has to answer as one that met no refusal, and to
+// show the same; and made once, it has to show the same as where no call was made.
+fn try_request<R: AllocGlobal + Input + Print + Wait>(
     rt: &R,
-    tables: &Tables,
-    case: &Case,
-    state: State,
-    plan: Plan,
-) -> Result<Trial, Trouble> {
-    let (commits, added, taken) = (
-        Blank::new(ALL_PARTS),
-        Blank::new(ALL_PARTS),
-        Blank::new(ALL_PARTS),
-    );
-    tried_in::<R, Brand, Brand, Brand>(rt, tables, case, state, plan, commits, added, taken)
+    trial: Trial,
+    (never, wanted): (&Seen, &Seen),
+    counts: &mut Counts,
+) -> Result<bool, Stop> {
+    let again = tried(rt, trial)?;
+    let (was_hit, was_refused) = (again.made.was_hit, again.made.was_refused);
+    let is_right = again.made.answer == wanted.made.answer && again.is_as(wanted);
+    counts.judge(rt, is_right && (was_hit || !was_refused), trial);
+    if was_refused {
+        counts.refused = counts.refused.saturating_add(1);
+        let trial = Trial { times: 1, ..trial };
+        let once = tried(rt, trial)?;
+        counts.judge(rt, once.made.was_refused && once.is_as(never), trial);
+    } else if was_hit {
+        counts.passed = counts.passed.saturating_add(1);
+    }
+    Ok(was_hit)
+}
+
+// Refuses each request of a call in turn, in each state.
+fn try_call<R: AllocGlobal + Input + Print + Wait>(rt: &R, call: Call) -> Result<Counts, Stop> {
+    let mut counts = Counts::default();
+    for state in 0..STATES {
+        let trial = Trial {
+            call,
+            state,
+            times: 2,
+            number: 0,
+        };
+        let wanted = tried(rt, trial)?;
+        let never = tried(rt, Trial { times: 0, ..trial })?;
+        for number in 1..EACH {
+            let trial = Trial { number, ..trial };
+            if !try_request(rt, trial, (&never, &wanted), &mut counts)? {
+                break;
+            }
+            if number + 1 == EACH {
+                return Err(Stop::Late);
+            }
+        }
+    }
+    Ok(counts)
+}
+
+/// Prints the table of all calls. It fails if something differed.
+pub(crate) fn try_all<R: AllocGlobal + Input + Print + Wait>(rt: &R) -> Result<(), Stop> {
+    println!(rt; "call | states | refused | done without | wrong").map_err(|_| Stop::Late)?;
+    for (name, call) in CASES {
+        let counts = try_call(rt, *call)?;
+        let (refused, passed, wrong) = (counts.refused, counts.passed, counts.wrong);
+        println!(rt; "{name} | {STATES} | {refused} | {passed} | {wrong}").map_err(|_| Stop::Late)?;
+        if wrong > 0 {
+            return Err(Stop::Refused);
+        }
+    }
+    Ok(())
 }

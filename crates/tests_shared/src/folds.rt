@@ -1,126 +1,53 @@
-//! What a shared world drops: the receipts of entries that a checkpoint has folded, and actions that ended.
+//! What a shared world drops: the receipts of entries that a checkpoint has folded, and actions that ended; and a log that is folded in bites.
+use crate::closing::Ends;
 use crate::jobs::{Work, two_agents, work};
-use crate::numbers::int_of;
+use crate::rows::check;
 use crate::same::same;
-use crate::scenarios::{End, Inspection, Scenario, run_and_finish, run_shared, run_to_end};
-use crate::steps::{commit_set, send};
-use crate::worlds::{Stop, done, plain_start};
+use crate::scenarios::{Scenario, run_to_end};
+use crate::steps::send;
+use crate::worlds::{Stop, done};
 use ref_fun::codes::PLUS;
 use ref_fun::{Core, CoreFunctions};
-use ref_log::Stamp;
-use ref_shared::{Gate, GatherFault, Quiet, Shared, Spot, Worked};
-use ref_world::{Share, Totals, World};
+use ref_shared::{Gate, Quiet, Shared, Spot, Worked};
+use ref_world::Share;
 use std::alloc::Global;
-use std::process::Abort;
 use std::sync::Wait;
 use std::sync::ledger::Ledger;
 use std::test::Fail;
 
-const STEP_0: Stamp = Stamp { worker: 0, step: 0 };
-
-const STEP_1: Stamp = Stamp { worker: 0, step: 1 };
-
-// Two commits, and a checkpoint up to a point. Then the share forgets up to a point, or as far as the base says.
-#[derive(Clone, Copy, Drop)]
-struct Forgetting {
-    folded: u64,
-    forgotten: Option<u64>,
-}
-
-impl<R: Wait> Scenario<R> for Forgetting {
-    type Outcome = usize;
-
-    fn run<C: Ledger, A: Ledger, K: Ledger>(
-        &self,
-        rt: &R,
-        alloc: Global,
-        shared: &Shared<Core, C, A, K>,
-        share: &mut Share<C, A, K>,
-    ) -> Result<usize, Stop> {
-        let _ = commit_set(rt, alloc, shared, share, STEP_0, "1")?;
-        let _ = commit_set(rt, alloc, shared, share, STEP_1, "2")?;
-        let _ = done(shared.checkpoint(rt, alloc, &CoreFunctions, self.folded))?;
-        match self.forgotten {
-            Some(point) => share.forget(point),
-            None => shared.forget(rt, share),
-        }
-        Ok(share.receipts().len())
-    }
-}
-
-// How many receipts are left, and how the shared world ends.
-fn check_forgetting(
-    rt: &(impl Abort + AllocGlobal + Wait),
-    forgetting: Forgetting,
-    left: usize,
-    fault: Option<GatherFault>,
-) -> Result<(), Stop> {
-    let alloc = rt.alloc();
-    let wanted = End {
-        fault,
-        commits: 2,
-        back: match fault {
-            Some(_) => Some((true, left)),
-            None => None,
-        },
-    };
-    let found = run_shared(rt, alloc, plain_start(alloc, "0", "")?, &forgetting)?;
-    same(rt, found, left);
-    let ended = run_and_finish(rt, alloc, plain_start(alloc, "0", "")?, &forgetting)?;
-    same(rt, ended, wanted);
-    Ok(())
-}
-
-// Up to which point is folded, up to which the share forgets, if it isn't the base's, how many receipts are left, and the fault.
-const FORGETTING: &[(u64, Option<u64>, usize, Option<GatherFault>)] = &[
-    (0, None, 2, None),
-    (1, None, 1, None),
-    (2, None, 0, None),
-    (2, Some(2), 0, None),
-    (0, Some(1), 1, Some(GatherFault::ReceiptMissing)),
-    (1, Some(2), 0, Some(GatherFault::ReceiptMissing)),
-];
+const FORGETTING: &str = "
+// Receipts of folded entries aren't asked for, as far as the base says.
+== 0
+transact 1: set r0 1; transact 1: set r0 2 → 1; 2
+checkpoint 0; forget → 0; 2
+end count → 2
+== 0
+transact 1: set r0 1; transact 1: set r0 2 → 1; 2
+checkpoint 1; forget → 1; 1
+end count → 2
+== 0
+transact 1: set r0 1; transact 1: set r0 2 → 1; 2
+checkpoint 2; forget → 2; 0
+end count → 2
+// Nor are they if the share says how far.
+== 0
+transact 1: set r0 1; transact 1: set r0 2 → 1; 2
+checkpoint 2; forget 2 → 2; 0
+end count → 2
+// Those past the base are.
+== 0
+transact 1: set r0 1; transact 1: set r0 2 → 1; 2
+checkpoint 0; forget 1 → 0; 1
+end refused → log and receipts differ: whole true, receipts 1, commits 2
+== 0
+transact 1: set r0 1; transact 1: set r0 2 → 1; 2
+checkpoint 1; forget 2 → 1; 0
+end refused → log and receipts differ: whole true, receipts 0, commits 2
+";
 
 #[test]
 fn receipts_of_folded_entries_are_not_asked_for(rt: HostRuntime) -> Result<(), Fail> {
-    for row in FORGETTING {
-        let (folded, forgotten, left, fault) = *row;
-        check_forgetting(&rt, Forgetting { folded, forgotten }, left, fault)?;
-    }
-    Ok(())
-}
-
-// What the account of g shows: its start, how many actions ended since then and in all, and how many wait.
-#[derive(Clone, Copy, Debug, Drop, PartialEq)]
-pub(crate) struct Shown {
-    start: Option<i64>,
-    pub(crate) handled: usize,
-    number: u64,
-    waiting: usize,
-}
-
-#[derive(Drop)]
-pub(crate) struct AccountOf(pub(crate) u32);
-
-impl Inspection for AccountOf {
-    type Seen = Option<Shown>;
-
-    fn inspect<C: Ledger, A: Ledger, K: Ledger>(
-        &self,
-        _alloc: Global,
-        world: &World<Core, C, A, K>,
-        _totals: Totals,
-    ) -> Result<Option<Shown>, Stop> {
-        match world.account(self.0) {
-            Some(account) => Ok(Some(Shown {
-                start: int_of(account.start()),
-                handled: account.handled().len(),
-                number: account.number(),
-                waiting: account.waiting(),
-            })),
-            None => Ok(None),
-        }
-    }
+    check(&rt, FORGETTING)
 }
 
 // A gate that folds an agent while an action is on its way, and stores what that answers.
@@ -170,14 +97,79 @@ impl<R: Wait> Scenario<R> for Folding {
 #[test]
 fn an_account_is_folded_while_an_action_is_on_its_way(rt: HostRuntime) -> Result<(), Fail> {
     let alloc = rt.alloc();
-    let folded = run_to_end(&rt, alloc, two_agents(alloc)?, &Folding, &AccountOf(0))?;
-    let shown = Shown {
-        start: Some(1),
-        handled: 1,
-        number: 2,
-        waiting: 1,
-    };
+    let rows = [
+        "end start g0 → 1",
+        "end handled g0 → 1",
+        "end number g0 → 2",
+        "end waiting g0 → 1",
+    ];
+    let folded = run_to_end(&rt, alloc, two_agents(alloc)?, &Folding, &Ends(&rows))?;
     let wanted = (Some(true), Ok(Worked::Did(0)), Some(false));
-    same(&rt, folded, (wanted, Some(shown)));
+    same(&rt, folded, (wanted, None));
     Ok(())
+}
+
+// ---- In bites
+
+// Six commits that set r0 to 5, for which a replay calls no function, and four that add 1 to it.
+const TEN: &str = "
+transact 1: set r0 5; transact 1: set r0 5; transact 1: set r0 5 → 5; 5; 5
+transact 1: set r0 5; transact 1: set r0 5; transact 1: set r0 5 → 5; 5; 5
+transact 1: alter r0 + 1; transact 1: alter r0 + 1 → 6; 7
+transact 1: alter r0 + 1; transact 1: alter r0 + 1 → 8; 9";
+
+// TEN and BITE stand for these commits and a number.
+const ANY_SIZE: &str = "
+== 0
+TEN
+bites 10 BITE; bites 10 BITE; value r0 → 10; 0; 9
+end base → 10 9
+end entries → 0
+== 0
+TEN
+bites 7 BITE; bites 7 BITE; value r0 → 7; 0; 9
+end base → 7 6
+end entries → 3
+== 0
+TEN
+bites 0 BITE; bites 0 BITE; value r0 → 0; 0; 9
+end base → 0 0
+end entries → 10
+";
+
+const REFUSED: &str = "
+// A point past the present is refused, and nothing is folded.
+== 0
+TEN
+bites 11 3 → there is no such point in the log
+bites 11 3 → there is no such point in the log
+value r0 → 9
+end base → 0 0
+end entries → 10
+// Bites before a refused one stay folded.
+== 0
+TEN
+bites 10 3 no-memory; bites 10 3 no-memory; value r0 → out of memory; out of memory; 9
+end base → 6 5
+end entries → 4
+== 0
+TEN
+bites 10 4 no-memory; bites 10 4 no-memory; value r0 → out of memory; out of memory; 9
+end base → 4 5
+end entries → 6
+== 0
+TEN
+bites 10 10 no-memory; bites 10 10 no-memory; value r0 → out of memory; out of memory; 9
+end base → 0 0
+end entries → 10
+";
+
+#[test]
+fn a_log_is_folded_in_bites_of_any_size(rt: HostRuntime) -> Result<(), Fail> {
+    let alloc = rt.alloc();
+    let table = ANY_SIZE.replace(alloc, "TEN", TEN)?;
+    for bite in ["1", "3", "5", "9", "10", "11", "4294967295"] {
+        check(&rt, &table.replace(alloc, "BITE", bite)?)?;
+    }
+    check(&rt, &REFUSED.replace(alloc, "TEN", TEN)?)
 }

@@ -1,12 +1,11 @@
 //! Worlds of two agents, what is sent to them, and what runs their actions.
-use crate::steps::commit;
-use crate::worlds::{STAMP, Stop, agent, at_least, done, int_at, one_arg, plain_start, value};
+use crate::worlds::{Stop, agent, at_least, done, int_at, one_arg, plain_start, value};
 use ref_fun::codes::PLUS;
 use ref_fun::{Action, Core, CoreFunctions};
 use ref_log::Who;
 use ref_shared::{Open, Quiet, Shared, WorkFault, Worked};
 use ref_tx::Tx;
-use ref_world::{Share, Start};
+use ref_world::Start;
 use std::alloc::{AllocError, Global};
 use std::sync::Wait;
 use std::sync::ledger::Ledger;
@@ -37,18 +36,6 @@ pub fn two_agents(alloc: Global) -> Result<Start, AllocError> {
 pub fn send_four(alloc: Global, tx: &mut Tx<Core>) -> Result<(), Stop> {
     let args = one_arg(alloc, "4")?;
     done(tx.send(alloc, &CoreFunctions, 1, Action::new(PLUS, args)))
-}
-
-/// Commits `send h + 4`, which is held, and returns the point.
-pub fn commit_four<C: Ledger, A: Ledger, K: Ledger, R: Wait>(
-    rt: &R,
-    alloc: Global,
-    shared: &Shared<Core, C, A, K>,
-    share: &mut Share<C, A, K>,
-) -> Result<u64, Stop> {
-    let mut tx = shared.begin(rt, alloc)?;
-    send_four(alloc, &mut tx)?;
-    commit(rt, alloc, shared, share, STAMP, tx)
 }
 
 /// The numbers that both agents hold now.

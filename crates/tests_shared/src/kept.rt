@@ -1,20 +1,16 @@
 //! What a world has is there when it comes out of a shared one: its watches, what waits, what is held, and error modes.
-ghost use Rattle.std.specs.Prelude.{◌≡◌};
-ghost use Rattle.ref_world.specs.Shares.{IsBlank};
-
 use crate::jobs::two_agents;
 use crate::same::same;
-use crate::worlds::{STAMP, Stop, action, closed, done, one_arg, value};
+use crate::scenarios::{Inspection, Scenario, run_to_end};
+use crate::worlds::{STAMP, Stop, action, done, value};
 use ref_agents::{AgentError, ErrorMode, Finished, Job};
 use ref_fun::codes::PLUS;
-use ref_fun::{Action, Cause, Core, CoreFunctions};
+use ref_fun::{Cause, Core, CoreFunctions};
 use ref_log::Who;
 use ref_shared::Shared;
-use ref_tx::Tx;
-use ref_world::{ALL_PARTS, Share, World};
+use ref_world::{Share, Totals, World};
 use std::alloc::{AllocError, Global};
-use std::marker::Brand;
-use std::sync::ledger::{Blank, Ledger};
+use std::sync::ledger::Ledger;
 use std::test::Fail;
 
 // The agent whose job is taken, which stays out.
@@ -68,85 +64,15 @@ fn continued<C: Ledger, A: Ledger, K: Ledger>(
     }
 }
 
-// Adds a watch to the ref, and sends h, which goes on after an error, an action that its function refuses.
-fn watch_and_send<C: Ledger, A: Ledger, K: Ledger>(
-    alloc: Global,
-    world: &mut World<Core, C, A, K>,
-) -> Result<(), Stop> {
-    let key = value(alloc, ":w")?;
-    done(world.add_watch(alloc, Who::Ref(0), key))?;
-    done(world.set_error_mode(1, ErrorMode::Continue))?;
-    let action = action(alloc, PLUS, ":k")?;
-    done(world.send(alloc, 1, action))
-}
-
-fn send_one(alloc: Global, tx: &mut Tx<Core>) -> Result<(), Stop> {
-    let one = one_arg(alloc, "1")?;
-    done(tx.send(alloc, &CoreFunctions, 0, Action::new(PLUS, one)))
-}
-
-// Commits `send g + 1`, which is held, and returns the point.
+// Commits `send g + 1`, which is held, at point 1.
 fn commit_send<C: Ledger, A: Ledger, K: Ledger>(
     alloc: Global,
     world: &mut World<Core, C, A, K>,
     share: &mut Share<C, A, K>,
-) -> Result<u64, Stop> {
+) -> Result<(), Stop> {
     let mut tx = world.begin(alloc)?;
-    send_one(alloc, &mut tx)?;
-    let receipt = done(world.commit_with(alloc, &CoreFunctions, share, STAMP, tx))?;
-    Ok(receipt.point)
-}
-
-fn prepare<C: Ledger, A: Ledger, K: Ledger>(
-    alloc: Global,
-    world: &mut World<Core, C, A, K>,
-    share: &mut Share<C, A, K>,
-) -> Result<u64, Stop> {
-    watch_and_send(alloc, world)?;
-    commit_send(alloc, world, share)
-}
-
-fn two_agents_made<C: Ledger, A: Ledger, K: Ledger>(
-    alloc: Global,
-    commits: Blank,
-    added: Blank,
-    taken: Blank,
-) -> Result<(World<Core, C, A, K>, Share<C, A, K>), Stop>
-    requires commits { IsBlank commits C.name C.parts }
-    requires added { IsBlank added A.name A.parts }
-    requires taken { IsBlank taken K.name K.parts }
-{
-    let start = two_agents(alloc)?;
-    done(World::<Core, C, A, K>::new(alloc, &CoreFunctions, &start, commits, added, taken))
-}
-
-// The world of two agents: a ref with a watch; h, which goes on after an error, with an action that its function refuses; and an action
-// of g that a commit sent and that is held. It is shared, and comes out again.
-fn shared_and_back<C: Ledger, A: Ledger, K: Ledger>(
-    alloc: Global,
-    commits: Blank,
-    added: Blank,
-    taken: Blank,
-) -> Result<(World<Core, C, A, K>, u64), Stop>
-    requires commits { IsBlank commits C.name C.parts }
-    requires added { IsBlank added A.name A.parts }
-    requires taken { IsBlank taken K.name K.parts }
-{
-    let (mut world, mut share) = two_agents_made::<C, A, K>(alloc, commits, added, taken)?;
-    let point = prepare(alloc, &mut world, &mut share)?;
-    let (world, _totals) = closed(alloc, Shared::new(world), share)?;
-    Ok((world, point))
-}
-
-// Whose jobs are taken before and after the release of what a commit sent, and whether that was held.
-fn taken_around_release<C: Ledger, A: Ledger, K: Ledger>(
-    world: &mut World<Core, C, A, K>,
-    point: u64,
-) -> Result<([Option<u32>; 2], bool), AllocError> {
-    let before = taken(world)?;
-    let was_held = world.release(point);
-    let after = taken(world)?;
-    Ok(([before, after], was_held))
+    done(tx.send(alloc, &CoreFunctions, 0, action(alloc, PLUS, "1")?))?;
+    done(world.commit_with(alloc, &CoreFunctions, share, STAMP, tx)).map(drop)
 }
 
 // What the world has: the error with which h goes on, whose jobs are taken before and after the release, whether it had sends, and
@@ -159,45 +85,64 @@ struct Kept {
     was_watched: bool,
 }
 
-fn look_at<C: Ledger, A: Ledger, K: Ledger>(
-    alloc: Global,
-    world: &mut World<Core, C, A, K>,
-    point: u64,
-) -> Result<Kept, Stop> {
-    let key = value(alloc, ":w")?;
-    let first = continued(alloc, world)?;
-    let (others, was_held) = taken_around_release(world, point)?;
-    Ok(Kept {
-        first,
-        others,
-        was_held,
-        was_watched: world.remove_watch(Who::Ref(0), &key),
-    })
+// A ref has a watch; h, which goes on after an error, an action that its function refuses; and an action of g that a commit sent is held.
+// This world is shared, and comes out again.
+#[derive(Drop)]
+struct Keeping;
+
+impl<R> Scenario<R> for Keeping {
+    type Outcome = ();
+
+    fn prepare<C: Ledger, A: Ledger, K: Ledger>(
+        &self,
+        alloc: Global,
+        world: &mut World<Core, C, A, K>,
+        share: &mut Share<C, A, K>,
+    ) -> Result<(), Stop> {
+        let (key, action) = (value(alloc, ":w")?, action(alloc, PLUS, ":k")?);
+        done(world.add_watch(Who::Ref(0), key))?;
+        done(world.set_error_mode(1, ErrorMode::Continue))?;
+        done(world.send(1, action))?;
+        commit_send(alloc, world, share)
+    }
+
+    fn run<C: Ledger, A: Ledger, K: Ledger>(
+        &self,
+        _rt: &R,
+        _alloc: Global,
+        _shared: &Shared<Core, C, A, K>,
+        _share: &mut Share<C, A, K>,
+    ) -> Result<(), Stop> {
+        Ok(())
+    }
 }
 
-fn try_kept<C: Ledger, A: Ledger, K: Ledger>(
-    alloc: Global,
-    commits: Blank,
-    added: Blank,
-    taken: Blank,
-) -> Result<Kept, Stop>
-    requires commits { IsBlank commits C.name C.parts }
-    requires added { IsBlank added A.name A.parts }
-    requires taken { IsBlank taken K.name K.parts }
-{
-    let (mut world, point) = shared_and_back::<C, A, K>(alloc, commits, added, taken)?;
-    look_at(alloc, &mut world, point)
+impl Inspection for Keeping {
+    type Seen = Kept;
+
+    fn inspect<C: Ledger, A: Ledger, K: Ledger>(
+        &self,
+        alloc: Global,
+        world: &mut World<Core, C, A, K>,
+        _totals: Totals,
+    ) -> Result<Kept, Stop> {
+        let key = value(alloc, ":w")?;
+        let first = continued(alloc, world)?;
+        let before = taken(world)?;
+        let was_held = world.release(1);
+        Ok(Kept {
+            first,
+            others: [before, taken(world)?],
+            was_held,
+            was_watched: world.remove_watch(Who::Ref(0), &key),
+        })
+    }
 }
 
 #[test]
 fn a_shared_world_keeps_what_the_world_had(rt: HostRuntime) -> Result<(), Fail> {
     let alloc = rt.alloc();
-    let (commits, added, taken) = (
-        Blank::new(ALL_PARTS),
-        Blank::new(ALL_PARTS),
-        Blank::new(ALL_PARTS),
-    );
-    let kept = try_kept::<Brand, Brand, Brand>(alloc, commits, added, taken)?;
+    let (_, kept) = run_to_end(&rt, alloc, two_agents(alloc)?, &Keeping, &Keeping)?;
     let wanted = Kept {
         first: Some((1, AgentError::Refused(Cause::WrongKind))),
         others: [None, Some(0)],

@@ -1,82 +1,47 @@
 //! Each call on a reference that isn't there, the one past the last of its kind: it says so, and changes nothing. Waiting for an agent that
 //! isn't there is in `awaits`, folding it in `folds`.
-use crate::same::same;
-use crate::scenarios::{CommitCount, run_to_end};
-use crate::seconds::{Row, Rows, start};
-use ref_log::Who;
+use crate::rows::check;
 use std::test::Fail;
 
-const R: Who = Who::Ref(3);
-
-const A: Who = Who::Atom(4);
-
-const G: Who = Who::Agent(5);
-
-const LAST_REF: Who = Who::Ref(2);
-
-const LAST_ATOM: Who = Who::Atom(3);
-
-const LAST_AGENT: Who = Who::Agent(4);
-
-const NO_REF: &str = "the body ended it: no such ref";
-
-const NO_ATOM: &str = "there is no such atom";
-
-const NO_AGENT: &str = "there is no such agent";
-
-const NONE: &str = "there is no such reference";
-
-// Each last one is watched, and the last agent fails: so it would be seen if a call were made on it.
-const MISSING: &[Row] = &[
-    ("deref", R, "", NO_REF),
-    ("ensure", R, "", NO_REF),
-    ("set", R, "1", NO_REF),
-    ("alter", R, "1", NO_REF),
-    ("commute", R, "1", NO_REF),
-    ("send in tx", G, "1", "the body ended it: no such agent"),
-    ("swap", A, "1", NO_ATOM),
-    ("reset", A, "1", NO_ATOM),
-    ("compare", A, "70", NO_ATOM),
-    ("send", G, "1", NO_AGENT),
-    ("carry", LAST_AGENT, "1", NO_AGENT),
-    ("continue", G, "", NO_AGENT),
-    ("release", G, "", "false"),
-    ("value", R, "", "None"),
-    ("value", A, "", "None"),
-    ("value", G, "", "None"),
-    ("rule", R, "0", NONE),
-    ("rule", A, "0", NONE),
-    ("rule", G, "0", NONE),
-    ("watch", R, "", NONE),
-    ("watch", A, "", NONE),
-    ("watch", G, "", NONE),
-    ("watch", LAST_REF, "", "true"),
-    ("watch", LAST_ATOM, "", "true"),
-    ("watch", LAST_AGENT, "", "true"),
-    ("unwatch", R, "", "false"),
-    ("unwatch", A, "", "false"),
-    ("unwatch", G, "", "false"),
-    ("unwatch", LAST_REF, "", "true"),
-    ("unwatch", LAST_ATOM, "", "true"),
-    ("unwatch", LAST_AGENT, "", "true"),
-    ("send", LAST_AGENT, ":k", "ok"),
-    ("work", LAST_AGENT, "", "true"),
-    ("error", LAST_AGENT, "", "refused: wrong kind of value"),
-    ("error", G, "", "ok"),
-    ("restart", G, "1", NO_AGENT),
-    ("work", LAST_AGENT, "", "false"),
-];
+// In a closed world, so that no call waits. Each last one is watched, and the last agent fails: so it would be seen if a call were made on it.
+const MISSING: &str = "
+== 10 20 30 | 40 50 60 70 | 80 90 100 110 120
+close; transact 1: deref r3 → the body ended it: no such ref
+transact 1: ensure r3 → the body ended it: no such ref
+transact 1: set r3 1 → the body ended it: no such ref
+transact 1: alter r3 + 1 → the body ended it: no such ref
+transact 1: commute r3 + 1 → the body ended it: no such ref
+transact 1: send g5 + 1 → the body ended it: no such agent
+swap a4 + 1 → there is no such atom
+reset a4 1 → there is no such atom
+compare a4 70 53 → there is no such atom
+send g5 + 1 → there is no such agent
+carry g4 + 1 → there is no such agent
+continue g5 → there is no such agent
+release g5 → no
+value r3 → none
+value a4 → none
+value g5 → none
+rule r3 0 → there is no such reference
+rule a4 0 → there is no such reference
+rule g5 0 → there is no such reference
+watch r3 :k → there is no such reference
+watch a4 :k → there is no such reference
+watch g5 :k → there is no such reference
+watch r2 :k; watch a3 :k; watch g4 :k; unwatch r3 :k → no
+unwatch a4 :k → no
+unwatch g5 :k → no
+unwatch r2 :k; unwatch a3 :k; unwatch g4 :k; send g4 + :k; work → g4, g4 failed: refused: wrong kind of value
+error g4 → refused: wrong kind of value
+error g5; restart g5 1 → there is no such agent
+work → closed
+values r → 10, 20, 30
+values a → 40, 50, 60, 70
+values g → 80, 90, 100, 110, 120
+end count → 0
+";
 
 #[test]
 fn a_reference_that_is_not_there_is_said_not_to_be(rt: HostRuntime) -> Result<(), Fail> {
-    let alloc = rt.alloc();
-    let start = start(alloc)?;
-    let ((wrong, numbers), commits) = run_to_end(&rt, alloc, start, &Rows(MISSING), &CommitCount)?;
-    same(&rt, (wrong, commits), (None, 0));
-    same(
-        &rt,
-        numbers.as_slice(),
-        &[10, 40, 80, 20, 50, 90, 30, 60, 100, 0, 70, 110, 0, 0, 120],
-    );
-    Ok(())
+    check(&rt, MISSING)
 }

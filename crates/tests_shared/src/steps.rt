@@ -1,5 +1,5 @@
 //! Single steps on a shared world that are not to be refused.
-use crate::worlds::{Stop, action, add, done, value};
+use crate::worlds::{Stop, action, done, value};
 use ref_fun::{Core, CoreFunctions};
 use ref_log::{Stamp, Who};
 use ref_shared::Shared;
@@ -18,7 +18,7 @@ pub fn watch<C: Ledger, A: Ledger, K: Ledger, R: Wait>(
     key: &str,
 ) -> Result<(), Stop> {
     let key = value(alloc, key)?;
-    let _ = done(shared.add_watch(rt, alloc, who, key))?;
+    let _ = done(shared.add_watch(rt, who, key))?;
     Ok(())
 }
 
@@ -32,14 +32,7 @@ pub fn send<C: Ledger, A: Ledger, K: Ledger, R: Wait>(
     argument: &str,
 ) -> Result<(), Stop> {
     let action = action(alloc, code, argument)?;
-    done(shared.send(rt, alloc, g, action))
-}
-
-/// `ref-set r text`.
-pub fn set(alloc: Global, tx: &mut Tx<Core>, r: u32, text: &str) -> Result<(), Stop> {
-    let new = value(alloc, text)?;
-    let _ = done(tx.ref_set(alloc, r, new))?;
-    Ok(())
+    done(shared.send(rt, g, action))
 }
 
 /// Commits a transaction, and returns the point.
@@ -65,20 +58,6 @@ pub fn commit_set<C: Ledger, A: Ledger, K: Ledger, R: Wait>(
     text: &str,
 ) -> Result<u64, Stop> {
     let mut tx = shared.begin(rt, alloc)?;
-    set(alloc, &mut tx, 0, text)?;
+    let _ = done(tx.ref_set(alloc, 0, value(alloc, text)?))?;
     commit(rt, alloc, shared, share, stamp, tx)
-}
-
-/// Commits `alter 0 + 1`.
-pub fn commit_add<C: Ledger, A: Ledger, K: Ledger, R: Wait>(
-    rt: &R,
-    alloc: Global,
-    shared: &Shared<Core, C, A, K>,
-    share: &mut Share<C, A, K>,
-    stamp: Stamp,
-) -> Result<(), Stop> {
-    let mut tx = shared.begin(rt, alloc)?;
-    add(alloc, &mut tx, 0, "1")?;
-    let _ = commit(rt, alloc, shared, share, stamp, tx)?;
-    Ok(())
 }

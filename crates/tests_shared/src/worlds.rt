@@ -1,7 +1,7 @@
 //! Making shared worlds and values, and what is read of them.
-ghost use Rattle.std.specs.Prelude.{◌≡◌};
-ghost use Rattle.ref_world.specs.Shares.{IsBlank};
+ghost use Rattle.tests_shared.specs.Ledgers.{AreBlank};
 
+use crate::blanks::Blanks;
 use crate::numbers::int_of;
 use ref_agents::ErrorMode;
 use ref_edn::names::is_same;
@@ -10,12 +10,12 @@ use ref_fun::codes::{AT_LEAST, PLUS};
 use ref_fun::{Action, Args, Core, CoreFunctions, Rule};
 use ref_log::{Entry, Notice, Stamp, Who};
 use ref_pvec::PVec;
-use ref_shared::{Shared, WatchSink};
+use ref_shared::Shared;
 use ref_tx::Tx;
 use ref_world::{AgentStart, AtomStart, RefStart, Share, Start, Totals, World};
 use std::alloc::{AllocError, AllocFailed, Global};
 use std::sync::Wait;
-use std::sync::ledger::{Blank, Ledger};
+use std::sync::ledger::Ledger;
 
 /// The stamp of a commit where nothing hangs on it.
 pub const STAMP: Stamp = Stamp { worker: 0, step: 0 };
@@ -72,14 +72,6 @@ pub fn at_least(alloc: Global, bound: &str) -> Result<Rule, AllocError> {
     })
 }
 
-pub fn plain_ref(value: Value) -> RefStart {
-    RefStart {
-        value,
-        rule: None,
-        tally: false,
-    }
-}
-
 /// The refs and the atoms of two texts, without rules, and no agent.
 pub fn plain_start(alloc: Global, refs: &str, atoms: &str) -> Result<Start, AllocError> {
     let mut start = Start {
@@ -88,7 +80,11 @@ pub fn plain_start(alloc: Global, refs: &str, atoms: &str) -> Result<Start, Allo
         agents: Vec::new(alloc),
     };
     for value in read_all(alloc, refs.as_bytes()).map_err(|_| AllocError)? {
-        start.refs.push(plain_ref(value))?;
+        start.refs.push(RefStart {
+            value,
+            rule: None,
+            tally: false,
+        })?;
     }
     for value in read_all(alloc, atoms.as_bytes()).map_err(|_| AllocError)? {
         start.atoms.push(AtomStart { value, rule: None })?;
@@ -105,27 +101,23 @@ pub fn agent(value: Value, rule: Option<Rule>) -> AgentStart {
     }
 }
 
-/// A shared world of these references, and its whole share.
-pub fn opened<C: Ledger, A: Ledger, K: Ledger>(
+/// A world of these references, and its whole share.
+pub fn made<C: Ledger, A: Ledger, K: Ledger>(
     alloc: Global,
     start: Start,
-    commits: Blank,
-    added: Blank,
-    taken: Blank,
-) -> Result<(Shared<Core, C, A, K>, Share<C, A, K>), Stop>
-    requires commits { IsBlank commits C.name C.parts }
-    requires added { IsBlank added A.name A.parts }
-    requires taken { IsBlank taken K.name K.parts }
+    blanks: Blanks,
+) -> Result<(World<Core, C, A, K>, Share<C, A, K>), Stop>
+    requires { AreBlank blanks C.name C.parts A.name A.parts K.name K.parts }
 {
-    let (world, share) = done(World::<Core, C, A, K>::new(
-        alloc,
-        &CoreFunctions,
-        &start,
+    let Blanks {
         commits,
         added,
         taken,
-    ))?;
-    Ok((Shared::new(world), share))
+    } = blanks;
+    match World::new(alloc, &CoreFunctions, &start, commits, added, taken) {
+        Ok(made) => Ok(made),
+        Err(_) => Err(Stop::Refused),
+    }
 }
 
 /// The world that a shared world ends with, and its totals, where the share is whole and log and receipts fit.
@@ -163,26 +155,6 @@ pub fn told_of(notice: &Notice) -> Told {
         int_of(&notice.before),
         int_of(&notice.after),
     )
-}
-
-pub fn all_told(alloc: Global, notices: &[Notice]) -> Result<Vec<Told>, AllocError> {
-    let mut all = Vec::new(alloc);
-    for notice in notices {
-        all.push(told_of(notice))?;
-    }
-    Ok(all)
-}
-
-/// A sink that stores what it gets, up to where there is no memory.
-#[derive(Drop)]
-pub struct Listener {
-    pub told: Vec<Told>,
-}
-
-impl WatchSink for Listener {
-    fn told(&mut self, notice: &Notice) {
-        let _ = self.told.push(told_of(notice));
-    }
 }
 
 /// The stamp and the read point of each transaction of a log.

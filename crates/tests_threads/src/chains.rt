@@ -1,22 +1,22 @@
 //! A pool of four threads for 64 agents in chains of eight, whose actions each send on to the next agent of the chain.
-ghost use Rattle.std.specs.Prelude.{◌≡◌};
-ghost use Rattle.ref_world.specs.Shares.{IsBlank};
-
+use crate::cases::{Case, check};
 use crate::pools::two_pools;
+use crate::same::same;
 use ref_fun::codes::CONJ;
 use ref_fun::{Action, Args, Carries, Carry, Core};
 use ref_log::Who;
 use ref_shared::Shared;
 use ref_value::{Node, Value};
-use ref_world::{ALL_PARTS, Share, Start, World};
+use ref_world::{Start, World};
 use std::alloc::{AllocError, Global};
-use std::marker::Brand;
+use std::process::Abort;
 use std::sync::Wait;
-use std::sync::ledger::{Blank, Ledger};
+use std::sync::ledger::Ledger;
 use std::test::Fail;
 use std::thread;
 use std::thread::Threads;
-use tests_shared::worlds::{Stop, agent, closed, done, opened, plain_start, value};
+use std::time::Clock;
+use tests_shared::worlds::{Stop, agent, done, plain_start, value};
 
 const AGENTS: u32 = 64;
 
@@ -30,7 +30,7 @@ const ROUNDS: u32 = 6;
 const CARRIED: i64 = 1_000;
 
 // The agents, each of which collects what it gets in a vector.
-fn start(alloc: Global) -> Result<Start, AllocError> {
+pub(crate) fn start(alloc: Global) -> Result<Start, AllocError> {
     let mut start = plain_start(alloc, "", "")?;
     for _ in 0..AGENTS {
         start.agents.push(agent(value(alloc, "[]")?, None))?;
@@ -64,25 +64,15 @@ fn link(alloc: Global, g: u32, n: i64) -> Result<Action, AllocError> {
     })
 }
 
-fn send_one_each<R: Wait, C: Ledger, A: Ledger, K: Ledger>(
-    rt: &R,
-    alloc: Global,
-    shared: &Shared<Core, C, A, K>,
-    n: i64,
-) -> Result<(), Stop> {
-    for g in 0..AGENTS {
-        done(shared.send(rt, alloc, g, link(alloc, g, n)?))?;
-    }
-    Ok(())
-}
-
 fn send_all<R: Wait, C: Ledger, A: Ledger, K: Ledger>(
     rt: &R,
     alloc: Global,
     shared: &Shared<Core, C, A, K>,
 ) -> Result<(), Stop> {
     for n in 0..ROUNDS {
-        send_one_each(rt, alloc, shared, i64::from(n))?;
+        for g in 0..AGENTS {
+            done(shared.send(rt, g, link(alloc, g, i64::from(n))?))?;
+        }
     }
     Ok(())
 }
@@ -110,22 +100,6 @@ fn four_pools<
         move || two_pools(rt, alloc, shared),
     );
     Ok(one?.saturating_add(two?))
-}
-
-// How many actions four threads ran, while another one sent them.
-fn five<
-    C: Ledger + Send + Sync,
-    A: Ledger + Send + Sync,
-    K: Ledger + Send + Sync,
-    R: Threads + Wait + Sync,
->(rt: &R, alloc: Global, shared: &Shared<Core, C, A, K>) -> Result<u32, Stop> {
-    let (ran, sent) = thread::join(
-        rt,
-        move || four_pools(rt, alloc, shared),
-        move || send_and_close(rt, alloc, shared),
-    );
-    sent?;
-    ran
 }
 
 // Whether these numbers come in a vector in this order, each once, and nothing else that is as great as the first.
@@ -164,55 +138,32 @@ fn first_wrong<C: Ledger, A: Ledger, K: Ledger>(world: &World<Core, C, A, K>) ->
     None
 }
 
-// How many actions were run, and the first agent that isn't as it should be at the end.
-fn wrong_at_end<C: Ledger, A: Ledger, K: Ledger>(
-    alloc: Global,
-    shared: Shared<Core, C, A, K>,
-    share: Share<C, A, K>,
-    ran: u32,
-) -> Result<(u32, Option<u32>), Stop> {
-    match closed(alloc, shared, share) {
-        Ok((world, _totals)) => Ok((ran, first_wrong(&world))),
-        Err(stop) => Err(stop),
-    }
-}
-
-fn try_all<
+// Four threads run actions, while another one sends them: six to each agent, and six to each but the first of a chain.
+pub(crate) fn see<
     C: Ledger + Send + Sync,
     A: Ledger + Send + Sync,
     K: Ledger + Send + Sync,
-    R: Threads + Wait + Sync,
->(
+    R: AllocGlobal + Threads + Wait + Clock + Abort + Sync,
+>(rt: &R, shared: &Shared<Core, C, A, K>) -> Result<(), Stop> {
+    let alloc = rt.alloc();
+    let (ran, sent) = thread::join(
+        rt,
+        move || four_pools(rt, alloc, shared),
+        move || send_and_close(rt, alloc, shared),
+    );
+    same(rt, (ran, sent), (Ok(720), Ok(())));
+    Ok(())
+}
+
+pub(crate) fn look_at<C: Ledger, A: Ledger, K: Ledger, R: AllocGlobal + Abort>(
     rt: &R,
-    alloc: Global,
-    commits: Blank,
-    added: Blank,
-    taken: Blank,
-) -> Result<(u32, Option<u32>), Stop>
-    requires commits { IsBlank commits C.name C.parts }
-    requires added { IsBlank added A.name A.parts }
-    requires taken { IsBlank taken K.name K.parts }
-{
-    match opened::<C, A, K>(alloc, start(alloc)?, commits, added, taken) {
-        Ok((shared, share)) => match five(rt, alloc, &shared) {
-            Ok(ran) => wrong_at_end(alloc, shared, share, ran),
-            Err(stop) => Err(stop),
-        },
-        Err(stop) => Err(stop),
-    }
+    world: &World<Core, C, A, K>,
+) -> Result<(), Stop> {
+    same(rt, first_wrong(world), None);
+    Ok(())
 }
 
 #[test]
 fn four_threads_run_chains_of_agents(rt: HostRuntime) -> Result<(), Fail> {
-    let alloc = rt.alloc();
-    let (commits, added, taken) = (
-        Blank::new(ALL_PARTS),
-        Blank::new(ALL_PARTS),
-        Blank::new(ALL_PARTS),
-    );
-    let (ran, wrong) = try_all::<Brand, Brand, Brand, _>(&rt, alloc, commits, added, taken)?;
-    assert_eq!(rt; wrong, None);
-    // Six to each agent, and six to each but the first of a chain.
-    assert_eq!(rt; ran, 720);
-    Ok(())
+    check(&rt, Case::Chains)
 }

@@ -1,32 +1,21 @@
 //! A view and checkpoints by calls of a shared world, the view read by another thread.
-ghost use Rattle.std.specs.Prelude.{◌≡◌};
-ghost use Rattle.ref_world.specs.Shares.{IsBlank};
-
-use ref_fun::codes::PLUS;
+use crate::cases::{Case, check};
+use crate::same::same;
 use ref_fun::{Core, CoreFunctions};
 use ref_log::{Stamp, replay_plain};
 use ref_shared::Shared;
-use ref_world::{ALL_PARTS, CheckpointFault, View};
+use ref_world::{CheckpointFault, Share, Totals, View, World};
 use std::alloc::{AllocError, Global};
-use std::marker::Brand;
+use std::process::Abort;
 use std::sync::Wait;
-use std::sync::ledger::{Blank, Ledger};
+use std::sync::ledger::Ledger;
 use std::test::Fail;
 use std::thread;
 use std::thread::Threads;
+use std::time::Clock;
 use tests_shared::numbers::int_of;
-use tests_shared::worlds::{Stop, closed, done, one_arg, opened, plain_start};
-
-// What the checkpoints answered; how many entries the view has, and what its replay gives; what the world's base says at the end,
-// and how many entries there are after it.
-#[derive(Debug, Drop, PartialEq)]
-struct Seen {
-    answers: Vec<Result<u64, CheckpointFault>>,
-    viewed: (usize, Option<i64>),
-    base: (u64, Option<i64>, Option<u64>),
-    entries: usize,
-    commits: u64,
-}
+use tests_shared::steps::commit;
+use tests_shared::worlds::{Stop, add};
 
 // Checkpoints at a point, at it again, before it, and past the last.
 fn fold<R: Wait, C: Ledger, A: Ledger, K: Ledger>(
@@ -50,79 +39,59 @@ fn read(alloc: Global, view: View<Core>) -> (usize, Option<i64>) {
     (view.log().len(), value)
 }
 
-// The checkpoints by one thread, and the view by another.
-fn fold_beside<
+// The checkpoints by one thread, and the view by another, which has the entries from before.
+pub(crate) fn see<
     C: Ledger + Send + Sync,
     A: Ledger + Send + Sync,
     K: Ledger + Send + Sync,
-    R: Threads + Wait + Sync,
->(
-    rt: &R,
-    alloc: Global,
-    shared: &Shared<Core, C, A, K>,
-    view: View<Core>,
-) -> Result<(Vec<Result<u64, CheckpointFault>>, (usize, Option<i64>)), AllocError> {
+    R: AllocGlobal + Threads + Wait + Clock + Abort + Sync,
+>(rt: &R, shared: &Shared<Core, C, A, K>, share: &mut Share<C, A, K>) -> Result<(), Stop> {
+    let alloc = rt.alloc();
+    for step in 0..3u32 {
+        commit_add(rt, alloc, shared, share, Stamp { worker: 0, step })?;
+    }
+    let view = shared.view(rt)?;
     let (answers, viewed) = thread::join(
         rt,
         move || fold(rt, alloc, shared),
         move || read(alloc, view),
     );
-    Ok((answers?, viewed))
+    let none = CheckpointFault::NoSuchPoint;
+    same(
+        rt,
+        answers?.as_slice(),
+        &[Ok(2), Ok(0), Err(none), Err(none)],
+    );
+    same(rt, viewed, (3, Some(3)));
+    Ok(())
 }
 
-fn try_checkpoints<
-    C: Ledger + Send + Sync,
-    A: Ledger + Send + Sync,
-    K: Ledger + Send + Sync,
-    R: Threads + Wait + Sync,
->(rt: &R, alloc: Global, commits: Blank, added: Blank, taken: Blank) -> Result<Seen, Stop>
-    requires commits { IsBlank commits C.name C.parts }
-    requires added { IsBlank added A.name A.parts }
-    requires taken { IsBlank taken K.name K.parts }
-{
-    let start = plain_start(alloc, "0", "")?;
-    let (shared, mut share) = opened::<C, A, K>(alloc, start, commits, added, taken)?;
-    for step in 0..3u32 {
-        let mut tx = shared.begin(rt, alloc)?;
-        let one = one_arg(alloc, "1")?;
-        let _ = done(tx.alter(alloc, &CoreFunctions, 0, PLUS, one))?;
-        let stamp = Stamp { worker: 0, step };
-        let _ = done(shared.commit(rt, alloc, &CoreFunctions, &mut share, stamp, tx))?;
-    }
-    let view = shared.view(rt)?;
-    let (answers, viewed) = fold_beside(rt, alloc, &shared, view)?;
-    let (world, totals) = closed(alloc, shared, share)?;
+fn commit_add<R: Wait, C: Ledger, A: Ledger, K: Ledger>(
+    rt: &R,
+    alloc: Global,
+    shared: &Shared<Core, C, A, K>,
+    share: &mut Share<C, A, K>,
+    stamp: Stamp,
+) -> Result<(), Stop> {
+    let mut tx = shared.begin(rt, alloc)?;
+    add(alloc, &mut tx, 0, "1")?;
+    commit(rt, alloc, shared, share, stamp, tx).map(drop)
+}
+
+// The world's base, and how many entries there are after it.
+pub(crate) fn look_at<C: Ledger, A: Ledger, K: Ledger, R: AllocGlobal + Abort>(
+    rt: &R,
+    world: &World<Core, C, A, K>,
+    totals: Totals,
+) -> Result<(), Stop> {
     let base = world.base();
-    Ok(Seen {
-        answers,
-        viewed,
-        base: (
-            base.point,
-            base.refs.get(0).and_then(int_of),
-            base.last.get(0).copied(),
-        ),
-        entries: world.log().len(),
-        commits: totals.commits,
-    })
+    let first = (base.refs.get(0).and_then(int_of), base.last.get(0).copied());
+    same(rt, (base.point, first), (2, (Some(2), Some(2))));
+    same(rt, (world.log().len(), totals.commits), (1, 3));
+    Ok(())
 }
 
 #[test]
 fn entries_are_folded_and_a_view_keeps_them(rt: HostRuntime) -> Result<(), Fail> {
-    let alloc = rt.alloc();
-    let (commits, added, taken) = (
-        Blank::new(ALL_PARTS),
-        Blank::new(ALL_PARTS),
-        Blank::new(ALL_PARTS),
-    );
-    let none = CheckpointFault::NoSuchPoint;
-    let wanted = Seen {
-        answers: vec![in alloc; Ok(2), Ok(0), Err(none), Err(none)]?,
-        viewed: (3, Some(3)),
-        base: (2, Some(2), Some(2)),
-        entries: 1,
-        commits: 3,
-    };
-    let seen = try_checkpoints::<Brand, Brand, Brand, _>(&rt, alloc, commits, added, taken)?;
-    assert_eq!(rt; seen, wanted);
-    Ok(())
+    check(&rt, Case::Folding)
 }

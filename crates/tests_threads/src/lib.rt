@@ -5,6 +5,7 @@
 //!
 //! | Modules | |
 //! |---|---|
+//! | `cases`, `same` | each case on a shared world of its own; an assertion |
 //! | `threads`, `side_by_side`, `stress` | transactions, agents, all together |
 //! | `chains` | by five: 64 agents whose actions send on |
 //! | `checkpoints` | views and checkpoints, a view read by another thread |
@@ -14,6 +15,8 @@
 //! | [`pools`] | running actions |
 #![tactic(auto)]
 
+#[cfg(test)]
+mod cases;
 #[cfg(test)]
 mod chains;
 #[cfg(test)]
@@ -26,6 +29,8 @@ mod next_actions;
 pub mod pools;
 #[cfg(test)]
 mod releases;
+#[cfg(test)]
+mod same;
 #[cfg(test)]
 mod side_by_side;
 #[cfg(test)]

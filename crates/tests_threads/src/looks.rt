@@ -1,10 +1,10 @@
 //! What is called between the steps of a transaction and of an action is called with the lock free: while one thread waits there,
 //! another looks at the shared world.
-ghost use Rattle.std.specs.Prelude.{◌≡◌};
 ghost use Rattle.ref_fun.specs.Names.{is_function, is_predicate};
-ghost use Rattle.ref_world.specs.Shares.{IsBlank};
 
+use crate::cases::{Case, check};
 use crate::flags::{Flags, Place};
+use crate::same::same;
 use crate::waits::wait_for;
 use ref_fun::codes::PLUS;
 use ref_fun::{CallFault, Core, CoreFunctions, Functions};
@@ -12,19 +12,19 @@ use ref_log::{Notice, Who};
 use ref_shared::{Gate, Shared, Spot, WatchSink, Worked};
 use ref_tx::Tx;
 use ref_value::Value;
-use ref_world::{ALL_PARTS, Share};
+use ref_world::Share;
 use std::alloc::Global;
-use std::marker::Brand;
 use std::process::Abort;
 use std::sync::Wait;
 use std::sync::atomic::Ordering;
-use std::sync::ledger::{Blank, Ledger};
+use std::sync::ledger::Ledger;
 use std::test::Fail;
 use std::thread;
 use std::thread::Threads;
 use std::time::Clock;
-use tests_shared::jobs::{CLOSED, Work, send_four, two_agents, work};
-use tests_shared::worlds::{STAMP, Stop, action, add, closed, done, int_at, opened, value};
+use tests_shared::jobs::{CLOSED, Work, send_four, work};
+use tests_shared::steps::{send, watch};
+use tests_shared::worlds::{STAMP, Stop, add, done, int_at};
 
 // Says that it is here, if it is to, and waits until the other has looked. Where that comes in time, the third flag is set.
 fn wait_here<R: Clock>(rt: &R, flags: &Flags, is_to: bool) {
@@ -99,17 +99,6 @@ fn look<R: AllocGlobal + Wait + Clock, C: Ledger, A: Ledger, K: Ledger>(
     let seen = (int_at(rt, shared, who), work(rt, rt.alloc(), shared));
     flags.second.store(true, Ordering::SeqCst);
     Ok(seen)
-}
-
-// What came of one thread that waited, and another that looked meanwhile.
-#[derive(Debug, Drop, PartialEq)]
-struct Looked {
-    is_ok: bool,
-    // Whether the look came before the waiting was given up.
-    in_time: bool,
-    seen: Look,
-    // What is worked when both have ended.
-    then: Work,
 }
 
 // ---- A transaction
@@ -191,60 +180,41 @@ fn add_and_send(alloc: Global, tx: &mut Tx<Core>) -> Result<(), Stop> {
     send_four(alloc, tx)
 }
 
-fn transact_and_look<
+// A transaction in a world that is closed, so that a worker there learns that no agent is ready. The look comes before the waiting is given
+// up. What it sends isn't ready before the watches are called.
+pub(crate) fn see_transaction<
     C: Ledger + Send + Sync,
     A: Ledger + Send + Sync,
     K: Ledger + Send + Sync,
-    R: AllocGlobal + Threads + Wait + Clock + Sync,
+    R: AllocGlobal + Threads + Wait + Clock + Abort + Sync,
 >(
     rt: &R,
     shared: &Shared<Core, C, A, K>,
-    share: Share<C, A, K>,
+    share: &mut Share<C, A, K>,
     place: Place,
+    seen: i64,
     waits: bool,
-    flags: &Flags,
-) -> ((Share<C, A, K>, bool), Look) {
-    let (mine, seen) = thread::join(
-        rt,
-        move || transact(rt, shared, share, place, waits, flags),
-        move || look(rt, shared, Who::Ref(0), flags),
-    );
-    (mine, seen)
-}
-
-// A transaction in a world that is closed, so that a worker there learns that no agent is ready.
-fn try_transaction<
-    C: Ledger + Send + Sync,
-    A: Ledger + Send + Sync,
-    K: Ledger + Send + Sync,
-    R: AllocGlobal + Threads + Wait + Clock + Sync,
->(
-    rt: &R,
-    alloc: Global,
-    place: Place,
-    waits: bool,
-    commits: Blank,
-    added: Blank,
-    taken: Blank,
-) -> Result<Looked, Stop>
-    requires commits { IsBlank commits C.name C.parts }
-    requires added { IsBlank added A.name A.parts }
-    requires taken { IsBlank taken K.name K.parts }
-{
-    let (shared, share) = opened::<C, A, K>(alloc, two_agents(alloc)?, commits, added, taken)?;
-    let _ = done(shared.add_watch(rt, alloc, Who::Ref(0), value(alloc, ":k")?))?;
+) -> Result<(), Stop> {
+    watch(rt, rt.alloc(), shared, Who::Ref(0), ":k")?;
     shared.close(rt);
+    let part = share.split(1).ok_or(Stop::Refused)?;
     let flags = Flags::new();
-    let (mine, seen) = transact_and_look(rt, &shared, share, place, waits, &flags);
-    let (share, is_ok) = mine;
-    let then = work(rt, alloc, &shared);
-    let _ = closed(alloc, shared, share)?;
-    Ok(Looked {
-        is_ok,
-        in_time: flags.third.load(Ordering::SeqCst),
-        seen,
-        then,
-    })
+    let lent = &flags;
+    let (mine, looked) = thread::join(
+        rt,
+        move || transact(rt, shared, part, place, waits, lent),
+        move || look(rt, shared, Who::Ref(0), lent),
+    );
+    let (part, is_ok) = mine;
+    done(share.join(part))?;
+    same(rt, (place, looked), (place, Ok((Some(seen), CLOSED))));
+    same(
+        rt,
+        (is_ok, flags.third.load(Ordering::SeqCst)),
+        (true, true),
+    );
+    same(rt, work(rt, rt.alloc(), shared), Ok(Worked::Did(1)));
+    Ok(())
 }
 
 // Where it waits, and what a holds then.
@@ -256,41 +226,12 @@ const OF_A_TRANSACTION: &[(Place, i64)] = &[
     (Place::Told, 1),
 ];
 
-// What it sends isn't ready before the watches are called.
-fn check_transactions<R: AllocGlobal + Threads + Wait + Clock + Abort + Sync>(
-    rt: &R,
-    waits: bool,
-) -> Result<(), Stop> {
-    let alloc = rt.alloc();
-    for (place, seen) in OF_A_TRANSACTION {
-        let (commits, added, taken) = (
-            Blank::new(ALL_PARTS),
-            Blank::new(ALL_PARTS),
-            Blank::new(ALL_PARTS),
-        );
-        let looked = try_transaction::<Brand, Brand, Brand, _>(
-            rt, alloc, *place, waits, commits, added, taken,
-        )?;
-        let wanted = Looked {
-            is_ok: true,
-            in_time: true,
-            seen: Ok((Some(*seen), CLOSED)),
-            then: Ok(Worked::Did(1)),
-        };
-        assert_eq!(rt; looked, wanted, "{place:?}");
-    }
-    Ok(())
-}
-
 #[test]
 fn the_lock_is_free_at_each_step_of_a_transaction(rt: HostRuntime) -> Result<(), Fail> {
-    check_transactions(&rt, false)?;
-    Ok(())
-}
-
-#[test]
-fn the_lock_is_free_at_each_step_of_one_that_waits(rt: HostRuntime) -> Result<(), Fail> {
-    check_transactions(&rt, true)?;
+    for (place, seen) in OF_A_TRANSACTION {
+        check(&rt, Case::Transaction(*place, *seen, false))?;
+        check(&rt, Case::Transaction(*place, *seen, true))?;
+    }
     Ok(())
 }
 
@@ -310,50 +251,31 @@ fn act<R: AllocGlobal + Wait + Clock, C: Ledger, A: Ledger, K: Ledger>(
     worked == Ok(Worked::Did(1))
 }
 
-fn act_and_look<
-    C: Ledger + Send + Sync,
-    A: Ledger + Send + Sync,
-    K: Ledger + Send + Sync,
-    R: AllocGlobal + Threads + Wait + Clock + Sync,
->(rt: &R, shared: &Shared<Core, C, A, K>, place: Place, flags: &Flags) -> (bool, Look) {
-    let (is_ok, seen) = thread::join(
-        rt,
-        move || act(rt, shared, place, flags),
-        move || look(rt, shared, Who::Agent(1), flags),
-    );
-    (is_ok, seen)
-}
-
 // An action in a world that is closed.
-fn try_action<
+pub(crate) fn see_action<
     C: Ledger + Send + Sync,
     A: Ledger + Send + Sync,
     K: Ledger + Send + Sync,
-    R: AllocGlobal + Threads + Wait + Clock + Sync,
->(
-    rt: &R,
-    alloc: Global,
-    place: Place,
-    commits: Blank,
-    added: Blank,
-    taken: Blank,
-) -> Result<Looked, Stop>
-    requires commits { IsBlank commits C.name C.parts }
-    requires added { IsBlank added A.name A.parts }
-    requires taken { IsBlank taken K.name K.parts }
-{
-    let (shared, _share) = opened::<C, A, K>(alloc, two_agents(alloc)?, commits, added, taken)?;
-    let _ = done(shared.add_watch(rt, alloc, Who::Agent(1), value(alloc, ":k")?))?;
-    done(shared.send(rt, alloc, 1, action(alloc, PLUS, "4")?))?;
+    R: AllocGlobal + Threads + Wait + Clock + Abort + Sync,
+>(rt: &R, shared: &Shared<Core, C, A, K>, place: Place, seen: i64) -> Result<(), Stop> {
+    watch(rt, rt.alloc(), shared, Who::Agent(1), ":k")?;
+    send(rt, rt.alloc(), shared, 1, PLUS, "4")?;
     shared.close(rt);
     let flags = Flags::new();
-    let (is_ok, seen) = act_and_look(rt, &shared, place, &flags);
-    Ok(Looked {
-        is_ok,
-        in_time: flags.third.load(Ordering::SeqCst),
-        seen,
-        then: work(rt, alloc, &shared),
-    })
+    let lent = &flags;
+    let (is_ok, looked) = thread::join(
+        rt,
+        move || act(rt, shared, place, lent),
+        move || look(rt, shared, Who::Agent(1), lent),
+    );
+    same(rt, (place, looked), (place, Ok((Some(seen), CLOSED))));
+    same(
+        rt,
+        (is_ok, flags.third.load(Ordering::SeqCst)),
+        (true, true),
+    );
+    same(rt, work(rt, rt.alloc(), shared), CLOSED);
+    Ok(())
 }
 
 // Where it waits, and what h holds then.
@@ -366,23 +288,8 @@ const OF_AN_ACTION: &[(Place, i64)] = &[
 
 #[test]
 fn the_lock_is_free_at_each_step_of_an_action(rt: HostRuntime) -> Result<(), Fail> {
-    let alloc = rt.alloc();
     for (place, seen) in OF_AN_ACTION {
-        let (commits, added, taken) = (
-            Blank::new(ALL_PARTS),
-            Blank::new(ALL_PARTS),
-            Blank::new(ALL_PARTS),
-        );
-        let looked = try_action::<Brand, Brand, Brand, _>(
-            &rt, alloc, *place, commits, added, taken,
-        )?;
-        let wanted = Looked {
-            is_ok: true,
-            in_time: true,
-            seen: Ok((Some(*seen), CLOSED)),
-            then: CLOSED,
-        };
-        assert_eq!(rt; looked, wanted, "{place:?}");
+        check(&rt, Case::Action(*place, *seen))?;
     }
     Ok(())
 }

@@ -1,37 +1,27 @@
 //! Who waits for an agent gets the next action as soon as it may be taken: one that was carried once it is released, an agent's next one
 //! before the sink has taken the notices of the last, and the one behind an action that was passed over with what it carried.
-ghost use Rattle.std.specs.Prelude.{◌≡◌};
-ghost use Rattle.ref_world.specs.Shares.{IsBlank};
-
+use crate::cases::{Case, check};
 use crate::flags::Flags;
+use crate::same::same;
 use crate::side_by_side::{take_turns, work_first, work_next};
 use crate::waits::{Meet, wait_for};
 use ref_agents::ErrorMode;
 use ref_fun::codes::PLUS;
 use ref_fun::{Action, Carries, Carry, Core, CoreFunctions};
 use ref_log::{Notice, Who};
-use ref_shared::{AwaitFault, Shared, WatchSink, Worked};
-use ref_world::ALL_PARTS;
+use ref_shared::{Shared, WatchSink, Worked};
 use std::alloc::{AllocError, Global};
-use std::marker::Brand;
+use std::process::Abort;
 use std::sync::Wait;
 use std::sync::atomic::{AtomicBool, Ordering};
-use std::sync::ledger::{Blank, Ledger};
+use std::sync::ledger::Ledger;
 use std::test::Fail;
 use std::thread;
 use std::thread::Threads;
 use std::time::Clock;
-use tests_shared::jobs::{Work, agents_at, two_agents, work};
+use tests_shared::jobs::{Work, agents_at, work};
 use tests_shared::steps::{send, watch};
-use tests_shared::worlds::{Stop, done, one_arg, opened};
-
-// What each thread did and whether the other was there in time, and what the agents are then.
-#[derive(Debug, Drop, PartialEq)]
-struct Turns {
-    first: (Work, bool),
-    next: (Work, bool),
-    values: (Option<i64>, Option<i64>),
-}
+use tests_shared::worlds::{Stop, done, one_arg};
 
 // ---- One that was carried
 
@@ -49,41 +39,18 @@ fn carrying(alloc: Global, text: &str) -> Result<Action, AllocError> {
     })
 }
 
-fn try_carried<
+pub(crate) fn see_carried<
     C: Ledger + Send + Sync,
     A: Ledger + Send + Sync,
     K: Ledger + Send + Sync,
-    R: Threads + Wait + Clock + Sync,
->(rt: &R, alloc: Global, commits: Blank, added: Blank, taken: Blank) -> Result<Turns, Stop>
-    requires commits { IsBlank commits C.name C.parts }
-    requires added { IsBlank added A.name A.parts }
-    requires taken { IsBlank taken K.name K.parts }
-{
-    let (shared, _share) = opened::<C, A, K>(alloc, two_agents(alloc)?, commits, added, taken)?;
-    done(shared.send(rt, alloc, 0, carrying(alloc, "1")?))?;
-    let (next, first) = take_turns(rt, alloc, &shared);
-    Ok(Turns {
-        first,
-        next,
-        values: agents_at(rt, &shared),
-    })
-}
-
-#[test]
-fn what_an_action_carried_wakes_who_waits(rt: HostRuntime) -> Result<(), Fail> {
+    R: AllocGlobal + Threads + Wait + Clock + Abort + Sync,
+>(rt: &R, shared: &Shared<Core, C, A, K>) -> Result<(), Stop> {
     let alloc = rt.alloc();
-    let (commits, added, taken) = (
-        Blank::new(ALL_PARTS),
-        Blank::new(ALL_PARTS),
-        Blank::new(ALL_PARTS),
-    );
-    let turns = try_carried::<Brand, Brand, Brand, _>(&rt, alloc, commits, added, taken)?;
-    let wanted = Turns {
-        first: (Ok(Worked::Did(0)), true),
-        next: (Ok(Worked::Did(1)), true),
-        values: (Some(1), Some(4)),
-    };
-    assert_eq!(rt; turns, wanted);
+    done(shared.send(rt, 0, carrying(alloc, "1")?))?;
+    let turns = take_turns(rt, alloc, shared);
+    let next = (Ok(Worked::Did(1)), true);
+    same(rt, turns, (next, (Ok(Worked::Did(0)), true)));
+    same(rt, agents_at(rt, shared), (Some(1), Some(4)));
     Ok(())
 }
 
@@ -126,12 +93,16 @@ fn work_watched<R: Wait + Clock, C: Ledger, A: Ledger, K: Ledger>(
     (worked, gate.met && sink.in_time)
 }
 
-fn take_watched_turns<
+pub(crate) fn see_watched<
     C: Ledger + Send + Sync,
     A: Ledger + Send + Sync,
     K: Ledger + Send + Sync,
-    R: Threads + Wait + Clock + Sync,
->(rt: &R, alloc: Global, shared: &Shared<Core, C, A, K>) -> ((Work, bool), (Work, bool)) {
+    R: AllocGlobal + Threads + Wait + Clock + Abort + Sync,
+>(rt: &R, shared: &Shared<Core, C, A, K>) -> Result<(), Stop> {
+    let alloc = rt.alloc();
+    watch(rt, alloc, shared, Who::Agent(0), ":k")?;
+    send(rt, alloc, shared, 0, PLUS, "1")?;
+    send(rt, alloc, shared, 0, PLUS, "2")?;
     let flags = Flags::new();
     let lent = &flags;
     let (next, first) = thread::join(
@@ -139,46 +110,9 @@ fn take_watched_turns<
         move || work_next(rt, alloc, shared, lent),
         move || work_watched(rt, alloc, shared, lent),
     );
-    (next, first)
-}
-
-fn try_watched<
-    C: Ledger + Send + Sync,
-    A: Ledger + Send + Sync,
-    K: Ledger + Send + Sync,
-    R: Threads + Wait + Clock + Sync,
->(rt: &R, alloc: Global, commits: Blank, added: Blank, taken: Blank) -> Result<Turns, Stop>
-    requires commits { IsBlank commits C.name C.parts }
-    requires added { IsBlank added A.name A.parts }
-    requires taken { IsBlank taken K.name K.parts }
-{
-    let (shared, _share) = opened::<C, A, K>(alloc, two_agents(alloc)?, commits, added, taken)?;
-    watch(rt, alloc, &shared, Who::Agent(0), ":k")?;
-    send(rt, alloc, &shared, 0, PLUS, "1")?;
-    send(rt, alloc, &shared, 0, PLUS, "2")?;
-    let (next, first) = take_watched_turns(rt, alloc, &shared);
-    Ok(Turns {
-        first,
-        next,
-        values: agents_at(rt, &shared),
-    })
-}
-
-#[test]
-fn the_next_action_does_not_wait_for_the_sink(rt: HostRuntime) -> Result<(), Fail> {
-    let alloc = rt.alloc();
-    let (commits, added, taken) = (
-        Blank::new(ALL_PARTS),
-        Blank::new(ALL_PARTS),
-        Blank::new(ALL_PARTS),
-    );
-    let turns = try_watched::<Brand, Brand, Brand, _>(&rt, alloc, commits, added, taken)?;
-    let wanted = Turns {
-        first: (Ok(Worked::Did(0)), true),
-        next: (Ok(Worked::Did(0)), true),
-        values: (Some(3), Some(0)),
-    };
-    assert_eq!(rt; turns, wanted);
+    let did = (Ok(Worked::Did(0)), true);
+    same(rt, (next, first), (did, did));
+    same(rt, agents_at(rt, shared), (Some(3), Some(0)));
     Ok(())
 }
 
@@ -203,80 +137,37 @@ fn wait_next<R: AllocGlobal + Wait + Clock, C: Ledger, A: Ledger, K: Ledger>(
     (went, in_time)
 }
 
-fn wait_and_pass<
+// g goes on where an action fails. If it isn't waited for, `+ 2` stands behind the action that is passed over. Nothing is left for h.
+pub(crate) fn see_passing<
     C: Ledger + Send + Sync,
     A: Ledger + Send + Sync,
     K: Ledger + Send + Sync,
-    R: AllocGlobal + Threads + Wait + Clock + Sync,
->(rt: &R, shared: &Shared<Core, C, A, K>, awaits: bool) -> ((bool, bool), (Work, bool)) {
+    R: AllocGlobal + Threads + Wait + Clock + Abort + Sync,
+>(rt: &R, shared: &Shared<Core, C, A, K>, awaits: bool, value: i64) -> Result<(), Stop> {
+    let alloc = rt.alloc();
+    done(shared.set_error_mode(rt, 0, ErrorMode::Continue))?;
+    done(shared.send(rt, 0, carrying(alloc, ":k")?))?;
+    if !awaits {
+        send(rt, alloc, shared, 0, PLUS, "2")?;
+    }
     let flags = Flags::new();
     let lent = &flags;
     let (next, first) = thread::join(
         rt,
         move || wait_next(rt, shared, awaits, lent),
-        move || work_first(rt, rt.alloc(), shared, &CoreFunctions, lent),
+        move || work_first(rt, alloc, shared, &CoreFunctions, lent),
     );
-    (next, first)
-}
-
-// What each thread did and whether the other was there in time, whether nothing is left for h, and what the agents are then.
-#[derive(Debug, Drop, PartialEq)]
-struct Passed {
-    next: (bool, bool),
-    first: (Work, bool),
-    rest: Result<(), AwaitFault>,
-    values: (Option<i64>, Option<i64>),
-}
-
-// g goes on where an action fails. If it isn't waited for, `+ 2` stands behind the action that is passed over.
-fn try_passing<
-    C: Ledger + Send + Sync,
-    A: Ledger + Send + Sync,
-    K: Ledger + Send + Sync,
-    R: AllocGlobal + Threads + Wait + Clock + Sync,
->(rt: &R, awaits: bool, commits: Blank, added: Blank, taken: Blank) -> Result<Passed, Stop>
-    requires commits { IsBlank commits C.name C.parts }
-    requires added { IsBlank added A.name A.parts }
-    requires taken { IsBlank taken K.name K.parts }
-{
-    let alloc = rt.alloc();
-    let (shared, _share) = opened::<C, A, K>(alloc, two_agents(alloc)?, commits, added, taken)?;
-    done(shared.set_error_mode(rt, 0, ErrorMode::Continue))?;
-    done(shared.send(rt, alloc, 0, carrying(alloc, ":k")?))?;
-    if !awaits {
-        send(rt, alloc, &shared, 0, PLUS, "2")?;
-    }
-    let (next, first) = wait_and_pass(rt, &shared, awaits);
-    Ok(Passed {
-        next,
-        first,
-        rest: shared.await_agents(rt, alloc, &[1]),
-        values: agents_at(rt, &shared),
-    })
-}
-
-fn pass_over<R: AllocGlobal + Threads + Wait + Clock + Sync>(
-    rt: &R,
-    awaits: bool,
-) -> Result<Passed, Stop> {
-    let (commits, added, taken) = (
-        Blank::new(ALL_PARTS),
-        Blank::new(ALL_PARTS),
-        Blank::new(ALL_PARTS),
-    );
-    try_passing::<Brand, Brand, Brand, R>(rt, awaits, commits, added, taken)
+    same(rt, next, (true, true));
+    same(rt, first, (Ok(Worked::Did(0)), true));
+    same(rt, shared.await_agents(rt, alloc, &[1]), Ok(()));
+    same(rt, agents_at(rt, shared), (Some(value), Some(0)));
+    Ok(())
 }
 
 #[test]
-fn an_action_that_carries_and_is_passed_over_wakes_who_waits(rt: HostRuntime) -> Result<(), Fail> {
-    for (awaits, value) in [(true, 0), (false, 2)] {
-        let wanted = Passed {
-            next: (true, true),
-            first: (Ok(Worked::Did(0)), true),
-            rest: Ok(()),
-            values: (Some(value), Some(0)),
-        };
-        assert_eq!(rt; pass_over(&rt, awaits)?, wanted);
-    }
-    Ok(())
+fn who_waits_gets_the_next_action_as_soon_as_it_may_be_taken(rt: HostRuntime) -> Result<(), Fail> {
+    check(&rt, Case::Carried)?;
+    check(&rt, Case::Watched)?;
+    check(&rt, Case::Passing(true, 0))?;
+    check(&rt, Case::Passing(false, 2))
 }

@@ -1,27 +1,26 @@
 //! Agents and two threads: actions of two agents run side by side, also where one of them is held after it has run; those of one
 //! agent in turn.
-ghost use Rattle.std.specs.Prelude.{◌≡◌};
-ghost use Rattle.ref_world.specs.Shares.{IsBlank};
-
+use crate::cases::{Case, check};
 use crate::flags::Flags;
+use crate::same::same;
 use crate::waits::{Meet, wait_for};
 use ref_agents::ErrorMode;
 use ref_fun::codes::{MINUS, PLUS};
 use ref_fun::{Core, CoreFunctions, Functions};
 use ref_log::Who;
 use ref_shared::{Gate, Quiet, Shared, Spot, Worked};
-use ref_world::ALL_PARTS;
 use std::alloc::Global;
-use std::marker::Brand;
+use std::process::Abort;
 use std::sync::Wait;
 use std::sync::atomic::{AtomicBool, Ordering};
-use std::sync::ledger::{Blank, Ledger};
+use std::sync::ledger::Ledger;
 use std::test::Fail;
 use std::thread;
 use std::thread::Threads;
 use std::time::Clock;
-use tests_shared::jobs::{Work, agents_at, two_agents, work};
-use tests_shared::worlds::{Stop, action, done, int_at, opened};
+use tests_shared::jobs::{Work, agents_at, work};
+use tests_shared::steps::send;
+use tests_shared::worlds::{Stop, done, int_at};
 
 // Runs one action, and answers whether it met the other.
 pub(crate) fn work_and_meet<R: AllocGlobal + Wait + Clock, C: Ledger, A: Ledger, K: Ledger>(
@@ -41,21 +40,15 @@ pub(crate) fn work_and_meet<R: AllocGlobal + Wait + Clock, C: Ledger, A: Ledger,
     (worked.is_ok(), gate.met)
 }
 
-// Of each thread whether it worked and whether it met the other, and what the agents are then.
-#[derive(Debug, Drop, PartialEq)]
-struct Met {
-    one: (bool, bool),
-    two: (bool, bool),
-    values: (Option<i64>, Option<i64>),
-}
-
 // Two threads, each of which runs an action that is held until the other's has begun.
-fn work_side_by_side<
+pub(crate) fn see_meeting<
     C: Ledger + Send + Sync,
     A: Ledger + Send + Sync,
     K: Ledger + Send + Sync,
-    R: AllocGlobal + Threads + Wait + Clock + Sync,
->(rt: &R, shared: &Shared<Core, C, A, K>) -> ((bool, bool), (bool, bool)) {
+    R: AllocGlobal + Threads + Wait + Clock + Abort + Sync,
+>(rt: &R, shared: &Shared<Core, C, A, K>) -> Result<(), Stop> {
+    send(rt, rt.alloc(), shared, 0, PLUS, "1")?;
+    send(rt, rt.alloc(), shared, 1, PLUS, "2")?;
     let flags = Flags::new();
     let lent = &flags;
     let (one, two) = thread::join(
@@ -63,48 +56,8 @@ fn work_side_by_side<
         move || work_and_meet(rt, shared, &lent.first, &lent.second),
         move || work_and_meet(rt, shared, &lent.second, &lent.first),
     );
-    (one, two)
-}
-
-fn try_meeting<
-    C: Ledger + Send + Sync,
-    A: Ledger + Send + Sync,
-    K: Ledger + Send + Sync,
-    R: AllocGlobal + Threads + Wait + Clock + Sync,
->(rt: &R, alloc: Global, commits: Blank, added: Blank, taken: Blank) -> Result<Met, Stop>
-    requires commits { IsBlank commits C.name C.parts }
-    requires added { IsBlank added A.name A.parts }
-    requires taken { IsBlank taken K.name K.parts }
-{
-    let (shared, _share) = opened::<C, A, K>(alloc, two_agents(alloc)?, commits, added, taken)?;
-    done(shared.send(rt, alloc, 0, action(alloc, PLUS, "1")?))?;
-    done(shared.send(rt, alloc, 1, action(alloc, PLUS, "2")?))?;
-    let (one, two) = work_side_by_side(rt, &shared);
-    Ok(Met {
-        one,
-        two,
-        values: (
-            int_at(rt, &shared, Who::Agent(0)),
-            int_at(rt, &shared, Who::Agent(1)),
-        ),
-    })
-}
-
-#[test]
-fn actions_of_two_agents_run_side_by_side(rt: HostRuntime) -> Result<(), Fail> {
-    let alloc = rt.alloc();
-    let (commits, added, taken) = (
-        Blank::new(ALL_PARTS),
-        Blank::new(ALL_PARTS),
-        Blank::new(ALL_PARTS),
-    );
-    let met = try_meeting::<Brand, Brand, Brand, _>(&rt, alloc, commits, added, taken)?;
-    let wanted = Met {
-        one: (true, true),
-        two: (true, true),
-        values: (Some(1), Some(2)),
-    };
-    assert_eq!(rt; met, wanted);
+    same(rt, (one, two), ((true, true), (true, true)));
+    same(rt, agents_at(rt, shared), (Some(1), Some(2)));
     Ok(())
 }
 
@@ -142,14 +95,6 @@ pub(crate) fn work_next<R: Wait + Clock, C: Ledger, A: Ledger, K: Ledger>(
     (worked, in_time)
 }
 
-// What each thread did and whether the other was there in time, and what the agent is then.
-#[derive(Debug, Drop, PartialEq)]
-struct InTurn {
-    first: (Work, bool),
-    next: (Work, bool),
-    value: Option<i64>,
-}
-
 // Two threads that run two actions of one agent.
 pub(crate) fn take_turns<
     C: Ledger + Send + Sync,
@@ -168,68 +113,19 @@ pub(crate) fn take_turns<
 }
 
 // The first action calls the function of this code with 1. If the agent's rule doesn't accept its value, the agent goes on.
-fn try_turns<
+pub(crate) fn see_turns<
     C: Ledger + Send + Sync,
     A: Ledger + Send + Sync,
     K: Ledger + Send + Sync,
-    R: Threads + Wait + Clock + Sync,
->(
-    rt: &R,
-    alloc: Global,
-    code: u32,
-    commits: Blank,
-    added: Blank,
-    taken: Blank,
-) -> Result<InTurn, Stop>
-    requires commits { IsBlank commits C.name C.parts }
-    requires added { IsBlank added A.name A.parts }
-    requires taken { IsBlank taken K.name K.parts }
-{
-    let (shared, _share) = opened::<C, A, K>(alloc, two_agents(alloc)?, commits, added, taken)?;
+    R: AllocGlobal + Threads + Wait + Clock + Abort + Sync,
+>(rt: &R, shared: &Shared<Core, C, A, K>, code: u32, value: i64) -> Result<(), Stop> {
+    let alloc = rt.alloc();
     done(shared.set_error_mode(rt, 0, ErrorMode::Continue))?;
-    done(shared.send(rt, alloc, 0, action(alloc, code, "1")?))?;
-    done(shared.send(rt, alloc, 0, action(alloc, PLUS, "2")?))?;
-    let (next, first) = take_turns(rt, alloc, &shared);
-    Ok(InTurn {
-        first,
-        next,
-        value: int_at(rt, &shared, Who::Agent(0)),
-    })
-}
-
-#[test]
-fn an_agents_next_action_waits_for_the_first(rt: HostRuntime) -> Result<(), Fail> {
-    let alloc = rt.alloc();
-    let (commits, added, taken) = (
-        Blank::new(ALL_PARTS),
-        Blank::new(ALL_PARTS),
-        Blank::new(ALL_PARTS),
-    );
-    let turns = try_turns::<Brand, Brand, Brand, _>(&rt, alloc, PLUS, commits, added, taken)?;
-    let wanted = InTurn {
-        first: (Ok(Worked::Did(0)), true),
-        next: (Ok(Worked::Did(0)), true),
-        value: Some(3),
-    };
-    assert_eq!(rt; turns, wanted);
-    Ok(())
-}
-
-#[test]
-fn an_action_that_is_passed_over_wakes_who_waits(rt: HostRuntime) -> Result<(), Fail> {
-    let alloc = rt.alloc();
-    let (commits, added, taken) = (
-        Blank::new(ALL_PARTS),
-        Blank::new(ALL_PARTS),
-        Blank::new(ALL_PARTS),
-    );
-    let turns = try_turns::<Brand, Brand, Brand, _>(&rt, alloc, MINUS, commits, added, taken)?;
-    let wanted = InTurn {
-        first: (Ok(Worked::Did(0)), true),
-        next: (Ok(Worked::Did(0)), true),
-        value: Some(2),
-    };
-    assert_eq!(rt; turns, wanted);
+    send(rt, alloc, shared, 0, code, "1")?;
+    send(rt, alloc, shared, 0, PLUS, "2")?;
+    let did = (Ok(Worked::Did(0)), true);
+    same(rt, take_turns(rt, alloc, shared), (did, did));
+    same(rt, int_at(rt, shared, Who::Agent(0)), Some(value));
     Ok(())
 }
 
@@ -283,21 +179,15 @@ fn work_beside<R: AllocGlobal + Wait + Clock, C: Ledger, A: Ledger, K: Ledger>(
     }
 }
 
-// How many actions were held and how many of these in time, whether the actions were of both agents, and what these are then.
-#[derive(Debug, Drop, PartialEq)]
-struct Held {
-    first: usize,
-    in_time: usize,
-    of_both: bool,
-    values: (Option<i64>, Option<i64>),
-}
-
-fn work_by_two<
+// One action is held, in time, and these are of both agents.
+pub(crate) fn see_holding<
     C: Ledger + Send + Sync,
     A: Ledger + Send + Sync,
     K: Ledger + Send + Sync,
-    R: AllocGlobal + Threads + Wait + Clock + Sync,
->(rt: &R, shared: &Shared<Core, C, A, K>) -> (Did, Did) {
+    R: AllocGlobal + Threads + Wait + Clock + Abort + Sync,
+>(rt: &R, shared: &Shared<Core, C, A, K>) -> Result<(), Stop> {
+    send(rt, rt.alloc(), shared, 0, PLUS, "1")?;
+    send(rt, rt.alloc(), shared, 1, PLUS, "2")?;
     let flags = Flags::new();
     let lent = &flags;
     let (one, two) = thread::join(
@@ -305,52 +195,30 @@ fn work_by_two<
         move || work_beside(rt, shared, lent),
         move || work_beside(rt, shared, lent),
     );
-    (one, two)
-}
-
-// Whether one is of the first agent, and the other of the second.
-fn are_of_both(one: Work, two: Work) -> bool {
-    let (first, second) = (Ok(Worked::Did(0)), Ok(Worked::Did(1)));
-    (one == first && two == second) || (one == second && two == first)
-}
-
-fn try_holding<
-    C: Ledger + Send + Sync,
-    A: Ledger + Send + Sync,
-    K: Ledger + Send + Sync,
-    R: AllocGlobal + Threads + Wait + Clock + Sync,
->(rt: &R, alloc: Global, commits: Blank, added: Blank, taken: Blank) -> Result<Held, Stop>
-    requires commits { IsBlank commits C.name C.parts }
-    requires added { IsBlank added A.name A.parts }
-    requires taken { IsBlank taken K.name K.parts }
-{
-    let (shared, _share) = opened::<C, A, K>(alloc, two_agents(alloc)?, commits, added, taken)?;
-    done(shared.send(rt, alloc, 0, action(alloc, PLUS, "1")?))?;
-    done(shared.send(rt, alloc, 1, action(alloc, PLUS, "2")?))?;
-    let (one, two) = work_by_two(rt, &shared);
-    Ok(Held {
-        first: usize::from(one.is_first) + usize::from(two.is_first),
-        in_time: usize::from(one.in_time) + usize::from(two.in_time),
-        of_both: are_of_both(one.work, two.work),
-        values: agents_at(rt, &shared),
-    })
+    let first = usize::from(one.is_first) + usize::from(two.is_first);
+    let in_time = usize::from(one.in_time) + usize::from(two.in_time);
+    same(rt, (first, in_time), (1, 1));
+    let (works, of_both) = (
+        (one.work, two.work),
+        (Ok(Worked::Did(0)), Ok(Worked::Did(1))),
+    );
+    same(
+        rt,
+        works == of_both || works == (of_both.1, of_both.0),
+        true,
+    );
+    same(rt, agents_at(rt, shared), (Some(1), Some(2)));
+    Ok(())
 }
 
 #[test]
-fn an_action_ends_while_another_one_is_held(rt: HostRuntime) -> Result<(), Fail> {
-    let alloc = rt.alloc();
-    let (commits, added, taken) = (
-        Blank::new(ALL_PARTS),
-        Blank::new(ALL_PARTS),
-        Blank::new(ALL_PARTS),
-    );
-    let held = try_holding::<Brand, Brand, Brand, _>(&rt, alloc, commits, added, taken)?;
-    let wanted = Held {
-        first: 1,
-        in_time: 1,
-        of_both: true,
-        values: (Some(1), Some(2)),
-    };
-    assert_eq!(rt; held, wanted);
-    Ok(())
+fn actions_of_two_agents_run_side_by_side(rt: HostRuntime) -> Result<(), Fail> {
+    check(&rt, Case::Meeting)?;
+    check(&rt, Case::Holding)
+}
+
+#[test]
+fn an_agents_next_action_waits_for_the_first(rt: HostRuntime) -> Result<(), Fail> {
+    check(&rt, Case::Turns(PLUS, 3))?;
+    check(&rt, Case::Turns(MINUS, 2))
 }

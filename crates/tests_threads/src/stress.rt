@@ -1,23 +1,23 @@
 //! Four threads that change everything, and two that run actions.
-ghost use Rattle.std.specs.Prelude.{◌≡◌};
-ghost use Rattle.ref_world.specs.Shares.{IsBlank};
-
+use crate::cases::{Case, check};
 use crate::pools::two_pools;
+use crate::same::same;
 use ref_fun::codes::{MINUS, PLUS};
 use ref_fun::{Action, Carries, Carry, Core, CoreFunctions};
 use ref_log::{Stamp, Who};
 use ref_shared::{Open, Quiet, Shared};
 use ref_tx::Tx;
-use ref_world::{ALL_PARTS, RefStart, Share, Start, World};
+use ref_world::{RefStart, Share, Start, Totals, World};
 use std::alloc::{AllocError, Global};
-use std::marker::Brand;
+use std::process::Abort;
 use std::sync::Wait;
-use std::sync::ledger::{Blank, Ledger};
+use std::sync::ledger::Ledger;
 use std::test::Fail;
 use std::thread;
 use std::thread::Threads;
+use std::time::Clock;
 use tests_shared::numbers::int_of;
-use tests_shared::worlds::{Stop, add, agent, closed, done, one_arg, opened, plain_start, value};
+use tests_shared::worlds::{Stop, add, agent, done, one_arg, plain_start, value};
 
 /// So few that any two transactions have one in common.
 const FEW: u32 = 3;
@@ -25,29 +25,20 @@ const FEW: u32 = 3;
 /// As many as a worker has rounds, each of which begins at another one.
 const MANY: u32 = 50;
 
-fn zero(alloc: Global, tally: bool) -> Result<RefStart, AllocError> {
-    Ok(RefStart {
-        value: value(alloc, "0")?,
-        rule: None,
-        tally,
-    })
-}
-
 // So many refs, then the tally, an atom and two agents, which are all 0.
-fn start(alloc: Global, refs: u32) -> Result<Start, AllocError> {
+pub(crate) fn start(alloc: Global, refs: u32) -> Result<Start, AllocError> {
     let mut start = plain_start(alloc, "", "0")?;
-    for _ in 0..refs {
-        start.refs.push(zero(alloc, false)?)?;
+    for r in 0..refs.saturating_add(1) {
+        start.refs.push(RefStart {
+            value: value(alloc, "0")?,
+            rule: None,
+            tally: r == refs,
+        })?;
     }
-    start.refs.push(zero(alloc, true)?)?;
-    start.agents.push(agent(value(alloc, "0")?, None))?;
-    start.agents.push(agent(value(alloc, "0")?, None))?;
+    for _ in 0..2u32 {
+        start.agents.push(agent(value(alloc, "0")?, None))?;
+    }
     Ok(start)
-}
-
-// How many refs come before the tally, which is the last.
-fn refs_of(tx: &Tx<Core>) -> u32 {
-    u32::try_from(tx.began().len().saturating_sub(1)).unwrap_or(0)
 }
 
 // The ref on turn, of so many.
@@ -71,7 +62,7 @@ fn carrying(alloc: Global, to: u32) -> Result<Action, Stop> {
 
 // Adds 1 to two of the refs and to the tally, which comes after them, and sends `+ 1` to an agent, which sends it on to the other.
 fn change(alloc: Global, tx: &mut Tx<Core>, n: u32) -> Result<(), Stop> {
-    let refs = refs_of(tx);
+    let refs = u32::try_from(tx.began().len().saturating_sub(1)).unwrap_or(0);
     add(alloc, tx, on_turn(n, refs), "1")?;
     add(alloc, tx, on_turn(n.saturating_add(1), refs), "1")?;
     let _ = done(tx.commute(alloc, &CoreFunctions, refs, PLUS, one_arg(alloc, "3")?))?;
@@ -196,124 +187,55 @@ fn sum_of<C: Ledger, A: Ledger, K: Ledger>(world: &World<Core, C, A, K>, refs: u
     sum
 }
 
-// How many actions of an agent wait.
-fn waiting<C: Ledger, A: Ledger, K: Ledger>(world: &World<Core, C, A, K>, g: u32) -> Option<usize> {
-    Some(world.account(g)?.waiting())
-}
-
-// What there is at the end.
-#[derive(Debug, Drop, PartialEq)]
-struct Sums {
-    // How many actions were run.
-    actions: u32,
-    refs: i64,
-    tally: Option<i64>,
-    atom: Option<i64>,
-    agents: (Option<i64>, Option<i64>),
-    waiting: (Option<usize>, Option<usize>),
-    receipts: usize,
-    // The totals.
-    commits: u64,
-    added: u64,
-    taken: u64,
-}
-
-// Two threads that run actions, and four threads' rounds.
-fn six<
+// Two threads that run actions, and four threads' rounds with what can be split off the share.
+pub(crate) fn see<
     C: Ledger + Send + Sync,
     A: Ledger + Send + Sync,
     K: Ledger + Send + Sync,
-    R: Threads + Wait + Sync,
->(
-    rt: &R,
-    alloc: Global,
-    shared: &Shared<Core, C, A, K>,
-    share: Share<C, A, K>,
-) -> (Result<u32, Stop>, (Share<C, A, K>, Result<(), Stop>)) {
+    R: AllocGlobal + Threads + Wait + Clock + Abort + Sync,
+>(rt: &R, shared: &Shared<Core, C, A, K>, share: &mut Share<C, A, K>) -> Result<(), Stop> {
+    let (alloc, part) = (rt.alloc(), share.split(4).ok_or(Stop::Refused)?);
     let (actions, all) = thread::join(
         rt,
         move || two_pools(rt, alloc, shared),
-        move || four_by_fifty(rt, alloc, shared, share),
+        move || four_by_fifty(rt, alloc, shared, part),
     );
-    (actions, all)
+    let (part, went) = all;
+    done(share.join(part))?;
+    same(rt, (actions, went), (Ok(400), Ok(())));
+    same(rt, share.receipts().len(), 400);
+    Ok(())
 }
 
-fn try_all<
-    C: Ledger + Send + Sync,
-    A: Ledger + Send + Sync,
-    K: Ledger + Send + Sync,
-    R: Threads + Wait + Sync,
->(
+// What six threads come to, on however many refs: these together, the tally, the atom, the agents, and that no action waits.
+pub(crate) fn look_at<C: Ledger, A: Ledger, K: Ledger, R: AllocGlobal + Abort>(
     rt: &R,
-    alloc: Global,
+    world: &World<Core, C, A, K>,
+    totals: Totals,
     refs: u32,
-    commits: Blank,
-    added: Blank,
-    taken: Blank,
-) -> Result<Sums, Stop>
-    requires commits { IsBlank commits C.name C.parts }
-    requires added { IsBlank added A.name A.parts }
-    requires taken { IsBlank taken K.name K.parts }
-{
-    let (shared, share) = opened::<C, A, K>(alloc, start(alloc, refs)?, commits, added, taken)?;
-    let (actions, all) = six(rt, alloc, &shared, share);
-    let (share, went) = all;
-    went?;
-    let actions = actions?;
-    let receipts = share.receipts().len();
-    let (world, totals) = closed(alloc, shared, share)?;
-    Ok(Sums {
-        actions,
-        refs: sum_of(&world, refs),
-        tally: held(&world, Who::Ref(refs)),
-        atom: held(&world, Who::Atom(0)),
-        agents: (held(&world, Who::Agent(0)), held(&world, Who::Agent(1))),
-        waiting: (waiting(&world, 0), waiting(&world, 1)),
-        receipts,
-        commits: totals.commits,
-        added: totals.added,
-        taken: totals.taken,
-    })
-}
-
-// What six threads come to, on however many refs.
-fn wanted() -> Sums {
-    Sums {
-        actions: 400,
-        refs: 400,
-        tally: Some(200),
-        atom: Some(200),
-        agents: (Some(200), Some(200)),
-        waiting: (Some(0), Some(0)),
-        receipts: 400,
-        commits: 200,
-        added: 600,
-        taken: 400,
+) -> Result<(), Stop> {
+    let counted = (held(world, Who::Ref(refs)), held(world, Who::Atom(0)));
+    let agents = (held(world, Who::Agent(0)), held(world, Who::Agent(1)));
+    let all = (totals.commits, totals.added, totals.taken);
+    same(rt, sum_of(world, refs), 400);
+    same(
+        rt,
+        (counted, agents),
+        ((Some(200), Some(200)), (Some(200), Some(200))),
+    );
+    for g in [0, 1] {
+        same(
+            rt,
+            world.account(g).map(|account| account.waiting()),
+            Some(0),
+        );
     }
+    same(rt, all, (200, 600, 400));
+    Ok(())
 }
 
 #[test]
 fn the_sums_of_six_threads_are_right(rt: HostRuntime) -> Result<(), Fail> {
-    let alloc = rt.alloc();
-    let (commits, added, taken) = (
-        Blank::new(ALL_PARTS),
-        Blank::new(ALL_PARTS),
-        Blank::new(ALL_PARTS),
-    );
-    let sums = try_all::<Brand, Brand, Brand, _>(&rt, alloc, FEW, commits, added, taken)?;
-    assert_eq!(rt; sums, wanted());
-    Ok(())
-}
-
-#[test]
-fn the_sums_are_right_on_many_refs(rt: HostRuntime) -> Result<(), Fail> {
-    let alloc = rt.alloc();
-    let (commits, added, taken) = (
-        Blank::new(ALL_PARTS),
-        Blank::new(ALL_PARTS),
-        Blank::new(ALL_PARTS),
-    );
-    let sums = try_all::<Brand, Brand, Brand, _>(&rt, alloc, MANY, commits, added, taken)?;
-    assert_eq!(rt; sums, wanted());
-    Ok(())
+    check(&rt, Case::Sums(FEW))?;
+    check(&rt, Case::Sums(MANY))
 }

@@ -1,39 +1,27 @@
 //! Transactions of two threads.
-ghost use Rattle.std.specs.Prelude.{◌≡◌};
-ghost use Rattle.ref_world.specs.Shares.{IsBlank};
-
+use crate::cases::{Case, check};
 use crate::flags::Flags;
+use crate::same::same;
 use crate::waits::wait_for;
 use ref_fun::{Core, CoreFunctions};
 use ref_log::{Notice, Stamp, Who};
 use ref_shared::{Gate, Open, Quiet, Shared, Spot, WatchSink};
 use ref_tx::Tx;
-use ref_world::{ALL_PARTS, Share};
+use ref_world::{Share, Totals, World};
 use std::alloc::Global;
-use std::marker::Brand;
+use std::process::Abort;
 use std::sync::Wait;
 use std::sync::atomic::{AtomicBool, Ordering};
-use std::sync::ledger::{Blank, Ledger};
+use std::sync::ledger::Ledger;
 use std::test::Fail;
 use std::thread;
 use std::thread::Threads;
 use std::time::Clock;
 use tests_shared::numbers::int_of;
-use tests_shared::worlds::{
-    STAMP, Stop, Told, add, all_commits, all_told, closed, done, int_at, opened, plain_start,
-    told_of, value,
-};
+use tests_shared::steps::watch;
+use tests_shared::worlds::{STAMP, Stop, Told, add, all_commits, done, int_at, told_of};
 
 const OTHER: Stamp = Stamp { worker: 1, step: 0 };
-
-// What came of the commits of two threads.
-#[derive(Debug, Drop, PartialEq)]
-struct Sum {
-    // How many transactions weren't committed.
-    refused: u32,
-    value: Option<i64>,
-    commits: u64,
-}
 
 // A hundred commits that add 1 to a. It answers the share, and how many weren't committed.
 fn hundred<R: Wait, C: Ledger, A: Ledger, K: Ledger>(
@@ -63,69 +51,52 @@ fn hundred<R: Wait, C: Ledger, A: Ledger, K: Ledger>(
     (share, refused)
 }
 
-// A hundred commits of each of two threads, with these shares.
-fn two_hundred<
-    C: Ledger + Send + Sync,
-    A: Ledger + Send + Sync,
-    K: Ledger + Send + Sync,
-    R: Threads + Wait + Sync,
->(
-    rt: &R,
-    alloc: Global,
-    shared: &Shared<Core, C, A, K>,
-    share: Share<C, A, K>,
-    other: Share<C, A, K>,
-) -> ((Share<C, A, K>, u32), (Share<C, A, K>, u32)) {
-    let (mine, theirs) = thread::join(
-        rt,
-        move || hundred(rt, alloc, shared, share, 0),
-        move || hundred(rt, alloc, shared, other, 1),
-    );
-    (mine, theirs)
+// A part of the share for each of two threads.
+fn two_parts<C: Ledger, A: Ledger, K: Ledger>(
+    share: &mut Share<C, A, K>,
+) -> Result<(Share<C, A, K>, Share<C, A, K>), Stop> {
+    match (share.split(1), share.split(1)) {
+        (Some(one), Some(other)) => Ok((one, other)),
+        _ => Err(Stop::Refused),
+    }
 }
 
-fn try_sum<
+// Gives them back.
+fn join_both<C: Ledger, A: Ledger, K: Ledger>(
+    share: &mut Share<C, A, K>,
+    one: Share<C, A, K>,
+    other: Share<C, A, K>,
+) -> Result<(), Stop> {
+    match (share.join(one), share.join(other)) {
+        (Ok(()), Ok(())) => Ok(()),
+        _ => Err(Stop::Memory),
+    }
+}
+
+// A hundred commits of each of two threads, of which none is lost.
+pub(crate) fn see_sum<
     C: Ledger + Send + Sync,
     A: Ledger + Send + Sync,
     K: Ledger + Send + Sync,
-    R: Threads + Wait + Sync,
->(rt: &R, alloc: Global, commits: Blank, added: Blank, taken: Blank) -> Result<Sum, Stop>
-    requires commits { IsBlank commits C.name C.parts }
-    requires added { IsBlank added A.name A.parts }
-    requires taken { IsBlank taken K.name K.parts }
-{
-    let start = plain_start(alloc, "0", "")?;
-    let (shared, mut share) = opened::<C, A, K>(alloc, start, commits, added, taken)?;
-    let other = done(share.split(1).ok_or(Stop::Refused))?;
-    let (mine, theirs) = two_hundred(rt, alloc, &shared, share, other);
-    let (mut share, refused) = mine;
-    let (other, refused_too) = theirs;
-    done(share.join(other))?;
-    let now = int_at(rt, &shared, Who::Ref(0));
-    let (_, totals) = closed(alloc, shared, share)?;
-    Ok(Sum {
-        refused: refused.saturating_add(refused_too),
-        value: now,
-        commits: totals.commits,
-    })
+    R: AllocGlobal + Threads + Wait + Clock + Abort + Sync,
+>(rt: &R, shared: &Shared<Core, C, A, K>, share: &mut Share<C, A, K>) -> Result<(), Stop> {
+    let alloc = rt.alloc();
+    let (one, other) = two_parts(share)?;
+    let (mine, theirs) = thread::join(
+        rt,
+        move || hundred(rt, alloc, shared, one, 0),
+        move || hundred(rt, alloc, shared, other, 1),
+    );
+    let refused = (mine.1, theirs.1);
+    join_both(share, mine.0, theirs.0)?;
+    same(rt, refused, (0, 0));
+    same(rt, int_at(rt, shared, Who::Ref(0)), Some(200));
+    Ok(())
 }
 
 #[test]
 fn no_commit_of_two_threads_is_lost(rt: HostRuntime) -> Result<(), Fail> {
-    let alloc = rt.alloc();
-    let (commits, added, taken) = (
-        Blank::new(ALL_PARTS),
-        Blank::new(ALL_PARTS),
-        Blank::new(ALL_PARTS),
-    );
-    let sum = try_sum::<Brand, Brand, Brand, _>(&rt, alloc, commits, added, taken)?;
-    let wanted = Sum {
-        refused: 0,
-        value: Some(200),
-        commits: 200,
-    };
-    assert_eq!(rt; sum, wanted);
-    Ok(())
+    check(&rt, Case::Sum)
 }
 
 // A gate that holds the first body's commit until another thread says so, and says when it does.
@@ -150,14 +121,7 @@ impl<'a, 'b, 'c, R: Clock> Gate for Hold<'a, 'b, 'c, R> {
     }
 }
 
-// Adds 1 to a, and answers what it was in the transaction before.
-fn read_and_add(alloc: Global, tx: &mut Tx<Core>) -> Result<Option<i64>, Stop> {
-    let read = int_of(done(tx.deref(0))?);
-    add(alloc, tx, 0, "1")?;
-    Ok(read)
-}
-
-// Adds 1 to a next to a gate, and returns the commit's point, and what the last body read.
+// Adds 1 to a next to a gate, and returns the commit's point, and what a was before in the last body.
 fn add_beside<R: Wait, C: Ledger, A: Ledger, K: Ledger, G: Gate>(
     rt: &R,
     alloc: Global,
@@ -174,7 +138,11 @@ fn add_beside<R: Wait, C: Ledger, A: Ledger, K: Ledger, G: Gate>(
         10,
         gate,
         &mut Quiet,
-        |tx: &mut Tx<Core>| read_and_add(alloc, tx),
+        |tx: &mut Tx<Core>| -> Result<Option<i64>, Stop> {
+            let read = int_of(done(tx.deref(0))?);
+            add(alloc, tx, 0, "1")?;
+            Ok(read)
+        },
     ))?;
     Ok((receipt.point, read))
 }
@@ -245,91 +213,47 @@ fn add_meanwhile<R: AllocGlobal + Wait + Clock, C: Ledger, A: Ledger, K: Ledger>
     (share, answer)
 }
 
-// What came of two commits, the first of them held until the second was there.
-#[derive(Debug, Drop, PartialEq)]
-struct Overtaken {
-    held: Result<Held, Stop>,
-    meanwhile: Result<u64, Stop>,
-    value: Option<i64>,
-    log: Vec<(Stamp, u64)>,
-    commits: u64,
-}
-
-// A commit of one thread, held until one of the other is there.
-fn overtake<
+// A commit of one thread, held until one of the other is there: it begins anew.
+pub(crate) fn see_overtaking<
     C: Ledger + Send + Sync,
     A: Ledger + Send + Sync,
     K: Ledger + Send + Sync,
-    R: AllocGlobal + Threads + Wait + Clock + Sync,
->(
-    rt: &R,
-    shared: &Shared<Core, C, A, K>,
-    share: Share<C, A, K>,
-    other: Share<C, A, K>,
-) -> (
-    (Share<C, A, K>, Result<Held, Stop>),
-    (Share<C, A, K>, Result<u64, Stop>),
-) {
+    R: AllocGlobal + Threads + Wait + Clock + Abort + Sync,
+>(rt: &R, shared: &Shared<Core, C, A, K>, share: &mut Share<C, A, K>) -> Result<(), Stop> {
+    let (one, other) = two_parts(share)?;
     let flags = Flags::new();
     let lent = &flags;
     let (mine, theirs) = thread::join(
         rt,
-        move || add_held(rt, shared, share, lent),
+        move || add_held(rt, shared, one, lent),
         move || add_meanwhile(rt, shared, other, lent),
     );
-    (mine, theirs)
+    let (held, meanwhile) = (mine.1, theirs.1);
+    join_both(share, mine.0, theirs.0)?;
+    let wanted = Held {
+        point: 2,
+        bodies: 2,
+        read: Some(10),
+    };
+    same(rt, (held, meanwhile), (Ok(wanted), Ok(1)));
+    same(rt, int_at(rt, shared, Who::Ref(0)), Some(11));
+    Ok(())
 }
 
-fn try_overtaking<
-    C: Ledger + Send + Sync,
-    A: Ledger + Send + Sync,
-    K: Ledger + Send + Sync,
-    R: AllocGlobal + Threads + Wait + Clock + Sync,
->(rt: &R, alloc: Global, commits: Blank, added: Blank, taken: Blank) -> Result<Overtaken, Stop>
-    requires commits { IsBlank commits C.name C.parts }
-    requires added { IsBlank added A.name A.parts }
-    requires taken { IsBlank taken K.name K.parts }
-{
-    let start = plain_start(alloc, "0", "")?;
-    let (shared, mut share) = opened::<C, A, K>(alloc, start, commits, added, taken)?;
-    let other = done(share.split(1).ok_or(Stop::Refused))?;
-    let (mine, theirs) = overtake(rt, &shared, share, other);
-    let (mut share, first) = mine;
-    let (other, second) = theirs;
-    done(share.join(other))?;
-    let now = int_at(rt, &shared, Who::Ref(0));
-    let (world, totals) = closed(alloc, shared, share)?;
-    Ok(Overtaken {
-        held: first,
-        meanwhile: second,
-        value: now,
-        log: all_commits(alloc, world.log())?,
-        commits: totals.commits,
-    })
+pub(crate) fn look_at_overtaking<C: Ledger, A: Ledger, K: Ledger, R: AllocGlobal + Abort>(
+    rt: &R,
+    world: &World<Core, C, A, K>,
+    totals: Totals,
+) -> Result<(), Stop> {
+    let log = all_commits(rt.alloc(), world.log())?;
+    same(rt, log.as_slice(), &[(OTHER, 0), (STAMP, 1)]);
+    same(rt, totals.commits, 2);
+    Ok(())
 }
 
 #[test]
 fn who_is_overtaken_begins_anew(rt: HostRuntime) -> Result<(), Fail> {
-    let alloc = rt.alloc();
-    let (commits, added, taken) = (
-        Blank::new(ALL_PARTS),
-        Blank::new(ALL_PARTS),
-        Blank::new(ALL_PARTS),
-    );
-    let overtaken = try_overtaking::<Brand, Brand, Brand, _>(&rt, alloc, commits, added, taken)?;
-    let wanted = Overtaken {
-        held: Ok(Held {
-            point: 2,
-            bodies: 2,
-            read: Some(10),
-        }),
-        meanwhile: Ok(1),
-        value: Some(11),
-        log: vec![in alloc; (OTHER, 0), (STAMP, 1)]?,
-        commits: 2,
-    };
-    assert_eq!(rt; overtaken, wanted);
-    Ok(())
+    check(&rt, Case::Overtaking)
 }
 
 // A sink that waits, when it is called, until another thread has looked.
@@ -379,7 +303,11 @@ fn add_to<R: Wait, C: Ledger, A: Ledger, K: Ledger, W: WatchSink>(
         sink,
         |tx: &mut Tx<Core>| add(alloc, tx, 0, "1"),
     ))?;
-    Ok(all_told(alloc, &receipt.notices)?)
+    let mut told = Vec::new(alloc);
+    for notice in &receipt.notices {
+        told.push(told_of(notice))?;
+    }
+    Ok(told)
 }
 
 // Adds 1 to a, and returns the share, and the notices.
@@ -425,80 +353,35 @@ fn look<R: Wait + Clock, C: Ledger, A: Ledger, K: Ledger>(
     Ok(now)
 }
 
-// What one thread's commit returns, and what another sees meanwhile.
-#[derive(Debug, Drop, PartialEq)]
-struct Telling {
-    told: Result<Delivered, Stop>,
-    seen: Result<Option<i64>, Stop>,
-    commits: u64,
-}
-
 // A commit of one thread, whose watch is called while another looks.
-fn tell<
+pub(crate) fn see_telling<
     C: Ledger + Send + Sync,
     A: Ledger + Send + Sync,
     K: Ledger + Send + Sync,
-    R: AllocGlobal + Threads + Wait + Clock + Sync,
->(
-    rt: &R,
-    shared: &Shared<Core, C, A, K>,
-    share: Share<C, A, K>,
-) -> (
-    (Share<C, A, K>, Result<Delivered, Stop>),
-    Result<Option<i64>, Stop>,
-) {
+    R: AllocGlobal + Threads + Wait + Clock + Abort + Sync,
+>(rt: &R, shared: &Shared<Core, C, A, K>, share: &mut Share<C, A, K>) -> Result<(), Stop> {
+    watch(rt, rt.alloc(), shared, Who::Ref(0), ":k")?;
+    let part = share.split(1).ok_or(Stop::Refused)?;
     let flags = Flags::new();
     let lent = &flags;
     let (mine, seen) = thread::join(
         rt,
-        move || add_told(rt, shared, share, lent),
+        move || add_told(rt, shared, part, lent),
         move || look(rt, shared, lent),
     );
-    (mine, seen)
-}
-
-fn try_telling<
-    C: Ledger + Send + Sync,
-    A: Ledger + Send + Sync,
-    K: Ledger + Send + Sync,
-    R: AllocGlobal + Threads + Wait + Clock + Sync,
->(rt: &R, alloc: Global, commits: Blank, added: Blank, taken: Blank) -> Result<Telling, Stop>
-    requires commits { IsBlank commits C.name C.parts }
-    requires added { IsBlank added A.name A.parts }
-    requires taken { IsBlank taken K.name K.parts }
-{
-    let start = plain_start(alloc, "0", "")?;
-    let (shared, share) = opened::<C, A, K>(alloc, start, commits, added, taken)?;
-    let _ = done(shared.add_watch(rt, alloc, Who::Ref(0), value(alloc, ":k")?))?;
-    let (mine, seen) = tell(rt, &shared, share);
-    let (share, told) = mine;
-    let (_, totals) = closed(alloc, shared, share)?;
-    Ok(Telling {
-        told,
-        seen,
-        commits: totals.commits,
-    })
+    let (part, told) = mine;
+    done(share.join(part))?;
+    let notice = (Who::Ref(0), true, Some(0), Some(1));
+    let wanted = Delivered {
+        times: 1,
+        last: Some(notice),
+        receipt: vec![in rt.alloc(); notice]?,
+    };
+    same(rt, (told, seen), (Ok(wanted), Ok(Some(1))));
+    Ok(())
 }
 
 #[test]
 fn others_read_while_a_watch_is_told(rt: HostRuntime) -> Result<(), Fail> {
-    let alloc = rt.alloc();
-    let (commits, added, taken) = (
-        Blank::new(ALL_PARTS),
-        Blank::new(ALL_PARTS),
-        Blank::new(ALL_PARTS),
-    );
-    let telling = try_telling::<Brand, Brand, Brand, _>(&rt, alloc, commits, added, taken)?;
-    let notice = (Who::Ref(0), true, Some(0), Some(1));
-    let wanted = Telling {
-        told: Ok(Delivered {
-            times: 1,
-            last: Some(notice),
-            receipt: vec![in alloc; notice]?,
-        }),
-        seen: Ok(Some(1)),
-        commits: 1,
-    };
-    assert_eq!(rt; telling, wanted);
-    Ok(())
+    check(&rt, Case::Telling)
 }

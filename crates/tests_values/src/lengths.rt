@@ -1,16 +1,15 @@
 //! Texts of each length, in the node and in a block: where a text lies makes no difference, and it is read into the node where it fits.
+use crate::same::same;
+use crate::versions::value_of;
 use ref_edn::order::compare;
-use ref_edn::{Items, Node, Text, Value, read_one};
+use ref_edn::{Node, Text, Value, read_one};
 use std::alloc::Global;
 use std::cmp::Ordering;
+use std::process::Abort;
 use std::test::Fail;
-use tests_tables::{right, value};
 
-// The texts are its fronts.
+// The texts are its fronts. It has no z, which is greater than all of its letters.
 const LETTERS: &str = "abcdefghijklmnopqrstuvwxyabcdefghijklmno";
-
-// The same front, but for its last letter, which is greater.
-const GREATER: &str = "bcdefghijklmnopqrstuvwxyzbcdefghijklmnop";
 
 // Texts of up to so many bytes lie in the node.
 const MOST_IN_NODE: usize = 14;
@@ -22,30 +21,38 @@ enum Kind {
     Symbol,
 }
 
-fn chosen(alloc: Global, kind: Kind, text: &str) -> Result<Value, Fail> {
-    value(match kind {
-        Kind::Str => Node::string(alloc, text)?,
-        Kind::Keyword => Node::keyword(alloc, text)?,
-        Kind::Symbol => Node::symbol(alloc, text)?,
-    })
+/// The value of one text: as a node of its length has it, in a block, and as it is read.
+#[derive(Drop)]
+struct Forms {
+    chosen: Value,
+    block: Value,
+    read: Value,
 }
 
-fn in_block(alloc: Global, kind: Kind, text: &str) -> Result<Value, Fail> {
-    let text = Text::copy_of(alloc, text)?;
-    value(match kind {
-        Kind::Str => Node::Str(text),
-        Kind::Keyword => Node::Keyword(text),
-        Kind::Symbol => Node::Symbol(text),
-    })
-}
-
-fn read(alloc: Global, kind: Kind, text: &str) -> Result<Value, Fail> {
-    let text = match kind {
-        Kind::Str => format!(in alloc; "\"{text}\"")?,
-        Kind::Keyword => format!(in alloc; ":{text}")?,
-        Kind::Symbol => format!(in alloc; "{text}")?,
+fn forms_of(alloc: Global, kind: Kind, text: &str) -> Result<Forms, Fail> {
+    let block = Text::copy_of(alloc, text)?;
+    let (chosen, block, written) = match kind {
+        Kind::Str => (
+            Node::string(alloc, text)?,
+            Node::Str(block),
+            format!(in alloc; "\"{text}\"")?,
+        ),
+        Kind::Keyword => (
+            Node::keyword(alloc, text)?,
+            Node::Keyword(block),
+            format!(in alloc; ":{text}")?,
+        ),
+        Kind::Symbol => (
+            Node::symbol(alloc, text)?,
+            Node::Symbol(block),
+            String::from_str(alloc, text)?,
+        ),
     };
-    Ok(read_one(alloc, text.as_bytes())?)
+    Ok(Forms {
+        chosen: value_of(chosen)?,
+        block: value_of(block)?,
+        read: read_one(alloc, written.as_bytes())?,
+    })
 }
 
 fn is_in_node(value: &Value) -> bool {
@@ -55,101 +62,42 @@ fn is_in_node(value: &Value) -> bool {
     )
 }
 
-// What a node of each kind lends.
-fn lends(node: &Node, kind: Kind, text: &str) -> bool {
-    let text = Some(text.as_bytes());
-    let (string, keyword, symbol) = (node.as_string(), node.as_keyword(), node.as_symbol());
-    Some(node.text()) == text
-        && match kind {
-            Kind::Str => string == text && keyword.is_none() && symbol.is_none(),
-            Kind::Keyword => keyword == text && string.is_none() && symbol.is_none(),
-            Kind::Symbol => symbol == text && string.is_none() && keyword.is_none(),
+// The values of one text are equal, and less than those of one with a greater last letter.
+fn check_orders(rt: &(impl Abort + AllocGlobal), text: &Forms, greater: &Forms) {
+    for a in [&text.chosen, &text.block, &text.read] {
+        for b in [&text.chosen, &text.block, &text.read] {
+            same(rt, (*a == *b, compare(a, b)), (true, Ordering::Equal));
         }
-}
-
-fn vector(alloc: Global, member: &Value) -> Result<Value, Fail> {
-    let items = Items::of(alloc, vec![in alloc; member.share()?, member.share()?]?)?;
-    value(Node::Vector(items))
-}
-
-fn check_same(alloc: Global, a: &Value, b: &Value, name: &str) -> Result<(), Fail> {
-    right(*a == *b && compare(a, b) == Ordering::Equal, name)?;
-    right(vector(alloc, a)? == vector(alloc, b)?, name)
-}
-
-fn check_less(alloc: Global, a: &Value, b: &Value, name: &str) -> Result<(), Fail> {
-    right(*a != *b && compare(a, b) == Ordering::Less, name)?;
-    right(compare(b, a) == Ordering::Greater, name)?;
-    let order = compare(&vector(alloc, a)?, &vector(alloc, b)?);
-    right(order == Ordering::Less, name)
-}
-
-// The front with a greater last letter.
-fn greater(alloc: Global, len: usize) -> Result<String, Fail> {
-    let before = len.saturating_sub(1);
-    let mut text = String::from_str(alloc, LETTERS.get(..before).unwrap_or(""))?;
-    text.push_str(GREATER.get(before..len).unwrap_or(""))?;
-    Ok(text)
-}
-
-fn check_length(alloc: Global, kind: Kind, len: usize) -> Result<(), Fail> {
-    let text = LETTERS.get(..len).unwrap_or("");
-    let (chosen, block) = (chosen(alloc, kind, text)?, in_block(alloc, kind, text)?);
-    let read = read(alloc, kind, text)?;
-    right(is_in_node(&chosen) == (len <= MOST_IN_NODE), text)?;
-    right(is_in_node(&read) == (len <= MOST_IN_NODE), text)?;
-    for one in [&chosen, &block, &read, &chosen.share()?] {
-        right(lends(one.node(), kind, text), text)?;
-        check_same(alloc, one, &block, text)?;
-        check_same(alloc, &chosen, one, text)?;
-    }
-    Ok(())
-}
-
-fn check_order(alloc: Global, kind: Kind, len: usize) -> Result<(), Fail> {
-    let (text, greater) = (LETTERS.get(..len).unwrap_or(""), greater(alloc, len)?);
-    let shorter = LETTERS.get(..len.saturating_sub(1)).unwrap_or("");
-    let small = [chosen(alloc, kind, text)?, in_block(alloc, kind, text)?];
-    let large = [
-        chosen(alloc, kind, &greater)?,
-        in_block(alloc, kind, &greater)?,
-    ];
-    for one in &small {
-        for other in &large {
-            check_less(alloc, one, other, text)?;
-        }
-        if len > 1 {
-            check_less(alloc, &chosen(alloc, kind, shorter)?, one, text)?;
-            check_less(alloc, &in_block(alloc, kind, shorter)?, one, text)?;
+        for b in [&greater.chosen, &greater.block, &greater.read] {
+            let orders = (compare(a, b), compare(b, a));
+            same(rt, orders, (Ordering::Less, Ordering::Greater));
         }
     }
+}
+
+fn check_length(rt: &(impl Abort + AllocGlobal), kind: Kind, len: usize) -> Result<(), Fail> {
+    let front = LETTERS.get(..len.saturating_sub(1)).unwrap_or("");
+    let greater = format!(in rt.alloc(); "{front}z")?;
+    let text = forms_of(rt.alloc(), kind, LETTERS.get(..len).unwrap_or(""))?;
+    let greater = forms_of(rt.alloc(), kind, &greater)?;
+    check_orders(rt, &text, &greater);
+    let lie = (
+        is_in_node(&text.chosen),
+        is_in_node(&text.block),
+        is_in_node(&text.read),
+    );
+    let fits = len <= MOST_IN_NODE;
+    same(rt, (len, lie), (len, (fits, false, fits)));
     Ok(())
 }
 
 #[test]
 fn where_a_text_lies_makes_no_difference(rt: HostRuntime) -> Result<(), Fail> {
-    let alloc = rt.alloc();
-    check_length(alloc, Kind::Str, 0)?;
+    check_length(&rt, Kind::Str, 0)?;
     for len in 1..=LETTERS.len() {
         for kind in [Kind::Str, Kind::Keyword, Kind::Symbol] {
-            check_length(alloc, kind, len)?;
-            check_order(alloc, kind, len)?;
+            check_length(&rt, kind, len)?;
         }
-    }
-    Ok(())
-}
-
-#[test]
-fn the_kinds_of_texts_differ(rt: HostRuntime) -> Result<(), Fail> {
-    let alloc = rt.alloc();
-    for text in ["a", LETTERS] {
-        let string = chosen(alloc, Kind::Str, text)?;
-        let keyword = chosen(alloc, Kind::Keyword, text)?;
-        let symbol = chosen(alloc, Kind::Symbol, text)?;
-        check_less(alloc, &string, &keyword, text)?;
-        check_less(alloc, &keyword, &symbol, text)?;
-        check_less(alloc, &string, &in_block(alloc, Kind::Keyword, text)?, text)?;
-        check_less(alloc, &in_block(alloc, Kind::Keyword, text)?, &symbol, text)?;
     }
     Ok(())
 }

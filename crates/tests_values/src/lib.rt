@@ -1,28 +1,14 @@
-//! Tests of texts, values, their order, readers and writers, all by calls that are public. They stand here and not in
-//! `ref_edn`, since a crate that has tests is proved twice, without them and with them.
+//! Tests of values and of tables of functions, by calls that are public, as far as no text says what is tested: what is read and printed of
+//! texts, and what the functions of Core give, is in rows of `examples`.
 #![tactic(auto)]
 
 #[cfg(test)]
-mod changes;
-pub mod drawing;
+mod calls;
+#[cfg(test)]
+mod closures;
 #[cfg(test)]
 mod lengths;
 #[cfg(test)]
-mod members;
-#[cfg(test)]
-mod nesting;
-pub mod pieces;
-#[cfg(test)]
-mod printing;
-#[cfg(test)]
-mod reading;
-#[cfg(test)]
-mod repeats;
-#[cfg(test)]
-mod streams;
-#[cfg(test)]
-mod texts;
-#[cfg(test)]
-mod tokens;
+mod same;
 #[cfg(test)]
 mod versions;

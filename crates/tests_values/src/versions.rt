@@ -1,21 +1,24 @@
 //! Drawn changes of vectors, maps and sets, in all of whose versions everything is right at the end.
-use crate::drawing::draw;
+use crate::same::same;
 use ref_edn::{Elements, Entries, Items, Node, Value};
 use std::alloc::{AllocError, Global};
 use std::collections::BTreeMap;
 use std::test::Fail;
 
-// How many changes are drawn, after how many a version is stored, and about how many members a collection has at most.
-const CHANGES: usize = 100_000;
+// How many versions are stored, how many changes are drawn between two, and about how many members a map or a set has at most.
+const VERSIONS: usize = 40;
 
-const KEPT_AFTER: usize = 1_000;
+const CHANGES: usize = 1_000;
 
 const MOST: usize = 5_000;
 
 // More members than a tree of chunks could hold without balance: its height ends at 255, and a chunk at 32 members.
-const MANY: usize = 20_000;
+const MANY: i64 = 20_000;
 
-// A vector, a map and a set, and what they are to hold. A number below 0 stands for a vector of it.
+// From this number on one stands for a vector of it. So values are in the order of their numbers.
+const NESTED: i64 = 100_000;
+
+// A vector, a map and a set, and the numbers of what they are to hold.
 #[derive(Drop)]
 struct Version {
     items: Items,
@@ -26,7 +29,16 @@ struct Version {
     set: BTreeMap<i64, i64>,
 }
 
-fn value_of(node: Node) -> Result<Value, Fail> {
+// A number below a bound. The same seed always gives the same row of them.
+fn draw(seed: &mut u64, below: usize) -> usize {
+    *seed = seed
+        .wrapping_mul(6364136223846793005)
+        .wrapping_add(1442695040888963407);
+    let high = (*seed >> 33) as usize;
+    if below == 0 { 0 } else { high % below }
+}
+
+pub(crate) fn value_of(node: Node) -> Result<Value, Fail> {
     match Value::of(node) {
         Ok(value) => Ok(value),
         Err(_) => Err(Fail::from("not lawful")),
@@ -35,48 +47,45 @@ fn value_of(node: Node) -> Result<Value, Fail> {
 
 fn member(alloc: Global, n: i64) -> Result<Value, Fail> {
     let number = value_of(Node::Int(n))?;
-    if n >= 0 {
+    if n < NESTED {
         return Ok(number);
     }
     value_of(Node::Vector(Items::of(alloc, vec![in alloc; number]?)?))
 }
 
-// Whether a value is the one that stands for a number.
-fn stands_for(value: &Value, n: i64) -> bool {
-    match value.node() {
-        Node::Int(m) => *m == n && n >= 0,
-        Node::Vector(items) => match items.get(0) {
-            Some(first) => items.len() == 1 && n < 0 && is_number(first, n),
-            None => false,
-        },
-        _ => false,
-    }
+fn depth_of(n: i64) -> u8 {
+    if n < NESTED { 0 } else { 1 }
 }
 
-fn is_number(value: &Value, n: i64) -> bool {
+fn is_int(value: &Value, n: i64) -> bool {
     match value.node() {
         Node::Int(m) => *m == n,
         _ => false,
     }
 }
 
-// A number below a bound, and now and then one below 0.
+// Whether a value is the one that stands for a number.
+fn stands_for(value: &Value, n: i64) -> bool {
+    match value.node() {
+        Node::Vector(items) => match items.get(0) {
+            Some(first) => items.len() == 1 && n >= NESTED && is_int(first, n),
+            None => false,
+        },
+        _ => n < NESTED && is_int(value, n),
+    }
+}
+
+// A number below a bound, and now and then one that stands for a vector.
 fn drawn_number(seed: &mut u64, below: usize) -> i64 {
     let n = i64::try_from(draw(seed, below)).unwrap_or(0);
     if draw(seed, 500) == 0 {
-        n.saturating_sub(100_000)
+        n.saturating_add(NESTED)
     } else {
         n
     }
 }
 
-// ---- changes
-
 fn push(alloc: Global, version: &mut Version, n: i64) -> Result<(), Fail> {
-    if version.list.len() >= MOST {
-        version.items = Items::of(alloc, Vec::new(alloc))?;
-        version.list = Vec::new(alloc);
-    }
     version.items.push(alloc, member(alloc, n)?)?;
     version.list.push(n)?;
     Ok(())
@@ -86,14 +95,14 @@ fn change_map(alloc: Global, version: &mut Version, key: i64, n: Option<i64>) ->
     if !version.entries.ascends() {
         return Err(Fail::from("not in order"));
     }
+    let k = member(alloc, key)?;
     match n {
         Some(n) => {
-            let value = member(alloc, n)?;
-            version.entries.insert(alloc, member(alloc, key)?, value)?;
+            version.entries.insert(alloc, k, member(alloc, n)?)?;
             version.map.insert(key, n)?;
         }
         None => {
-            version.entries.remove(alloc, &member(alloc, key)?)?;
+            version.entries.remove(alloc, &k)?;
             version.map.remove(&key);
         }
     }
@@ -104,35 +113,26 @@ fn change_set(alloc: Global, version: &mut Version, n: i64, comes: bool) -> Resu
     if !version.elements.ascends() {
         return Err(Fail::from("not in order"));
     }
+    let x = member(alloc, n)?;
     if comes {
-        version.elements.insert(alloc, member(alloc, n)?)?;
+        version.elements.insert(alloc, x)?;
         version.set.insert(n, n)?;
     } else {
-        version.elements.remove(alloc, &member(alloc, n)?)?;
+        version.elements.remove(alloc, &x)?;
         version.set.remove(&n);
     }
     Ok(())
 }
 
-// In one change of two a member comes while a collection grows, and in one of nine while it shrinks.
-fn does_come(seed: &mut u64, grows: bool) -> bool {
-    draw(seed, 9) < if grows { 8 } else { 2 }
-}
-
+// In eight changes of nine a member comes while a collection grows, and in two of nine while it shrinks.
 fn change(alloc: Global, seed: &mut u64, version: &mut Version, grows: bool) -> Result<(), Fail> {
     let kind = draw(seed, 5);
     let n = drawn_number(seed, 2 * MOST);
-    let comes = does_come(seed, grows);
+    let comes = draw(seed, 9) < if grows { 8 } else { 2 };
     match kind {
         0 => push(alloc, version, n),
-        1 | 2 => {
-            let x = if comes {
-                Some(drawn_number(seed, 10))
-            } else {
-                None
-            };
-            change_map(alloc, version, n, x)
-        }
+        1 | 2 if comes => change_map(alloc, version, n, Some(drawn_number(seed, 10))),
+        1 | 2 => change_map(alloc, version, n, None),
         _ => change_set(alloc, version, n, comes),
     }
 }
@@ -146,13 +146,6 @@ fn share(version: &Version) -> Result<Version, AllocError> {
         elements: version.elements.share()?,
         set: version.set.clone()?,
     })
-}
-
-// ---- what is to hold
-
-// How deep numbers are: those below 0 stand for vectors.
-fn depth_of(n: i64) -> u8 {
-    if n < 0 { 1 } else { 0 }
 }
 
 fn is_right_vector(version: &Version) -> bool {
@@ -172,23 +165,17 @@ fn is_right_vector(version: &Version) -> bool {
         && version.items.deepest() == deepest
 }
 
-// Values stand in order as numbers do, but those below 0 behind all others.
 fn is_right_map(entries: &Entries, map: &BTreeMap<i64, i64>) -> bool {
     let mut left = entries.iter();
     let mut deepest = 0;
-    for nested in [false, true] {
-        for (key, n) in map {
-            if (*key < 0) != nested {
-                continue;
-            }
-            let Some((k, x)) = left.next() else {
-                return false;
-            };
-            if !stands_for(k, *key) || !stands_for(x, *n) {
-                return false;
-            }
-            deepest = depth_of(*key).max(depth_of(*n)).max(deepest);
+    for (key, n) in map {
+        let Some((k, x)) = left.next() else {
+            return false;
+        };
+        if !stands_for(k, *key) || !stands_for(x, *n) {
+            return false;
         }
+        deepest = depth_of(*key).max(depth_of(*n)).max(deepest);
     }
     left.next().is_none() && entries.ascends() && entries.deepest() == deepest
 }
@@ -196,24 +183,19 @@ fn is_right_map(entries: &Entries, map: &BTreeMap<i64, i64>) -> bool {
 fn is_right_set(elements: &Elements, set: &BTreeMap<i64, i64>) -> bool {
     let mut left = elements.iter();
     let mut deepest = 0;
-    for nested in [false, true] {
-        for (n, _) in set {
-            if (*n < 0) != nested {
-                continue;
-            }
-            let Some(x) = left.next() else {
-                return false;
-            };
-            if !stands_for(x, *n) {
-                return false;
-            }
-            deepest = depth_of(*n).max(deepest);
+    for (n, _) in set {
+        let Some(x) = left.next() else {
+            return false;
+        };
+        if !stands_for(x, *n) {
+            return false;
         }
+        deepest = depth_of(*n).max(deepest);
     }
     left.next().is_none() && elements.ascends() && elements.deepest() == deepest
 }
 
-// Whether one member is found, or not, as it should be: by its place in the vector, and by itself in the map and the set.
+// Whether one member is found, or not, as it should be.
 fn is_found(alloc: Global, version: &Version, n: i64) -> Result<bool, Fail> {
     let x = member(alloc, n)?;
     if !version.entries.ascends() || !version.elements.ascends() {
@@ -224,14 +206,8 @@ fn is_found(alloc: Global, version: &Version, n: i64) -> Result<bool, Fail> {
         (None, None) => true,
         _ => false,
     };
-    let i = n.unsigned_abs() as usize;
-    let in_vector = match (version.items.get(i), version.list.get(i)) {
-        (Some(value), Some(m)) => stands_for(value, *m),
-        (None, None) => true,
-        _ => false,
-    };
     let in_set = version.elements.contains(&x) == version.set.contains_key(&n);
-    Ok(in_map && in_vector && in_set)
+    Ok(in_map && in_set)
 }
 
 fn is_right(alloc: Global, seed: &mut u64, version: &Version) -> Result<bool, Fail> {
@@ -248,17 +224,15 @@ fn is_right(alloc: Global, seed: &mut u64, version: &Version) -> Result<bool, Fa
     )
 }
 
-// ---- the run
-
-// Some thousand members in each, made at once.
-fn start(alloc: Global) -> Result<Version, Fail> {
+// So many members in each, made at once.
+fn start(alloc: Global, count: i64) -> Result<Version, Fail> {
     let mut values = Vec::new(alloc);
     let mut list = Vec::new(alloc);
     let mut pairs = Vec::new(alloc);
     let mut map = BTreeMap::new(alloc);
     let mut elements = Vec::new(alloc);
     let mut set = BTreeMap::new(alloc);
-    for n in 0..3_000 {
+    for n in 0..count {
         values.push(member(alloc, n)?)?;
         list.push(n)?;
         pairs.push((member(alloc, n)?, member(alloc, 7)?))?;
@@ -292,7 +266,7 @@ fn go_on(
         return Err(Fail::from("no version"));
     };
     let mut next = share(version)?;
-    for _ in 0..KEPT_AFTER {
+    for _ in 0..CHANGES {
         change(alloc, seed, &mut next, grows)?;
     }
     versions.push(next)?;
@@ -302,17 +276,26 @@ fn go_on(
 #[test]
 fn old_versions_stay(rt: HostRuntime) -> Result<(), Fail> {
     let alloc = rt.alloc();
-    let mut versions = vec![in alloc; start(alloc)?]?;
+    let mut versions = vec![in alloc; start(alloc, 3_000)?]?;
     let mut seed: u64 = 17;
-    for round in 0..CHANGES / KEPT_AFTER {
+    for round in 0..VERSIONS {
         go_on(alloc, &mut seed, &mut versions, round % 20 < 10)?;
     }
     let mut longest: usize = 0;
     for (i, version) in versions.iter().enumerate() {
-        assert!(rt; is_right(alloc, &mut seed, version)?, "version {i}");
+        same(&rt, (i, is_right(alloc, &mut seed, version)?), (i, true));
         longest = longest.max(version.map.len()).max(version.set.len());
     }
-    assert!(rt; longest > 4_000, "{longest} members");
+    same(&rt, (longest > 4_000, longest), (true, longest));
+    Ok(())
+}
+
+fn grow(alloc: Global, version: &mut Version) -> Result<(), Fail> {
+    for n in 0..MANY {
+        push(alloc, version, n)?;
+        change_map(alloc, version, n, Some(n))?;
+        change_set(alloc, version, n, true)?;
+    }
     Ok(())
 }
 
@@ -320,18 +303,22 @@ fn old_versions_stay(rt: HostRuntime) -> Result<(), Fail> {
 #[test]
 fn many_members_come_one_by_one(rt: HostRuntime) -> Result<(), Fail> {
     let alloc = rt.alloc();
-    let mut items = Items::of(alloc, Vec::new(alloc))?;
-    let mut elements = Elements::of(alloc, Vec::new(alloc))?;
-    let mut entries = Entries::of(alloc, Vec::new(alloc))?;
-    for n in 0..MANY {
-        let n = n as i64;
-        items.push(alloc, member(alloc, n)?)?;
-        elements.insert(alloc, member(alloc, n)?)?;
-        entries.insert(alloc, member(alloc, n)?, member(alloc, n)?)?;
+    let mut version = start(alloc, 0)?;
+    grow(alloc, &mut version)?;
+    same(&rt, is_right(alloc, &mut 17, &version)?, true);
+    Ok(())
+}
+
+#[test]
+fn values_are_nested_64_deep_at_most(rt: HostRuntime) -> Result<(), Fail> {
+    let alloc = rt.alloc();
+    let mut node = Node::Int(5);
+    for _ in 0..64 {
+        node = Node::Vector(Items::of(alloc, vec![in alloc; value_of(node)?]?)?);
     }
-    assert_eq!(rt;
-        (items.len(), elements.len(), entries.len()),
-        (MANY, MANY, MANY)
-    );
+    let deepest = value_of(node)?;
+    same(&rt, deepest.depth(), 64);
+    let deeper = Node::Vector(Items::of(alloc, vec![in alloc; deepest]?)?);
+    same(&rt, Value::of(deeper).is_err(), true);
     Ok(())
 }

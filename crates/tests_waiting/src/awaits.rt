@@ -1,25 +1,21 @@
 //! Who waits for agents returns once all is gone that was there when it came, and not before.
-ghost use Rattle.std.specs.Prelude.{◌≡◌};
-ghost use Rattle.ref_world.specs.Shares.{IsBlank};
-
+use crate::cases::{Case, check, found};
+use crate::same::same;
 use ref_fun::codes::PLUS;
 use ref_fun::{Core, CoreFunctions};
 use ref_shared::{AwaitFault, Gate, Open, Quiet, Shared, Spot};
-use ref_world::ALL_PARTS;
-use std::alloc::Global;
-use std::marker::Brand;
 use std::process::Abort;
 use std::sync::Wait;
 use std::sync::atomic::Ordering;
-use std::sync::ledger::{Blank, Ledger};
+use std::sync::ledger::Ledger;
 use std::test::Fail;
 use std::thread;
 use std::thread::Threads;
 use std::time::Clock;
-use tests_shared::jobs::{two_agents, work};
+use tests_shared::jobs::work;
 use tests_shared::steps::send;
 use tests_shared::tables::Poor;
-use tests_shared::worlds::{Stop, opened, value};
+use tests_shared::worlds::{Stop, value};
 use tests_threads::flags::Flags;
 use tests_threads::waits::{Meet, wait_for, wait_past};
 
@@ -81,7 +77,7 @@ impl<'a, 'b, 'c, R: AllocGlobal + Wait + Clock, C: Ledger, A: Ledger, K: Ledger>
 
 // What the other thread does, step by step. Each returns whether it went as planned, and whether the call has returned too early.
 #[derive(Clone, Copy, Drop)]
-enum Step {
+pub(crate) enum Step {
     // Waits until the other waits.
     Come,
     // Runs an action that is held until the other waits, and then until so many more were sent.
@@ -146,9 +142,7 @@ fn restart<R: AllocGlobal + Wait, C: Ledger, A: Ledger, K: Ledger>(
 ) -> bool {
     let alloc = rt.alloc();
     match value(alloc, "0") {
-        Ok(zero) => shared
-            .restart(rt, alloc, &CoreFunctions, 0, zero, clear)
-            .is_ok(),
+        Ok(zero) => shared.restart(rt, &CoreFunctions, 0, zero, clear).is_ok(),
         Err(_) => false,
     }
 }
@@ -174,12 +168,7 @@ fn make<R: AllocGlobal + Wait + Clock, C: Ledger, A: Ledger, K: Ledger>(
 }
 
 // What is sent to g as `+ x`, the agents that are waited for, and what the other thread does.
-#[derive(Clone, Copy, Drop)]
-struct Case {
-    queue: &'static [&'static str],
-    agents: &'static [u32],
-    steps: &'static [Step],
-}
+pub(crate) type Waiting = (&'static [&'static str], &'static [u32], &'static [Step]);
 
 // What the other thread found: whether all went as planned, whether the call returned too early, and whether it returned before
 // the shared world was closed, or soon after the last step.
@@ -233,53 +222,16 @@ fn await_and_act<
     A: Ledger + Send + Sync,
     K: Ledger + Send + Sync,
     R: AllocGlobal + Threads + Wait + Clock + Sync,
->(rt: &R, shared: &Shared<Core, C, A, K>, case: Case) -> (Result<(), AwaitFault>, Other) {
+>(rt: &R, shared: &Shared<Core, C, A, K>, case: Waiting) -> (Result<(), AwaitFault>, Other) {
     let flags = Flags::new();
     let lent = &flags;
-    let agents = case.agents;
+    let (_queue, agents, steps) = case;
     let (awaited, other) = thread::join(
         rt,
         move || await_when_told(rt, shared, agents, lent),
-        move || act(rt, shared, case.steps, lent),
+        move || act(rt, shared, steps, lent),
     );
     (awaited, other)
-}
-
-fn try_waiting<
-    C: Ledger + Send + Sync,
-    A: Ledger + Send + Sync,
-    K: Ledger + Send + Sync,
-    R: AllocGlobal + Threads + Wait + Clock + Sync,
->(
-    rt: &R,
-    alloc: Global,
-    case: Case,
-    commits: Blank,
-    added: Blank,
-    taken: Blank,
-) -> Result<(Result<(), AwaitFault>, Other), Stop>
-    requires commits { IsBlank commits C.name C.parts }
-    requires added { IsBlank added A.name A.parts }
-    requires taken { IsBlank taken K.name K.parts }
-{
-    let (shared, _share) = opened::<C, A, K>(alloc, two_agents(alloc)?, commits, added, taken)?;
-    for text in case.queue {
-        send(rt, alloc, &shared, 0, PLUS, text)?;
-    }
-    Ok(await_and_act(rt, &shared, case))
-}
-
-// What the call of a case returned, and what the other thread found.
-fn awaited_and_found<R: AllocGlobal + Threads + Wait + Clock + Sync>(
-    rt: &R,
-    case: Case,
-) -> Result<(Result<(), AwaitFault>, Other), Stop> {
-    let (commits, added, taken) = (
-        Blank::new(ALL_PARTS),
-        Blank::new(ALL_PARTS),
-        Blank::new(ALL_PARTS),
-    );
-    try_waiting::<Brand, Brand, Brand, R>(rt, rt.alloc(), case, commits, added, taken)
 }
 
 const AS_PLANNED: Other = Other {
@@ -288,19 +240,24 @@ const AS_PLANNED: Other = Other {
     in_time: true,
 };
 
-// Where the call returns this, and all goes as planned.
-fn check<R: AllocGlobal + Threads + Wait + Clock + Abort + Sync>(
+// The call returns this, and all goes as planned.
+pub(crate) fn see<
+    C: Ledger + Send + Sync,
+    A: Ledger + Send + Sync,
+    K: Ledger + Send + Sync,
+    R: AllocGlobal + Threads + Wait + Clock + Abort + Sync,
+>(
     rt: &R,
-    case: Case,
+    shared: &Shared<Core, C, A, K>,
+    case: Waiting,
     wanted: Result<(), AwaitFault>,
-) -> Result<(), Fail> {
-    let found = awaited_and_found(rt, case)?;
-    assert_eq!(rt; found, (wanted, AS_PLANNED));
+) -> Result<(), Stop> {
+    for text in case.0 {
+        send(rt, rt.alloc(), shared, 0, PLUS, text)?;
+    }
+    same(rt, await_and_act(rt, shared, case), (wanted, AS_PLANNED));
     Ok(())
 }
-
-// The queue of g, the agents that are waited for, and what the other thread does until all is gone.
-type Row = (&'static [&'static str], &'static [u32], &'static [Step]);
 
 const NO_MEMORY: Poor = Poor {
     has_memory: false,
@@ -312,86 +269,51 @@ const NO_PREDICATES: Poor = Poor {
     has_predicates: false,
 };
 
-const UNTIL_THE_END: &[Row] = &[
-    (&["1"], &[0], &[Step::Hold(0)]),
-    (&["1", "2"], &[0], &[Step::Hold(0), Step::Hold(0)]),
+const COME: Step = Step::Come;
+
+const HOLD: Step = Step::Hold(0);
+
+const FAILED: Result<(), AwaitFault> = Err(AwaitFault::Failed(0));
+
+// These, and what the call returns.
+const ROWS: &[(Waiting, Result<(), AwaitFault>)] = &[
+    // Who waits for an agent returns when all has ended.
+    ((&["1"], &[0], &[HOLD]), Ok(())),
+    ((&["1", "2"], &[0], &[HOLD, HOLD]), Ok(())),
+    ((&["1", "2"], &[0], &[COME, HOLD, HOLD]), Ok(())),
+    ((&["1"], &[0, 1], &[HOLD]), Ok(())),
+    ((&["1"], &[1, 0], &[HOLD]), Ok(())),
+    ((&["1"], &[0, 0], &[HOLD]), Ok(())),
     (
-        &["1", "2"],
-        &[0],
-        &[Step::Come, Step::Hold(0), Step::Hold(0)],
-    ),
-    (&["1"], &[0, 1], &[Step::Hold(0)]),
-    (&["1"], &[1, 0], &[Step::Hold(0)]),
-    (&["1"], &[0, 0], &[Step::Hold(0)]),
-    (
-        &["1"],
-        &[0],
-        &[Step::Come, Step::PutBack(NO_MEMORY), Step::Hold(0)],
-    ),
-    (
-        &["1"],
-        &[0],
-        &[Step::Come, Step::PutBack(NO_PREDICATES), Step::Hold(0)],
+        (&["1"], &[0], &[COME, Step::PutBack(NO_MEMORY), HOLD]),
+        Ok(()),
     ),
     (
-        &["1", "2"],
-        &[0],
-        &[Step::Hold(0), Step::Fold, Step::Hold(0)],
+        (&["1"], &[0], &[COME, Step::PutBack(NO_PREDICATES), HOLD]),
+        Ok(()),
     ),
-    (&[":k"], &[0], &[Step::Hold(0)]),
-    (&["1", ":k"], &[0], &[Step::Hold(0), Step::Hold(0)]),
+    ((&["1", "2"], &[0], &[HOLD, Step::Fold, HOLD]), Ok(())),
+    // An action that fails the agent has ended too.
+    ((&[":k"], &[0], &[HOLD]), Ok(())),
+    ((&["1", ":k"], &[0], &[HOLD, HOLD]), Ok(())),
+    // One that is sent later is on its way, and another one waits, when the call returns.
+    ((&["1"], &[0], &[Step::Hold(2), Step::HoldBehind]), Ok(())),
+    // A failure wakes who waits for what is behind it.
+    ((&[":k", "1"], &[0], &[HOLD]), FAILED),
+    ((&["1", ":k", "2"], &[1, 0], &[HOLD, HOLD]), FAILED),
+    // Closing wakes who waits for an agent.
+    (
+        (&["1"], &[0], &[COME, Step::Close]),
+        Err(AwaitFault::Closed),
+    ),
 ];
 
-// An action that fails the agent has ended too.
 #[test]
 fn who_waits_for_an_agent_returns_when_all_has_ended(rt: HostRuntime) -> Result<(), Fail> {
-    for row in UNTIL_THE_END {
-        let (queue, agents, steps) = *row;
-        let case = Case {
-            queue,
-            agents,
-            steps,
-        };
-        check(&rt, case, Ok(()))?;
+    for (waiting, wanted) in ROWS {
+        check(&rt, Case::Awaits(*waiting, *wanted))?;
     }
     Ok(())
-}
-
-// One that is sent later is on its way, and another one waits, when the call returns.
-#[test]
-fn what_is_sent_later_is_not_waited_for(rt: HostRuntime) -> Result<(), Fail> {
-    let case = Case {
-        queue: &["1"],
-        agents: &[0],
-        steps: &[Step::Hold(2), Step::HoldBehind],
-    };
-    check(&rt, case, Ok(()))
-}
-
-#[test]
-fn a_failure_wakes_who_waits_for_what_is_behind_it(rt: HostRuntime) -> Result<(), Fail> {
-    let one = Case {
-        queue: &[":k", "1"],
-        agents: &[0],
-        steps: &[Step::Hold(0)],
-    };
-    check(&rt, one, Err(AwaitFault::Failed(0)))?;
-    let two = Case {
-        queue: &["1", ":k", "2"],
-        agents: &[1, 0],
-        steps: &[Step::Hold(0), Step::Hold(0)],
-    };
-    check(&rt, two, Err(AwaitFault::Failed(0)))
-}
-
-#[test]
-fn closing_wakes_who_waits_for_an_agent(rt: HostRuntime) -> Result<(), Fail> {
-    let case = Case {
-        queue: &["1"],
-        agents: &[0],
-        steps: &[Step::Come, Step::Close],
-    };
-    check(&rt, case, Err(AwaitFault::Closed))
 }
 
 // ---- A failure and a restart at once
@@ -399,21 +321,20 @@ fn closing_wakes_who_waits_for_an_agent(rt: HostRuntime) -> Result<(), Fail> {
 // Runs an action that fails g, with another one behind it, and then these steps, of which the first restarts g at once. Whoever waits may
 // see the failure before the restart, and returns then. If not, all has to go as planned, until all is gone. Returns whether it missed the
 // failure.
-fn misses_failure<R: AllocGlobal + Threads + Wait + Clock + Abort + Sync>(
-    rt: &R,
-    steps: &'static [Step],
-) -> Result<bool, Stop> {
-    let case = Case {
-        queue: &[":k", "1"],
-        agents: &[0],
-        steps,
-    };
-    let (awaited, other) = awaited_and_found(rt, case)?;
+pub(crate) fn misses_failure<
+    C: Ledger + Send + Sync,
+    A: Ledger + Send + Sync,
+    K: Ledger + Send + Sync,
+    R: AllocGlobal + Threads + Wait + Clock + Abort + Sync,
+>(rt: &R, shared: &Shared<Core, C, A, K>, steps: &'static [Step]) -> Result<bool, Stop> {
+    send(rt, rt.alloc(), shared, 0, PLUS, ":k")?;
+    send(rt, rt.alloc(), shared, 0, PLUS, "1")?;
+    let (awaited, other) = await_and_act(rt, shared, (&[], &[0], steps));
     if awaited == Err(AwaitFault::Failed(0)) {
-        assert_eq!(rt; (other.went, other.in_time), (true, true));
+        same(rt, (other.went, other.in_time), (true, true));
         return Ok(false);
     }
-    assert_eq!(rt; (awaited, other), (Ok(()), AS_PLANNED));
+    same(rt, (awaited, other), (Ok(()), AS_PLANNED));
     Ok(true)
 }
 
@@ -423,7 +344,7 @@ fn check_missed<R: AllocGlobal + Threads + Wait + Clock + Abort + Sync>(
     steps: &'static [Step],
 ) -> Result<(), Fail> {
     for _ in 0..20u32 {
-        if misses_failure(rt, steps)? {
+        if found(rt, Case::Misses(steps))? {
             return Ok(());
         }
     }
@@ -432,11 +353,10 @@ fn check_missed<R: AllocGlobal + Threads + Wait + Clock + Abort + Sync>(
 
 #[test]
 fn who_misses_a_failure_waits_for_what_was_behind_it(rt: HostRuntime) -> Result<(), Fail> {
-    let steps = &[Step::Hold(0), Step::Restart(false), Step::Hold(0)];
-    check_missed(&rt, steps)
+    check_missed(&rt, &[HOLD, Step::Restart(false), HOLD])
 }
 
 #[test]
 fn who_misses_a_failure_waits_for_nothing_that_was_dropped(rt: HostRuntime) -> Result<(), Fail> {
-    check_missed(&rt, &[Step::Hold(0), Step::Restart(true)])
+    check_missed(&rt, &[HOLD, Step::Restart(true)])
 }

@@ -1,27 +1,25 @@
 //! Many waits of several threads: each ends.
-ghost use Rattle.std.specs.Prelude.{◌≡◌};
-ghost use Rattle.ref_world.specs.Shares.{IsBlank};
-
+use crate::cases::{Case, check};
+use crate::same::same;
 use ref_fun::codes::{MINUS, PLUS};
 use ref_fun::{Core, CoreFunctions};
 use ref_log::{Stamp, Who};
 use ref_shared::{Open, Quiet, Shared};
 use ref_tx::Tx;
-use ref_world::{ALL_PARTS, Share};
+use ref_world::Share;
 use std::alloc::Global;
-use std::marker::Brand;
+use std::process::Abort;
 use std::sync::Wait;
 use std::sync::atomic::{AtomicBool, Ordering};
-use std::sync::ledger::{Blank, Ledger};
+use std::sync::ledger::Ledger;
 use std::test::Fail;
 use std::thread;
 use std::thread::Threads;
 use std::time::Clock;
-use tests_shared::jobs::{agents_at, two_agents};
+use tests_shared::jobs::agents_at;
 use tests_shared::numbers::int_of;
-use tests_shared::scenarios::{CommitCount, seen_at_end};
 use tests_shared::steps::send;
-use tests_shared::worlds::{Stop, add, done, int_at, one_arg, opened, plain_start};
+use tests_shared::worlds::{Stop, add, done, int_at, one_arg};
 use tests_threads::flags::Flags;
 use tests_threads::pools::two_pools;
 use tests_threads::waits::wait_for;
@@ -165,43 +163,29 @@ fn give_and_take<
     (joined(both.0, both.1), gave)
 }
 
-// How many each took, whether all went well, what a holds then, and how many commits there are.
-type Taken = (Option<(u32, u32)>, bool, Option<i64>, u64);
-
-fn try_taking<
+// Each takes what it waits for once.
+pub(crate) fn see_taking<
     C: Ledger + Send + Sync,
     A: Ledger + Send + Sync,
     K: Ledger + Send + Sync,
-    R: AllocGlobal + Threads + Wait + Clock + Sync,
->(rt: &R, alloc: Global, commits: Blank, added: Blank, taken: Blank) -> Result<Taken, Stop>
-    requires commits { IsBlank commits C.name C.parts }
-    requires added { IsBlank added A.name A.parts }
-    requires taken { IsBlank taken K.name K.parts }
-{
-    let start = plain_start(alloc, "0", "")?;
-    let (shared, mut share) = opened::<C, A, K>(alloc, start, commits, added, taken)?;
-    let other = done(share.split(1).ok_or(Stop::Refused))?;
-    let third = done(share.split(1).ok_or(Stop::Refused))?;
-    let (both, gave) = give_and_take(rt, &shared, share, other, third);
-    let (mut share, counts) = both;
+    R: AllocGlobal + Threads + Wait + Clock + Abort + Sync,
+>(rt: &R, shared: &Shared<Core, C, A, K>, share: &mut Share<C, A, K>) -> Result<(), Stop> {
+    let other = share.split(1).ok_or(Stop::Refused)?;
+    let third = share.split(1).ok_or(Stop::Refused)?;
+    let part = share.split(1).ok_or(Stop::Refused)?;
+    let (both, gave) = give_and_take(rt, shared, part, other, third);
+    let (part, counts) = both;
     let (third, went) = gave;
+    done(share.join(part))?;
     done(share.join(third))?;
-    let value = int_at(rt, &shared, Who::Ref(0));
-    let commits = seen_at_end(alloc, shared, share, &CommitCount)?;
-    Ok((counts, went, value, commits))
+    same(rt, (counts, went), (Some((25, 25)), true));
+    same(rt, int_at(rt, shared, Who::Ref(0)), Some(0));
+    Ok(())
 }
 
 #[test]
 fn each_that_waits_for_a_value_takes_it_once(rt: HostRuntime) -> Result<(), Fail> {
-    let alloc = rt.alloc();
-    let (commits, added, taken) = (
-        Blank::new(ALL_PARTS),
-        Blank::new(ALL_PARTS),
-        Blank::new(ALL_PARTS),
-    );
-    let found = try_taking::<Brand, Brand, Brand, _>(&rt, alloc, commits, added, taken)?;
-    assert_eq!(rt; found, (Some((25, 25)), true, Some(0), 100));
-    Ok(())
+    check(&rt, Case::Takes)
 }
 
 // ---- Two send and wait, and two run the actions
@@ -322,37 +306,18 @@ fn await_and_run<
     (awaited, ran)
 }
 
-fn try_awaiting<
+pub(crate) fn see_awaiting<
     C: Ledger + Send + Sync,
     A: Ledger + Send + Sync,
     K: Ledger + Send + Sync,
-    R: AllocGlobal + Threads + Wait + Clock + Sync,
->(
-    rt: &R,
-    alloc: Global,
-    commits: Blank,
-    added: Blank,
-    taken: Blank,
-) -> Result<(Awaited, (Option<i64>, Option<i64>)), Stop>
-    requires commits { IsBlank commits C.name C.parts }
-    requires added { IsBlank added A.name A.parts }
-    requires taken { IsBlank taken K.name K.parts }
-{
-    let (shared, _share) = opened::<C, A, K>(alloc, two_agents(alloc)?, commits, added, taken)?;
-    let awaited = await_and_run(rt, &shared);
-    Ok((awaited, agents_at(rt, &shared)))
+    R: AllocGlobal + Threads + Wait + Clock + Abort + Sync,
+>(rt: &R, shared: &Shared<Core, C, A, K>) -> Result<(), Stop> {
+    same(rt, await_and_run(rt, shared), ((25, 25), (Ok(100), true)));
+    same(rt, agents_at(rt, shared), (Some(25_025), Some(25_025)));
+    Ok(())
 }
 
 #[test]
 fn each_that_waits_for_agents_finds_what_it_sent(rt: HostRuntime) -> Result<(), Fail> {
-    let alloc = rt.alloc();
-    let (commits, added, taken) = (
-        Blank::new(ALL_PARTS),
-        Blank::new(ALL_PARTS),
-        Blank::new(ALL_PARTS),
-    );
-    let found = try_awaiting::<Brand, Brand, Brand, _>(&rt, alloc, commits, added, taken)?;
-    let awaited = ((25, 25), (Ok(100), true));
-    assert_eq!(rt; found, (awaited, (Some(25_025), Some(25_025))));
-    Ok(())
+    check(&rt, Case::Sends)
 }

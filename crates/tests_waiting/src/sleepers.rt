@@ -1,26 +1,24 @@
 //! A thread that waits for an action to run is woken by each single send, also while others wait for something else; and the end wakes all
 //! who wait.
-ghost use Rattle.std.specs.Prelude.{◌≡◌};
-ghost use Rattle.ref_world.specs.Shares.{IsBlank};
-
 use crate::awaits::{await_when_told, meet};
+use crate::cases::{Case, check};
+use crate::same::same;
 use crate::whens::{nudge, wait_in_vain};
 use ref_fun::Core;
 use ref_fun::codes::PLUS;
 use ref_shared::{AwaitFault, Shared, Worked};
-use ref_world::{ALL_PARTS, Share};
-use std::alloc::Global;
-use std::marker::Brand;
+use ref_world::Share;
+use std::process::Abort;
 use std::sync::Wait;
 use std::sync::atomic::Ordering;
-use std::sync::ledger::{Blank, Ledger};
+use std::sync::ledger::Ledger;
 use std::test::Fail;
 use std::thread;
 use std::thread::Threads;
 use std::time::Clock;
-use tests_shared::jobs::{Work, agents_at, commit_four, two_agents};
-use tests_shared::steps::send;
-use tests_shared::worlds::{Stop, opened};
+use tests_shared::jobs::{Work, agents_at, send_four};
+use tests_shared::steps::{commit, send};
+use tests_shared::worlds::{STAMP, Stop};
 use tests_threads::flags::Flags;
 use tests_threads::pools::work_thrice;
 use tests_threads::waits::{wait_for, wait_past};
@@ -159,38 +157,35 @@ fn three_wait_and_wake<
     (three, woke)
 }
 
-// What the three returned, whether each was woken in its turn, and what the agents are then.
-type Woken = (Three, bool, (Option<i64>, Option<i64>));
+// Commits `send h + 4`, which is held, and returns the point.
+fn commit_four<C: Ledger, A: Ledger, K: Ledger, R: AllocGlobal + Wait>(
+    rt: &R,
+    shared: &Shared<Core, C, A, K>,
+    share: &mut Share<C, A, K>,
+) -> Result<u64, Stop> {
+    let mut tx = shared.begin(rt, rt.alloc())?;
+    send_four(rt.alloc(), &mut tx)?;
+    commit(rt, rt.alloc(), shared, share, STAMP, tx)
+}
 
-fn try_sleepers<
+pub(crate) fn see_waking<
     C: Ledger + Send + Sync,
     A: Ledger + Send + Sync,
     K: Ledger + Send + Sync,
-    R: AllocGlobal + Threads + Wait + Clock + Sync,
->(rt: &R, alloc: Global, commits: Blank, added: Blank, taken: Blank) -> Result<Woken, Stop>
-    requires commits { IsBlank commits C.name C.parts }
-    requires added { IsBlank added A.name A.parts }
-    requires taken { IsBlank taken K.name K.parts }
-{
-    let (shared, mut share) = opened::<C, A, K>(alloc, two_agents(alloc)?, commits, added, taken)?;
-    let point = commit_four(rt, alloc, &shared, &mut share)?;
-    let (three, woke) = three_wait_and_wake(rt, &shared, share, point);
-    Ok((three, woke, agents_at(rt, &shared)))
+    R: AllocGlobal + Threads + Wait + Clock + Abort + Sync,
+>(rt: &R, shared: &Shared<Core, C, A, K>, share: &mut Share<C, A, K>) -> Result<(), Stop> {
+    let point = commit_four(rt, shared, share)?;
+    let part = share.split(1).ok_or(Stop::Refused)?;
+    let (three, woke) = three_wait_and_wake(rt, shared, part, point);
+    let (g, h) = (Ok(Worked::Did(0)), Ok(Worked::Did(1)));
+    same(rt, (three, woke), ((Ok(()), Some(1), (g, g, h)), true));
+    same(rt, agents_at(rt, shared), (Some(2), Some(4)));
+    Ok(())
 }
 
 #[test]
 fn a_send_wakes_a_worker_beside_others_who_wait(rt: HostRuntime) -> Result<(), Fail> {
-    let alloc = rt.alloc();
-    let (commits, added, taken) = (
-        Blank::new(ALL_PARTS),
-        Blank::new(ALL_PARTS),
-        Blank::new(ALL_PARTS),
-    );
-    let woken = try_sleepers::<Brand, Brand, Brand, _>(&rt, alloc, commits, added, taken)?;
-    let (g, h) = (Ok(Worked::Did(0)), Ok(Worked::Did(1)));
-    let three = (Ok(()), Some(1), (g, g, h));
-    assert_eq!(rt; woken, (three, true, (Some(2), Some(4))));
-    Ok(())
+    check(&rt, Case::Wakes)
 }
 
 // ---- At the end
@@ -228,30 +223,20 @@ fn two_wait_and_close<
     (two, woke)
 }
 
-fn try_end<
+pub(crate) fn see_closing<
     C: Ledger + Send + Sync,
     A: Ledger + Send + Sync,
     K: Ledger + Send + Sync,
-    R: AllocGlobal + Threads + Wait + Clock + Sync,
->(rt: &R, alloc: Global, commits: Blank, added: Blank, taken: Blank) -> Result<(Two, bool), Stop>
-    requires commits { IsBlank commits C.name C.parts }
-    requires added { IsBlank added A.name A.parts }
-    requires taken { IsBlank taken K.name K.parts }
-{
-    let (shared, mut share) = opened::<C, A, K>(alloc, two_agents(alloc)?, commits, added, taken)?;
-    commit_four(rt, alloc, &shared, &mut share)?;
-    Ok(two_wait_and_close(rt, &shared, share))
+    R: AllocGlobal + Threads + Wait + Clock + Abort + Sync,
+>(rt: &R, shared: &Shared<Core, C, A, K>, share: &mut Share<C, A, K>) -> Result<(), Stop> {
+    let _point = commit_four(rt, shared, share)?;
+    let part = share.split(1).ok_or(Stop::Refused)?;
+    let wanted = ((Err(AwaitFault::Closed), Some(1)), true);
+    same(rt, two_wait_and_close(rt, shared, part), wanted);
+    Ok(())
 }
 
 #[test]
 fn closing_wakes_all_who_wait(rt: HostRuntime) -> Result<(), Fail> {
-    let alloc = rt.alloc();
-    let (commits, added, taken) = (
-        Blank::new(ALL_PARTS),
-        Blank::new(ALL_PARTS),
-        Blank::new(ALL_PARTS),
-    );
-    let found = try_end::<Brand, Brand, Brand, _>(&rt, alloc, commits, added, taken)?;
-    assert_eq!(rt; found, ((Err(AwaitFault::Closed), Some(1)), true));
-    Ok(())
+    check(&rt, Case::Closes)
 }

@@ -1,24 +1,20 @@
 //! Several who wait for the same agent return in their turns: each once its own actions have ended, and not before.
-ghost use Rattle.std.specs.Prelude.{◌≡◌};
-ghost use Rattle.ref_world.specs.Shares.{IsBlank};
-
 use crate::awaits::{await_when_told, meet, run_rest, send_more};
+use crate::cases::{Case, check};
+use crate::same::same;
 use ref_fun::codes::PLUS;
 use ref_fun::{Core, CoreFunctions};
 use ref_shared::{AwaitFault, Gate, Quiet, Shared, Spot};
-use ref_world::ALL_PARTS;
-use std::alloc::Global;
-use std::marker::Brand;
+use std::process::Abort;
 use std::sync::Wait;
 use std::sync::atomic::Ordering;
-use std::sync::ledger::{Blank, Ledger};
+use std::sync::ledger::Ledger;
 use std::test::Fail;
 use std::thread;
 use std::thread::Threads;
 use std::time::Clock;
-use tests_shared::jobs::two_agents;
 use tests_shared::steps::send;
-use tests_shared::worlds::{Stop, opened};
+use tests_shared::worlds::Stop;
 use tests_threads::flags::Flags;
 use tests_threads::waits::wait_past;
 
@@ -180,31 +176,20 @@ fn three_await_in_turn<
     (awaited, went)
 }
 
-fn try_turns<
+pub(crate) fn see<
     C: Ledger + Send + Sync,
     A: Ledger + Send + Sync,
     K: Ledger + Send + Sync,
-    R: AllocGlobal + Threads + Wait + Clock + Sync,
->(rt: &R, alloc: Global, commits: Blank, added: Blank, taken: Blank) -> Result<(Three, bool), Stop>
-    requires commits { IsBlank commits C.name C.parts }
-    requires added { IsBlank added A.name A.parts }
-    requires taken { IsBlank taken K.name K.parts }
-{
-    let (shared, _share) = opened::<C, A, K>(alloc, two_agents(alloc)?, commits, added, taken)?;
-    send(rt, alloc, &shared, 0, PLUS, "1")?;
-    send(rt, alloc, &shared, 0, PLUS, "1")?;
-    Ok(three_await_in_turn(rt, &shared))
+    R: AllocGlobal + Threads + Wait + Clock + Abort + Sync,
+>(rt: &R, shared: &Shared<Core, C, A, K>) -> Result<(), Stop> {
+    send(rt, rt.alloc(), shared, 0, PLUS, "1")?;
+    send(rt, rt.alloc(), shared, 0, PLUS, "1")?;
+    let wanted = ((Ok(()), Ok(()), Ok(())), true);
+    same(rt, three_await_in_turn(rt, shared), wanted);
+    Ok(())
 }
 
 #[test]
 fn each_who_waits_for_an_agent_returns_in_its_turn(rt: HostRuntime) -> Result<(), Fail> {
-    let alloc = rt.alloc();
-    let (commits, added, taken) = (
-        Blank::new(ALL_PARTS),
-        Blank::new(ALL_PARTS),
-        Blank::new(ALL_PARTS),
-    );
-    let found = try_turns::<Brand, Brand, Brand, _>(&rt, alloc, commits, added, taken)?;
-    assert_eq!(rt; found, ((Ok(()), Ok(()), Ok(())), true));
-    Ok(())
+    check(&rt, Case::Turns)
 }

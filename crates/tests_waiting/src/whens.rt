@@ -1,26 +1,24 @@
 //! A transaction that waits is woken by each entry of another thread, and at the end.
-ghost use Rattle.std.specs.Prelude.{◌≡◌};
-ghost use Rattle.ref_world.specs.Shares.{IsBlank};
-
+use crate::cases::{Case, check};
+use crate::same::same;
 use ref_fun::codes::PLUS;
 use ref_fun::{Core, CoreFunctions};
 use ref_log::{Stamp, Who};
 use ref_shared::{Open, Quiet, Shared, WaitFault};
 use ref_tx::Tx;
-use ref_world::{ALL_PARTS, Share};
+use ref_world::Share;
 use std::alloc::Global;
-use std::marker::Brand;
+use std::process::Abort;
 use std::sync::Wait;
 use std::sync::atomic::Ordering;
-use std::sync::ledger::{Blank, Ledger};
+use std::sync::ledger::Ledger;
 use std::test::Fail;
 use std::thread;
 use std::thread::Threads;
 use std::time::Clock;
-use tests_shared::numbers::int_of;
-use tests_shared::scenarios::{AllCommits, Commits, seen_at_end};
+use tests_shared::scenarios::Commits;
 use tests_shared::steps::commit_set;
-use tests_shared::worlds::{STAMP, Stop, add, done, int_at, one_arg, opened, plain_start, value};
+use tests_shared::worlds::{STAMP, Stop, add, done, int_at, one_arg, value};
 use tests_threads::flags::Flags;
 use tests_threads::waits::{wait_for, wait_past};
 
@@ -79,43 +77,13 @@ fn add_when<R: AllocGlobal + Wait, C: Ledger, A: Ledger, K: Ledger>(
 
 // What makes an entry.
 #[derive(Clone, Copy, Debug, Drop)]
-enum Kind {
+pub(crate) enum Kind {
     Commit,
     Swap,
     Reset,
     CompareAndSet,
     MakeRef,
     MakeAtom,
-}
-
-fn swap<R: Wait, C: Ledger, A: Ledger, K: Ledger>(
-    rt: &R,
-    alloc: Global,
-    shared: &Shared<Core, C, A, K>,
-    share: &mut Share<C, A, K>,
-) -> Result<(), Stop> {
-    let one = one_arg(alloc, "1")?;
-    done(shared.swap(rt, alloc, &CoreFunctions, share, 0, PLUS, one)).map(drop)
-}
-
-fn reset<R: Wait, C: Ledger, A: Ledger, K: Ledger>(
-    rt: &R,
-    alloc: Global,
-    shared: &Shared<Core, C, A, K>,
-    share: &mut Share<C, A, K>,
-) -> Result<(), Stop> {
-    let new = value(alloc, "7")?;
-    done(shared.reset(rt, alloc, &CoreFunctions, share, 0, new)).map(drop)
-}
-
-fn compare<R: Wait, C: Ledger, A: Ledger, K: Ledger>(
-    rt: &R,
-    alloc: Global,
-    shared: &Shared<Core, C, A, K>,
-    share: &mut Share<C, A, K>,
-) -> Result<(), Stop> {
-    let (old, new) = (value(alloc, "0")?, value(alloc, "7")?);
-    done(shared.compare_and_set(rt, alloc, &CoreFunctions, share, 0, &old, new)).map(drop)
 }
 
 fn make_ref<R: Wait, C: Ledger, A: Ledger, K: Ledger>(
@@ -145,9 +113,19 @@ fn enter<R: Wait, C: Ledger, A: Ledger, K: Ledger>(
 ) -> Result<(), Stop> {
     match kind {
         Kind::Commit => commit_set(rt, alloc, shared, share, OTHER, "10").map(drop),
-        Kind::Swap => swap(rt, alloc, shared, share),
-        Kind::Reset => reset(rt, alloc, shared, share),
-        Kind::CompareAndSet => compare(rt, alloc, shared, share),
+        Kind::Swap => {
+            let one = one_arg(alloc, "1")?;
+            done(shared.swap(rt, alloc, &CoreFunctions, share, 0, PLUS, one)).map(drop)
+        }
+        Kind::Reset => {
+            let new = value(alloc, "7")?;
+            done(shared.reset(rt, alloc, &CoreFunctions, share, 0, new)).map(drop)
+        }
+        Kind::CompareAndSet => {
+            let (old, new) = (value(alloc, "0")?, value(alloc, "7")?);
+            let set = shared.compare_and_set(rt, alloc, &CoreFunctions, share, 0, &old, new);
+            done(set).map(drop)
+        }
         Kind::MakeRef => make_ref(rt, alloc, shared),
         Kind::MakeAtom => make_atom(rt, alloc, shared),
     }
@@ -203,47 +181,33 @@ fn add_and_enter<
     (mine, theirs)
 }
 
-// What came of both, the number that a holds then, and the commits.
-#[derive(Debug, Drop, PartialEq)]
-struct Woken {
-    added: Added,
-    woke: bool,
-    value: Option<i64>,
-    commits: Commits,
-}
-
-fn try_kind<
+// The body isn't ready at the first call, and its second one is committed behind the entry.
+pub(crate) fn see_entry<
     C: Ledger + Send + Sync,
     A: Ledger + Send + Sync,
     K: Ledger + Send + Sync,
-    R: AllocGlobal + Threads + Wait + Clock + Sync,
+    R: AllocGlobal + Threads + Wait + Clock + Abort + Sync,
 >(
     rt: &R,
-    alloc: Global,
+    shared: &Shared<Core, C, A, K>,
+    share: &mut Share<C, A, K>,
     kind: Kind,
-    commits: Blank,
-    added: Blank,
-    taken: Blank,
-) -> Result<Woken, Stop>
-    requires commits { IsBlank commits C.name C.parts }
-    requires added { IsBlank added A.name A.parts }
-    requires taken { IsBlank taken K.name K.parts }
-{
-    let start = plain_start(alloc, "0", "0")?;
-    let (shared, mut share) = opened::<C, A, K>(alloc, start, commits, added, taken)?;
-    let other = done(share.split(1).ok_or(Stop::Refused))?;
-    let (mine, theirs) = add_and_enter(rt, &shared, share, other, kind);
-    let (mut share, added) = mine;
+    value: i64,
+) -> Result<(), Stop> {
+    let part = share.split(1).ok_or(Stop::Refused)?;
+    let other = share.split(1).ok_or(Stop::Refused)?;
+    let (mine, theirs) = add_and_enter(rt, shared, part, other, kind);
+    let (part, added) = mine;
     let (other, woke) = theirs;
+    done(share.join(part))?;
     done(share.join(other))?;
-    let value = int_at(rt, &shared, Who::Ref(0));
-    let commits = seen_at_end(alloc, shared, share, &AllCommits)?;
-    Ok(Woken {
-        added,
-        woke,
-        value,
-        commits,
-    })
+    let wanted = Added {
+        point: Ok(2),
+        bodies: 2,
+    };
+    same(rt, (added, woke), (wanted, true));
+    same(rt, int_at(rt, shared, Who::Ref(0)), Some(value));
+    Ok(())
 }
 
 // What makes the entry, what a holds in the end, and whether the entry is a commit.
@@ -256,36 +220,21 @@ const KINDS: &[(Kind, i64, bool)] = &[
     (Kind::MakeAtom, 1, false),
 ];
 
-// What is wanted: the body isn't ready at the first call, and its second one is committed behind the entry.
-fn wanted_of(alloc: Global, value: i64, is_commit: bool) -> Result<Woken, Stop> {
+// The commits then.
+pub(crate) fn wanted_of(alloc: Global, is_commit: bool) -> Result<Commits, Stop> {
     let mut log: Vec<(Stamp, u64)> = Vec::new(alloc);
     if is_commit {
         log.push((OTHER, 0))?;
     }
     log.push((STAMP, 1))?;
     let commits = log.len() as u64;
-    Ok(Woken {
-        added: Added {
-            point: Ok(2),
-            bodies: 2,
-        },
-        woke: true,
-        value: Some(value),
-        commits: Commits { log, commits },
-    })
+    Ok(Commits { log, commits })
 }
 
 #[test]
 fn each_entry_wakes_a_transaction_that_waits(rt: HostRuntime) -> Result<(), Fail> {
-    let alloc = rt.alloc();
     for (kind, value, is_commit) in KINDS {
-        let (commits, added, taken) = (
-            Blank::new(ALL_PARTS),
-            Blank::new(ALL_PARTS),
-            Blank::new(ALL_PARTS),
-        );
-        let woken = try_kind::<Brand, Brand, Brand, _>(&rt, alloc, *kind, commits, added, taken)?;
-        assert_eq!(rt; woken, wanted_of(alloc, *value, *is_commit)?, "{kind:?}");
+        check(&rt, Case::Entry(*kind, *value, *is_commit))?;
     }
     Ok(())
 }
@@ -357,36 +306,18 @@ fn wait_and_close<
     (bodies, woke)
 }
 
-fn try_end<
+pub(crate) fn see_end<
     C: Ledger + Send + Sync,
     A: Ledger + Send + Sync,
     K: Ledger + Send + Sync,
-    R: AllocGlobal + Threads + Wait + Clock + Sync,
->(
-    rt: &R,
-    alloc: Global,
-    commits: Blank,
-    added: Blank,
-    taken: Blank,
-) -> Result<(Option<u32>, bool), Stop>
-    requires commits { IsBlank commits C.name C.parts }
-    requires added { IsBlank added A.name A.parts }
-    requires taken { IsBlank taken K.name K.parts }
-{
-    let start = plain_start(alloc, "0", "")?;
-    let (shared, share) = opened::<C, A, K>(alloc, start, commits, added, taken)?;
-    Ok(wait_and_close(rt, &shared, share))
+    R: AllocGlobal + Threads + Wait + Clock + Abort + Sync,
+>(rt: &R, shared: &Shared<Core, C, A, K>, share: &mut Share<C, A, K>) -> Result<(), Stop> {
+    let part = share.split(1).ok_or(Stop::Refused)?;
+    same(rt, wait_and_close(rt, shared, part), (Some(1), true));
+    Ok(())
 }
 
 #[test]
 fn closing_wakes_a_transaction_that_waits(rt: HostRuntime) -> Result<(), Fail> {
-    let alloc = rt.alloc();
-    let (commits, added, taken) = (
-        Blank::new(ALL_PARTS),
-        Blank::new(ALL_PARTS),
-        Blank::new(ALL_PARTS),
-    );
-    let ended = try_end::<Brand, Brand, Brand, _>(&rt, alloc, commits, added, taken)?;
-    assert_eq!(rt; ended, (Some(1), true));
-    Ok(())
+    check(&rt, Case::End)
 }

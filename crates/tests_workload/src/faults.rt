@@ -1,245 +1,82 @@
-//! Which of several faults of a plan is returned, and what faults say.
-use ref_edn::{ReadFault, read_one};
+//! What faults say, and a word of reports that no run shows.
+use crate::same::same;
+use ref_audit::{DumpFault, DumpMakeFault, Key, Reason, word_of};
+use ref_edn::{Failed, InputFault};
+use ref_fun::{AddFault, CallFault, Cause, FunFault};
 use ref_log::Who;
-use ref_workload::plan::plan;
-use ref_workload::{PlanFault, RunFault};
+use ref_workload::PlanFault;
+use std::fmt::Display;
+use std::process::Abort;
 use std::test::Fail;
 
-const BAD_STEP: PlanFault = PlanFault::BadStep { worker: 0, step: 0 };
-
-const UNKNOWN_NAME: PlanFault = PlanFault::UnknownName { worker: 0, step: 0 };
-
-// The begin of a text, what stands there so often, its end, and the fault.
-const ROWS: &[(&str, &str, usize, &str, PlanFault)] = &[
-    // What stands in the wrong place comes before what there is too much of, and that before what is wrong with each.
-    (
-        "{:version 1 :workers [1] :atoms [",
-        "1 ",
-        4_097,
-        "]}",
-        PlanFault::NotWorkload,
-    ),
-    (
-        "{:version 3 :atoms [",
-        "1 ",
-        4_097,
-        "]}",
-        PlanFault::BadVersion,
-    ),
-    (
-        "{:version 1 :refs [1] :agents [",
-        "1 ",
-        4_097,
-        "]}",
-        PlanFault::TooMany,
-    ),
-    (
-        "{:version 1 :refs [1] :workers [",
-        "[1] ",
-        65,
-        "]}",
-        PlanFault::TooMany,
-    ),
-    (
-        "{:version 1 :refs [1] :workers [[] [",
-        "1 ",
-        10_001,
-        "]]}",
-        PlanFault::TooMany,
-    ),
-    (
-        "{:version 1 :agents [",
-        "1 ",
-        4_096,
-        "]}",
-        PlanFault::BadReference(Who::Agent(0)),
-    ),
-    // So many operations, or arguments, are too many for a step, whatever they name.
-    (
-        "{:version 1 :workers [[[:tx ",
-        "[:alter b f] ",
-        257,
-        "]]]}",
-        BAD_STEP,
-    ),
-    (
-        "{:version 1 :workers [[[:tx ",
-        "[:alter b f] ",
-        256,
-        "]]]}",
-        UNKNOWN_NAME,
-    ),
-    (
-        "{:version 1 :workers [[[:swap x f ",
-        "1 ",
-        9,
-        "]]]}",
-        BAD_STEP,
-    ),
-    (
-        "{:version 1 :workers [[[:swap x f ",
-        "1 ",
-        8,
-        "]]]}",
-        UNKNOWN_NAME,
-    ),
-    // So many carried sends too.
-    (
-        "{:version 2 :workers [[[:send-carry g [f] ",
-        "[h f] ",
-        9,
-        "]]]}",
-        BAD_STEP,
-    ),
-    (
-        "{:version 2 :workers [[[:send-carry g [f] ",
-        "[h f] ",
-        8,
-        "]]]}",
-        UNKNOWN_NAME,
-    ),
-    (
-        "{:version 1 :workers [[[:send-carry g [f] ",
-        "[h f] ",
-        1,
-        "]]]}",
-        BAD_STEP,
-    ),
-    // Names come before functions, over the whole step.
-    (
-        "{:version 1 :refs [[a 0]] :workers [[[:tx [:require a p] ",
-        "[:send a + 1] ",
-        1,
-        "]]]}",
-        UNKNOWN_NAME,
-    ),
-    (
-        "{:version 1 :workers [[",
-        "[:validator y [p]] ",
-        1,
-        "]]}",
-        UNKNOWN_NAME,
-    ),
-    (
-        "{:version 1 :refs [[a 0] ",
-        "[a 0 [>= 1]] ",
-        1,
-        "]}",
-        PlanFault::NameTwice(Who::Ref(1)),
-    ),
-];
-
-#[test]
-fn the_first_fault_of_a_plan_is_told(rt: HostRuntime) -> Result<(), Fail> {
-    let alloc = rt.alloc();
-    for (begin, part, count, end, fault) in ROWS {
-        let parts = part.repeat(alloc, *count)?;
-        let text = format!(in alloc; "{begin}{parts}{end}")?;
-        let value = read_one(alloc, text.as_bytes())?;
-        assert!(rt; plan(alloc, &value).err() == Some(*fault), "{begin}");
-    }
+// A fault says this.
+fn says(rt: &(impl Abort + AllocGlobal), fault: &impl Display, words: &str) -> Result<(), Fail> {
+    let said = fault.to_string(rt.alloc())?;
+    same(rt, said.as_str(), words);
     Ok(())
 }
 
-const WHOLE: &str =
-    "{:version 1 :refs [[a 1] [b/t 2 :tally]] :atoms [[x 3]] :agents [[g 4 :continue]] :workers [[] [[:tx] [:reset x 5]]]}";
-
-// The pool has two threads where nothing is said.
 #[test]
-fn a_plan_has_what_is_declared(rt: HostRuntime) -> Result<(), Fail> {
-    let alloc = rt.alloc();
-    let plan = plan(alloc, &read_one(alloc, WHOLE.as_bytes())?)?;
-    assert_eq!(rt; plan.pool(), 2);
-    assert_eq!(rt; plan.names().refs().len(), 2);
-    assert_eq!(rt; plan.names().refs()[1].as_str(), "b/t");
-    assert_eq!(rt; plan.names().atoms().len(), 1);
-    assert_eq!(rt; plan.names().agents().len(), 1);
-    let start = plan.start();
-    assert_eq!(rt;
-        (start.refs.len(), start.atoms.len(), start.agents.len()),
-        (2, 1, 1)
-    );
-    assert_eq!(rt; (start.refs[0].tally, start.refs[1].tally), (false, true));
-    assert_eq!(rt; plan.workers().len(), 2);
-    assert_eq!(rt; (plan.workers()[0].len(), plan.workers()[1].len()), (0, 2));
-    Ok(())
+fn faults_of_functions_say_what_they_are(rt: HostRuntime) -> Result<(), Fail> {
+    says(&rt, &Cause::WrongKind, "wrong kind of value")?;
+    says(&rt, &Cause::WrongArity, "wrong number of arguments")?;
+    says(&rt, &Cause::Overflow, "integer overflow")?;
+    says(&rt, &Cause::TooDeep, "nested too deep")?;
+    says(&rt, &FunFault::Memory, "out of memory")?;
+    let refused = FunFault::Refused(Cause::Overflow);
+    says(&rt, &refused, "refused: integer overflow")?;
+    says(&rt, &CallFault::NoSuchFun(7), "no function has code 7")?;
+    let refused = CallFault::Refused(Cause::TooDeep);
+    says(&rt, &refused, "refused: nested too deep")?;
+    says(&rt, &AddFault::Taken, "the code is taken")?;
+    says(&rt, &AddFault::Full, "the table is full")
 }
 
-const PLAN_FAULTS: &[(PlanFault, u8, &str)] = &[
-    (PlanFault::NotWorkload, 1, "not a workload"),
-    (PlanFault::BadVersion, 2, "a version other than 1 and 2"),
-    (
-        PlanFault::BadReference(Who::Ref(3)),
-        3,
-        "ref 3 is not a reference",
-    ),
-    (
-        PlanFault::NameTwice(Who::Atom(0)),
-        4,
-        "the name of atom 0 is taken",
-    ),
-    (
-        PlanFault::StartInvalid(Who::Agent(12)),
-        5,
-        "the rule of agent 12 doesn't accept its value",
-    ),
-    (
-        PlanFault::BadTally(Who::Ref(1)),
-        6,
-        "ref 1 can't be the tally",
-    ),
-    (
-        PlanFault::BadStep { worker: 0, step: 3 },
-        7,
-        "step 3 of worker 0 is not a step",
-    ),
-    (
-        PlanFault::UnknownName {
-            worker: 63,
-            step: 0,
-        },
-        8,
-        "step 0 of worker 63 names an unknown reference",
-    ),
-    (
-        PlanFault::UnknownFun {
-            worker: 1,
-            step: 9999,
-        },
-        9,
-        "step 9999 of worker 1 names an unknown function",
-    ),
-    (
-        PlanFault::TooMany,
-        10,
-        "too many references, workers or steps, or a pool out of range",
-    ),
-    (PlanFault::Memory, 11, "out of memory"),
-];
+#[test]
+fn faults_of_streams_and_dumps_say_what_they_are(rt: HostRuntime) -> Result<(), Fail> {
+    says(&rt, &InputFault::Read, "the input could not be read")?;
+    says(&rt, &InputFault::TooLong, "the input is too long")?;
+    says(&rt, &Failed, "a read or a write failed")?;
+    says(&rt, &DumpFault::NotDump, "not a dump")?;
+    let version = "a version that isn't that of the keys";
+    says(&rt, &DumpFault::BadVersion, version)?;
+    let part = DumpFault::BadPart(Key::BaseRefs);
+    says(&rt, &part, "the part :base-refs has a wrong form")?;
+    says(&rt, &DumpFault::BadEntry(2), "entry 2 has a wrong form")?;
+    says(&rt, &DumpMakeFault::TooDeep, "the dump is nested too deep")?;
+    says(&rt, &DumpMakeFault::Unnamed(50), "no function has code 50")
+}
 
 #[test]
 fn faults_of_plans_say_what_they_are(rt: HostRuntime) -> Result<(), Fail> {
-    let alloc = rt.alloc();
-    for (fault, number, words) in PLAN_FAULTS {
-        assert_eq!(rt; fault.number(), *number);
-        assert_eq!(rt; fault.to_string(alloc)?.as_str(), *words);
-    }
-    Ok(())
+    says(&rt, &PlanFault::NotWorkload, "not a workload")?;
+    let version = "a version other than 1 and 2";
+    says(&rt, &PlanFault::BadVersion, version)?;
+    let form = PlanFault::BadReference(Who::Ref(3));
+    says(&rt, &form, "ref 3 is not a reference")?;
+    let name = PlanFault::NameTwice(Who::Atom(0));
+    says(&rt, &name, "the name of atom 0 is taken")?;
+    let invalid = PlanFault::StartInvalid(Who::Agent(12));
+    says(
+        &rt,
+        &invalid,
+        "the rule of agent 12 doesn't accept its value",
+    )?;
+    let tally = PlanFault::BadTally(Who::Ref(1));
+    says(&rt, &tally, "ref 1 can't be the tally")?;
+    let (worker, step) = (60, 3);
+    let form = PlanFault::BadStep { worker, step };
+    says(&rt, &form, "step 3 of worker 60 is not a step")?;
+    let name = PlanFault::UnknownName { worker, step };
+    says(&rt, &name, "step 3 of worker 60 names an unknown reference")?;
+    let fun = PlanFault::UnknownFun { worker, step };
+    says(&rt, &fun, "step 3 of worker 60 names an unknown function")?;
+    let many = "too many references, workers or steps, or a pool out of range";
+    says(&rt, &PlanFault::TooMany, many)
 }
 
-const RUN_FAULTS: &[(RunFault, u8)] = &[
-    (RunFault::Read, 1),
-    (RunFault::InputTooLong, 2),
-    (RunFault::NotEdn(ReadFault::Nothing(0)), 3),
-    (RunFault::Plan(PlanFault::BadVersion), 4),
-    (RunFault::Write, 5),
-    (RunFault::Memory, 6),
-    (RunFault::Internal, 7),
-];
-
+// Nobody makes as many commits as there are points.
 #[test]
-fn faults_of_runs_have_their_numbers(rt: HostRuntime) {
-    for (fault, number) in RUN_FAULTS {
-        assert_eq!(rt; fault.number(), *number);
-    }
+fn the_word_for_the_end_of_points(rt: HostRuntime) {
+    same(&rt, word_of(Reason::PointLimit), "point-limit");
 }

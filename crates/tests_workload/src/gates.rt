@@ -57,19 +57,25 @@ pub(crate) struct Turn<'a, 'b, R: Clock> {
 
 impl<'a, 'b, R: Clock> Gate for Turn<'a, 'b, R> {
     fn pass(&mut self, spot: Spot) {
+        let board = self.board;
         match (self.role, spot) {
-            (Role::Overtaken(most), Spot::AfterBody) => self.be_overtaken(most),
-            (Role::Overtaker, Spot::BeforeBody) => self.follow(u32::MAX, true),
-            (Role::Overtaker, Spot::AfterCommit) => {
-                self.board.commits.fetch_add(1, Ordering::SeqCst);
+            (Role::Overtaken(most), Spot::AfterBody) => {
+                if self.times < most {
+                    board.bodies.fetch_add(1, Ordering::SeqCst);
+                }
+                self.hold(most, &board.commits);
             }
-            (Role::Sender(most), Spot::BeforeBody) => self.follow(most, false),
+            (Role::Overtaker, Spot::BeforeBody) => self.hold(u32::MAX, &board.bodies),
+            (Role::Overtaker, Spot::AfterCommit) => {
+                board.commits.fetch_add(1, Ordering::SeqCst);
+            }
+            (Role::Sender(most), Spot::BeforeBody) => self.hold(most, &board.actions),
             (Role::Server, Spot::BeforeAction) => {
-                self.board.actions.fetch_add(1, Ordering::SeqCst);
+                board.actions.fetch_add(1, Ordering::SeqCst);
             }
             (Role::Meeting(all), Spot::BeforeAction) => {
-                self.board.actions.fetch_add(1, Ordering::SeqCst);
-                wait_for(self.rt, self.board, &self.board.actions, all);
+                board.actions.fetch_add(1, Ordering::SeqCst);
+                wait_for(self.rt, board, &board.actions, all);
             }
             _ => {}
         }
@@ -77,24 +83,10 @@ impl<'a, 'b, R: Clock> Gate for Turn<'a, 'b, R> {
 }
 
 impl<'a, 'b, R: Clock> Turn<'a, 'b, R> {
-    // A body has ended. One of the first so many is held until there are as many commits as bodies.
-    fn be_overtaken(&mut self, most: u32) {
+    // The first so many times here, it waits until this count is as high as the times.
+    fn hold(&mut self, most: u32, count: &AtomicU32) {
         self.times = self.times.saturating_add(1);
         if self.times <= most {
-            self.board.bodies.store(self.times, Ordering::SeqCst);
-            wait_for(self.rt, self.board, &self.board.commits, self.times);
-        }
-    }
-
-    // A body is to begin. One of the first so many is held until as many bodies of the other have ended, or as many actions have begun.
-    fn follow(&mut self, most: u32, is_overtaker: bool) {
-        self.times = self.times.saturating_add(1);
-        if self.times <= most {
-            let count = if is_overtaker {
-                &self.board.bodies
-            } else {
-                &self.board.actions
-            };
             wait_for(self.rt, self.board, count, self.times);
         }
     }

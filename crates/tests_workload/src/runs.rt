@@ -1,16 +1,14 @@
-//! Running the plan of a text by `run_plan`, with gates, and what is seen of it.
+//! Running the plan of a text, with gates, and what is seen of it.
 ghost use Rattle.std.specs.Prelude.{◌≡◌};
 ghost use Rattle.ref_world.specs.Shares.{IsBlank};
 
 use crate::gates::{Board, Role, Turn};
 use crate::tables::CoreWithout;
-use ref_audit::{Verdict, audit, dump, report};
+use ref_audit::{audit, dump, report};
 use ref_edn::read_one;
 use ref_fun::has_core;
-use ref_log::{Entry, Stamp};
-use ref_pvec::PVec;
 use ref_workload::plan::plan;
-use ref_workload::{Plan, RunFault, RunOut, run_plan};
+use ref_workload::{Plan, Progress, RunFault, RunOut, run_plan_with};
 use ref_world::ALL_PARTS;
 use std::alloc::{AllocError, Global};
 use std::marker::Brand;
@@ -30,23 +28,14 @@ pub(crate) struct How<'a> {
     pub(crate) roles: &'a [Role],
 }
 
-/// What is seen of a run: its report, the stamps and the read points of its transactions in the order of the log, and its totals.
-#[derive(Debug, Drop, PartialEq)]
-pub(crate) struct Seen {
-    pub(crate) report: Vec<u8>,
-    pub(crate) log: Vec<(Stamp, u64)>,
-    pub(crate) commits: u64,
-    pub(crate) added: u64,
-    pub(crate) taken: u64,
-}
-
-/// Runs the workload that a text says, and answers what is seen of it.
+/// Runs the workload that a text says, and answers its report.
 pub(crate) fn run<R: Threads + Wait + Clock + Sync>(
     rt: &R,
     alloc: Global,
     text: &str,
     how: How,
-) -> Result<Result<Seen, RunFault>, Fail> {
+    progress: &Progress,
+) -> Result<Result<Vec<u8>, RunFault>, Fail> {
     let plan = plan(alloc, &read_one(alloc, text.as_bytes())?)?;
     let board = Board::new();
     let (commits, added, taken) = (
@@ -54,13 +43,13 @@ pub(crate) fn run<R: Threads + Wait + Clock + Sync>(
         Blank::new(ALL_PARTS),
         Blank::new(ALL_PARTS),
     );
-    let seen = run_in::<Brand, Brand, Brand, R>(
-        rt, alloc, &plan, how, &board, commits, added, taken,
+    let ran = run_in::<Brand, Brand, Brand, R>(
+        rt, alloc, &plan, how, progress, &board, commits, added, taken,
     )?;
     if board.late.load(Ordering::SeqCst) {
         return Err(Fail::new("a thread waited in vain"));
     }
-    Ok(seen)
+    Ok(ran)
 }
 
 fn run_in<C, A, K, R>(
@@ -68,11 +57,12 @@ fn run_in<C, A, K, R>(
     alloc: Global,
     plan: &Plan,
     how: How,
+    progress: &Progress,
     board: &Board,
     commits: Blank,
     added: Blank,
     taken: Blank,
-) -> Result<Result<Seen, RunFault>, Fail>
+) -> Result<Result<Vec<u8>, RunFault>, Fail>
 where
     C: Ledger + Send + Sync,
     A: Ledger + Send + Sync,
@@ -89,16 +79,15 @@ where
     if gates.len() != count {
         return Err(Fail::new("each thread has a gate"));
     }
-    let ran = run_plan::<CoreWithout, C, A, K, R, Turn<'_, '_, R>>(
-        rt, alloc, &how.funs, plan, how.tries, gates, commits, added, taken,
+    let ran = run_plan_with::<CoreWithout, C, A, K, R, Turn<'_, '_, R>>(
+        rt, alloc, &how.funs, plan, how.tries, gates, progress, commits, added, taken,
     );
     match ran {
-        Ok(out) => Ok(Ok(look_at(alloc, &how.funs, plan, &out)?)),
+        Ok(out) => Ok(Ok(report_of(alloc, &how.funs, plan, &out)?)),
         Err(fault) => Ok(Err(fault)),
     }
 }
 
-// So many gates, with these roles.
 fn make_gates<'a, 'b, R: Clock>(
     rt: &'a R,
     alloc: Global,
@@ -122,52 +111,19 @@ fn make_gates<'a, 'b, R: Clock>(
     Ok(gates)
 }
 
-// What is seen of the world that a run ended with.
-fn look_at<C: Ledger, A: Ledger, K: Ledger>(
+// The report of the world that a run ended with, and of the verdict on its dump.
+fn report_of<C: Ledger, A: Ledger, K: Ledger>(
     alloc: Global,
     funs: &CoreWithout,
     plan: &Plan,
     out: &RunOut<C, A, K>,
-) -> Result<Seen, Fail> {
-    let verdict = verdict_of(alloc, funs, out)?;
-    let refused = out.refused.as_slice();
-    let mut text = Vec::new(alloc);
-    report(
-        alloc,
-        plan.names(),
-        &out.world,
-        refused,
-        &verdict,
-        &mut text,
-    )?;
-    Ok(Seen {
-        report: text,
-        log: all_commits(alloc, out.world.log())?,
-        commits: out.totals.commits,
-        added: out.totals.added,
-        taken: out.totals.taken,
-    })
-}
-
-fn verdict_of<C: Ledger, A: Ledger, K: Ledger>(
-    alloc: Global,
-    funs: &CoreWithout,
-    out: &RunOut<C, A, K>,
-) -> Result<Verdict, Fail> {
+) -> Result<Vec<u8>, Fail> {
     if !has_core(funs) {
         return Err(Fail::new("the table has all of Core"));
     }
-    let dumped = dump(alloc, &out.world)?;
-    Ok(audit(alloc, funs, &dumped)?)
-}
-
-// The stamp and the read point of each transaction of a log.
-fn all_commits(alloc: Global, log: &PVec<Entry>) -> Result<Vec<(Stamp, u64)>, AllocError> {
-    let mut all = Vec::new(alloc);
-    for entry in log {
-        if let Entry::Trans(transaction) = entry {
-            all.push((transaction.stamp, transaction.read_point))?;
-        }
-    }
-    Ok(all)
+    let verdict = audit(alloc, funs, &dump(alloc, &out.world)?)?;
+    let (names, refused) = (plan.names(), out.refused.as_slice());
+    let mut text = Vec::new(alloc);
+    report(alloc, names, &out.world, refused, &verdict, &mut text)?;
+    Ok(text)
 }

@@ -6,18 +6,13 @@ use ref_edn::Value;
 use ref_fun::{CallFault, Core, CoreFunctions, Functions};
 use std::alloc::Global;
 
-/// All functions and predicates of Core but that of one code. Each call of the function of another code is out of memory.
+/// All functions and predicates of Core but that of one code. Each call of the function of another code is out of memory. Core has nothing
+/// under the code 0.
 #[derive(Clone, Copy, Drop)]
 pub struct CoreWithout {
     pub code: u32,
     pub starved: u32,
 }
-
-/// All of them: Core has nothing under this code.
-pub const ALL_OF_CORE: CoreWithout = CoreWithout {
-    code: 0,
-    starved: 0,
-};
 
 impl Functions<Core> for CoreWithout {
     ghost knows = { λ table. record {

@@ -3,8 +3,8 @@ use crate::drawing::escaping::append_escaped;
 use crate::drawing::frames::Frame;
 use crate::entry_lines::append_line;
 use crate::places::{Place, first_place, place_after};
+use ref_forms::Names;
 use ref_log::{Entry, Transaction};
-use ref_start::Names;
 use ref_verdict::reading::dumps::Dump;
 use std::alloc::{AllocError, Global};
 

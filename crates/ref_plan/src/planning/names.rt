@@ -11,10 +11,9 @@ ghost use Rattle.ref_plan.specs.Tables.{Knows, found};
 use crate::planning::hashing::NameHashing;
 use indexmap::{Equivalent, IndexMap};
 use ref_forms::plain::symbol_in;
-use ref_forms::{Naming, Values, Wrong};
+use ref_forms::{Names, Naming, Values, Wrong};
 use ref_fun::MOST_NESTED_RESULT;
 use ref_log::Who;
-use ref_start::Names;
 use ref_value::{Text, Value};
 use std::alloc::{AllocError, Global};
 use std::hash::{Hash, Hasher};
@@ -167,7 +166,7 @@ pub struct Declared {
 }
 
 impl Model for Declared {
-    ghost use Rattle.ref_start.specs.Names.{NamesSeen};
+    ghost use Rattle.ref_forms.specs.Names.{NamesSeen};
     ghost use Rattle.ref_plan.specs.Tables.{Knows};
 
     ghost Value = { NamesSeen };

@@ -1,13 +1,13 @@
 //! The operations of a transaction.
 ghost use Rattle.std.specs.Prelude.{◌≡◌, ◌≢◌, None, Some, IfErr, IfOk};
 ghost use Rattle.ref_forms.specs.Reading.{Reads};
-ghost use Rattle.ref_plan.specs.Operations.{op_of, op_said, ops_said, send_carry_said};
+ghost use Rattle.ref_plan.specs.Operations.{op_of, op_said, ops_said, tagged_op};
 
 use crate::planning::names::Declared;
 use crate::plans::PlannedOp;
-use crate::versions::Version;
+use ref_calls::{OperationWord, Version, operation_named};
 use ref_forms::carrying::carrying_on;
-use ref_forms::plain::{is_same, tagged_in};
+use ref_forms::plain::tagged_in;
 use ref_forms::references::{call_on, number_alone, requirement_on, value_on};
 use ref_forms::{Kind, Wrong};
 use ref_fun::Action;
@@ -19,54 +19,60 @@ use std::alloc::Global;
 /// How many operations a transaction may have.
 pub const MOST_OPERATIONS: usize = 256;
 
-/// `NAME [F ARG ..] [NAME F ARG ..] ..`: an action for an agent, with what it carries. Version 1 has no such form.
-pub fn send_carry(
+// What stands behind the word of an operation.
+fn operation_of(
     alloc: Global,
-    version: Version,
     declared: &Declared,
+    word: OperationWord,
     parts: Iter<'_>,
-) -> Result<(u32, Action), Wrong>
-    ensures { Reads (send_carry_said version declared.now parts.entry) result }
+) -> Result<PlannedOp, Wrong>
+    ensures { Reads (op_said declared.now word parts.entry) result }
 {
-    match version {
-        Version::One => Err(Wrong::Form),
-        Version::Two => carrying_on(alloc, declared, parts),
+    match word {
+        OperationWord::Set => {
+            let (r, value) = value_on(declared, Kind::Ref, parts)?;
+            Ok(PlannedOp::On(r, Op::Set(value)))
+        }
+        OperationWord::Alter => {
+            let (r, action) = call_on(alloc, declared, Kind::Ref, parts)?;
+            Ok(PlannedOp::On(r, Op::Alter(action.code, action.args)))
+        }
+        OperationWord::Commute => {
+            let (r, action) = call_on(alloc, declared, Kind::Ref, parts)?;
+            Ok(PlannedOp::On(r, Op::Commute(action.code, action.args)))
+        }
+        OperationWord::Ensure => {
+            let r = number_alone(declared, Kind::Ref, parts)?;
+            Ok(PlannedOp::On(r, Op::Ensure))
+        }
+        OperationWord::Require => {
+            let (r, rule) = requirement_on(alloc, declared, parts)?;
+            Ok(PlannedOp::Require(r, rule))
+        }
+        OperationWord::Send => {
+            let (agent, action) = call_on(alloc, declared, Kind::Agent, parts)?;
+            Ok(PlannedOp::Send(Sent { agent, action }))
+        }
+        OperationWord::SendCarry => {
+            let (agent, action) = carrying_on(alloc, declared, parts)?;
+            Ok(PlannedOp::Send(Sent { agent, action }))
+        }
     }
 }
 
-// What stands behind the word of an operation.
-fn operation_of(
+// The operation of this word, if the version has it.
+fn tagged_operation(
     alloc: Global,
     version: Version,
     declared: &Declared,
     word: &[u8],
     parts: Iter<'_>,
 ) -> Result<PlannedOp, Wrong>
-    ensures { Reads (op_said version declared.now word.now parts.entry) result }
+    ensures { Reads (tagged_op version declared.now word.now parts.entry) result }
 {
-    if is_same(word, b"set") {
-        let (r, value) = value_on(declared, Kind::Ref, parts)?;
-        Ok(PlannedOp::On(r, Op::Set(value)))
-    } else if is_same(word, b"alter") {
-        let (r, action) = call_on(alloc, declared, Kind::Ref, parts)?;
-        Ok(PlannedOp::On(r, Op::Alter(action.code, action.args)))
-    } else if is_same(word, b"commute") {
-        let (r, action) = call_on(alloc, declared, Kind::Ref, parts)?;
-        Ok(PlannedOp::On(r, Op::Commute(action.code, action.args)))
-    } else if is_same(word, b"ensure") {
-        let r = number_alone(declared, Kind::Ref, parts)?;
-        Ok(PlannedOp::On(r, Op::Ensure))
-    } else if is_same(word, b"require") {
-        let (r, rule) = requirement_on(alloc, declared, parts)?;
-        Ok(PlannedOp::Require(r, rule))
-    } else if is_same(word, b"send") {
-        let (agent, action) = call_on(alloc, declared, Kind::Agent, parts)?;
-        Ok(PlannedOp::Send(Sent { agent, action }))
-    } else if is_same(word, b"send-carry") {
-        let (agent, action) = send_carry(alloc, version, declared, parts)?;
-        Ok(PlannedOp::Send(Sent { agent, action }))
-    } else {
-        Err(Wrong::Form)
+    match operation_named(version, word) {
+        Some(word) => operation_of(alloc, declared, word, parts),
+        None => Err(Wrong::Form),
     }
 }
 
@@ -80,7 +86,7 @@ fn operation(
     ensures { Reads (op_of version declared.now form.now) result }
 {
     match tagged_in(form) {
-        Some((word, parts)) => operation_of(alloc, version, declared, word, parts),
+        Some((word, parts)) => tagged_operation(alloc, version, declared, word, parts),
         None => Err(Wrong::Form),
     }
 }

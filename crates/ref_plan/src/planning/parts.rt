@@ -12,7 +12,8 @@ ghost use Rattle.ref_plan.specs.Workload.{HasParts, HasVectors, is_short_vector,
 use crate::plan_faults::PlanFault;
 use crate::planning::declarations::MOST_DECLARED;
 use crate::planning::steps::MOST_STEPS;
-use crate::versions::{Version, version_numbered};
+use crate::versions::version_numbered;
+use ref_calls::Version;
 use ref_forms::maps::{are_known, count, under, vector_under};
 use ref_forms::plain::{elements_in, elements_up_to};
 use ref_value::{Entries, Items, Node, Value};

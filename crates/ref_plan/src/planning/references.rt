@@ -1,25 +1,24 @@
 //! The form of a reference, and what it declares in addition to those before it.
-ghost use Rattle.std.specs.Prelude.{◌≡◌, ◌≢◌, ◌∷◌, ℕ, [], List, None, Some, IfErr, IfOk, false, option_copied, true};
+ghost use Rattle.std.specs.Prelude.{◌≡◌, ◌≢◌, ◌∷◌, ◌&&◌, ℕ, [], List, None, Some, IfErr, IfOk, false, option_copied, true};
 ghost use Rattle.ref_fun.specs.Core.{core_accepts};
 ghost use Rattle.ref_fun.specs.Rule.{passes};
 ghost use Rattle.ref_log.specs.Tally.{is_count};
-ghost use Rattle.ref_start.specs.declared.starts.AgentStart.{AgentStart as AnyAgent};
-ghost use Rattle.ref_start.specs.declared.starts.AtomStart.{AtomStart as AnyAtom};
-ghost use Rattle.ref_start.specs.declared.starts.RefStart.{RefStart as AnyRef};
+ghost use Rattle.ref_agents.specs.declared.starts.AgentStart.{AgentStart as AnyAgent};
+ghost use Rattle.ref_agents.specs.declared.starts.AtomStart.{AtomStart as AnyAtom};
+ghost use Rattle.ref_agents.specs.declared.starts.RefStart.{RefStart as AnyRef};
 ghost use Rattle.ref_forms.specs.Reading.{Reads};
 ghost use Rattle.ref_plan.specs.Declarations.{agent_of, atom_of, declaration, declaration_of, mode_marked, parts_declare, ref_of, rule_in, tail_said, tally_said};
 ghost use Rattle.ref_plan.specs.Tables.{Adds, found};
 ghost use Rattle.ref_plan.specs.declared.planning.references.Refused.TheVariants.{Memory};
 
 use crate::planning::names::{Declared, NameTable};
-use ref_agents::ErrorMode;
+use ref_agents::{AgentStart, AtomStart, ErrorMode, RefStart};
 use ref_forms::Wrong;
 use ref_forms::calls::{Values, rule_parts};
 use ref_forms::marks::mode_named;
 use ref_forms::plain::{elements_in, is_same, keyword_in, symbol_in};
 use ref_fun::{Rule, core_test};
 use ref_log::Who;
-use ref_start::{AgentStart, AtomStart, RefStart};
 use ref_value::vectors::Iter;
 use ref_value::{Node, Text, Value};
 use std::alloc::{AllocError, AllocFailed, Global};
@@ -163,20 +162,21 @@ fn tally_in(mark: Option<&[u8]>) -> Option<bool>
     }
 }
 
-/// The ref that a form declares, whose name goes into the table, where there is a tally already or not.
+/// The ref that a form declares, whose name goes into the table. What it begins with may be judged, where there is a tally already or not.
 pub fn ref_in(
     alloc: Global,
     form: &Value,
     who: Who,
     table: &mut NameTable,
     has_tally: bool,
+    judged: bool,
 ) -> Result<(Text, RefStart), Refused>
-    ensures ok { IfOk result (λ r. ref_of form.now ≡ Some (r.0, r.1)) }
-    ensures one_tally { IfOk result (λ r. has_tally ≡ true → r.1.tally ≡ false) }
+    ensures ok { IfOk result (λ r. ref_of judged form.now ≡ Some (r.0, r.1)) }
+    ensures one_tally { IfOk result (λ r. has_tally ≡ true → (judged && r.1.tally) ≡ false) }
     ensures adds { IfOk result (λ r. Adds table.old r.0 who table.new) }
     ensures refused { IfErr result (λ e. e ≢ Refused.Memory → (name : List ℕ) (start : AnyRef)
-        → ref_of form.now ≡ Some (name, start) → found table.old name ≡ None
-        → (has_tally ≡ true → start.tally ≡ false) → ⊥) }
+        → ref_of judged form.now ≡ Some (name, start) → found table.old name ≡ None
+        → (has_tally ≡ true → (judged && start.tally) ≡ false) → ⊥) }
 {
     let reference = match reference_in(alloc, form) {
         Ok(reference) => reference,
@@ -188,10 +188,10 @@ pub fn ref_in(
     if !table.add(&reference.name, who)? {
         return Err(Refused::Taken);
     }
-    if tally && (has_tally || !is_count(&reference.value)) {
+    if judged && tally && (has_tally || !is_count(&reference.value)) {
         return Err(Refused::Tally);
     }
-    if !accepts(&reference.rule, &reference.value) {
+    if judged && !accepts(&reference.rule, &reference.value) {
         return Err(Refused::Start);
     }
     Ok((
@@ -204,17 +204,18 @@ pub fn ref_in(
     ))
 }
 
-/// The atom that a form declares, whose name goes into the table.
+/// The atom that a form declares, whose name goes into the table. What it begins with may be judged.
 pub fn atom_in(
     alloc: Global,
     form: &Value,
     who: Who,
     table: &mut NameTable,
+    judged: bool,
 ) -> Result<(Text, AtomStart), Refused>
-    ensures ok { IfOk result (λ r. atom_of form.now ≡ Some (r.0, r.1)) }
+    ensures ok { IfOk result (λ r. atom_of judged form.now ≡ Some (r.0, r.1)) }
     ensures adds { IfOk result (λ r. Adds table.old r.0 who table.new) }
     ensures refused { IfErr result (λ e. e ≢ Refused.Memory → (name : List ℕ) (start : AnyAtom)
-        → atom_of form.now ≡ Some (name, start) → found table.old name ≡ None → ⊥) }
+        → atom_of judged form.now ≡ Some (name, start) → found table.old name ≡ None → ⊥) }
 {
     let reference = match reference_in(alloc, form) {
         Ok(reference) => reference,
@@ -226,7 +227,7 @@ pub fn atom_in(
     if !table.add(&reference.name, who)? {
         return Err(Refused::Taken);
     }
-    if !accepts(&reference.rule, &reference.value) {
+    if judged && !accepts(&reference.rule, &reference.value) {
         return Err(Refused::Start);
     }
     Ok((
@@ -248,17 +249,18 @@ fn mode_marked(mark: Option<&[u8]>) -> Option<ErrorMode>
     }
 }
 
-/// The agent that a form declares, whose name goes into the table.
+/// The agent that a form declares, whose name goes into the table. What it begins with may be judged.
 pub fn agent_in(
     alloc: Global,
     form: &Value,
     who: Who,
     table: &mut NameTable,
+    judged: bool,
 ) -> Result<(Text, AgentStart), Refused>
-    ensures ok { IfOk result (λ r. agent_of form.now ≡ Some (r.0, r.1)) }
+    ensures ok { IfOk result (λ r. agent_of judged form.now ≡ Some (r.0, r.1)) }
     ensures adds { IfOk result (λ r. Adds table.old r.0 who table.new) }
     ensures refused { IfErr result (λ e. e ≢ Refused.Memory → (name : List ℕ) (start : AnyAgent)
-        → agent_of form.now ≡ Some (name, start) → found table.old name ≡ None → ⊥) }
+        → agent_of judged form.now ≡ Some (name, start) → found table.old name ≡ None → ⊥) }
 {
     let reference = match reference_in(alloc, form) {
         Ok(reference) => reference,
@@ -270,7 +272,7 @@ pub fn agent_in(
     if !table.add(&reference.name, who)? {
         return Err(Refused::Taken);
     }
-    if !accepts(&reference.rule, &reference.value) {
+    if judged && !accepts(&reference.rule, &reference.value) {
         return Err(Refused::Start);
     }
     Ok((

@@ -4,15 +4,16 @@ ghost use Rattle.std.specs.Prelude.{◌≡◌, ◌≢◌, ◌≤◌, None, Some,
 ghost use Rattle.ref_forms.specs.Plain.{all_said};
 ghost use Rattle.ref_forms.specs.Reading.{Reads};
 ghost use Rattle.ref_plan.specs.Limits.{most_steps, most_workers};
-ghost use Rattle.ref_plan.specs.Steps.{step_of, step_said, worker_of};
+ghost use Rattle.ref_plan.specs.Steps.{step_of, step_said, tagged_step, worker_of};
 ghost use Rattle.ref_plan.specs.Workload.{is_short_vector};
 
 use crate::plan_faults::PlanFault;
 use crate::planning::names::Declared;
-use crate::planning::operations::{operations, send_carry};
+use crate::planning::operations::operations;
 use crate::plans::Step;
-use crate::versions::Version;
-use ref_forms::plain::{elements_up_to, is_same, tagged_in};
+use ref_calls::{StepWord, Version, step_named};
+use ref_forms::carrying::carrying_on;
+use ref_forms::plain::{elements_up_to, tagged_in};
 use ref_forms::references::{call_on, mode_on, setting_on, state_on, two_values_on, value_on};
 use ref_forms::{Kind, Wrong};
 use ref_log::{Sent, SharedVec};
@@ -28,39 +29,61 @@ fn step_of(
     alloc: Global,
     version: Version,
     declared: &Declared,
+    word: StepWord,
+    parts: Iter<'_>,
+) -> Result<Step, Wrong>
+    ensures { Reads (step_said version declared.now word parts.entry) result }
+{
+    match word {
+        StepWord::Tx => Ok(Step::Tx(operations(alloc, version, declared, parts)?)),
+        StepWord::Swap => {
+            let (atom, action) = call_on(alloc, declared, Kind::Atom, parts)?;
+            Ok(Step::Swap(atom, action))
+        }
+        StepWord::Reset => {
+            let (atom, value) = value_on(declared, Kind::Atom, parts)?;
+            Ok(Step::Reset(atom, value))
+        }
+        StepWord::CompareAndSet => {
+            let (atom, (old, new)) = two_values_on(declared, parts)?;
+            Ok(Step::CompareAndSet(atom, old, new))
+        }
+        StepWord::Send => {
+            let (agent, action) = call_on(alloc, declared, Kind::Agent, parts)?;
+            Ok(Step::Send(Sent { agent, action }))
+        }
+        StepWord::SendCarry => {
+            let (agent, action) = carrying_on(alloc, declared, parts)?;
+            Ok(Step::Send(Sent { agent, action }))
+        }
+        StepWord::Restart => {
+            let (agent, (state, clear)) = state_on(declared, parts)?;
+            Ok(Step::Restart(agent, state, clear))
+        }
+        StepWord::Mode => {
+            let (agent, mode) = mode_on(declared, parts)?;
+            Ok(Step::Mode(agent, mode))
+        }
+        StepWord::Validator => {
+            let (who, rule) = setting_on(alloc, declared, parts)?;
+            Ok(Step::Validator(who, rule))
+        }
+    }
+}
+
+// The step of this word, if the version has it.
+fn tagged_step(
+    alloc: Global,
+    version: Version,
+    declared: &Declared,
     word: &[u8],
     parts: Iter<'_>,
 ) -> Result<Step, Wrong>
-    ensures { Reads (step_said version declared.now word.now parts.entry) result }
+    ensures { Reads (tagged_step version declared.now word.now parts.entry) result }
 {
-    if is_same(word, b"tx") {
-        Ok(Step::Tx(operations(alloc, version, declared, parts)?))
-    } else if is_same(word, b"swap") {
-        let (atom, action) = call_on(alloc, declared, Kind::Atom, parts)?;
-        Ok(Step::Swap(atom, action))
-    } else if is_same(word, b"reset") {
-        let (atom, value) = value_on(declared, Kind::Atom, parts)?;
-        Ok(Step::Reset(atom, value))
-    } else if is_same(word, b"cas") {
-        let (atom, (old, new)) = two_values_on(declared, parts)?;
-        Ok(Step::CompareAndSet(atom, old, new))
-    } else if is_same(word, b"send") {
-        let (agent, action) = call_on(alloc, declared, Kind::Agent, parts)?;
-        Ok(Step::Send(Sent { agent, action }))
-    } else if is_same(word, b"send-carry") {
-        let (agent, action) = send_carry(alloc, version, declared, parts)?;
-        Ok(Step::Send(Sent { agent, action }))
-    } else if is_same(word, b"restart") {
-        let (agent, (state, clear)) = state_on(declared, parts)?;
-        Ok(Step::Restart(agent, state, clear))
-    } else if is_same(word, b"mode") {
-        let (agent, mode) = mode_on(declared, parts)?;
-        Ok(Step::Mode(agent, mode))
-    } else if is_same(word, b"validator") {
-        let (who, rule) = setting_on(alloc, declared, parts)?;
-        Ok(Step::Validator(who, rule))
-    } else {
-        Err(Wrong::Form)
+    match step_named(version, word) {
+        Some(word) => step_of(alloc, version, declared, word, parts),
+        None => Err(Wrong::Form),
     }
 }
 
@@ -69,7 +92,7 @@ fn step(alloc: Global, version: Version, declared: &Declared, form: &Value) -> R
     ensures { Reads (step_of version declared.now form.now) result }
 {
     match tagged_in(form) {
-        Some((word, parts)) => step_of(alloc, version, declared, word, parts),
+        Some((word, parts)) => tagged_step(alloc, version, declared, word, parts),
         None => Err(Wrong::Form),
     }
 }

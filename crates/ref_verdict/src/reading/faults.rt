@@ -1,7 +1,6 @@
 //! Why a value is no dump.
 ghost use Rattle.std.specs.Prelude.{◌≡◌};
 ghost use Rattle.ref_verdict.specs.DumpForm.{key_word};
-ghost use Rattle.ref_verdict.specs.Faults.{dump_fault_number};
 ghost use Rattle.ref_verdict.specs.declared.reading.faults.DumpFault.TheVariants.{Memory};
 
 use std::alloc::{AllocError, AllocFailed};
@@ -73,21 +72,6 @@ pub enum DumpFault {
     BadEntry(u64),
     #[error("out of memory")]
     Memory,
-}
-
-impl DumpFault {
-    /// The number of the fault, from 1 to 5 in the order of the variants.
-    pub fn number(&self) -> u8
-        ensures { result ≡ dump_fault_number self.now }
-    {
-        match self {
-            DumpFault::NotDump => 1,
-            DumpFault::BadVersion => 2,
-            DumpFault::BadPart(_) => 3,
-            DumpFault::BadEntry(_) => 4,
-            DumpFault::Memory => 5,
-        }
-    }
 }
 
 impl From<AllocError> for DumpFault {

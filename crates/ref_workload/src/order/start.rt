@@ -1,8 +1,8 @@
 //! Whether a world began with what is declared.
 ghost use Rattle.std.specs.Prelude.{◌≡◌, ◌≢◌, false, map, position, true};
 ghost use Rattle.ref_workload.specs.Orderly.{base_declared};
-ghost use Rattle.ref_start.specs.declared.starts.AtomStart.{AtomStart};
-ghost use Rattle.ref_start.specs.declared.starts.RefStart.{RefStart};
+ghost use Rattle.ref_agents.specs.declared.starts.AtomStart.{AtomStart};
+ghost use Rattle.ref_agents.specs.declared.starts.RefStart.{RefStart};
 
 use ref_log::{Base, Same};
 use ref_value::Value;

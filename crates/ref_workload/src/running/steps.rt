@@ -38,9 +38,9 @@ pub(crate) fn run_step<F: Functions<Core>, C: Ledger, A: Ledger, K: Ledger, R: W
         Step::CompareAndSet(a, old, new) => {
             of_atom(shared.compare_and_set(rt, alloc, funs, share, *a, old, new.share()?))
         }
-        Step::Send(sent) => of_send(shared.send(rt, alloc, sent.agent, sent.action.share()?)),
+        Step::Send(sent) => of_send(shared.send(rt, sent.agent, sent.action.share()?)),
         Step::Restart(g, state, clear) => {
-            of_restart(shared.restart(rt, alloc, funs, *g, state.share()?, *clear))
+            of_restart(shared.restart(rt, funs, *g, state.share()?, *clear))
         }
         Step::Mode(g, mode) => of_mode(shared.set_error_mode(rt, *g, *mode)),
         Step::Validator(who, rule) => {

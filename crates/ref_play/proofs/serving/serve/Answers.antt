@@ -58,6 +58,11 @@ returns-in-ValueOf g c =
     let s : SimSeen = record { world = c.args.world.now; share = c.args.share.now; slots = c.args.actors.now; jobs = c.args.jobs.now } in
     rw c.in-ValueOf.is (silent g.M.Meaning.means g.M.Meaning.accepts (g.F.Functions.knows c.args.funs.now) s c.args.event.now.actor c.args.actors.now _ c.value_of.result refl (c.value_of.ensures s))
 
+pub returns-in-RuleOf : goal.returns-in-RuleOf
+returns-in-RuleOf g c =
+    let s : SimSeen = record { world = c.args.world.now; share = c.args.share.now; slots = c.args.actors.now; jobs = c.args.jobs.now } in
+    rw c.in-RuleOf.is (silent g.M.Meaning.means g.M.Meaning.accepts (g.F.Functions.knows c.args.funs.now) s c.args.event.now.actor c.args.actors.now _ c.rule_of.result refl (c.rule_of.ensures s))
+
 pub returns-in-ErrorOf : goal.returns-in-ErrorOf
 returns-in-ErrorOf g c =
     let s : SimSeen = record { world = c.args.world.now; share = c.args.share.now; slots = c.args.actors.now; jobs = c.args.jobs.now } in
@@ -87,6 +92,11 @@ pub returns-in-SetErrorMode : goal.returns-in-SetErrorMode
 returns-in-SetErrorMode g c =
     let s : SimSeen = record { world = c.args.world.now; share = c.args.share.now; slots = c.args.actors.now; jobs = c.args.jobs.now } in
     rw c.in-SetErrorMode.is (of_agents g.M.Meaning.means g.M.Meaning.accepts (g.F.Functions.knows c.args.funs.now) s c.args.event.now.actor (record s { world = c.set_error_mode.new.world }) _ c.set_error_mode.result refl c.set_error_mode.ensures.rest (c.set_error_mode.ensures.acts s))
+
+pub returns-in-Fold : goal.returns-in-Fold
+returns-in-Fold g c =
+    let s : SimSeen = record { world = c.args.world.now; share = c.args.share.now; slots = c.args.actors.now; jobs = c.args.jobs.now } in
+    rw c.in-Fold.is (of_agents g.M.Meaning.means g.M.Meaning.accepts (g.F.Functions.knows c.args.funs.now) s c.args.event.now.actor (record s { world = c.fold_agent.new.world }) _ c.fold_agent.result refl c.fold_agent.ensures.rest (c.fold_agent.ensures.acts s))
 
 pub returns-in-MakeAgent : goal.returns-in-MakeAgent
 returns-in-MakeAgent g c =

@@ -7,10 +7,10 @@ use Rattle.ref_plan.proofs.planning.declarations.refs.Goals as goal
 pub returns-in-Err-clause-none : goal.returns-in-Err-clause-none
 returns-in-Err-clause-none c =
     let within : c.loop-i.i < length c.args.forms.now = rw (← c.len-i-end.ensures) c.loop-i-test.true in
-    λ other. refs_fail _ _ _ _ _ _ c.loop-i.invariant _ within c.at.ensures (c.in-Err.ensures.refused (c.plan_fault.ensures other))
+    λ other. refs_fail _ _ _ _ _ _ _ c.loop-i.invariant _ within c.at.ensures (c.in-Err.ensures.refused (c.plan_fault.ensures other))
 
 pub returns-clause-ok : goal.returns-clause-ok
-returns-clause-ok c = collects_end ref_of _ _ _ _ c.loop-i.invariant.collects (rw (← c.len-i-end.ensures) c.loop-i-test.false)
+returns-clause-ok c = collects_end (ref_of c.args.judged) _ _ _ _ c.loop-i.invariant.collects (rw (← c.len-i-end.ensures) c.loop-i-test.false)
 
 pub returns-clause-one_tally : goal.returns-clause-one_tally
 returns-clause-one_tally c = at_most_one _ _ c.loop-i.invariant.tally
@@ -18,5 +18,5 @@ returns-clause-one_tally c = at_most_one _ _ c.loop-i.invariant.tally
 pub loop-i-preserved : goal.loop-i-preserved
 loop-i-preserved c =
     let within : c.loop-i.i < length c.args.forms.now = rw (← c.len-i-end.ensures) c.loop-i-test.true in
-    let more = refs_more _ _ _ _ _ _ c.loop-i.invariant _ within c.at.ensures _ _ _ c.in-Ok.ensures.ok c.in-Ok.ensures.adds c.in-Ok.ensures.one_tally in
+    let more = refs_more _ _ _ _ _ _ _ c.loop-i.invariant _ within c.at.ensures _ _ _ c.in-Ok.ensures.ok c.in-Ok.ensures.adds c.in-Ok.ensures.one_tally in
     rw (c.tally_with-has_tally.ensures, c.in_ok-push-in-Ok.ensures.items, c.in_ok-push-in-Ok-2.ensures.items) more

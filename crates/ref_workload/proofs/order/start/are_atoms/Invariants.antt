@@ -1,5 +1,5 @@
 use Rattle.std.proofs.Common.{◌≡◌, map, take}
-use Rattle.ref_start.specs.declared.starts.AtomStart.{AtomStart}
+use Rattle.ref_agents.specs.declared.starts.AtomStart.{AtomStart}
 use Rattle.ref_workload.proofs.order.start.are_atoms.Given as goal
 
 abbrev pub invariant-loop-i : goal.invariant-loop-i

@@ -1,0 +1,2 @@
+-- To be read and believed: Words.
+pub mod Words

@@ -1,7 +1,0 @@
-use Rattle.std.proofs.Common.{◌≡◌, ◌≤◌, ◌+◌, drop}
-use Rattle.ref_explain.specs.Places.{column_from, column_of}
-use Rattle.ref_explain.proofs.places.column_of.Given as goal
-
--- The column is that behind the bytes so far, and no greater than their number and one.
-abbrev pub invariant-loop-b : goal.invariant-loop-b
-invariant-loop-b l = record { value : column_from l.column (drop l.b-index l.before) ≡ column_of l.before; bound : l.column ≤ l.b-index + 1 }

@@ -1,2 +1,0 @@
--- To be read and believed: Names.
-pub mod Names

@@ -1,7 +1,0 @@
-use denote.Param.Send.{sendable}
-use Rattle.std.proofs.Crossing as std
-use Rattle.tests_threads.proofs.Crossing.{shared_crosses}
-use Rattle.tests_threads.proofs.checkpoints.fold_beside.Goals as goal
-
-pub join-answers-requires-send-F : goal.join-answers-requires-send-F
-join-answers-requires-send-F g c κs within = search (shared_crosses, std.crosses, sendable) depth 60

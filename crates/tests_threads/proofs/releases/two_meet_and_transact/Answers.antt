@@ -1,7 +1,0 @@
-use denote.Param.Send.{sendable}
-use Rattle.std.proofs.Crossing as std
-use Rattle.tests_threads.proofs.Crossing.{crosses}
-use Rattle.tests_threads.proofs.releases.two_meet_and_transact.Goals as goal
-
-pub join-woke-requires-send-F : goal.join-woke-requires-send-F
-join-woke-requires-send-F g c κs within = search (crosses, std.crosses, sendable) depth 60

@@ -1,7 +1,0 @@
-use denote.Param.Send.{sendable}
-use Rattle.std.proofs.Crossing as std
-use Rattle.tests_threads.proofs.Crossing.{crosses}
-use Rattle.tests_threads.proofs.waking.hand_on.Goals as goal
-
-pub join-requires-send-F : goal.join-requires-send-F
-join-requires-send-F g c κs within = search (crosses, std.crosses, sendable) depth 60

@@ -1,0 +1,188 @@
+//! Runs each case of these tests on a shared world of its own, which stands in one function alone: it is lent to what the case does, and what
+//! is to be in the world is looked at in the end.
+ghost use Rattle.tests_shared.specs.Ledgers.{AreBlank};
+
+use crate::flags::Place;
+use crate::same::same;
+use crate::{
+    chains, checkpoints, looks, next_actions, releases, side_by_side, stress, threads, waking,
+};
+use ref_fun::Core;
+use ref_shared::Shared;
+use ref_world::{Share, Start, Totals, World};
+use std::alloc::{AllocError, Global};
+use std::marker::Brand;
+use std::process::Abort;
+use std::sync::Wait;
+use std::sync::ledger::Ledger;
+use std::test::Fail;
+use std::thread::Threads;
+use std::time::Clock;
+use tests_shared::blanks::Blanks;
+use tests_shared::jobs::two_agents;
+use tests_shared::worlds::{Stop, closed, made, plain_start};
+
+// What is done, in the modules of these names.
+#[derive(Clone, Copy, Debug, Drop)]
+pub(crate) enum Case {
+    // threads
+    Sum,
+    Overtaking,
+    Telling,
+    // checkpoints
+    Folding,
+    // chains
+    Chains,
+    // stress, on so many refs
+    Sums(u32),
+    // looks: where one waits, what the other finds, and whether the transaction waits if it isn't ready
+    Transaction(Place, i64, bool),
+    Action(Place, i64),
+    // next_actions: at the last whether g is waited for, and what it is in the end
+    Carried,
+    Watched,
+    Passing(bool, i64),
+    // releases
+    Release,
+    Transact,
+    CarriedRelease,
+    // side_by_side: by the code of the first action, and what the agent is in the end
+    Meeting,
+    Turns(u32, i64),
+    Holding,
+    // waking
+    Waking,
+    Restart,
+    HandingOn,
+    Close,
+}
+
+fn start(alloc: Global, case: Case) -> Result<Start, AllocError> {
+    match case {
+        Case::Sum | Case::Overtaking | Case::Telling | Case::Folding => {
+            plain_start(alloc, "0", "")
+        }
+        Case::Chains => chains::start(alloc),
+        Case::Sums(refs) => stress::start(alloc, refs),
+        _ => two_agents(alloc),
+    }
+}
+
+fn see<
+    C: Ledger + Send + Sync,
+    A: Ledger + Send + Sync,
+    K: Ledger + Send + Sync,
+    R: AllocGlobal + Threads + Wait + Clock + Abort + Sync,
+>(
+    rt: &R,
+    case: Case,
+    shared: &Shared<Core, C, A, K>,
+    share: &mut Share<C, A, K>,
+) -> Result<(), Stop> {
+    match case {
+        Case::Sum => threads::see_sum(rt, shared, share),
+        Case::Overtaking => threads::see_overtaking(rt, shared, share),
+        Case::Telling => threads::see_telling(rt, shared, share),
+        Case::Folding => checkpoints::see(rt, shared, share),
+        Case::Chains => chains::see(rt, shared),
+        Case::Sums(_) => stress::see(rt, shared, share),
+        Case::Transaction(place, seen, waits) => {
+            looks::see_transaction(rt, shared, share, place, seen, waits)
+        }
+        Case::Action(place, seen) => looks::see_action(rt, shared, place, seen),
+        Case::Carried => next_actions::see_carried(rt, shared),
+        Case::Watched => next_actions::see_watched(rt, shared),
+        Case::Passing(awaits, value) => next_actions::see_passing(rt, shared, awaits, value),
+        _ => see_waking(rt, case, shared, share),
+    }
+}
+
+fn see_waking<
+    C: Ledger + Send + Sync,
+    A: Ledger + Send + Sync,
+    K: Ledger + Send + Sync,
+    R: AllocGlobal + Threads + Wait + Clock + Abort + Sync,
+>(
+    rt: &R,
+    case: Case,
+    shared: &Shared<Core, C, A, K>,
+    share: &mut Share<C, A, K>,
+) -> Result<(), Stop> {
+    match case {
+        Case::Release => releases::see_release(rt, shared, share),
+        Case::Transact => releases::see_transact(rt, shared, share),
+        Case::CarriedRelease => releases::see_released(rt, shared, None),
+        Case::Meeting => side_by_side::see_meeting(rt, shared),
+        Case::Turns(code, value) => side_by_side::see_turns(rt, shared, code, value),
+        Case::Holding => side_by_side::see_holding(rt, shared),
+        Case::Waking => waking::see_waking(rt, shared, share),
+        Case::Restart => waking::see_restart(rt, shared),
+        Case::HandingOn => waking::see_handing_on(rt, shared),
+        Case::Close => waking::see_close(rt, shared),
+        _ => Err(Stop::Refused),
+    }
+}
+
+fn look_at<C: Ledger, A: Ledger, K: Ledger, R: AllocGlobal + Abort>(
+    rt: &R,
+    case: Case,
+    world: &World<Core, C, A, K>,
+    totals: Totals,
+) -> Result<(), Stop> {
+    match case {
+        Case::Overtaking => threads::look_at_overtaking(rt, world, totals),
+        Case::Folding => checkpoints::look_at(rt, world, totals),
+        Case::Chains => chains::look_at(rt, world),
+        Case::Sums(refs) => stress::look_at(rt, world, totals, refs),
+        Case::Sum | Case::Telling => {
+            let commits = if matches!(case, Case::Sum) { 200 } else { 1 };
+            same(rt, totals.commits, commits);
+            Ok(())
+        }
+        _ => Ok(()),
+    }
+}
+
+fn end<C: Ledger, A: Ledger, K: Ledger, R: AllocGlobal + Abort>(
+    rt: &R,
+    case: Case,
+    shared: Shared<Core, C, A, K>,
+    share: Share<C, A, K>,
+) -> Result<(), Stop> {
+    match closed(rt.alloc(), shared, share) {
+        Ok((world, totals)) => look_at(rt, case, &world, totals),
+        Err(stop) => Err(stop),
+    }
+}
+
+fn run<
+    C: Ledger + Send + Sync,
+    A: Ledger + Send + Sync,
+    K: Ledger + Send + Sync,
+    R: AllocGlobal + Threads + Wait + Clock + Abort + Sync,
+>(rt: &R, case: Case, start: Start, blanks: Blanks) -> Result<(), Stop>
+    requires { AreBlank blanks C.name C.parts A.name A.parts K.name K.parts }
+{
+    let (mut world, mut share) = made::<C, A, K>(rt.alloc(), start, blanks)?;
+    let prepared = match case {
+        Case::CarriedRelease => releases::carry_both(rt.alloc(), &mut world),
+        _ => Ok(()),
+    };
+    if let Err(stop) = prepared {
+        return Err(stop);
+    }
+    let shared = Shared::new(world);
+    match see(rt, case, &shared, &mut share) {
+        Ok(()) => end(rt, case, shared, share),
+        Err(stop) => Err(stop),
+    }
+}
+
+pub(crate) fn check<R: AllocGlobal + Threads + Wait + Clock + Abort + Sync>(
+    rt: &R,
+    case: Case,
+) -> Result<(), Fail> {
+    let start = start(rt.alloc(), case)?;
+    run::<Brand, Brand, Brand, R>(rt, case, start, Blanks::new())?;
+    Ok(())
+}
