@@ -16,7 +16,7 @@ use Rattle.ref_world.specs.Seen.{WorldSeen}
 use Rattle.ref_world.specs.References.{guards_of, rule_at, value_at, values_of}
 use Rattle.ref_audit.specs.Dumped.{least, lesser, unnamed_in_account, unnamed_in_agent}
 use Rattle.ref_audit.specs.Made.{who_of}
-use Rattle.ref_audit.specs.declared.kinds.Kind.{Kind}
+use Rattle.ref_audit.specs.declared.kinds.RefOrAtom.{RefOrAtom}
 use Rattle.ref_audit.proofs.Leasts.{least_all, least_more}
 use Rattle.ref_audit.proofs.Left.{all_made, left_at, left_end}
 use Rattle.ref_audit.proofs.References.{agent_of_account, no_account, rule_at-who_of, value_at-who_of}
@@ -38,14 +38,14 @@ numbered_all form xs n made none so_far = all_made (map form (enumerate_from 0 x
 
 -- ---- a ref or an atom
 
-pub value_there : (world : WorldSeen) (kind : Kind) (n : ℕ) (who : Who) (found : Option Edn) → who ≡ who_of kind n → found ≡ value_at world who → slice_get (values_of world (who_of kind 0)) n ≡ found
+pub value_there : (world : WorldSeen) (kind : RefOrAtom) (n : ℕ) (who : Who) (found : Option Edn) → who ≡ who_of kind n → found ≡ value_at world who → slice_get (values_of world (who_of kind 0)) n ≡ found
 value_there world kind n who found is told = sym (value_at-who_of world kind n) ∙ (ap (value_at world) (sym is) ∙ sym told)
 
 -- what is made of a value and its rule
 abbrev pub of_value : {Y : Type 0} → (Edn → Option Rule → Y) → List Guard → ℕ × Edn → Y
 of_value make gs e = make e.1 (guards.rule_at gs e.0)
 
-pub value_left : {Y : Type 0} (make : Edn → Option Rule → Y) (world : WorldSeen) (kind : Kind) (n : ℕ) (who : Who) (v : Edn) (rule : Option Rule) → who ≡ who_of kind n → Some v ≡ value_at world who → rule ≡ rule_at world who
+pub value_left : {Y : Type 0} (make : Edn → Option Rule → Y) (world : WorldSeen) (kind : RefOrAtom) (n : ℕ) (who : Who) (v : Edn) (rule : Option Rule) → who ≡ who_of kind n → Some v ≡ value_at world who → rule ≡ rule_at world who
     → map (of_value make (guards_of world (who_of kind 0))) (enumerate_from n (drop n (values_of world (who_of kind 0))))
     ≡ make v rule ∷ map (of_value make (guards_of world (who_of kind 0))) (enumerate_from (n + 1) (drop (n + 1) (values_of world (who_of kind 0))))
 value_left make world kind n who v rule is told ruled =

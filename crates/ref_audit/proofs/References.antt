@@ -9,15 +9,15 @@ use Rattle.ref_log.specs.Guards as guards
 use Rattle.ref_world.specs.Seen.{WorldSeen}
 use Rattle.ref_world.specs.References.{guards_of, rule_at, value_at, values_of}
 use Rattle.ref_audit.specs.Made.{who_of}
-use Rattle.ref_audit.specs.declared.kinds.Kind.{Kind}
-use Rattle.ref_audit.specs.declared.kinds.Kind.TheVariants as kinds
+use Rattle.ref_audit.specs.declared.kinds.RefOrAtom.{RefOrAtom}
+use Rattle.ref_audit.specs.declared.kinds.RefOrAtom.TheVariants as kinds
 
 -- The values and the rules of a kind, by number.
-pub value_at-who_of : (world : WorldSeen) (kind : Kind) (n : ℕ) → value_at world (who_of kind n) ≡ slice_get (values_of world (who_of kind 0)) n
+pub value_at-who_of : (world : WorldSeen) (kind : RefOrAtom) (n : ℕ) → value_at world (who_of kind n) ≡ slice_get (values_of world (who_of kind 0)) n
 value_at-who_of world kinds.Ref n = refl
 value_at-who_of world kinds.Atom n = refl
 
-pub rule_at-who_of : (world : WorldSeen) (kind : Kind) (n : ℕ) → rule_at world (who_of kind n) ≡ guards.rule_at (guards_of world (who_of kind 0)) n
+pub rule_at-who_of : (world : WorldSeen) (kind : RefOrAtom) (n : ℕ) → rule_at world (who_of kind n) ≡ guards.rule_at (guards_of world (who_of kind 0)) n
 rule_at-who_of world kinds.Ref n = refl
 rule_at-who_of world kinds.Atom n = refl
 

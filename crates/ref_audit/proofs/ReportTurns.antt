@@ -10,7 +10,7 @@ use Rattle.ref_world.specs.Seen.{WorldSeen}
 use Rattle.ref_world.specs.References.{value_at, values_of}
 use Rattle.ref_audit.specs.Made.{who_of}
 use Rattle.ref_audit.specs.Report.{agent_line, agent_lines, value_line, value_lines}
-use Rattle.ref_audit.specs.declared.kinds.Kind.{Kind}
+use Rattle.ref_audit.specs.declared.kinds.RefOrAtom.{RefOrAtom}
 use Rattle.ref_audit.proofs.Left.{there_at}
 use Rattle.ref_audit.proofs.Numbered.{value_there}
 use Rattle.ref_audit.proofs.References.{agent_of_state, no_state}
@@ -18,7 +18,7 @@ use Rattle.ref_audit.proofs.ReportLines.{agent_lines_at, agent_lines_end, line_m
 
 -- ---- refs and atoms
 
-pub values_turn : (world : WorldSeen) (kind : Kind) (text : List ℕ) (names : List (List ℕ)) (i n : ℕ) (who : Who) (name : List ℕ) (v : Edn) (all out next : List ℕ)
+pub values_turn : (world : WorldSeen) (kind : RefOrAtom) (text : List ℕ) (names : List (List ℕ)) (i n : ℕ) (who : Who) (name : List ℕ) (v : Edn) (all out next : List ℕ)
     → i < length names → name ≡ get_or names i name → n ≡ i → who ≡ who_of kind n → Some v ≡ value_at world who
     → out ++ value_lines text (drop i names) (drop i (values_of world (who_of kind 0))) ≡ all → next ≡ out ++ value_line text name v
     → next ++ value_lines text (drop (i + 1) names) (drop (i + 1) (values_of world (who_of kind 0))) ≡ all
@@ -27,7 +27,7 @@ values_turn world kind text names i n who name v all out next below is same at t
     let there = value_there world kind i who (Some v) (at ∙ ap (who_of kind) same) told in
     line_more all out next _ _ _ whole (value_lines_at text names values i name v (there_at names i name below is) there) more
 
-pub values_end : (world : WorldSeen) (kind : Kind) (text : List ℕ) (names : List (List ℕ)) (i n : ℕ) (who : Who) (all out : List ℕ)
+pub values_end : (world : WorldSeen) (kind : RefOrAtom) (text : List ℕ) (names : List (List ℕ)) (i n : ℕ) (who : Who) (all out : List ℕ)
     → n ≡ i → who ≡ who_of kind n → None ≡ value_at world who
     → out ++ value_lines text (drop i names) (drop i (values_of world (who_of kind 0))) ≡ all → out ≡ all
 values_end world kind text names i n who all out same at told whole =

@@ -8,8 +8,8 @@ use Rattle.ref_audit.specs.Dumped.{agents_form, base_refs_form, entry_form, fold
 use Rattle.ref_audit.specs.declared.dumping.maps.Parts.{Parts}
 use Rattle.ref_audit.specs.declared.faults.DumpMakeFault.{DumpMakeFault}
 use Rattle.ref_audit.specs.declared.faults.DumpMakeFault.TheVariants.{TooDeep, Unnamed}
-use Rattle.ref_audit.specs.declared.kinds.Kind.{Kind}
-use Rattle.ref_audit.specs.declared.kinds.Kind.TheVariants as kinds
+use Rattle.ref_audit.specs.declared.kinds.RefOrAtom.{RefOrAtom}
+use Rattle.ref_audit.specs.declared.kinds.RefOrAtom.TheVariants as kinds
 use Rattle.ref_audit.specs.declared.words.Word.{Word}
 use Rattle.ref_audit.specs.declared.words.Word.TheVariants as words
 use Rattle.ref_log.specs.Limits.{most_references}
@@ -36,12 +36,12 @@ pub record AreParts (world : WorldSeen) (parts : Parts) : Type 0 where
   pub folded : parts.folded ≡ folded_form world.base
   pub refs : parts.refs ≡ values_form world.refs.guards world.refs.values
 
-abbrev pub kind_text : Kind → List ℕ
+abbrev pub kind_text : RefOrAtom → List ℕ
 kind_text kinds.Ref = codes "ref"
 kind_text kinds.Atom = codes "atom"
 
 -- the reference of this kind and number
-abbrev pub who_of : Kind → ℕ → Who
+abbrev pub who_of : RefOrAtom → ℕ → Who
 who_of kinds.Ref n = whos.Ref n
 who_of kinds.Atom n = whos.Atom n
 

@@ -5,18 +5,18 @@ ghost use Rattle.ref_audit.specs.Made.{kind_text, who_of};
 use ref_log::Who;
 
 #[derive(Clone, Copy, Debug, Drop, PartialEq, Eq)]
-pub(crate) enum Kind {
+pub(crate) enum RefOrAtom {
     Ref,
     Atom,
 }
 
-impl Kind {
+impl RefOrAtom {
     pub(crate) fn name(self) -> &'static str
         ensures { result.now ≡ kind_text self }
     {
         match self {
-            Kind::Ref => "ref",
-            Kind::Atom => "atom",
+            RefOrAtom::Ref => "ref",
+            RefOrAtom::Atom => "atom",
         }
     }
 
@@ -25,8 +25,8 @@ impl Kind {
         ensures { result ≡ who_of self n }
     {
         match self {
-            Kind::Ref => Who::Ref(n),
-            Kind::Atom => Who::Atom(n),
+            RefOrAtom::Ref => Who::Ref(n),
+            RefOrAtom::Atom => Who::Atom(n),
         }
     }
 }

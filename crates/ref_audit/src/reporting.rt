@@ -4,7 +4,7 @@ ghost use Rattle.ref_world.specs.References.{values_of};
 ghost use Rattle.ref_audit.specs.Made.{kind_text, who_of};
 ghost use Rattle.ref_audit.specs.Report.{agent_line, agent_lines, cause_text, commits_line, newline, no_text, reason_text, refused_line, refused_lines, reported, space, status_text, value_line, value_lines, value_text, verdict_line, verdict_text};
 
-use crate::kinds::Kind;
+use crate::kinds::RefOrAtom;
 use crate::reports::{Names, Reason, Refusal};
 use itoa::Buffer;
 use ref_edn::print;
@@ -31,8 +31,8 @@ pub fn report<C: Ledger, A: Ledger, K: Ledger>(
     ensures err { OnErr result (out.new.items ≡ out.old.items) }
 {
     let mut text = Vec::new(alloc);
-    append_values(alloc, Kind::Ref, names.refs(), world, &mut text)?;
-    append_values(alloc, Kind::Atom, names.atoms(), world, &mut text)?;
+    append_values(alloc, RefOrAtom::Ref, names.refs(), world, &mut text)?;
+    append_values(alloc, RefOrAtom::Atom, names.atoms(), world, &mut text)?;
     append_agents(alloc, names.agents(), world, &mut text)?;
     append_refused(refused, &mut text)?;
     append_commits(world.commits(), &mut text)?;
@@ -81,7 +81,7 @@ fn word_of_cause(cause: Cause) -> &'static str
 // A line for each name of a ref, or of an atom, that is there.
 fn append_values<C: Ledger, A: Ledger, K: Ledger>(
     alloc: Global,
-    kind: Kind,
+    kind: RefOrAtom,
     names: &[Text],
     world: &World<Core, C, A, K>,
     out: &mut Vec<u8>,
@@ -111,7 +111,7 @@ fn number_of(i: usize) -> Result<u32, AllocError>
 
 fn append_value_line(
     alloc: Global,
-    kind: Kind,
+    kind: RefOrAtom,
     name: &Text,
     value: &Value,
     out: &mut Vec<u8>,

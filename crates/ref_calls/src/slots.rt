@@ -29,42 +29,42 @@ pub enum Slot {
     MaybeTally,
 }
 
-pub const NOTHING: &[Slot] = &[];
+pub(crate) const NOTHING: &[Slot] = &[];
 
-pub const A_REF: &[Slot] = &[Slot::Name(Kind::Ref)];
+pub(crate) const A_REF: &[Slot] = &[Slot::Name(Kind::Ref)];
 
-pub const AN_AGENT: &[Slot] = &[Slot::Name(Kind::Agent)];
+pub(crate) const AN_AGENT: &[Slot] = &[Slot::Name(Kind::Agent)];
 
-pub const ANY: &[Slot] = &[Slot::AnyName];
+pub(crate) const ANY: &[Slot] = &[Slot::AnyName];
 
-pub const REF_VALUE: &[Slot] = &[Slot::Name(Kind::Ref), Slot::Value];
+pub(crate) const REF_VALUE: &[Slot] = &[Slot::Name(Kind::Ref), Slot::Value];
 
-pub const ATOM_VALUE: &[Slot] = &[Slot::Name(Kind::Atom), Slot::Value];
+pub(crate) const ATOM_VALUE: &[Slot] = &[Slot::Name(Kind::Atom), Slot::Value];
 
-pub const ANY_VALUE: &[Slot] = &[Slot::AnyName, Slot::Value];
+pub(crate) const ANY_VALUE: &[Slot] = &[Slot::AnyName, Slot::Value];
 
-pub const ATOM_VALUES: &[Slot] = &[Slot::Name(Kind::Atom), Slot::Value, Slot::Value];
+pub(crate) const ATOM_VALUES: &[Slot] = &[Slot::Name(Kind::Atom), Slot::Value, Slot::Value];
 
-pub const REF_CALL: &[Slot] = &[Slot::Name(Kind::Ref), Slot::Function, Slot::Arguments];
+pub(crate) const REF_CALL: &[Slot] = &[Slot::Name(Kind::Ref), Slot::Function, Slot::Arguments];
 
-pub const ATOM_CALL: &[Slot] = &[Slot::Name(Kind::Atom), Slot::Function, Slot::Arguments];
+pub(crate) const ATOM_CALL: &[Slot] = &[Slot::Name(Kind::Atom), Slot::Function, Slot::Arguments];
 
-pub const AGENT_CALL: &[Slot] = &[Slot::Name(Kind::Agent), Slot::Function, Slot::Arguments];
+pub(crate) const AGENT_CALL: &[Slot] = &[Slot::Name(Kind::Agent), Slot::Function, Slot::Arguments];
 
-pub const AGENT_CARRY: &[Slot] = &[Slot::Name(Kind::Agent), Slot::Call, Slot::Carries];
+pub(crate) const AGENT_CARRY: &[Slot] = &[Slot::Name(Kind::Agent), Slot::Call, Slot::Carries];
 
-pub const REF_TEST: &[Slot] = &[Slot::Name(Kind::Ref), Slot::Predicate, Slot::Arguments];
+pub(crate) const REF_TEST: &[Slot] = &[Slot::Name(Kind::Ref), Slot::Predicate, Slot::Arguments];
 
-pub const STATE: &[Slot] = &[Slot::Name(Kind::Agent), Slot::Value, Slot::MaybeClear];
+pub(crate) const STATE: &[Slot] = &[Slot::Name(Kind::Agent), Slot::Value, Slot::MaybeClear];
 
-pub const MODE: &[Slot] = &[Slot::Name(Kind::Agent), Slot::Mode];
+pub(crate) const MODE: &[Slot] = &[Slot::Name(Kind::Agent), Slot::Mode];
 
-pub const RULE: &[Slot] = &[Slot::AnyName, Slot::Rule];
+pub(crate) const RULE: &[Slot] = &[Slot::AnyName, Slot::Rule];
 
-pub const POINT: &[Slot] = &[Slot::Point];
+pub(crate) const POINT: &[Slot] = &[Slot::Point];
 
-pub const NEW_REF: &[Slot] = &[Slot::Value, Slot::MaybeRule, Slot::MaybeTally];
+pub(crate) const NEW_REF: &[Slot] = &[Slot::Value, Slot::MaybeRule, Slot::MaybeTally];
 
-pub const NEW_ATOM: &[Slot] = &[Slot::Value, Slot::MaybeRule];
+pub(crate) const NEW_ATOM: &[Slot] = &[Slot::Value, Slot::MaybeRule];
 
-pub const NEW_AGENT: &[Slot] = &[Slot::Value, Slot::MaybeRule, Slot::MaybeMode];
+pub(crate) const NEW_AGENT: &[Slot] = &[Slot::Value, Slot::MaybeRule, Slot::MaybeMode];

@@ -7,7 +7,7 @@ use Rattle.memchr.specs.Find.{IsFirstByte, is_byte2}
 use Rattle.ref_edn.specs.declared.faults.Fault.{Fault}
 use Rattle.ref_edn.specs.declared.faults.ReadError.{ReadError}
 use Rattle.ref_edn.specs.declared.faults.ReadError.TheVariants as errors
-use Rattle.ref_edn.specs.declared.faults.Kind.TheVariants.{EndsEarly}
+use Rattle.ref_edn.specs.declared.faults.Flaw.TheVariants.{EndsEarly}
 use Rattle.ref_edn.specs.Faults.{◌>>=◌, fault, Fails}
 use Rattle.ref_edn.specs.ReadTokens.{escape_at, with_bytes, body_with, body_at}
 

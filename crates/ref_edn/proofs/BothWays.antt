@@ -5,8 +5,8 @@ use Rattle.std.specs.Str.{is_utf8}
 use Rattle.std.specs.Str.Lossy.{utf8_valid_len}
 use Rattle.std.proofs.lemmas.Str.{IsUtf8-from_is_utf8}
 use Rattle.ref_edn.specs.declared.faults.Fault.{Fault}
-use Rattle.ref_edn.specs.declared.faults.Kind.{Kind}
-use Rattle.ref_edn.specs.declared.faults.Kind.TheVariants as kinds
+use Rattle.ref_edn.specs.declared.faults.Flaw.{Flaw}
+use Rattle.ref_edn.specs.declared.faults.Flaw.TheVariants as kinds
 use Rattle.ref_edn.specs.declared.faults.ReadError.{ReadError}
 use Rattle.ref_edn.specs.declared.faults.ReadError.TheVariants as errors
 use Rattle.ref_edn.specs.declared.faults.ReadFault.{ReadFault}
@@ -23,7 +23,7 @@ use Rattle.ref_edn.proofs.Complete.{one_again, all_again, checked_again}
 -- ---- public faults
 
 module _ {X Y : Type 0} (text : List ℕ) (view : X → Y) (read : Result Y Fault) where
-  answers_fault : (kind : Kind) (place : ℕ) → (f : Fault) × (read ≡ Err f) × (fault_at kind place ≡ public_fault text f) → Answers text view (Err (fault_at kind place)) read
+  answers_fault : (kind : Flaw) (place : ℕ) → (f : Fault) × (read ≡ Err f) × (fault_at kind place ≡ public_fault text f) → Answers text view (Err (fault_at kind place)) read
   answers_fault kinds.Nothing place p = p
   answers_fault kinds.EndsEarly place p = p
   answers_fault kinds.BadByte place p = p

@@ -3,7 +3,7 @@ use Rattle.std.proofs.Common.{◌≡◌, ℕ, zero, suc, ◌<◌, ◌≤◌, tru
 use Rattle.std.specs.BTreeMap.{insert_entry}
 use Rattle.std.specs.BTreeSet.{insert_key}
 use Rattle.ref_edn.specs.declared.faults.Fault.{Fault}
-use Rattle.ref_edn.specs.declared.faults.Kind.TheVariants.{EndsEarly, Duplicate}
+use Rattle.ref_edn.specs.declared.faults.Flaw.TheVariants.{EndsEarly, Duplicate}
 use Rattle.ref_edn.specs.declared.faults.ReadError.{ReadError}
 use Rattle.ref_value.specs.Edn.{Edn}
 use Rattle.ref_value.specs.Order.{edn_cmp}

@@ -9,7 +9,7 @@ use Rattle.std.specs.Ordering.{is_eq, match_ordering}
 use Rattle.std.specs.declared.cmp.Ordering.{Ordering}
 use Rattle.std.specs.declared.cmp.Ordering.TheVariants.{Less, Equal, Greater}
 use Rattle.ref_edn.specs.declared.faults.Fault.{Fault}
-use Rattle.ref_edn.specs.declared.faults.Kind.TheVariants.{Duplicate}
+use Rattle.ref_edn.specs.declared.faults.Flaw.TheVariants.{Duplicate}
 use Rattle.ref_edn.specs.declared.faults.ReadError.{ReadError}
 use Rattle.ref_value.specs.Edn.{Edn, items_of, entries_of}
 use Rattle.ref_value.specs.Order.{edn_cmp, elements_ascend, keys_ascend}

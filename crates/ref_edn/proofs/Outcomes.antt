@@ -3,7 +3,7 @@ use Rattle.std.proofs.Common.{◌≡◌, ℕ, Bool, true, false, cond, List, Res
 use Rattle.std.proofs.Common.{inl, inr}
 use Rattle.std.specs.Prelude.{◌⊎◌}
 use Rattle.ref_edn.specs.declared.faults.Fault.{Fault}
-use Rattle.ref_edn.specs.declared.faults.Kind.{Kind}
+use Rattle.ref_edn.specs.declared.faults.Flaw.{Flaw}
 use Rattle.ref_edn.specs.Faults.{◌>>=◌, fault}
 
 -- which of the two a choice has taken
@@ -20,7 +20,7 @@ ok_is x y e = cc
 pub err_isnt_ok : {A E : Type 0} {P : Type 0} (d : E) (y : A) → Err d ≡ done y → P
 err_isnt_ok d y e = absurd cc
 
-pub fault_isnt_ok : {A : Type 0} {P : Type 0} (kind : Kind) (text : List ℕ) (x : A) → fault kind text ≡ Ok x → P
+pub fault_isnt_ok : {A : Type 0} {P : Type 0} (kind : Flaw) (text : List ℕ) (x : A) → fault kind text ≡ Ok x → P
 fault_isnt_ok kind text x e = absurd cc
 
 -- the value of a step that did not fail

@@ -6,7 +6,7 @@ use Rattle.std.specs.Str.Lossy.{utf8_valid_len}
 use Rattle.std.proofs.lemmas.Bool.{eqb-true}
 use Rattle.std.proofs.lemmas.Str.{IsUtf8-from_is_utf8}
 use Rattle.ref_edn.specs.declared.faults.Fault.{Fault}
-use Rattle.ref_edn.specs.declared.faults.Kind.TheVariants.{EndsEarly, BadByte, WrongClose, OddMap, TooDeep, LeftOut, NotUtf8}
+use Rattle.ref_edn.specs.declared.faults.Flaw.TheVariants.{EndsEarly, BadByte, WrongClose, OddMap, TooDeep, LeftOut, NotUtf8}
 use Rattle.ref_value.specs.Edn.{Edn, vector, map, set, items_of, entries_of}
 use Rattle.ref_edn.specs.Bytes.{is_space, is_close}
 use Rattle.ref_edn.specs.Grammar.{from_newline, Brackets, square, round, SortsElements, SortsEntries, Blank, nothing, space, comment, discard, Element, sequence, mapping, collection, Elements, closed, more, Pairs, no_more, pair, IsText, Series, ended, next, AreTexts}

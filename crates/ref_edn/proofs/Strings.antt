@@ -8,7 +8,7 @@ use Rattle.std.proofs.lemmas.Bool.Decides.{nat_tests}
 use Rattle.std.proofs.lemmas.List.{append-nil}
 use Rattle.std.proofs.lemmas.Str.{IsUtf8-append, IsUtf8-encode, is_utf8-from_IsUtf8, IsUtf8-from_is_utf8}
 use Rattle.ref_edn.specs.declared.faults.Fault.{Fault}
-use Rattle.ref_edn.specs.declared.faults.Kind.TheVariants.{EndsEarly, BadEscape, NotUtf8}
+use Rattle.ref_edn.specs.declared.faults.Flaw.TheVariants.{EndsEarly, BadEscape, NotUtf8}
 use Rattle.ref_value.specs.Edn.{Edn, string}
 use Rattle.ref_edn.specs.Grammar.{Escape, tab, return, newline, backslash, quote, backspace, form_feed, NamesChar, Body, close, plain, escape, unicode, Element, quoted}
 use Rattle.ref_edn.specs.Faults.{◌>>=◌, fault}

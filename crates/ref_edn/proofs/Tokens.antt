@@ -6,8 +6,8 @@ use Rattle.std.specs.List.{list_all, before_first, after_first}
 use Rattle.std.proofs.lemmas.Bool.{eqb-true, cond-true, cond-false, and_parts, or_parts, or_cases, or_left, or_right, or_from, and_left, and_right, and_cases, and_from, cases_Bool, not-true, both_ways}
 use Rattle.std.proofs.lemmas.Bool.Decides.{nat_tests}
 use Rattle.std.proofs.lemmas.List.{take-append-drop}
-use Rattle.ref_edn.specs.declared.faults.Kind.{Kind}
-use Rattle.ref_edn.specs.declared.faults.Kind.TheVariants.{BadNumber, TooLarge, LeftOut, BadName}
+use Rattle.ref_edn.specs.declared.faults.Flaw.{Flaw}
+use Rattle.ref_edn.specs.declared.faults.Flaw.TheVariants.{BadNumber, TooLarge, LeftOut, BadName}
 use Rattle.ref_value.specs.Edn.{Edn, nil, boolean, int, keyword, symbol, nesting}
 use Rattle.ref_edn.specs.Bytes.{is_space, is_close, is_delimiter, is_digit, is_letter, is_sign, is_one_of, token_len, begins_with_digit, is_numeral, all_digits, is_integer, integer_value}
 use Rattle.ref_value.specs.Names.{is_name_byte, begins_part, is_part, is_slash, is_name, bytes_eq, nil_text, true_text, false_text, is_word, is_keyword, is_symbol}
@@ -29,8 +29,8 @@ fits_tested (negsuc n) h = let s = h.sfits in grind (arith, nat_tests)
 number_takes : (word : List ℕ) (x : Edn) → number_value word ≡ Ok x → Token word x
 unfolding number_value
 number_takes word x e =
-    elim (chosen (is_integer word) (cond (fits_i64 (integer_value word)) (done {E = Kind} (int (integer_value word))) (Err TooLarge)) (cond (marks_left_out (after_integer word)) (Err LeftOut) (Err BadNumber)) (Ok x) e) [
-      | inl p ↦ elim (chosen (fits_i64 (integer_value word)) (done {E = Kind} (int (integer_value word))) (Err TooLarge) (Ok x) p.1) [
+    elim (chosen (is_integer word) (cond (fits_i64 (integer_value word)) (done {E = Flaw} (int (integer_value word))) (Err TooLarge)) (cond (marks_left_out (after_integer word)) (Err LeftOut) (Err BadNumber)) (Ok x) e) [
+      | inl p ↦ elim (chosen (fits_i64 (integer_value word)) (done {E = Flaw} (int (integer_value word))) (Err TooLarge) (Ok x) p.1) [
         | inl q ↦ subst (Token word) (ok_is (int (integer_value word)) x q.1) (integer_token p.0 (fits_from_test (integer_value word) q.0))
         | inr q ↦ err_isnt_ok TooLarge x q.1
       ]
@@ -40,25 +40,25 @@ number_takes word x e =
 keyword_takes : (name : List ℕ) (x : Edn) → keyword_value name ≡ Ok x → Token (58 ∷ name) x
 unfolding keyword_value
 keyword_takes name x e =
-    elim (chosen (is_keyword name) (done {E = Kind} (keyword name)) (Err BadName) (Ok x) e) [
+    elim (chosen (is_keyword name) (done {E = Flaw} (keyword name)) (Err BadName) (Ok x) e) [
       | inl p ↦ subst (Token (58 ∷ name)) (ok_is (keyword name) x p.1) (keyword_token p.0)
       | inr p ↦ err_isnt_ok BadName x p.1
     ]
 
-same_word : (word text : List ℕ) (x y : Edn) → Token text x → bytes_eq word text ≡ true → done {E = Kind} x ≡ Ok y → Token word y
+same_word : (word text : List ℕ) (x y : Edn) → Token text x → bytes_eq word text ≡ true → done {E = Flaw} x ≡ Ok y → Token word y
 same_word word text x y t is e = subst (λ (w : List ℕ). Token w y) (sym (bytes_same word text is)) (subst (Token text) (ok_is x y e) t)
 
 word_takes : (word : List ℕ) (x : Edn) → word_value word ≡ Ok x → Token word x
 unfolding word_value
 word_takes word x e =
-    let symbols : Result Edn Kind = cond (is_symbol word) (Ok (symbol word)) (Err BadName) in
-    elim (chosen (bytes_eq word nil_text) (done {E = Kind} nil) (cond (bytes_eq word true_text) (Ok (boolean true)) (cond (bytes_eq word false_text) (Ok (boolean false)) symbols)) (Ok x) e) [
+    let symbols : Result Edn Flaw = cond (is_symbol word) (Ok (symbol word)) (Err BadName) in
+    elim (chosen (bytes_eq word nil_text) (done {E = Flaw} nil) (cond (bytes_eq word true_text) (Ok (boolean true)) (cond (bytes_eq word false_text) (Ok (boolean false)) symbols)) (Ok x) e) [
       | inl p ↦ same_word word nil_text nil x nil_token p.0 p.1
-      | inr p ↦ elim (chosen (bytes_eq word true_text) (done {E = Kind} (boolean true)) (cond (bytes_eq word false_text) (Ok (boolean false)) symbols) (Ok x) p.1) [
+      | inr p ↦ elim (chosen (bytes_eq word true_text) (done {E = Flaw} (boolean true)) (cond (bytes_eq word false_text) (Ok (boolean false)) symbols) (Ok x) p.1) [
         | inl q ↦ same_word word true_text (boolean true) x true_token q.0 q.1
-        | inr q ↦ elim (chosen (bytes_eq word false_text) (done {E = Kind} (boolean false)) symbols (Ok x) q.1) [
+        | inr q ↦ elim (chosen (bytes_eq word false_text) (done {E = Flaw} (boolean false)) symbols (Ok x) q.1) [
           | inl r ↦ same_word word false_text (boolean false) x false_token r.0 r.1
-          | inr r ↦ elim (chosen (is_symbol word) (done {E = Kind} (symbol word)) (Err BadName) (Ok x) r.1) [
+          | inr r ↦ elim (chosen (is_symbol word) (done {E = Flaw} (symbol word)) (Err BadName) (Ok x) r.1) [
             | inl s ↦ subst (Token word) (ok_is (symbol word) x s.1) (symbol_token s.0)
             | inr s ↦ err_isnt_ok BadName x s.1
           ]
@@ -88,7 +88,7 @@ token_ends [] = tt
 token_ends (b ∷ text) =
     elim (is_delimiter b) as (λ t. is_delimiter b ≡ t → Ends (drop (cond t 0 (suc (token_len text))) (b ∷ text))) [ true ↦ λ e. e | false ↦ λ e. token_ends text ] refl
 
-or_fault_ok : (text rest : List ℕ) (r : Result Edn Kind) (x : Edn × List ℕ) → or_fault text rest r ≡ Ok x → (y : Edn) × (r ≡ Ok y) × ((y, rest) ≡ x)
+or_fault_ok : (text rest : List ℕ) (r : Result Edn Flaw) (x : Edn × List ℕ) → or_fault text rest r ≡ Ok x → (y : Edn) × (r ≡ Ok y) × ((y, rest) ≡ x)
 or_fault_ok text rest (Ok y) x e = (y, refl, ok_is (y, rest) x e)
 or_fault_ok text rest (Err kind) x e = absurd cc
 
@@ -204,7 +204,7 @@ unfolding word_value
 name_word s word is =
     let third = or_parts (bytes_eq s nil_text || bytes_eq s true_text) (bytes_eq s false_text) word in
     let two = or_parts (bytes_eq s nil_text) (bytes_eq s true_text) third.0 in
-    let last : Result Edn Kind = cond (is_symbol s) (Ok (symbol s)) (Err BadName) in
+    let last : Result Edn Flaw = cond (is_symbol s) (Ok (symbol s)) (Err BadName) in
     cond-false (bytes_eq s nil_text) (Ok nil) (cond (bytes_eq s true_text) (Ok (boolean true)) (cond (bytes_eq s false_text) (Ok (boolean false)) last)) two.0
     ∙ cond-false (bytes_eq s true_text) (Ok (boolean true)) (cond (bytes_eq s false_text) (Ok (boolean false)) last) two.1
     ∙ cond-false (bytes_eq s false_text) (Ok (boolean false)) last third.1 ∙ cond-true (is_symbol s) (Ok (symbol s)) (Err BadName) is

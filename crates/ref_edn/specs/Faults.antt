@@ -1,7 +1,7 @@
 -- Faults of reading: what a reading function on lists answers, and what the reader answers for it.
 use Rattle.std.specs.Prelude.{◌≡◌, ℕ, ◌-◌, List, length, Result, Ok, Err, Option, Some, None, codes}
-use Rattle.ref_edn.specs.declared.faults.Kind.{Kind}
-use Rattle.ref_edn.specs.declared.faults.Kind.TheVariants as kinds
+use Rattle.ref_edn.specs.declared.faults.Flaw.{Flaw}
+use Rattle.ref_edn.specs.declared.faults.Flaw.TheVariants as kinds
 use Rattle.ref_edn.specs.declared.faults.Fault.{Fault}
 use Rattle.ref_edn.specs.declared.faults.ReadError.{ReadError}
 use Rattle.ref_edn.specs.declared.faults.ReadError.TheVariants as errors
@@ -44,7 +44,7 @@ place_of (faults.Trailing place) = Some place
 place_of faults.Memory = None
 
 -- the public fault of a kind at a place
-abbrev pub fault_at : Kind → ℕ → ReadFault
+abbrev pub fault_at : Flaw → ℕ → ReadFault
 fault_at kinds.Nothing place = faults.Nothing place
 fault_at kinds.EndsEarly place = faults.EndsEarly place
 fault_at kinds.BadByte place = faults.BadByte place
@@ -65,7 +65,7 @@ abbrev pub public_fault : List ℕ → Fault → ReadFault
 public_fault text f = fault_at f.kind (length text - f.left)
 
 -- a fault that stands where these bytes are left
-abbrev pub fault : {A : Type 0} → Kind → List ℕ → Result A Fault
+abbrev pub fault : {A : Type 0} → Flaw → List ℕ → Result A Fault
 fault kind rest = Err (record { kind = kind; left = length rest })
 
 infixl 10 ◌>>=◌

@@ -1,7 +1,7 @@
 -- What each part of the reader reads at the front of a text.
 use Rattle.std.specs.Prelude.{◌-◌, ℕ, zero, suc, Bool, false, List, [], ◌∷◌, length, drop, Option, Some, None, Result, Ok, cond, ◌==◌, ◌||◌}
 use Rattle.ref_edn.specs.declared.faults.Fault.{Fault}
-use Rattle.ref_edn.specs.declared.faults.Kind.TheVariants.{EndsEarly, BadByte, WrongClose, TooDeep, LeftOut}
+use Rattle.ref_edn.specs.declared.faults.Flaw.TheVariants.{EndsEarly, BadByte, WrongClose, TooDeep, LeftOut}
 use Rattle.ref_edn.specs.declared.faults.ReadError.{ReadError}
 use Rattle.ref_edn.specs.declared.faults.ReadError.TheVariants as errors
 use Rattle.ref_value.specs.Edn.{Edn}

@@ -3,8 +3,8 @@ use Rattle.std.specs.Prelude.{ℕ, zero, suc, ◌+◌, ◌*◌, Bool, true, fals
 use Rattle.std.specs.Char.{digit_value}
 use Rattle.std.specs.Str.{is_utf8}
 use Rattle.ref_edn.specs.declared.faults.Fault.{Fault}
-use Rattle.ref_edn.specs.declared.faults.Kind.{Kind}
-use Rattle.ref_edn.specs.declared.faults.Kind.TheVariants.{EndsEarly, BadNumber, TooLarge, BadEscape, BadName, LeftOut, NotUtf8}
+use Rattle.ref_edn.specs.declared.faults.Flaw.{Flaw}
+use Rattle.ref_edn.specs.declared.faults.Flaw.TheVariants.{EndsEarly, BadNumber, TooLarge, BadEscape, BadName, LeftOut, NotUtf8}
 use Rattle.ref_value.specs.Edn.{Edn, nil, boolean, int, string, keyword, symbol}
 use Rattle.ref_edn.specs.Bytes.{is_one_of, is_digit, is_letter, is_sign, token_len, begins_with_digit, is_integer, integer_value}
 use Rattle.ref_value.specs.Names.{is_keyword, is_symbol, bytes_eq, nil_text, true_text, false_text}
@@ -42,24 +42,24 @@ marks_left_out (b ∷ bs) = is_one_of (codes "./eENMrx") b
 abbrev pub fits_i64 : ℤ → Bool
 fits_i64 z = int_le (negsuc 9223372036854775807) z && int_le z (pos 9223372036854775807)
 
-unfoldable pub number_value : List ℕ → Result Edn Kind
+unfoldable pub number_value : List ℕ → Result Edn Flaw
 number_value word = cond (is_integer word) (cond (fits_i64 (integer_value word)) (Ok (int (integer_value word))) (Err TooLarge)) (cond (marks_left_out (after_integer word)) (Err LeftOut) (Err BadNumber))
 
 abbrev pub starts_keyword : List ℕ → Bool
 starts_keyword [] = false
 starts_keyword (b ∷ bs) = b == 58
 
-unfoldable pub keyword_value : List ℕ → Result Edn Kind
+unfoldable pub keyword_value : List ℕ → Result Edn Flaw
 keyword_value name = cond (is_keyword name) (Ok (keyword name)) (Err BadName)
 
-unfoldable pub word_value : List ℕ → Result Edn Kind
+unfoldable pub word_value : List ℕ → Result Edn Flaw
 word_value word = cond (bytes_eq word nil_text) (Ok nil) (cond (bytes_eq word true_text) (Ok (boolean true)) (cond (bytes_eq word false_text) (Ok (boolean false)) (cond (is_symbol word) (Ok (symbol word)) (Err BadName))))
 
 -- what a token writes
-unfoldable pub token_value : List ℕ → Result Edn Kind
+unfoldable pub token_value : List ℕ → Result Edn Flaw
 token_value word = cond (starts_number word) (number_value word) (cond (starts_keyword word) (keyword_value (drop 1 word)) (word_value word))
 
-abbrev pub or_fault : List ℕ → List ℕ → Result Edn Kind → Result (Edn × List ℕ) Fault
+abbrev pub or_fault : List ℕ → List ℕ → Result Edn Flaw → Result (Edn × List ℕ) Fault
 or_fault text rest (Ok x) = Ok (x, rest)
 or_fault text rest (Err kind) = fault kind text
 

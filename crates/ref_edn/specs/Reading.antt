@@ -7,7 +7,7 @@ use Rattle.std.specs.BTreeSet.{insert_key}
 use Rattle.std.specs.Str.{is_utf8}
 use Rattle.std.specs.Str.Lossy.{utf8_valid_len}
 use Rattle.ref_edn.specs.declared.faults.Fault.{Fault}
-use Rattle.ref_edn.specs.declared.faults.Kind.TheVariants.{Nothing, EndsEarly, BadByte, WrongClose, Duplicate, OddMap, TooDeep, LeftOut, NotUtf8, Trailing}
+use Rattle.ref_edn.specs.declared.faults.Flaw.TheVariants.{Nothing, EndsEarly, BadByte, WrongClose, Duplicate, OddMap, TooDeep, LeftOut, NotUtf8, Trailing}
 use Rattle.ref_value.specs.Edn.{Edn, vector, map, set, items_of, entries_of}
 use Rattle.ref_value.specs.Order.{edn_cmp}
 use Rattle.ref_edn.specs.Bytes.{is_space, is_close}

@@ -17,7 +17,7 @@ ghost use Rattle.ref_value.specs.Limits.{most_nested};
 
 use crate::blanks::{after_spaces, is_discard, line_end, may_be_blank, opens_set};
 use crate::bytes::{after, is_close, starts_token};
-use crate::faults::{Kind, ReadError};
+use crate::faults::{Flaw, ReadError};
 use crate::members::{into_pairs, into_values, sort_elements, sort_entries};
 use crate::scratch::Scratch;
 use crate::sort_keys::Keyed;
@@ -45,11 +45,11 @@ fn single<'a>(
     } else if starts_token(first) {
         token(alloc, &mut scratch.interner, text)
     } else if is_close(first) {
-        Err(ReadError::at(Kind::WrongClose, text))
+        Err(ReadError::at(Flaw::WrongClose, text))
     } else if first == b'#' || first == b'\\' {
-        Err(ReadError::at(Kind::LeftOut, text))
+        Err(ReadError::at(Flaw::LeftOut, text))
     } else {
-        Err(ReadError::at(Kind::BadByte, text))
+        Err(ReadError::at(Flaw::BadByte, text))
     }
 }
 
@@ -119,7 +119,7 @@ fn discarded<'a>(
     ensures shorter { IfOk result (λ r. length r.now < length text.now) }
 {
     if room == 0 {
-        return Err(ReadError::at(Kind::TooDeep, text));
+        return Err(ReadError::at(Flaw::TooDeep, text));
     }
     let start = skip(alloc, scratch, after(text, 2), room - 1)?;
     let (_, rest) = read(alloc, scratch, start, room - 1)?;
@@ -140,7 +140,7 @@ pub(crate) fn read<'a>(
     ensures shorter { IfOk result (λ r. length r.1.now < length text.now) }
 {
     match text {
-        [] => Err(ReadError::at(Kind::EndsEarly, text)),
+        [] => Err(ReadError::at(Flaw::EndsEarly, text)),
         [b'[', ..] => vector(alloc, scratch, text, room, b']'),
         [b'(', ..] => vector(alloc, scratch, text, room, b')'),
         [b'{', ..] => mapping(alloc, scratch, text, room),
@@ -170,7 +170,7 @@ fn vector<'a>(
     ensures shorter { IfOk result (λ r. length r.1.now < length text.now) }
 {
     if room == 0 {
-        return Err(ReadError::at(Kind::TooDeep, text));
+        return Err(ReadError::at(Flaw::TooDeep, text));
     }
     let (mut list, rest) = items(alloc, scratch, after(text, 1), room - 1, close)?;
     if list.is_empty() {
@@ -197,7 +197,7 @@ fn mapping<'a>(
     ensures shorter { IfOk result (λ r. length r.1.now < length text.now) }
 {
     if room == 0 {
-        return Err(ReadError::at(Kind::TooDeep, text));
+        return Err(ReadError::at(Flaw::TooDeep, text));
     }
     let (pairs, rest) = entries(alloc, scratch, after(text, 1), room - 1)?;
     if pairs.is_empty() {
@@ -222,7 +222,7 @@ fn collection<'a>(
     ensures shorter { IfOk result (λ r. length r.1.now < length text.now) }
 {
     if room == 0 {
-        return Err(ReadError::at(Kind::TooDeep, text));
+        return Err(ReadError::at(Flaw::TooDeep, text));
     }
     let (values, rest) = elements(alloc, scratch, after(text, 2), room - 1)?;
     if values.is_empty() {
@@ -252,7 +252,7 @@ fn next<'a>(
 {
     let start = skip(alloc, scratch, text, room)?;
     if start.is_empty() {
-        return Err(ReadError::at(Kind::EndsEarly, start));
+        return Err(ReadError::at(Flaw::EndsEarly, start));
     }
     if start[0] == close {
         return Ok((start, None, after(start, 1)));
@@ -276,10 +276,10 @@ fn value<'a>(
 {
     let start = skip(alloc, scratch, text, room)?;
     if start.is_empty() {
-        return Err(ReadError::at(Kind::EndsEarly, start));
+        return Err(ReadError::at(Flaw::EndsEarly, start));
     }
     if start[0] == b'}' {
-        return Err(ReadError::at(Kind::OddMap, start));
+        return Err(ReadError::at(Flaw::OddMap, start));
     }
     read(alloc, scratch, start, room)
 }
@@ -323,7 +323,7 @@ fn marked_elements<'a>(
     requires empty { found.old.items ≡ [] }
     ensures falls { Falls found.new.items }
     ensures twice { 0 < first_twice [] found.new.items
-        → set_at room text.now ≡ Err (record { kind = Kind.Duplicate; left = first_twice [] found.new.items }) }
+        → set_at room text.now ≡ Err (record { kind = Flaw.Duplicate; left = first_twice [] found.new.items }) }
     ensures once { first_twice [] found.new.items ≡ 0
         → Gives (λ rest. (inserts [] (elements_of found.new.items), rest.now)) result (set_at room text.now) }
     ensures shorter { IfOk result (λ rest. length rest.now < length text.now) }
@@ -377,7 +377,7 @@ fn marked_entries<'a>(
     ensures falls { Falls (keys_of found.new.items) }
     ensures twice { 0 < first_twice [] (keys_of found.new.items)
         → map_at room text.now
-        ≡ Err (record { kind = Kind.Duplicate; left = first_twice [] (keys_of found.new.items) }) }
+        ≡ Err (record { kind = Flaw.Duplicate; left = first_twice [] (keys_of found.new.items) }) }
     ensures once { first_twice [] (keys_of found.new.items) ≡ 0
         → Gives (λ rest. (inserts_entries [] (pairs_of found.new.items), rest.now)) result (map_at room text.now) }
     ensures shorter { IfOk result (λ rest. length rest.now < length text.now) }

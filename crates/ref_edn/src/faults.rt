@@ -8,7 +8,7 @@ use thiserror::Error;
 
 /// What is wrong with a text, without where.
 #[derive(Clone, Copy, Debug, PartialEq, Eq)]
-pub(crate) enum Kind {
+pub(crate) enum Flaw {
     Nothing,
     EndsEarly,
     BadByte,
@@ -28,7 +28,7 @@ pub(crate) enum Kind {
 /// What is wrong, and how many bytes are left from its place on.
 #[derive(Clone, Copy, Debug, PartialEq, Eq)]
 pub(crate) struct Fault {
-    pub kind: Kind,
+    pub kind: Flaw,
     pub left: usize,
 }
 
@@ -40,7 +40,7 @@ pub(crate) enum ReadError {
 
 impl ReadError {
     /// The fault at the place from which on these bytes are left.
-    pub fn at(kind: Kind, rest: &[u8]) -> ReadError
+    pub fn at(kind: Flaw, rest: &[u8]) -> ReadError
         ensures { result ≡ ReadError.Fault (record { kind = kind; left = length rest.now }) }
     {
         ReadError::Fault(Fault {
@@ -51,10 +51,10 @@ impl ReadError {
 
     /// The fault that a key or an element is there already, where so many bytes were left.
     pub fn duplicate(left: usize) -> ReadError
-        ensures { result ≡ ReadError.Fault (record { kind = Kind.Duplicate; left = left }) }
+        ensures { result ≡ ReadError.Fault (record { kind = Flaw.Duplicate; left = left }) }
     {
         ReadError::Fault(Fault {
-            kind: Kind::Duplicate,
+            kind: Flaw::Duplicate,
             left,
         })
     }
@@ -171,23 +171,23 @@ impl ReadFault {
 }
 
 // The fault at a place.
-pub(crate) fn fault_at(kind: Kind, place: usize) -> ReadFault
+pub(crate) fn fault_at(kind: Flaw, place: usize) -> ReadFault
     ensures { result ≡ fault_at kind place }
 {
     match kind {
-        Kind::Nothing => ReadFault::Nothing(place),
-        Kind::EndsEarly => ReadFault::EndsEarly(place),
-        Kind::BadByte => ReadFault::BadByte(place),
-        Kind::BadNumber => ReadFault::BadNumber(place),
-        Kind::TooLarge => ReadFault::TooLarge(place),
-        Kind::BadEscape => ReadFault::BadEscape(place),
-        Kind::BadName => ReadFault::BadName(place),
-        Kind::WrongClose => ReadFault::WrongClose(place),
-        Kind::Duplicate => ReadFault::Duplicate(place),
-        Kind::OddMap => ReadFault::OddMap(place),
-        Kind::TooDeep => ReadFault::TooDeep(place),
-        Kind::LeftOut => ReadFault::LeftOut(place),
-        Kind::NotUtf8 => ReadFault::NotUtf8(place),
-        Kind::Trailing => ReadFault::Trailing(place),
+        Flaw::Nothing => ReadFault::Nothing(place),
+        Flaw::EndsEarly => ReadFault::EndsEarly(place),
+        Flaw::BadByte => ReadFault::BadByte(place),
+        Flaw::BadNumber => ReadFault::BadNumber(place),
+        Flaw::TooLarge => ReadFault::TooLarge(place),
+        Flaw::BadEscape => ReadFault::BadEscape(place),
+        Flaw::BadName => ReadFault::BadName(place),
+        Flaw::WrongClose => ReadFault::WrongClose(place),
+        Flaw::Duplicate => ReadFault::Duplicate(place),
+        Flaw::OddMap => ReadFault::OddMap(place),
+        Flaw::TooDeep => ReadFault::TooDeep(place),
+        Flaw::LeftOut => ReadFault::LeftOut(place),
+        Flaw::NotUtf8 => ReadFault::NotUtf8(place),
+        Flaw::Trailing => ReadFault::Trailing(place),
     }
 }

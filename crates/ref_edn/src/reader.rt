@@ -7,7 +7,7 @@ ghost use Rattle.ref_edn.specs.ReadParts.{whole_at, series_at, public_error};
 ghost use Rattle.ref_edn.specs.Reading.{one, all};
 
 use crate::elements::{read, skip};
-use crate::faults::{Kind, ReadError, ReadFault, fault_at};
+use crate::faults::{Flaw, ReadError, ReadFault, fault_at};
 use crate::scratch::Scratch;
 use ref_value::Value;
 use ref_value::data::MOST_NESTED;
@@ -79,12 +79,12 @@ fn whole(alloc: Global, text: &[u8]) -> Result<Value, ReadError>
     let mut scratch = Scratch::for_text(alloc, text);
     let start = skip(alloc, &mut scratch, text, MOST_NESTED)?;
     if start.is_empty() {
-        return Err(ReadError::at(Kind::Nothing, start));
+        return Err(ReadError::at(Flaw::Nothing, start));
     }
     let (value, after) = read(alloc, &mut scratch, start, MOST_NESTED)?;
     let rest = skip(alloc, &mut scratch, after, MOST_NESTED)?;
     if !rest.is_empty() {
-        return Err(ReadError::at(Kind::Trailing, rest));
+        return Err(ReadError::at(Flaw::Trailing, rest));
     }
     Ok(value)
 }

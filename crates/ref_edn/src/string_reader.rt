@@ -9,7 +9,7 @@ ghost use Rattle.ref_value.specs.Lawful.{IsLawful};
 ghost use Rattle.ref_edn.specs.ReadTokens.{escape_of, hex_at, escape_at, body_at, string_at};
 
 use crate::bytes::after;
-use crate::faults::{Kind, ReadError};
+use crate::faults::{Flaw, ReadError};
 use crate::interner::Interner;
 use memchr::memchr2;
 use ref_value::{Node, Value};
@@ -59,9 +59,9 @@ fn unicode<'a>(at: &[u8], text: &'a [u8]) -> Result<(char, &'a [u8]), ReadError>
     match text {
         [h, i, j, k, rest @ ..] => match char_of_digits(*h, *i, *j, *k) {
             Some(c) => Ok((c, rest)),
-            None => Err(ReadError::at(Kind::BadEscape, at)),
+            None => Err(ReadError::at(Flaw::BadEscape, at)),
         },
-        _ => Err(ReadError::at(Kind::EndsEarly, &[])),
+        _ => Err(ReadError::at(Flaw::EndsEarly, &[])),
     }
 }
 
@@ -74,9 +74,9 @@ fn escape(at: &[u8]) -> Result<(char, &[u8]), ReadError>
         [_, b'u', digits @ ..] => unicode(at, digits),
         [_, letter, rest @ ..] => match unescape(*letter) {
             Some(b) => Ok((char::from(b), rest)),
-            None => Err(ReadError::at(Kind::BadEscape, at)),
+            None => Err(ReadError::at(Flaw::BadEscape, at)),
         },
-        _ => Err(ReadError::at(Kind::EndsEarly, &[])),
+        _ => Err(ReadError::at(Flaw::EndsEarly, &[])),
     }
 }
 
@@ -105,7 +105,7 @@ fn body(alloc: Global, text: &[u8]) -> Result<(Vec<u8>, &[u8]), ReadError>
         push_char(&mut bytes, c)?;
         rest = behind;
     }
-    Err(ReadError::at(Kind::EndsEarly, &[]))
+    Err(ReadError::at(Flaw::EndsEarly, &[]))
 }
 
 // The content of a string without escapes, behind its opening quote, and what follows its closing quote.
@@ -162,7 +162,7 @@ pub(crate) fn string<'a>(
     if let Some((content, rest)) = plain(inside) {
         return match plain_string(alloc, interner, content)? {
             Some(value) => Ok((value, rest)),
-            None => Err(ReadError::at(Kind::NotUtf8, text)),
+            None => Err(ReadError::at(Flaw::NotUtf8, text)),
         };
     }
     let (bytes, rest) = body(alloc, inside)?;
@@ -171,6 +171,6 @@ pub(crate) fn string<'a>(
             let node = Node::string_of(alloc, content)?;
             Ok((Value::of_lawful(node), rest))
         }
-        Err(_) => Err(ReadError::at(Kind::NotUtf8, text)),
+        Err(_) => Err(ReadError::at(Flaw::NotUtf8, text)),
     }
 }

@@ -11,7 +11,7 @@ ghost use Rattle.ref_edn.specs.Grammar.{Ends};
 ghost use Rattle.ref_edn.specs.ReadTokens.{starts_number as starts_number_text, after_digits as after_digits_text, after_numeral as after_numeral_text, after_integer as after_integer_text, marks_left_out as marks_left_out_text, fits_i64, number_value, keyword_value, word_value, token_value as value_of_token, token_at};
 
 use crate::bytes::{after, is_delimiter, is_digit, token_end};
-use crate::faults::{Kind, ReadError};
+use crate::faults::{Flaw, ReadError};
 use crate::interner::Interner;
 use ref_value::names::{is_keyword, is_same, is_symbol};
 use ref_value::{Node, Value};
@@ -222,18 +222,18 @@ fn marks_left_out(rest: &[u8]) -> bool
 }
 
 #[tactic(auto, unfolding(crate::specs::ReadTokens::number_value))]
-fn number(word: &[u8]) -> Result<Value, Kind>
+fn number(word: &[u8]) -> Result<Value, Flaw>
     ensures { result ≡ number_value word.now }
 {
     if is_integer(word) {
         match integer(word) {
             Some(n) => Ok(Value::of_lawful(Node::Int(n))),
-            None => Err(Kind::TooLarge),
+            None => Err(Flaw::TooLarge),
         }
     } else if marks_left_out(after_integer(word)) {
-        Err(Kind::LeftOut)
+        Err(Flaw::LeftOut)
     } else {
-        Err(Kind::BadNumber)
+        Err(Flaw::BadNumber)
     }
 }
 
@@ -243,14 +243,14 @@ fn keyword(
     alloc: Global,
     interner: &mut Interner,
     name: &[u8],
-) -> Result<Result<Value, Kind>, AllocError>
+) -> Result<Result<Value, Flaw>, AllocError>
     ensures { IfOk result (λ r. r ≡ keyword_value name.now) }
 {
     if let Some(value) = interner.keyword(name)? {
         return Ok(Ok(value));
     }
     if !is_keyword(name) {
-        return Ok(Err(Kind::BadName));
+        return Ok(Err(Flaw::BadName));
     }
     let node = Node::keyword_of_bytes(alloc, name)?;
     Ok(Ok(interner.kept(name, Value::of_lawful(node))?))
@@ -262,7 +262,7 @@ fn symbol(
     alloc: Global,
     interner: &mut Interner,
     word: &[u8],
-) -> Result<Result<Value, Kind>, AllocError>
+) -> Result<Result<Value, Flaw>, AllocError>
     ensures { IfOk result (λ r. r ≡ word_value word.now) }
 {
     if let Some(value) = interner.symbol(word)? {
@@ -278,7 +278,7 @@ fn symbol(
         let node = Node::symbol_of_bytes(alloc, word)?;
         interner.kept(word, Value::of_lawful(node))?
     } else {
-        return Ok(Err(Kind::BadName));
+        return Ok(Err(Flaw::BadName));
     }))
 }
 
@@ -287,7 +287,7 @@ fn token_value(
     alloc: Global,
     interner: &mut Interner,
     word: &[u8],
-) -> Result<Result<Value, Kind>, AllocError>
+) -> Result<Result<Value, Flaw>, AllocError>
     ensures { IfOk result (λ r. r ≡ value_of_token word.now) }
 {
     if starts_number(word) {

@@ -47,7 +47,7 @@ pub use lists::{Shareable, SharedVec, share_all};
 pub use meanings::{Core, Meaning};
 pub use names::{code_of, is_function, is_predicate, name_of};
 pub use predicates::core_test;
-pub use rules::{Rule, check_known, passes};
+pub use rules::{Rule, check_known, passes, share_rule};
 pub use same::Same;
 pub use stored::{Fun, Pred, StoredFun, StoredPred};
 pub use tables::{FunTable, Functions, MOST_FUNCTIONS, has_core};

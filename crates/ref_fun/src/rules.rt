@@ -1,5 +1,5 @@
 //! The rule of a reference, as a validator in Clojure.
-ghost use Rattle.std.specs.Prelude.{◌≡◌, None, Some, IfErr, IfOk, OnOk, is_ok};
+ghost use Rattle.std.specs.Prelude.{◌≡◌, ◌≢◌, None, Some, IfErr, IfOk, OnErr, OnOk, is_ok};
 ghost use Rattle.ref_fun.specs.Rule.{is_known, passes, unknown};
 
 use crate::arguments::Args;
@@ -25,6 +25,17 @@ impl Rule {
             code: self.code,
             args: self.args.share()?,
         })
+    }
+}
+
+/// One more owner of a rule's arguments, if there is a rule. As for [`Rule::share`], only the count of owners can refuse.
+pub fn share_rule(rule: &Option<Rule>) -> Result<Option<Rule>, AllocError>
+    ensures value { IfOk result (λ r. r ≡ rule.now) }
+    ensures none { OnErr result (rule.now ≢ None) }
+{
+    match rule {
+        None => Ok(None),
+        Some(rule) => Ok(Some(rule.share()?)),
     }
 }
 

@@ -5,9 +5,8 @@ ghost use Rattle.ref_play.specs.declared.events.Act.TheVariants as acts;
 
 use crate::actors::Actors;
 use crate::events::Reply;
-use crate::sending::share_rule;
 use ref_atoms::AtomFault;
-use ref_fun::{Args, Functions, Meaning, Rule};
+use ref_fun::{Args, Functions, Meaning, Rule, share_rule};
 use ref_log::{MakeFault, Stamp};
 use ref_value::Value;
 use ref_world::{Share, World};

@@ -6,8 +6,7 @@ ghost use Rattle.ref_play.specs.Sims.{Serves, SimSeen, present};
 ghost use Rattle.ref_play.specs.declared.events.Act.TheVariants as acts;
 
 use crate::events::Reply;
-use crate::sending::share_rule;
-use ref_fun::{Functions, Meaning, Rule};
+use ref_fun::{Functions, Meaning, Rule, share_rule};
 use ref_log::{RuleFault, WatchFault, Who};
 use ref_value::Value;
 use ref_world::World;

@@ -1,12 +1,12 @@
 //! What actors do with agents.
-ghost use Rattle.std.specs.Prelude.{◌≡◌, ◌≢◌, [], None, IfOk, OnErr};
+ghost use Rattle.std.specs.Prelude.{◌≡◌, []};
 ghost use Rattle.ref_play.specs.Present.{FoldsAgent, MakesAgent, Releases, ReleasesCarried, Restarts, Sends, SetsMode};
 ghost use Rattle.ref_play.specs.Sims.{SimSeen, present};
 ghost use Rattle.ref_world.specs.World.{with_agents};
 
 use crate::events::Reply;
 use ref_agents::{ErrorMode, RestartFault, SendFault};
-use ref_fun::{Action, Functions, Meaning, Rule};
+use ref_fun::{Action, Functions, Meaning, Rule, share_rule};
 use ref_log::MakeFault;
 use ref_value::Value;
 use ref_world::World;
@@ -132,16 +132,5 @@ pub(crate) fn make_agent<M: Meaning, C: Ledger, A: Ledger, K: Ledger, F: Functio
     match world.make_agent(alloc, funs, value, rule, mode) {
         Ok(g) => Reply::MakeAgent(Ok(g)),
         Err(fault) => Reply::MakeAgent(Err(fault)),
-    }
-}
-
-// One more owner of a rule's arguments, if there is one.
-pub(crate) fn share_rule(rule: &Option<Rule>) -> Result<Option<Rule>, AllocError>
-    ensures value { IfOk result (λ r. r ≡ rule.now) }
-    ensures none { OnErr result (rule.now ≢ None) }
-{
-    match rule {
-        None => Ok(None),
-        Some(rule) => Ok(Some(rule.share()?)),
     }
 }

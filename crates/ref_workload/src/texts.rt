@@ -153,7 +153,7 @@ where
     let out = ran?;
     if options.dump {
         let dumped = audited(alloc, funs, &out.world)?;
-        line_of(alloc, &dumped)
+        dump_line(alloc, &dumped)
     } else {
         check_audit(alloc, funs, &out.world)?;
         report_of(alloc, plan, &out)
@@ -217,7 +217,7 @@ pub fn check_audit<F: Functions<Core>, C: Ledger, A: Ledger, K: Ledger>(
 }
 
 // The line of a dump.
-fn line_of(alloc: Global, dumped: &Value) -> Result<Vec<u8>, RunFault>
+fn dump_line(alloc: Global, dumped: &Value) -> Result<Vec<u8>, RunFault>
     ensures ok { IfOk result (λ line. line.items ≡ printed dumped.now ++ 10 ∷ []) }
     ensures inner { IfErr result IsOfPlan }
 {

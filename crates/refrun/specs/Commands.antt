@@ -9,8 +9,8 @@ use Rattle.ref_history.specs.declared.looks.Look.{Look as Looked}
 use Rattle.ref_history.specs.declared.looks.Look.TheVariants as looks
 use Rattle.ref_history.specs.declared.places.Choice.{Choice}
 use Rattle.ref_workload.specs.declared.texts.Options.{Options}
-use Rattle.refrun.specs.declared.commands.Act.{Act}
-use Rattle.refrun.specs.declared.commands.Act.TheVariants.{ByCore, Check, Print}
+use Rattle.refrun.specs.declared.commands.Request.{Request}
+use Rattle.refrun.specs.declared.commands.Request.TheVariants.{ByCore, Check, Print}
 use Rattle.refrun.specs.declared.commands.Wanted.{Wanted}
 use Rattle.refrun.specs.declared.tasks.Task.{Task}
 use Rattle.refrun.specs.declared.tasks.Task.TheVariants.{Run, Audit, Play, Look, Draw}
@@ -85,19 +85,19 @@ IsPlayOf rows (Play dump) = IsFlag (one_of (codes "dump") rows) dump
 IsPlayOf rows (Look look) = ⊥
 IsPlayOf rows (Draw part) = ⊥
 
--- The command of this name, with its options, is this act.
-abbrev pub IsAct : Text → List Row → Act → Type 0
-IsAct name rows (ByCore (Run options tells)) = (name ≡ codes "run") × AreOptions rows options tells
-IsAct name rows (ByCore Audit) = name ≡ codes "audit"
-IsAct name rows (ByCore (Play dump)) = (name ≡ codes "play") × IsFlag (one_of (codes "dump") rows) dump
-IsAct name rows (ByCore (Look look)) = IsLookOf name rows look
-IsAct name rows (ByCore (Draw part)) = (name ≡ codes "draw") × IsPart rows part
-IsAct name rows Check = name ≡ codes "check"
-IsAct name rows Print = name ≡ codes "print"
+-- The command of this name, with its options, is this request.
+abbrev pub IsRequest : Text → List Row → Request → Type 0
+IsRequest name rows (ByCore (Run options tells)) = (name ≡ codes "run") × AreOptions rows options tells
+IsRequest name rows (ByCore Audit) = name ≡ codes "audit"
+IsRequest name rows (ByCore (Play dump)) = (name ≡ codes "play") × IsFlag (one_of (codes "dump") rows) dump
+IsRequest name rows (ByCore (Look look)) = IsLookOf name rows look
+IsRequest name rows (ByCore (Draw part)) = (name ≡ codes "draw") × IsPart rows part
+IsRequest name rows Check = name ≡ codes "check"
+IsRequest name rows Print = name ≡ codes "print"
 
 -- The command of this name, with its options, asks for this. Only a run can be strict.
 pub record AsksFor (name : Text) (rows : List Row) (wanted : Wanted) : Type 0 where
-  pub act : IsAct name rows wanted.act
+  pub request : IsRequest name rows wanted.request
   pub explains : IsFlag (one_of (codes "explain") rows) wanted.explains
   pub strict : name ≡ codes "run" → IsFlag (one_of (codes "strict") rows) wanted.is_strict
   pub other : name ≢ codes "run" → wanted.is_strict ≡ false

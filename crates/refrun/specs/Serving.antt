@@ -16,34 +16,34 @@ use Rattle.refrun.specs.Checking as checks
 use Rattle.refrun.specs.Lines.{status_of}
 use Rattle.refrun.specs.Printing as prints
 use Rattle.refrun.specs.Tasks.{IsDone, IsFaultOf, IsLeft}
-use Rattle.refrun.specs.declared.commands.Act.{Act}
-use Rattle.refrun.specs.declared.commands.Act.TheVariants.{ByCore, Check, Print}
+use Rattle.refrun.specs.declared.commands.Request.{Request}
+use Rattle.refrun.specs.declared.commands.Request.TheVariants.{ByCore, Check, Print}
 use Rattle.refrun.specs.declared.commands.Wanted.{Wanted}
 use Rattle.refrun.specs.declared.faults.Fault.{Fault}
 use Rattle.refrun.specs.declared.faults.Fault.TheVariants.{Run}
 
--- The whole output of an act was written. What was left to read and what was written are named before and after.
-abbrev pub IsActDone : NamesSeen → Act → Verdict → Option (List ℕ) → Option (List ℕ) → Option (List ℕ) → Option (List ℕ) → Type 0
-IsActDone names (ByCore task) verdict before after old new = IsDone names task verdict before after old new
-IsActDone names Check verdict before after old new = (verdict ≡ verdicts.Ok) × streams.HasWritten checks.IsCheckOf before after old new
-IsActDone names Print verdict before after old new = (verdict ≡ verdicts.Ok) × streams.HasWritten prints.IsPrintOf before after old new
+-- The whole output of a request was written. What was left to read and what was written are named before and after.
+abbrev pub IsRequestDone : NamesSeen → Request → Verdict → Option (List ℕ) → Option (List ℕ) → Option (List ℕ) → Option (List ℕ) → Type 0
+IsRequestDone names (ByCore task) verdict before after old new = IsDone names task verdict before after old new
+IsRequestDone names Check verdict before after old new = (verdict ≡ verdicts.Ok) × streams.HasWritten checks.IsCheckOf before after old new
+IsRequestDone names Print verdict before after old new = (verdict ≡ verdicts.Ok) × streams.HasWritten prints.IsPrintOf before after old new
 
--- The fault is one of this act, and the text that was there to read is at fault if it says so.
-abbrev pub IsFaultOfAct : Act → Option (List ℕ) → Fault → Type 0
-IsFaultOfAct (ByCore task) before fault = IsFaultOf task before fault
-IsFaultOfAct Check before (Run fault) = checks.IsOfChecking fault × IfSome before (λ text. runs.IsAtFault text fault)
-IsFaultOfAct Print before (Run fault) = prints.IsOfPrinting fault
+-- The fault is one of this request, and the text that was there to read is at fault if it says so.
+abbrev pub IsFaultOfRequest : Request → Option (List ℕ) → Fault → Type 0
+IsFaultOfRequest (ByCore task) before fault = IsFaultOf task before fault
+IsFaultOfRequest Check before (Run fault) = checks.IsOfChecking fault × IfSome before (λ text. runs.IsAtFault text fault)
+IsFaultOfRequest Print before (Run fault) = prints.IsOfPrinting fault
     × IfSome before (λ text. streams.IsInputAtFault AreTexts streams.IsFaultOfAll text fault)
-IsFaultOfAct act before fault = ⊥
+IsFaultOfRequest request before fault = ⊥
 
 -- If the writer failed, a part of the output was written, from its start on, and before any other fault nothing.
-abbrev pub IsLeftByAct : NamesSeen → Act → Fault → Option (List ℕ) → Option (List ℕ) → Option (List ℕ) → Option (List ℕ) → Type 0
-IsLeftByAct names (ByCore task) fault before after old new = IsLeft names task fault before after old new
-IsLeftByAct names Check (Run fault) before after old new =
+abbrev pub IsLeftByRequest : NamesSeen → Request → Fault → Option (List ℕ) → Option (List ℕ) → Option (List ℕ) → Option (List ℕ) → Type 0
+IsLeftByRequest names (ByCore task) fault before after old new = IsLeft names task fault before after old new
+IsLeftByRequest names Check (Run fault) before after old new =
     (fault ≡ run_faults.Write → streams.HasBrokenOff checks.IsCheckOf before after old new) × (fault ≢ run_faults.Write → new ≡ old)
-IsLeftByAct names Print (Run fault) before after old new =
+IsLeftByRequest names Print (Run fault) before after old new =
     (fault ≡ run_faults.Write → streams.HasBrokenOff prints.IsPrintOf before after old new) × (fault ≢ run_faults.Write → new ≡ old)
-IsLeftByAct names act fault before after old new = ⊥
+IsLeftByRequest names request fault before after old new = ⊥
 
 -- the status after a verdict: 7 if a step that was refused is to show, and 5 for an audit that says no
 abbrev pub verdict_status : Bool → Verdict → ℕ
@@ -57,9 +57,9 @@ status_after shows (Err fault) = status_of fault
 -- The program did what was wanted, or met a fault, and ends with the status of that.
 pub record Ends (names : NamesSeen) (wanted : Wanted) (before after old new : Option (List ℕ)) (status : ℕ) : Type 0 where
   pub done : Result Verdict Fault
-  pub ok : IfOk done (λ verdict. IsActDone names wanted.act verdict before after old new)
-  pub fault : IfErr done (λ fault. IsFaultOfAct wanted.act before fault)
-  pub left : IfErr done (λ fault. IsLeftByAct names wanted.act fault before after old new)
+  pub ok : IfOk done (λ verdict. IsRequestDone names wanted.request verdict before after old new)
+  pub fault : IfErr done (λ fault. IsFaultOfRequest wanted.request before fault)
+  pub left : IfErr done (λ fault. IsLeftByRequest names wanted.request fault before after old new)
   -- Whether a step that was refused is to show. Only a strict run shows it.
   pub shows : Bool
   pub strict : shows ≡ true → wanted.is_strict ≡ true

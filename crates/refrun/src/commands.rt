@@ -3,7 +3,7 @@ ghost use Rattle.std.specs.Prelude.{◌≡◌, ◌≢◌, IfSome, IsNone, false,
 ghost use Rattle.clap.specs.Simple.{subcommand_rows_of};
 ghost use Rattle.clap.specs.Matches.{found_of};
 ghost use Rattle.clap.specs.Walk.{one_of, rows_of};
-ghost use Rattle.refrun.specs.Commands.{IsAct, IsChoice, IsFlag, IsHistoryOf, IsNumber, IsPart, IsPlayOf, IsPoint, IsRunOf, IsTries, IsWanted, is_command};
+ghost use Rattle.refrun.specs.Commands.{IsRequest, IsChoice, IsFlag, IsHistoryOf, IsNumber, IsPart, IsPlayOf, IsPoint, IsRunOf, IsTries, IsWanted, is_command};
 
 use crate::tasks::Task;
 use clap::{Arg, ArgAction, ArgMatches, Command, Error, value_parser};
@@ -18,7 +18,7 @@ use std::io;
 /// What the words ask for, and how it is reported.
 #[derive(Clone, Copy, Drop)]
 pub(crate) struct Wanted {
-    pub act: Act,
+    pub request: Request,
     /// Whether standard error explains what is wrong.
     pub explains: bool,
     /// Whether a refused step shows in the status.
@@ -27,7 +27,7 @@ pub(crate) struct Wanted {
 
 /// What is to be done.
 #[derive(Clone, Copy, Drop)]
-pub(crate) enum Act {
+pub(crate) enum Request {
     /// What runs by Core's functions.
     ByCore(Task),
     Check,
@@ -383,9 +383,9 @@ pub(crate) fn wanted_of(matches: &ArgMatches) -> Option<Wanted>
 fn wanted_by(name: &str, inner: &ArgMatches) -> Option<Wanted>
     ensures { IsWanted (Some (name.now, rows_of (found_of inner.now))) result }
 {
-    match act_of(name, inner) {
-        Some(act) => Some(Wanted {
-            act,
+    match request_of(name, inner) {
+        Some(request) => Some(Wanted {
+            request,
             explains: has_flag(inner, "explain"),
             is_strict: is_strict(name, inner),
         }),
@@ -393,19 +393,19 @@ fn wanted_by(name: &str, inner: &ArgMatches) -> Option<Wanted>
     }
 }
 
-fn act_of(name: &str, inner: &ArgMatches) -> Option<Act>
-    ensures some { IfSome result (IsAct name.now (rows_of (found_of inner.now))) }
+fn request_of(name: &str, inner: &ArgMatches) -> Option<Request>
+    ensures some { IfSome result (IsRequest name.now (rows_of (found_of inner.now))) }
     ensures none { IsNone result → is_command name.now ≡ false }
 {
     match name {
-        "run" => Some(Act::ByCore(run_of(inner))),
-        "check" => Some(Act::Check),
-        "audit" => Some(Act::ByCore(Task::Audit)),
-        "play" => Some(Act::ByCore(play_of(inner))),
-        "history" => Some(Act::ByCore(Task::Look(history_of(inner)))),
-        "at" => Some(Act::ByCore(Task::Look(Look::At(point_of(inner, "point", 0))))),
-        "draw" => Some(Act::ByCore(Task::Draw(part_of(inner)))),
-        "print" => Some(Act::Print),
+        "run" => Some(Request::ByCore(run_of(inner))),
+        "check" => Some(Request::Check),
+        "audit" => Some(Request::ByCore(Task::Audit)),
+        "play" => Some(Request::ByCore(play_of(inner))),
+        "history" => Some(Request::ByCore(Task::Look(history_of(inner)))),
+        "at" => Some(Request::ByCore(Task::Look(Look::At(point_of(inner, "point", 0))))),
+        "draw" => Some(Request::ByCore(Task::Draw(part_of(inner)))),
+        "print" => Some(Request::Print),
         _ => None,
     }
 }

@@ -29,7 +29,7 @@ mod telling;
 
 use clap::Error;
 use clap::error::ErrorKind;
-use commands::{Act, Wanted, arguments, help_texts, matches_of, names_file_of, wanted_of};
+use commands::{Request, Wanted, arguments, help_texts, matches_of, names_file_of, wanted_of};
 use explaining::explain_fault;
 use faults::Fault;
 use lines::say;
@@ -108,7 +108,7 @@ where
     // No contract knows what standard input holds, nor what standard output took.
     ensures { CanEnd wanted result }
 {
-    let is_run = matches!(wanted.act, Act::ByCore(Task::Run { .. }));
+    let is_run = matches!(wanted.request, Request::ByCore(Task::Run { .. }));
     let mut reader = Remembering::new(rt.alloc(), Counted::new(rt.reader()), wanted.explains);
     let mut writer = Watching::new(
         rt.alloc(),

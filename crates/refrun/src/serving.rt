@@ -2,12 +2,12 @@
 ghost use Rattle.std.specs.Prelude.{◌+◌, ◌≡◌, IfOk, IfErr};
 ghost use Rattle.ref_edn.specs.Streams.{ConsumesUpTo};
 ghost use Rattle.ref_fun.specs.Calls.{HasCore};
-ghost use Rattle.refrun.specs.Serving.{Ends, IsActDone, IsFaultOfAct, IsLeftByAct, status_after, verdict_status};
+ghost use Rattle.refrun.specs.Serving.{Ends, IsRequestDone, IsFaultOfRequest, IsLeftByRequest, status_after, verdict_status};
 ghost use Rattle.refrun.specs.Tasks.{CountsReads, CountsWrites};
 ghost use Rattle.ref_workload.specs.Streams.{most_input};
 
 use crate::checking::check_text;
-use crate::commands::{Act, Wanted};
+use crate::commands::{Request, Wanted};
 use crate::explaining::{
     explain_fault, explain_refused_start, explain_refused_steps, explain_verdict, warn,
 };
@@ -52,21 +52,21 @@ where
         (⟦<Remembering<I> as Source>⟧.left reader.new)
         (⟦<Watching<O> as Sink>⟧.written writer.old) (⟦<Watching<O> as Sink>⟧.written writer.new) result }
 {
-    let done = do_act(rt, funs, names, wanted.act, reader, writer);
+    let done = do_request(rt, funs, names, wanted.request, reader, writer);
     let shows = wanted.is_strict && writer.steps().count() > 0;
     let status = say_end(rt, done, shows);
     if let (true, Some(text)) = (wanted.explains, reader.bytes()) {
-        explain_end(rt, wanted.act, done, text, writer.steps());
+        explain_end(rt, wanted.request, done, text, writer.steps());
     }
     status
 }
 
 // Does what is wanted. Of what is no audit the verdict is ok.
-fn do_act<F, R, I, O>(
+fn do_request<F, R, I, O>(
     rt: &R,
     funs: &F,
     names: &Names,
-    act: Act,
+    request: Request,
     reader: &mut I,
     writer: &mut O,
 ) -> Result<Verdict, Fault>
@@ -77,24 +77,24 @@ where
     O: Sink,
     requires { HasCore (F.knows funs.now) }
     ensures taken { ConsumesUpTo (I.left reader.old) (I.left reader.new) (most_input + 1) }
-    ensures ok { IfOk result (λ verdict. IsActDone names.now act verdict (I.left reader.old) (I.left reader.new)
+    ensures ok { IfOk result (λ verdict. IsRequestDone names.now request verdict (I.left reader.old) (I.left reader.new)
         (O.written writer.old) (O.written writer.new)) }
-    ensures fault { IfErr result (λ f. IsFaultOfAct act (I.left reader.old) f) }
-    ensures left { IfErr result (λ f. IsLeftByAct names.now act f (I.left reader.old) (I.left reader.new)
+    ensures fault { IfErr result (λ f. IsFaultOfRequest request (I.left reader.old) f) }
+    ensures left { IfErr result (λ f. IsLeftByRequest names.now request f (I.left reader.old) (I.left reader.new)
         (O.written writer.old) (O.written writer.new)) }
     ensures reads { CountsReads (I.failures reader.old) (I.failures reader.new) result }
     ensures writes { CountsWrites (O.failures writer.old) (O.failures writer.new) result }
 {
-    match act {
-        Act::Check => match check_text(rt.alloc(), reader, writer) {
+    match request {
+        Request::Check => match check_text(rt.alloc(), reader, writer) {
             Ok(()) => Ok(Verdict::Ok),
             Err(fault) => Err(Fault::Run(fault)),
         },
-        Act::Print => match print_text(rt.alloc(), reader, writer) {
+        Request::Print => match print_text(rt.alloc(), reader, writer) {
             Ok(()) => Ok(Verdict::Ok),
             Err(fault) => Err(Fault::Run(fault)),
         },
-        Act::ByCore(task) => carry_out(rt, rt.alloc(), funs, names, task, reader, writer),
+        Request::ByCore(task) => carry_out(rt, rt.alloc(), funs, names, task, reader, writer),
     }
 }
 
@@ -122,16 +122,16 @@ fn status_of(verdict: Verdict, shows: bool) -> u8
 // What there is to explain of a text, as it was taken or not.
 fn explain_end<R: AllocGlobal + Eprint>(
     rt: &R,
-    act: Act,
+    request: Request,
     done: Result<Verdict, Fault>,
     text: &[u8],
     steps: &RefusedSteps,
 ) {
-    match (act, done) {
+    match (request, done) {
         (_, Err(fault)) => explain_fault(rt, text, fault),
-        (Act::Check, Ok(_)) => warn(rt, text),
-        (Act::ByCore(Task::Run { .. }), Ok(_)) => explain_refused_steps(rt, text, steps),
-        (Act::ByCore(Task::Play { .. }), Ok(_)) => explain_refused_start(rt, text),
+        (Request::Check, Ok(_)) => warn(rt, text),
+        (Request::ByCore(Task::Run { .. }), Ok(_)) => explain_refused_steps(rt, text, steps),
+        (Request::ByCore(Task::Play { .. }), Ok(_)) => explain_refused_start(rt, text),
         (_, Ok(verdict)) => explain_verdict(rt, text, verdict),
     }
 }

@@ -12,7 +12,7 @@ use crate::dumping::forms::{number, vector_of_entries, vector_of_values};
 use crate::dumping::references::{base_refs, folded, tally};
 use crate::dumping::worlds::{agents_now, values_now};
 use crate::faults::DumpMakeFault;
-use crate::kinds::Kind;
+use crate::kinds::RefOrAtom;
 use crate::words::Word;
 use ref_fun::Core;
 use ref_value::{Entries, Node, Value};
@@ -44,12 +44,12 @@ pub(crate) fn parts_of<C: Ledger, A: Ledger, K: Ledger>(
     let base = world.base();
     Ok(Parts {
         agents: agents_now(alloc, world)?,
-        atoms: values_now(alloc, world, Kind::Atom)?,
+        atoms: values_now(alloc, world, RefOrAtom::Atom)?,
         base_atoms: vector_of_values(alloc, base.atoms.as_slice())?,
         base_refs: base_refs(alloc, base)?,
         entries: vector_of_entries(alloc, world.log())?,
         folded: folded(alloc, base)?,
-        refs: values_now(alloc, world, Kind::Ref)?,
+        refs: values_now(alloc, world, RefOrAtom::Ref)?,
     })
 }
 

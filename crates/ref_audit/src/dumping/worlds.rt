@@ -11,7 +11,7 @@ use crate::dumping::forms::vector_of;
 use crate::dumping::references::value_now;
 use crate::dumping::unnamed::{least_in_account, least_in_log, lesser};
 use crate::faults::DumpMakeFault;
-use crate::kinds::Kind;
+use crate::kinds::RefOrAtom;
 use ref_fun::Core;
 use ref_log::{MOST_REFERENCES, Who};
 use ref_value::Value;
@@ -24,7 +24,7 @@ use std::sync::ledger::Ledger;
 pub(crate) fn values_now<C: Ledger, A: Ledger, K: Ledger>(
     alloc: Global,
     world: &World<Core, C, A, K>,
-    kind: Kind,
+    kind: RefOrAtom,
 ) -> Result<Value, DumpMakeFault>
     requires { length (values_of world.now (who_of kind 0)) ≤ most_references }
     ensures made { IfOk result (λ v. v

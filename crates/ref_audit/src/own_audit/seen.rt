@@ -5,7 +5,7 @@ ghost use Rattle.ref_audit.specs.Made.{AreFew, who_of};
 ghost use Rattle.ref_audit.specs.OwnDump.{agents_seen, dump_seen, kepts_seen};
 ghost use Rattle.ref_log.specs.Limits.{most_references};
 
-use crate::kinds::Kind;
+use crate::kinds::RefOrAtom;
 use ref_agents::{Account, Handled};
 use ref_fun::{Action, Core, Rule};
 use ref_log::{Base, MOST_REFERENCES, SharedVec, Who};
@@ -27,8 +27,8 @@ pub(crate) fn dump_seen<C: Ledger, A: Ledger, K: Ledger>(
         version: Version::Three,
         base: share_base(world.base())?,
         entries: world.log().share()?,
-        refs: kepts_seen(alloc, world, Kind::Ref)?,
-        atoms: kepts_seen(alloc, world, Kind::Atom)?,
+        refs: kepts_seen(alloc, world, RefOrAtom::Ref)?,
+        atoms: kepts_seen(alloc, world, RefOrAtom::Atom)?,
         agents: agents_seen(alloc, world)?,
         commits: world.commits(),
         added: world.added(),
@@ -51,7 +51,7 @@ fn share_base(base: &Base) -> Result<Base, AllocError>
     })
 }
 
-fn share_rule(rule: Option<&Rule>) -> Result<Option<Rule>, AllocError>
+fn share_lent_rule(rule: Option<&Rule>) -> Result<Option<Rule>, AllocError>
     ensures { IfOk result (λ same. same ≡ option_copied rule.entry) }
 {
     match rule {
@@ -64,7 +64,7 @@ fn share_rule(rule: Option<&Rule>) -> Result<Option<Rule>, AllocError>
 fn kepts_seen<C: Ledger, A: Ledger, K: Ledger>(
     alloc: Global,
     world: &World<Core, C, A, K>,
-    kind: Kind,
+    kind: RefOrAtom,
 ) -> Result<SharedVec<Kept>, AllocError>
     requires { length (values_of world.now (who_of kind 0)) ≤ most_references }
     ensures { IfOk result (λ all. all
@@ -78,7 +78,7 @@ fn kepts_seen<C: Ledger, A: Ledger, K: Ledger>(
         };
         all.push(Kept {
             value: value.share()?,
-            rule: share_rule(world.rule_of(who))?,
+            rule: share_lent_rule(world.rule_of(who))?,
         })?;
     }
     unreachable!()
@@ -107,7 +107,7 @@ fn agents_seen<C: Ledger, A: Ledger, K: Ledger>(
             queue: share_waiting(alloc, account)?,
             value: state.share()?,
             failed: world.error_of(g).is_some(),
-            rule: share_rule(world.rule_of(who))?,
+            rule: share_lent_rule(world.rule_of(who))?,
         })?;
     }
     unreachable!()

@@ -1,17 +1,16 @@
 //! One step of a worker.
-ghost use Rattle.std.specs.Prelude.{◌≡◌, IfOk};
 
 use crate::running::reasons::{
     Outcome, of_atom, of_mode, of_restart, of_rule, of_send, of_transaction,
 };
 use crate::running::workers::Run;
-use ref_fun::{Core, Functions, Rule};
+use ref_fun::{Core, Functions, share_rule};
 use ref_log::{Op, Shareable as _, Stamp};
 use ref_plan::{PlannedOp, Step};
 use ref_shared::{Gate, Quiet};
 use ref_tx::{Tx, TxFault};
 use ref_world::Share;
-use std::alloc::{AllocError, Global};
+use std::alloc::Global;
 use std::sync::Wait;
 use std::sync::ledger::Ledger;
 
@@ -113,13 +112,4 @@ fn run_on_ref<F: Functions<Core>>(
         Op::Ensure => tx.ensure(alloc, r)?,
     };
     Ok(())
-}
-
-fn share_rule(rule: &Option<Rule>) -> Result<Option<Rule>, AllocError>
-    ensures { IfOk result (λ same. same ≡ rule.now) }
-{
-    match rule {
-        Some(rule) => Ok(Some(rule.share()?)),
-        None => Ok(None),
-    }
 }

@@ -46,7 +46,7 @@ loop-g-preserved g c =
     c.in-Some.ensures.account c.in-Some-value_of.ensures.value c.error_of.ensures c.is_some.ensures c.rule_of.ensures.rule in
     let start = c.in_ok-share.ensures ∙ c.start.ensures in
     let handled = c.in_ok-share_handled.ensures ∙ c.handled.ensures in
-    let made = same_parts c.in-Some.account.now _ c.in-Some-value_of.state.now _ _ _ c.is_some.result _ _ start handled c.in_ok-share_waiting.ensures c.in_ok-share-2.ensures c.in_ok-share_rule.ensures in
+    let made = same_parts c.in-Some.account.now _ c.in-Some-value_of.state.now _ _ _ c.is_some.result _ _ start handled c.in_ok-share_waiting.ensures c.in_ok-share-2.ensures c.in_ok-share_lent_rule.ensures in
     record {
       left = one_more _ _ _ _ _ _ _ c.loop-g.invariant.left left made c.in_ok-push.ensures.items;
       within = account_within c.args.world.now.agents.agents c.loop-g.g c.in-Some.account.now c.in-Some.ensures.account;

@@ -28,6 +28,6 @@ loop-n-preserved g c =
     let there = value_there c.args.world.now c.args.kind c.loop-n.n c.who-who.result _ c.who-who.ensures c.in-Some.ensures.value in
     let left = value_left kept_parts c.args.world.now c.args.kind c.loop-n.n c.who-who.result c.in-Some.value.now _ c.who-who.ensures c.in-Some.ensures.value c.rule_of.ensures.rule in
     record {
-      left = one_more _ _ _ _ _ _ _ c.loop-n.invariant.left left (same_kept _ _ _ _ c.in_ok-share.ensures c.in_ok-share_rule.ensures) c.in_ok-push.ensures.items;
+      left = one_more _ _ _ _ _ _ _ c.loop-n.invariant.left left (same_kept _ _ _ _ c.in_ok-share.ensures c.in_ok-share_lent_rule.ensures) c.in_ok-push.ensures.items;
       within = below_of _ _ _ there;
     }
