@@ -1,7 +1,4 @@
 //! The bank: its world, its transfers, and the work of its journal.
-ghost use Rattle.std.specs.Prelude.{◌≡◌};
-ghost use Rattle.ref_world.specs.Shares.{IsBlank};
-
 use ref_agents::{ErrorMode, FinishFault, Job};
 use ref_edn::{Value, read_one};
 use ref_fun::codes::{AT_LEAST, CONJ, INC, MINUS, PLUS};
@@ -9,9 +6,8 @@ use ref_fun::{Action, Args, Core, FunTable, Rule};
 use ref_log::{Stamp, Who};
 use ref_refs::CommitFault;
 use ref_tx::{Tx, TxFault};
-use ref_world::{AgentStart, AtomStart, Receipt, RefStart, Share, Start, World};
+use ref_world::{AgentStart, AtomStart, Receipt, RefStart, Start, World};
 use std::alloc::{AllocError, Global};
-use std::sync::ledger::{Blank, Ledger};
 use thiserror::Error;
 
 // References are numbered from 0 by kind, in the order in which they are declared.
@@ -34,13 +30,12 @@ pub(crate) enum Refusal {
     Commit(CommitFault),
 }
 
-/// A world with the functions that it names, and with its whole share: the bank alone changes it. C, A and K name the world's books.
+/// A world with the functions that it names. The bank alone changes it.
 #[derive(Drop)]
-pub(crate) struct Bank<'a, C: Ledger, A: Ledger, K: Ledger> {
+pub(crate) struct Bank<'a> {
     alloc: Global,
     funs: &'a FunTable,
-    world: World<Core, C, A, K>,
-    share: Share<C, A, K>,
+    world: World<Core>,
 }
 
 fn value(alloc: Global, edn: &str) -> Result<Value, AllocError> {
@@ -85,29 +80,13 @@ fn start(alloc: Global) -> Result<Start, AllocError> {
     })
 }
 
-impl<'a, C: Ledger, A: Ledger, K: Ledger> Bank<'a, C, A, K> {
-    /// A bank with two accounts, each of which has a watch. The blanks become its books.
-    pub(crate) fn open(
-        alloc: Global,
-        funs: &'a FunTable,
-        commits: Blank,
-        added: Blank,
-        taken: Blank,
-    ) -> Result<Bank<'a, C, A, K>, AllocError>
-        requires commits { IsBlank commits C.name C.parts }
-        requires added { IsBlank added A.name A.parts }
-        requires taken { IsBlank taken K.name K.parts }
-    {
-        let Ok((world, share)) = World::new(alloc, funs, &start(alloc)?, commits, added, taken)
-        else {
+impl<'a> Bank<'a> {
+    /// A bank with two accounts, each of which has a watch.
+    pub(crate) fn open(alloc: Global, funs: &'a FunTable) -> Result<Bank<'a>, AllocError> {
+        let Ok(world) = World::new(alloc, funs, &start(alloc)?) else {
             return Err(AllocError);
         };
-        let mut bank = Bank {
-            alloc,
-            funs,
-            world,
-            share,
-        };
+        let mut bank = Bank { alloc, funs, world };
         for r in [FIRST, SECOND] {
             bank.watch(Who::Ref(r))?;
         }
@@ -133,10 +112,7 @@ impl<'a, C: Ledger, A: Ledger, K: Ledger> Bank<'a, C, A, K> {
         let tx = self.body(from, to, sum).map_err(Refusal::Body)?;
         let stamp = Stamp { worker: 0, step };
         let (alloc, funs) = (self.alloc, self.funs);
-        match self
-            .world
-            .commit_with(alloc, funs, &mut self.share, stamp, tx)
-        {
+        match self.world.commit(alloc, funs, stamp, tx) {
             Ok(receipt) => Ok(receipt),
             // The transaction comes back and could be committed once more. Here it is dropped, with what it would have sent.
             Err((_tx, fault)) => Err(Refusal::Commit(fault)),
@@ -190,10 +166,7 @@ impl<'a, C: Ledger, A: Ledger, K: Ledger> Bank<'a, C, A, K> {
     pub(crate) fn count_refused(&mut self) -> Result<(), AllocError> {
         let none = Args::of(self.alloc, Vec::new(self.alloc))?;
         let (alloc, funs) = (self.alloc, self.funs);
-        match self
-            .world
-            .swap(alloc, funs, &mut self.share, REFUSED, INC, none)
-        {
+        match self.world.swap(alloc, funs, REFUSED, INC, none) {
             Ok(_) => Ok(()),
             Err(_) => Err(AllocError),
         }

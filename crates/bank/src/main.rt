@@ -4,9 +4,6 @@
 //! journal, an agent. Where it is refused neither account is changed and the journal gets nothing; an atom counts it then.
 #![tactic(auto)]
 
-ghost use Rattle.std.specs.Prelude.{◌≡◌};
-ghost use Rattle.ref_world.specs.Shares.{IsBlank};
-
 mod bank;
 mod table;
 
@@ -17,7 +14,6 @@ use ref_log::{Notice, Who};
 use ref_world::Receipt;
 use std::alloc::{AllocError, Global};
 use std::process::ExitCode;
-use std::sync::ledger::{Blank, Ledger};
 use table::run_by_core;
 
 /// What ends the program early: there is no memory, or standard output can't be written.
@@ -37,25 +33,14 @@ fn main(rt: HostRuntime) -> ExitCode {
     }
 }
 
-// C, A and K name the books of the bank's world. Only their types distinguish them from those of another world.
-fn business<C: Ledger, A: Ledger, K: Ledger, R: AllocGlobal + Print>(
-    rt: &R,
-    funs: &FunTable,
-    commits: Blank,
-    added: Blank,
-    taken: Blank,
-) -> Result<(), Trouble>
-    requires commits { IsBlank commits C.name C.parts }
-    requires added { IsBlank added A.name A.parts }
-    requires taken { IsBlank taken K.name K.parts }
-{
-    let mut bank = Bank::<C, A, K>::open(rt.alloc(), funs, commits, added, taken)?;
+fn business<R: AllocGlobal + Print>(rt: &R, funs: &FunTable) -> Result<(), Trouble> {
+    let mut bank = Bank::open(rt.alloc(), funs)?;
     work(rt, &mut bank)
 }
 
-fn work<C: Ledger, A: Ledger, K: Ledger, R: AllocGlobal + Print>(
+fn work<R: AllocGlobal + Print>(
     rt: &R,
-    bank: &mut Bank<C, A, K>,
+    bank: &mut Bank,
 ) -> Result<(), Trouble> {
     transfer(rt, bank, 0, "30")?;
     transfer(rt, bank, 1, "80")?;
@@ -63,9 +48,9 @@ fn work<C: Ledger, A: Ledger, K: Ledger, R: AllocGlobal + Print>(
     tell_all(rt, bank)
 }
 
-fn tell_all<C: Ledger, A: Ledger, K: Ledger, R: AllocGlobal + Print>(
+fn tell_all<R: AllocGlobal + Print>(
     rt: &R,
-    bank: &Bank<C, A, K>,
+    bank: &Bank,
 ) -> Result<(), Trouble> {
     say(rt, "the first account has", bank.balance(FIRST))?;
     say(rt, "the second account has", bank.balance(SECOND))?;
@@ -75,9 +60,9 @@ fn tell_all<C: Ledger, A: Ledger, K: Ledger, R: AllocGlobal + Print>(
 }
 
 // Moves a sum from the first account to the second, and says what came of it.
-fn transfer<C: Ledger, A: Ledger, K: Ledger, R: AllocGlobal + Print>(
+fn transfer<R: AllocGlobal + Print>(
     rt: &R,
-    bank: &mut Bank<C, A, K>,
+    bank: &mut Bank,
     step: u32,
     sum: &str,
 ) -> Result<(), Trouble> {
@@ -91,9 +76,9 @@ fn transfer<C: Ledger, A: Ledger, K: Ledger, R: AllocGlobal + Print>(
 }
 
 // Calls the watches, and then releases what was sent to the journal.
-fn settle<C: Ledger, A: Ledger, K: Ledger, R: AllocGlobal + Print>(
+fn settle<R: AllocGlobal + Print>(
     rt: &R,
-    bank: &mut Bank<C, A, K>,
+    bank: &mut Bank,
     receipt: &Receipt,
 ) -> Result<(), Trouble> {
     for notice in &receipt.notices {

@@ -7,10 +7,7 @@ ghost use Rattle.ref_fun.specs.Limits.{most_arguments};
 use crate::{Trouble, business};
 use ref_edn::Value;
 use ref_fun::{Fun, FunFault, FunTable, Pred, StoredFun, StoredPred, core_fun, core_test};
-use ref_world::ALL_PARTS;
 use std::alloc::Global;
-use std::marker::Brand;
-use std::sync::ledger::Blank;
 
 /// Makes the table, and does the business by it. A closure is stored with a proof that it answers what Core means by its code; here
 /// that is what `core_fun` and `core_test` promise.
@@ -42,12 +39,5 @@ pub(crate) fn run_by_core<R: AllocGlobal + Print>(rt: &R) -> Result<(), Trouble>
             return Err(Trouble);
         };
     }
-    // The books of a world begin as blanks, each of which is named as it is made.
-    business::<Brand, Brand, Brand, R>(
-        rt,
-        &table,
-        Blank::new(ALL_PARTS),
-        Blank::new(ALL_PARTS),
-        Blank::new(ALL_PARTS),
-    )
+    business(rt, &table)
 }

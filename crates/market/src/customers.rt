@@ -7,7 +7,7 @@ use ref_log::Stamp;
 use ref_world::{ALL_PARTS, Share};
 use std::alloc::Global;
 use std::sync::Wait;
-use std::sync::ledger::Ledger;
+use ref_world::Books;
 use std::thread;
 use std::thread::Threads;
 
@@ -21,9 +21,9 @@ const CUSTOMERS: u32 = 60;
 
 // A thread's customers, whose numbers begin with their worker's.
 #[derive(Drop)]
-struct Visit<C: Ledger, A: Ledger, K: Ledger> {
+struct Visit<L: Books> {
     worker: u32,
-    share: Share<C, A, K>,
+    share: Share<L>,
 }
 
 /// How the wishes of customers ended.
@@ -56,14 +56,14 @@ impl Wishes {
 
 /// What came of customers: the share that was used for them, how their wishes ended, and the notices that the board got.
 #[derive(Drop)]
-pub(crate) struct Custom<C: Ledger, A: Ledger, K: Ledger> {
-    pub(crate) share: Share<C, A, K>,
+pub(crate) struct Custom<L: Books> {
+    pub(crate) share: Share<L>,
     pub(crate) wishes: Wishes,
     pub(crate) board: Board,
 }
 
-impl<C: Ledger, A: Ledger, K: Ledger> Custom<C, A, K> {
-    pub(crate) fn of(share: Share<C, A, K>) -> Custom<C, A, K> {
+impl<L: Books> Custom<L> {
+    pub(crate) fn of(share: Share<L>) -> Custom<L> {
         Custom {
             share,
             wishes: Wishes::default(),
@@ -71,7 +71,7 @@ impl<C: Ledger, A: Ledger, K: Ledger> Custom<C, A, K> {
         }
     }
 
-    fn join(&mut self, other: Custom<C, A, K>) -> Result<(), Trouble> {
+    fn join(&mut self, other: Custom<L>) -> Result<(), Trouble> {
         let Custom {
             share,
             wishes,
@@ -89,22 +89,20 @@ impl<C: Ledger, A: Ledger, K: Ledger> Custom<C, A, K> {
 
 /// Serves all customers, each thread with a part of the share, and joins what came of them.
 pub(crate) fn serve_all<
-    C: Ledger + Send + Sync,
-    A: Ledger + Send + Sync,
-    K: Ledger + Send + Sync,
+    L: Books + Send + Sync,
     R: Threads + Wait + Sync,
     F: Functions<Core> + Sync,
->(rt: &R, market: &Market<F, C, A, K>, all: &mut Custom<C, A, K>) -> Result<(), Trouble> {
+>(rt: &R, market: &Market<F, L>, all: &mut Custom<L>) -> Result<(), Trouble> {
     let visits = visits(market.alloc, &mut all.share)?;
     let customs = thread::map_vec(rt, visits, &|visit| serve(rt, market, visit))?;
     join_all(all, customs)
 }
 
 // A visit for each thread, and for each a part of the share.
-fn visits<C: Ledger, A: Ledger, K: Ledger>(
+fn visits<L: Books>(
     alloc: Global,
-    share: &mut Share<C, A, K>,
-) -> Result<Vec<Visit<C, A, K>>, Trouble> {
+    share: &mut Share<L>,
+) -> Result<Vec<Visit<L>>, Trouble> {
     let mut visits = Vec::new(alloc);
     for worker in 0..THREADS {
         let Some(share) = share.split(PARTS) else {
@@ -115,9 +113,9 @@ fn visits<C: Ledger, A: Ledger, K: Ledger>(
     Ok(visits)
 }
 
-fn join_all<C: Ledger, A: Ledger, K: Ledger>(
-    all: &mut Custom<C, A, K>,
-    customs: Vec<Result<Custom<C, A, K>, Trouble>>,
+fn join_all<L: Books>(
+    all: &mut Custom<L>,
+    customs: Vec<Result<Custom<L>, Trouble>>,
 ) -> Result<(), Trouble> {
     for custom in customs {
         all.join(custom?)?;
@@ -126,11 +124,11 @@ fn join_all<C: Ledger, A: Ledger, K: Ledger>(
 }
 
 // What a thread does.
-fn serve<C: Ledger, A: Ledger, K: Ledger, R: Wait, F: Functions<Core>>(
+fn serve<L: Books, R: Wait, F: Functions<Core>>(
     rt: &R,
-    market: &Market<F, C, A, K>,
-    visit: Visit<C, A, K>,
-) -> Result<Custom<C, A, K>, Trouble> {
+    market: &Market<F, L>,
+    visit: Visit<L>,
+) -> Result<Custom<L>, Trouble> {
     let Visit { worker, share } = visit;
     let mut custom = Custom::of(share);
     match serve_each(rt, market, worker, &mut custom) {
@@ -143,11 +141,11 @@ fn serve<C: Ledger, A: Ledger, K: Ledger, R: Wait, F: Functions<Core>>(
 }
 
 // Serves the customers of one thread.
-fn serve_each<C: Ledger, A: Ledger, K: Ledger, R: Wait, F: Functions<Core>>(
+fn serve_each<L: Books, R: Wait, F: Functions<Core>>(
     rt: &R,
-    market: &Market<F, C, A, K>,
+    market: &Market<F, L>,
     worker: u32,
-    custom: &mut Custom<C, A, K>,
+    custom: &mut Custom<L>,
 ) -> Result<(), Trouble> {
     for step in 0..CUSTOMERS {
         let good = match step % 3 {

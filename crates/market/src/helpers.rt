@@ -5,26 +5,24 @@ use crate::stalls::Market;
 use ref_fun::{Core, Functions};
 use ref_shared::{Open, Worked};
 use std::sync::Wait;
-use std::sync::ledger::Ledger;
+use ref_world::Books;
 use std::thread;
 use std::thread::Threads;
 
 /// Has two helpers help, and returns the notices that they gave to the board.
 pub(crate) fn help_both<
-    C: Ledger + Send + Sync,
-    A: Ledger + Send + Sync,
-    K: Ledger + Send + Sync,
+    L: Books + Send + Sync,
     R: Threads + Wait + Sync,
     F: Functions<Core> + Sync,
->(rt: &R, market: &Market<F, C, A, K>) -> Result<Board, Trouble> {
+>(rt: &R, market: &Market<F, L>) -> Result<Board, Trouble> {
     let (one, other) = thread::join(rt, move || help(rt, market), move || help(rt, market));
     Ok(one?.with(other?))
 }
 
 // Runs actions, whichever agent is ready, until the market is closed and nothing is left to do.
-fn help<C: Ledger, A: Ledger, K: Ledger, R: Wait, F: Functions<Core>>(
+fn help<L: Books, R: Wait, F: Functions<Core>>(
     rt: &R,
-    market: &Market<F, C, A, K>,
+    market: &Market<F, L>,
 ) -> Result<Board, Trouble> {
     let mut board = Board::default();
     for _ in rt.forever() {

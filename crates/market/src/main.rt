@@ -9,7 +9,7 @@
 #![tactic(auto)]
 
 ghost use Rattle.std.specs.Prelude.{◌≡◌};
-ghost use Rattle.ref_world.specs.Shares.{IsBlank};
+ghost use Rattle.ref_world.specs.Shares.{AreBlanks};
 
 mod board;
 mod customers;
@@ -30,7 +30,7 @@ use std::alloc::{AllocError, AllocFailed, Global};
 use std::marker::Brand;
 use std::process::ExitCode;
 use std::sync::Wait;
-use std::sync::ledger::{Blank, Ledger};
+use ref_world::{Blanks, Books};
 use std::thread;
 use std::thread::Threads;
 use tickets::sell_tickets;
@@ -66,27 +66,21 @@ fn main(rt: HostRuntime) -> ExitCode {
 // A day at the market, by the functions of Core.
 fn run_day<R: AllocGlobal + Print + Threads + Wait + Sync>(rt: &R) -> Result<(), Trouble> {
     // The books of a world begin as blanks, each of which is named as it is made.
-    day::<Brand, Brand, Brand, R>(
+    day::<Brand, R>(
         rt,
         &CoreFunctions,
-        Blank::new(ALL_PARTS),
-        Blank::new(ALL_PARTS),
-        Blank::new(ALL_PARTS),
+        Blanks::new(),
     )
 }
 
 // The day in a world. C, A and K name the books of its world, which only their types distinguish from those of another world.
 fn day<
-    C: Ledger + Send + Sync,
-    A: Ledger + Send + Sync,
-    K: Ledger + Send + Sync,
+    L: Books + Send + Sync,
     R: AllocGlobal + Print + Threads + Wait + Sync,
->(rt: &R, funs: &CoreFunctions, commits: Blank, added: Blank, taken: Blank) -> Result<(), Trouble>
-    requires commits { IsBlank commits C.name C.parts }
-    requires added { IsBlank added A.name A.parts }
-    requires taken { IsBlank taken K.name K.parts }
+>(rt: &R, funs: &CoreFunctions, blanks: Blanks) -> Result<(), Trouble>
+    requires { AreBlanks blanks L.commits L.added L.taken }
 {
-    let (world, share) = begin::<C, A, K>(rt.alloc(), funs, commits, added, taken)?;
+    let (world, share) = begin::<L>(rt.alloc(), funs, blanks)?;
     let market = Market::of(rt.alloc(), funs, world);
     match open_hours(rt, &market, share) {
         Ok((custom, notices)) => close_up(rt, market, custom, notices),
@@ -98,18 +92,14 @@ fn day<
 }
 
 // The world of the market, and the share with all its parts.
-fn begin<C: Ledger, A: Ledger, K: Ledger>(
+fn begin<L: Books>(
     alloc: Global,
     funs: &CoreFunctions,
-    commits: Blank,
-    added: Blank,
-    taken: Blank,
-) -> Result<(World<Core, C, A, K>, Share<C, A, K>), Trouble>
-    requires commits { IsBlank commits C.name C.parts }
-    requires added { IsBlank added A.name A.parts }
-    requires taken { IsBlank taken K.name K.parts }
+    blanks: Blanks,
+) -> Result<(World<Core, L>, Share<L>), Trouble>
+    requires { AreBlanks blanks L.commits L.added L.taken }
 {
-    match World::<Core, C, A, K>::new(alloc, funs, &start(alloc)?, commits, added, taken) {
+    match World::<Core, L>::new(alloc, funs, &start(alloc)?, blanks) {
         Ok(begun) => Ok(begun),
         Err(_) => Err(Trouble),
     }
@@ -118,16 +108,14 @@ fn begin<C: Ledger, A: Ledger, K: Ledger>(
 // Has the board watch, and lets the customers come while the helpers help. Once the last customer has gone the helpers do what is
 // left, and go too.
 fn open_hours<
-    C: Ledger + Send + Sync,
-    A: Ledger + Send + Sync,
-    K: Ledger + Send + Sync,
+    L: Books + Send + Sync,
     R: Threads + Wait + Sync,
     F: Functions<Core> + Sync,
 >(
     rt: &R,
-    market: &Market<F, C, A, K>,
-    share: Share<C, A, K>,
-) -> Result<(Custom<C, A, K>, Board), Trouble> {
+    market: &Market<F, L>,
+    share: Share<L>,
+) -> Result<(Custom<L>, Board), Trouble> {
     let watched = market.watch_all(rt);
     let (notices, custom) = thread::join(
         rt,
@@ -145,12 +133,10 @@ fn open_hours<
 
 // Serves all customers, and closes the market, also where serving them failed.
 fn serve_until_close<
-    C: Ledger + Send + Sync,
-    A: Ledger + Send + Sync,
-    K: Ledger + Send + Sync,
+    L: Books + Send + Sync,
     R: Threads + Wait + Sync,
     F: Functions<Core> + Sync,
->(rt: &R, market: &Market<F, C, A, K>, share: Share<C, A, K>) -> Result<Custom<C, A, K>, Trouble> {
+>(rt: &R, market: &Market<F, L>, share: Share<L>) -> Result<Custom<L>, Trouble> {
     let mut custom = Custom::of(share);
     let served = serve_all(rt, market, &mut custom);
     market.shared.close(rt);
@@ -164,10 +150,10 @@ fn serve_until_close<
 }
 
 // Takes the world out, and says what is in it.
-fn close_up<C: Ledger, A: Ledger, K: Ledger, R: AllocGlobal + Print, F: Functions<Core>>(
+fn close_up<L: Books, R: AllocGlobal + Print, F: Functions<Core>>(
     rt: &R,
-    market: Market<F, C, A, K>,
-    custom: Custom<C, A, K>,
+    market: Market<F, L>,
+    custom: Custom<L>,
     helped: Board,
 ) -> Result<(), Trouble> {
     let Custom {
@@ -184,10 +170,10 @@ fn close_up<C: Ledger, A: Ledger, K: Ledger, R: AllocGlobal + Print, F: Function
 }
 
 // Takes the world out, with its totals.
-fn take_out<C: Ledger, A: Ledger, K: Ledger, F: Functions<Core>>(
-    market: Market<F, C, A, K>,
-    share: Share<C, A, K>,
-) -> Result<(World<Core, C, A, K>, Totals), Trouble> {
+fn take_out<L: Books, F: Functions<Core>>(
+    market: Market<F, L>,
+    share: Share<L>,
+) -> Result<(World<Core, L>, Totals), Trouble> {
     let Market { alloc, shared, .. } = market;
     if share.is_whole() {
         shared.finish(alloc, share).ok().ok_or(Trouble)
@@ -197,9 +183,9 @@ fn take_out<C: Ledger, A: Ledger, K: Ledger, F: Functions<Core>>(
     }
 }
 
-fn say_values<C: Ledger, A: Ledger, K: Ledger, R: AllocGlobal + Print>(
+fn say_values<L: Books, R: AllocGlobal + Print>(
     rt: &R,
-    world: &World<Core, C, A, K>,
+    world: &World<Core, L>,
 ) -> Result<(), Trouble> {
     say(rt, "customers", world.value_of(Who::Atom(CAME)))?;
     for good in [Good::Apple, Good::Bread, Good::Cheese] {

@@ -12,7 +12,7 @@ use ref_tx::{Tx, TxFault};
 use ref_world::{AgentStart, AtomStart, RefStart, Share, Start, World};
 use std::alloc::{AllocError, Global};
 use std::sync::Wait;
-use std::sync::ledger::Ledger;
+use ref_world::Books;
 
 // References are numbered from 0 by kind, in the order in which they are declared. Refs 0, 1 and 2 are the stocks.
 pub(crate) const TAKINGS: u32 = 3;
@@ -70,10 +70,10 @@ pub(crate) enum Outcome {
 
 /// What all threads share: the world, and the table of the functions that it names. C, A and K name the world's books.
 #[derive(Drop)]
-pub(crate) struct Market<'a, F: Functions<Core>, C: Ledger, A: Ledger, K: Ledger> {
+pub(crate) struct Market<'a, F: Functions<Core>, L: Books> {
     pub(crate) alloc: Global,
     pub(crate) funs: &'a F,
-    pub(crate) shared: Shared<Core, C, A, K>,
+    pub(crate) shared: Shared<Core, L>,
 }
 
 // A rule that a value is at least so much.
@@ -142,13 +142,13 @@ pub(crate) fn start(alloc: Global) -> Result<Start, AllocError> {
     })
 }
 
-impl<'a, F: Functions<Core>, C: Ledger, A: Ledger, K: Ledger> Market<'a, F, C, A, K> {
+impl<'a, F: Functions<Core>, L: Books> Market<'a, F, L> {
     /// Shares a world.
     pub(crate) fn of(
         alloc: Global,
         funs: &'a F,
-        world: World<Core, C, A, K>,
-    ) -> Market<'a, F, C, A, K> {
+        world: World<Core, L>,
+    ) -> Market<'a, F, L> {
         Market {
             alloc,
             funs,
@@ -178,7 +178,7 @@ impl<'a, F: Functions<Core>, C: Ledger, A: Ledger, K: Ledger> Market<'a, F, C, A
     pub(crate) fn come<R: Wait>(
         &self,
         rt: &R,
-        share: &mut Share<C, A, K>,
+        share: &mut Share<L>,
         board: &mut Board,
     ) -> Result<(), Trouble> {
         let (alloc, funs) = (self.alloc, self.funs);
@@ -197,7 +197,7 @@ impl<'a, F: Functions<Core>, C: Ledger, A: Ledger, K: Ledger> Market<'a, F, C, A
     pub(crate) fn sell<R: Wait>(
         &self,
         rt: &R,
-        share: &mut Share<C, A, K>,
+        share: &mut Share<L>,
         stamp: Stamp,
         good: Good,
         board: &mut Board,

@@ -1,6 +1,6 @@
 //! A box office, whose functions are its own: two clerks sell tickets for two evenings.
 ghost use Rattle.std.specs.Prelude.{◌≡◌};
-ghost use Rattle.ref_world.specs.Shares.{IsBlank};
+ghost use Rattle.ref_world.specs.Shares.{AreBlanks};
 
 mod acts;
 mod office;
@@ -13,7 +13,7 @@ use ref_world::{ALL_PARTS, Share, Totals, World};
 use std::alloc::Global;
 use std::marker::Brand;
 use std::sync::Wait;
-use std::sync::ledger::{Blank, Ledger};
+use ref_world::{Blanks, Books};
 use std::thread;
 use std::thread::Threads;
 
@@ -22,25 +22,19 @@ pub(crate) fn sell_tickets<R: AllocGlobal + Print + Threads + Wait + Sync>(
     rt: &R,
 ) -> Result<(), Trouble> {
     // The books of a world begin as blanks, each of which is named as it is made.
-    open_office::<Brand, Brand, Brand, R>(
+    open_office::<Brand, R>(
         rt,
-        Blank::new(ALL_PARTS),
-        Blank::new(ALL_PARTS),
-        Blank::new(ALL_PARTS),
+        Blanks::new(),
     )
 }
 
 fn open_office<
-    C: Ledger + Send + Sync,
-    A: Ledger + Send + Sync,
-    K: Ledger + Send + Sync,
+    L: Books + Send + Sync,
     R: AllocGlobal + Print + Threads + Wait + Sync,
->(rt: &R, commits: Blank, added: Blank, taken: Blank) -> Result<(), Trouble>
-    requires commits { IsBlank commits C.name C.parts }
-    requires added { IsBlank added A.name A.parts }
-    requires taken { IsBlank taken K.name K.parts }
+>(rt: &R, blanks: Blanks) -> Result<(), Trouble>
+    requires { AreBlanks blanks L.commits L.added L.taken }
 {
-    let (world, share) = begin::<C, A, K>(rt.alloc(), commits, added, taken)?;
+    let (world, share) = begin::<L>(rt.alloc(), blanks)?;
     let office = Office::open(rt.alloc(), world);
     match sell_and_say(rt, &office, share) {
         Ok(sold) => close_up(rt, office, sold),
@@ -52,28 +46,22 @@ fn open_office<
 }
 
 // The world of the box office, and the share with all its parts.
-fn begin<C: Ledger, A: Ledger, K: Ledger>(
+fn begin<L: Books>(
     alloc: Global,
-    commits: Blank,
-    added: Blank,
-    taken: Blank,
-) -> Result<(World<BoxOffice, C, A, K>, Share<C, A, K>), Trouble>
-    requires commits { IsBlank commits C.name C.parts }
-    requires added { IsBlank added A.name A.parts }
-    requires taken { IsBlank taken K.name K.parts }
+    blanks: Blanks,
+) -> Result<(World<BoxOffice, L>, Share<L>), Trouble>
+    requires { AreBlanks blanks L.commits L.added L.taken }
 {
-    match World::<BoxOffice, C, A, K>::new(alloc, &Acts, &start(alloc)?, commits, added, taken) {
+    match World::<BoxOffice, L>::new(alloc, &Acts, &start(alloc)?, blanks) {
         Ok(begun) => Ok(begun),
         Err(_) => Err(Trouble),
     }
 }
 
 fn sell_and_say<
-    C: Ledger + Send + Sync,
-    A: Ledger + Send + Sync,
-    K: Ledger + Send + Sync,
+    L: Books + Send + Sync,
     R: AllocGlobal + Print + Threads + Wait + Sync,
->(rt: &R, office: &Office<C, A, K>, share: Share<C, A, K>) -> Result<Sold<C, A, K>, Trouble> {
+>(rt: &R, office: &Office<L>, share: Share<L>) -> Result<Sold<L>, Trouble> {
     let sold = sell_both(rt, office, share)?;
     match say_left(rt, office) {
         Ok(()) => Ok(sold),
@@ -114,13 +102,13 @@ impl Groups {
 
 // What a clerk did, and the share that it was done with.
 #[derive(Drop)]
-struct Sold<C: Ledger, A: Ledger, K: Ledger> {
-    share: Share<C, A, K>,
+struct Sold<L: Books> {
+    share: Share<L>,
     groups: Groups,
 }
 
-impl<C: Ledger, A: Ledger, K: Ledger> Sold<C, A, K> {
-    fn join(&mut self, other: Result<Sold<C, A, K>, Trouble>) -> Result<(), Trouble> {
+impl<L: Books> Sold<L> {
+    fn join(&mut self, other: Result<Sold<L>, Trouble>) -> Result<(), Trouble> {
         let Sold { share, groups } = other?;
         if let Err(share) = self.share.join(share) {
             drop(share);
@@ -132,11 +120,9 @@ impl<C: Ledger, A: Ledger, K: Ledger> Sold<C, A, K> {
 }
 
 fn sell_both<
-    C: Ledger + Send + Sync,
-    A: Ledger + Send + Sync,
-    K: Ledger + Send + Sync,
+    L: Books + Send + Sync,
     R: Threads + Wait + Sync,
->(rt: &R, office: &Office<C, A, K>, share: Share<C, A, K>) -> Result<Sold<C, A, K>, Trouble> {
+>(rt: &R, office: &Office<L>, share: Share<L>) -> Result<Sold<L>, Trouble> {
     let mut first = share;
     let Some(second) = first.split(ALL_PARTS / 2) else {
         drop(first);
@@ -151,10 +137,10 @@ fn sell_both<
 }
 
 // What two clerks did, as one.
-fn both<C: Ledger, A: Ledger, K: Ledger>(
-    one: Result<Sold<C, A, K>, Trouble>,
-    other: Result<Sold<C, A, K>, Trouble>,
-) -> Result<Sold<C, A, K>, Trouble> {
+fn both<L: Books>(
+    one: Result<Sold<L>, Trouble>,
+    other: Result<Sold<L>, Trouble>,
+) -> Result<Sold<L>, Trouble> {
     match one {
         Ok(mut sold) => match sold.join(other) {
             Ok(()) => Ok(sold),
@@ -171,12 +157,12 @@ fn both<C: Ledger, A: Ledger, K: Ledger>(
 }
 
 // What a clerk does.
-fn sell_all<C: Ledger, A: Ledger, K: Ledger, R: Wait>(
+fn sell_all<L: Books, R: Wait>(
     rt: &R,
-    office: &Office<C, A, K>,
+    office: &Office<L>,
     worker: u32,
-    share: Share<C, A, K>,
-) -> Result<Sold<C, A, K>, Trouble> {
+    share: Share<L>,
+) -> Result<Sold<L>, Trouble> {
     let mut sold = Sold {
         share,
         groups: Groups::default(),
@@ -191,11 +177,11 @@ fn sell_all<C: Ledger, A: Ledger, K: Ledger, R: Wait>(
 }
 
 // Twenty groups of two come to a clerk, half of them for each evening, and then one of five.
-fn sell_each<C: Ledger, A: Ledger, K: Ledger, R: Wait>(
+fn sell_each<L: Books, R: Wait>(
     rt: &R,
-    office: &Office<C, A, K>,
+    office: &Office<L>,
     worker: u32,
-    sold: &mut Sold<C, A, K>,
+    sold: &mut Sold<L>,
 ) -> Result<(), Trouble> {
     for step in 0..21u32 {
         let evening = if step % 2 == 0 { FIRST } else { SECOND };
@@ -207,9 +193,9 @@ fn sell_each<C: Ledger, A: Ledger, K: Ledger, R: Wait>(
     Ok(())
 }
 
-fn say_left<C: Ledger, A: Ledger, K: Ledger, R: AllocGlobal + Print + Wait>(
+fn say_left<L: Books, R: AllocGlobal + Print + Wait>(
     rt: &R,
-    office: &Office<C, A, K>,
+    office: &Office<L>,
 ) -> Result<(), Trouble> {
     for (words, evening) in [("first evening", FIRST), ("second evening", SECOND)] {
         let left = office.shared.value_of(rt, Who::Ref(evening))?;
@@ -219,10 +205,10 @@ fn say_left<C: Ledger, A: Ledger, K: Ledger, R: AllocGlobal + Print + Wait>(
 }
 
 // Closes the second evening, takes the world out, and says what is in it.
-fn close_up<C: Ledger, A: Ledger, K: Ledger, R: AllocGlobal + Print + Wait>(
+fn close_up<L: Books, R: AllocGlobal + Print + Wait>(
     rt: &R,
-    office: Office<C, A, K>,
-    sold: Sold<C, A, K>,
+    office: Office<L>,
+    sold: Sold<L>,
 ) -> Result<(), Trouble> {
     let Sold { mut share, groups } = sold;
     let closed = office.close(rt, &mut share, Stamp { worker: 2, step: 0 }, SECOND);
@@ -234,18 +220,18 @@ fn close_up<C: Ledger, A: Ledger, K: Ledger, R: AllocGlobal + Print + Wait>(
     say_totals(rt, totals)
 }
 
-fn say_world<C: Ledger, A: Ledger, K: Ledger, R: AllocGlobal + Print>(
+fn say_world<L: Books, R: AllocGlobal + Print>(
     rt: &R,
-    world: &World<BoxOffice, C, A, K>,
+    world: &World<BoxOffice, L>,
 ) -> Result<(), Trouble> {
     say(rt, "closed, it has", world.value_of(Who::Ref(SECOND)))?;
     say(rt, "tickets sold", world.value_of(Who::Ref(SOLD)))
 }
 
-fn take_out<C: Ledger, A: Ledger, K: Ledger>(
-    office: Office<C, A, K>,
-    share: Share<C, A, K>,
-) -> Result<(World<BoxOffice, C, A, K>, Totals), Trouble> {
+fn take_out<L: Books>(
+    office: Office<L>,
+    share: Share<L>,
+) -> Result<(World<BoxOffice, L>, Totals), Trouble> {
     let Office { alloc, shared } = office;
     if share.is_whole() {
         shared.finish(alloc, share).ok().ok_or(Trouble)

@@ -20,7 +20,6 @@ use ref_fun::Core;
 use ref_value::Value;
 use ref_world::World;
 use std::alloc::Global;
-use std::sync::ledger::Ledger;
 pub(crate) use worlds::unnamed_in;
 
 /// The dump of a world: one value that says all that a stranger needs to replay the log and to compare. docs/DUMPS.md shows
@@ -29,9 +28,9 @@ pub(crate) use worlds::unnamed_in;
 /// Where an action in the log's sends or in an agent's account, or what it carries, names a function that Core doesn't have, the
 /// least such code is reported, and else that the dump would nest deeper than 64. The time is linear in what is dumped; values are shared, not copied.
 #[tactic(auto, using(crate::proofs::Dumps::dump_told))]
-pub fn dump<C: Ledger, A: Ledger, K: Ledger>(
+pub fn dump(
     alloc: Global,
-    world: &World<Core, C, A, K>,
+    world: &World<Core>,
 ) -> Result<Value, DumpMakeFault>
     ensures value { IfOk result (λ v. v ≡ dumped world.now) }
     ensures refused { TellsOrMemory faults.Memory (unnamed_refusal world.now) (dump_refusal world.now) result }

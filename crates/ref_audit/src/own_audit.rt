@@ -24,12 +24,11 @@ use ref_verdict::Verdict;
 use ref_verdict::verdicts::verdict;
 use ref_world::World;
 use std::alloc::Global;
-use std::sync::ledger::Ledger;
 
 /// The law of dumps: the verdict on a world's dump is ok, whatever the world went through. It changes nothing and answers nothing, and
 /// costs a look at each part of the world.
 #[tactic(auto, using(crate::proofs::OwnVerdict::own_ok))]
-pub fn own_dump_is_ok<C: Ledger, A: Ledger, K: Ledger>(world: &World<Core, C, A, K>)
+pub fn own_dump_is_ok(world: &World<Core>)
     ensures { dump_refusal world.now ≡ None → verdict_on (dump_of (dumped world.now)) ≡ Ok verdicts.Ok }
 {
     tell(world);
@@ -38,10 +37,10 @@ pub fn own_dump_is_ok<C: Ledger, A: Ledger, K: Ledger>(world: &World<Core, C, A,
 /// The verdict on a world's dump, without the dump: what the dump says is taken from the world, and judged as what a dump says is. So it
 /// costs the replay and no forms. It is ok by the same law. It is refused where an action in the log's sends or in an agent's account,
 /// or what it carries, names a function that Core doesn't have, with the least such code.
-pub fn audit_world<F: Functions<Core>, C: Ledger, A: Ledger, K: Ledger>(
+pub fn audit_world<F: Functions<Core>>(
     alloc: Global,
     funs: &F,
-    world: &World<Core, C, A, K>,
+    world: &World<Core>,
 ) -> Result<Verdict, DumpMakeFault>
     requires core { HasCore (F.knows funs.now) }
     ensures verdict { IfOk result (λ verdict. verdict_on (dump_of (dumped world.now)) ≡ Ok verdict) }
@@ -62,7 +61,7 @@ pub fn audit_world<F: Functions<Core>, C: Ledger, A: Ledger, K: Ledger>(
 
 // What is always so in a world, and what the types of its parts say, stated of the whole. It changes nothing, and costs a look at each
 // part.
-fn tell<C: Ledger, A: Ledger, K: Ledger>(world: &World<Core, C, A, K>)
+fn tell(world: &World<Core>)
     ensures { IsTold world.now }
 {
     tell_few(world);

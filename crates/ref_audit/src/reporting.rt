@@ -14,15 +14,14 @@ use ref_value::{Text, Value};
 use ref_verdict::Verdict;
 use ref_world::World;
 use std::alloc::{AllocError, Global};
-use std::sync::ledger::Ledger;
 
 /// Appends the report of a world: a line for each name of a reference that is there, for each refused step, for the number of
 /// commits and for the verdict. The refused steps are given by worker and then by step. The time is linear in the text. Where
 /// memory is refused, nothing is appended.
-pub fn report<C: Ledger, A: Ledger, K: Ledger>(
+pub fn report(
     alloc: Global,
     names: &Names,
-    world: &World<Core, C, A, K>,
+    world: &World<Core>,
     refused: &[Refusal],
     verdict: &Verdict,
     out: &mut Vec<u8>,
@@ -79,11 +78,11 @@ fn word_of_cause(cause: Cause) -> &'static str
 }
 
 // A line for each name of a ref, or of an atom, that is there.
-fn append_values<C: Ledger, A: Ledger, K: Ledger>(
+fn append_values(
     alloc: Global,
     kind: RefOrAtom,
     names: &[Text],
-    world: &World<Core, C, A, K>,
+    world: &World<Core>,
     out: &mut Vec<u8>,
 ) -> Result<(), AllocError>
     ensures { OnOk result (out.new.items
@@ -139,10 +138,10 @@ fn append_value(
 }
 
 // A line for each name of an agent that is there.
-fn append_agents<C: Ledger, A: Ledger, K: Ledger>(
+fn append_agents(
     alloc: Global,
     names: &[Text],
-    world: &World<Core, C, A, K>,
+    world: &World<Core>,
     out: &mut Vec<u8>,
 ) -> Result<(), AllocError>
     ensures { OnOk result (out.new.items ≡ out.old.items ++ agent_lines names.now world.now.agents.agents) }

@@ -9,28 +9,27 @@ use ref_atoms::AtomFault;
 use ref_fun::{Args, Functions, Meaning, Rule, share_rule};
 use ref_log::{MakeFault, Stamp};
 use ref_value::Value;
-use ref_world::{Share, World};
+use ref_world::{Booked, Books, Share, World};
 use std::alloc::Global;
-use std::sync::ledger::Ledger;
 
 // Commits the actor's transaction. A refused commit leaves it with the actor.
-pub(crate) fn commit<M: Meaning, C: Ledger, A: Ledger, K: Ledger, F: Functions<M>>(
+pub(crate) fn commit<M: Meaning, L: Books, F: Functions<M>>(
     alloc: Global,
     funs: &F,
-    world: &mut World<M, C, A, K>,
-    share: &mut Share<C, A, K>,
+    booked: &mut Booked<M, L>,
+    share: &mut Share<L>,
     actors: &mut Actors<M>,
     actor: u32,
     stamp: Stamp,
 ) -> Reply
     ensures { (s : SimSeen) → Serves M.means M.accepts (F.knows funs.now)
-        (record s { world = world.old; share = share.old; slots = actors.old }) actor (acts.Commit stamp) result
-        (record s { world = world.new; share = share.new; slots = actors.new }) }
+        (record s { world = booked.old.world; share = share.old; slots = actors.old }) actor (acts.Commit stamp) result
+        (record s { world = booked.new.world; share = share.new; slots = actors.new }) }
 {
     let Some(tx) = actors.take(actor) else {
         return Reply::NoTx;
     };
-    match world.commit_with(alloc, funs, share, stamp, tx) {
+    match booked.commit_with(alloc, funs, share, stamp, tx) {
         Ok(receipt) => {
             // each ref has a last change
             let _ = world.ref_count();
@@ -44,78 +43,78 @@ pub(crate) fn commit<M: Meaning, C: Ledger, A: Ledger, K: Ledger, F: Functions<M
 }
 
 // Sets an atom to what a function makes of it.
-pub(crate) fn swap<M: Meaning, C: Ledger, A: Ledger, K: Ledger, F: Functions<M>>(
+pub(crate) fn swap<M: Meaning, L: Books, F: Functions<M>>(
     alloc: Global,
     funs: &F,
-    world: &mut World<M, C, A, K>,
-    share: &mut Share<C, A, K>,
+    booked: &mut Booked<M, L>,
+    share: &mut Share<L>,
     n: u32,
     code: u32,
     args: &Args,
 ) -> Reply
     ensures { (s : SimSeen) (actor : ℕ) → Serves M.means M.accepts (F.knows funs.now)
-        (record s { world = world.old; share = share.old }) actor (acts.Swap n code args.now) result
-        (record s { world = world.new; share = share.new }) }
+        (record s { world = booked.old.world; share = share.old }) actor (acts.Swap n code args.now) result
+        (record s { world = booked.new.world; share = share.new }) }
 {
     let Ok(args) = args.share() else {
         return Reply::Swap(Err(AtomFault::Memory));
     };
-    match world.swap(alloc, funs, share, n, code, args) {
+    match booked.swap(alloc, funs, share, n, code, args) {
         Ok(swapped) => Reply::Swap(Ok(swapped)),
         Err(fault) => Reply::Swap(Err(fault)),
     }
 }
 
 // Sets an atom.
-pub(crate) fn reset<M: Meaning, C: Ledger, A: Ledger, K: Ledger, F: Functions<M>>(
+pub(crate) fn reset<M: Meaning, L: Books, F: Functions<M>>(
     alloc: Global,
     funs: &F,
-    world: &mut World<M, C, A, K>,
-    share: &mut Share<C, A, K>,
+    booked: &mut Booked<M, L>,
+    share: &mut Share<L>,
     n: u32,
     value: &Value,
 ) -> Reply
     ensures { (s : SimSeen) (actor : ℕ) → Serves M.means M.accepts (F.knows funs.now)
-        (record s { world = world.old; share = share.old }) actor (acts.Reset n value.now) result
-        (record s { world = world.new; share = share.new }) }
+        (record s { world = booked.old.world; share = share.old }) actor (acts.Reset n value.now) result
+        (record s { world = booked.new.world; share = share.new }) }
 {
     let Ok(value) = value.share() else {
         return Reply::Reset(Err(AtomFault::Memory));
     };
-    match world.reset(alloc, funs, share, n, value) {
+    match booked.reset(alloc, funs, share, n, value) {
         Ok(swapped) => Reply::Reset(Ok(swapped)),
         Err(fault) => Reply::Reset(Err(fault)),
     }
 }
 
 // Sets an atom where it has this value.
-pub(crate) fn compare_and_set<M: Meaning, C: Ledger, A: Ledger, K: Ledger, F: Functions<M>>(
+pub(crate) fn compare_and_set<M: Meaning, L: Books, F: Functions<M>>(
     alloc: Global,
     funs: &F,
-    world: &mut World<M, C, A, K>,
-    share: &mut Share<C, A, K>,
+    booked: &mut Booked<M, L>,
+    share: &mut Share<L>,
     n: u32,
     old: &Value,
     new: &Value,
 ) -> Reply
     ensures { (s : SimSeen) (actor : ℕ) → Serves M.means M.accepts (F.knows funs.now)
-        (record s { world = world.old; share = share.old }) actor (acts.CompareAndSet n old.now new.now) result
-        (record s { world = world.new; share = share.new }) }
+        (record s { world = booked.old.world; share = share.old }) actor (acts.CompareAndSet n old.now new.now) result
+        (record s { world = booked.new.world; share = share.new }) }
 {
     let Ok(new) = new.share() else {
         return Reply::CompareAndSet(Err(AtomFault::Memory));
     };
-    match world.compare_and_set(alloc, funs, share, n, old, new) {
+    match booked.compare_and_set(alloc, funs, share, n, old, new) {
         Ok(compared) => Reply::CompareAndSet(Ok(compared)),
         Err(fault) => Reply::CompareAndSet(Err(fault)),
     }
 }
 
 // Makes a ref.
-pub(crate) fn make_ref<M: Meaning, C: Ledger, A: Ledger, K: Ledger, F: Functions<M>>(
+pub(crate) fn make_ref<M: Meaning, F: Functions<M>>(
     alloc: Global,
     funs: &F,
-    world: &mut World<M, C, A, K>,
+    world: &mut World<M>,
     value: &Value,
     rule: &Option<Rule>,
     tally: bool,
@@ -137,10 +136,10 @@ pub(crate) fn make_ref<M: Meaning, C: Ledger, A: Ledger, K: Ledger, F: Functions
 }
 
 // Makes an atom.
-pub(crate) fn make_atom<M: Meaning, C: Ledger, A: Ledger, K: Ledger, F: Functions<M>>(
+pub(crate) fn make_atom<M: Meaning, F: Functions<M>>(
     alloc: Global,
     funs: &F,
-    world: &mut World<M, C, A, K>,
+    world: &mut World<M>,
     value: &Value,
     rule: &Option<Rule>,
 ) -> Reply
@@ -161,10 +160,10 @@ pub(crate) fn make_atom<M: Meaning, C: Ledger, A: Ledger, K: Ledger, F: Function
 }
 
 // Folds the entries up to a point into the base.
-pub(crate) fn checkpoint<M: Meaning, C: Ledger, A: Ledger, K: Ledger, F: Functions<M>>(
+pub(crate) fn checkpoint<M: Meaning, F: Functions<M>>(
     alloc: Global,
     funs: &F,
-    world: &mut World<M, C, A, K>,
+    world: &mut World<M>,
     point: u64,
 ) -> Reply
     ensures { (s : SimSeen) (actor : ℕ) → Serves M.means M.accepts (F.knows funs.now) (record s { world = world.old })

@@ -11,7 +11,6 @@ use ref_world::World;
 use std::alloc::{AllocError, Global};
 use std::collections::BTreeMap;
 use std::marker::Model;
-use std::sync::ledger::Ledger;
 
 // A job that hasn't run, or one that has.
 pub(crate) enum Stage<M: Meaning> {
@@ -134,7 +133,7 @@ impl<M: Meaning> Jobs<M> {
     }
 
     // Puts all jobs back.
-    pub(crate) fn put_all_back<C: Ledger, A: Ledger, K: Ledger>(self, world: &mut World<M, C, A, K>)
+    pub(crate) fn put_all_back(self, world: &mut World<M>)
         requires { AreHeld M.means world.old.agents.agents (jobs_of self) }
         ensures world { world.new ≡ with_agents world.old (all_back self world.old.agents) }
         ensures none { (g : ℕ) → is_out_at world.new.agents.agents g ≡ false }

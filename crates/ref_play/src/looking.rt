@@ -11,12 +11,11 @@ use ref_log::{RuleFault, WatchFault, Who};
 use ref_value::Value;
 use ref_world::World;
 use std::alloc::AllocError;
-use std::sync::ledger::Ledger;
 
 // Gives a reference another rule, or none.
-pub(crate) fn set_validator<M: Meaning, C: Ledger, A: Ledger, K: Ledger, F: Functions<M>>(
+pub(crate) fn set_validator<M: Meaning, F: Functions<M>>(
     funs: &F,
-    world: &mut World<M, C, A, K>,
+    world: &mut World<M>,
     who: Who,
     rule: &Option<Rule>,
 ) -> Reply
@@ -34,8 +33,8 @@ pub(crate) fn set_validator<M: Meaning, C: Ledger, A: Ledger, K: Ledger, F: Func
 }
 
 // Adds a watch to a reference.
-pub(crate) fn add_watch<M: Meaning, C: Ledger, A: Ledger, K: Ledger>(
-    world: &mut World<M, C, A, K>,
+pub(crate) fn add_watch<M: Meaning>(
+    world: &mut World<M>,
     who: Who,
     key: &Value,
 ) -> Reply
@@ -53,8 +52,8 @@ pub(crate) fn add_watch<M: Meaning, C: Ledger, A: Ledger, K: Ledger>(
 }
 
 // Takes a watch away from a reference.
-pub(crate) fn remove_watch<M: Meaning, C: Ledger, A: Ledger, K: Ledger>(
-    world: &mut World<M, C, A, K>,
+pub(crate) fn remove_watch<M: Meaning>(
+    world: &mut World<M>,
     who: Who,
     key: &Value,
 ) -> Reply
@@ -66,8 +65,8 @@ pub(crate) fn remove_watch<M: Meaning, C: Ledger, A: Ledger, K: Ledger>(
 }
 
 // The value of a reference now, if it is there.
-pub(crate) fn value_of<M: Meaning, C: Ledger, A: Ledger, K: Ledger>(
-    world: &World<M, C, A, K>,
+pub(crate) fn value_of<M: Meaning>(
+    world: &World<M>,
     who: Who,
 ) -> Reply
     ensures { (s : SimSeen) → ReadsValue (present (record s { world = world.now })) who result []
@@ -83,8 +82,8 @@ pub(crate) fn value_of<M: Meaning, C: Ledger, A: Ledger, K: Ledger>(
 }
 
 // The rule of a reference now, if it has one.
-pub(crate) fn rule_of<M: Meaning, C: Ledger, A: Ledger, K: Ledger>(
-    world: &World<M, C, A, K>,
+pub(crate) fn rule_of<M: Meaning>(
+    world: &World<M>,
     who: Who,
 ) -> Reply
     ensures { (s : SimSeen) → ReadsRule (present (record s { world = world.now })) who result []
@@ -100,8 +99,8 @@ pub(crate) fn rule_of<M: Meaning, C: Ledger, A: Ledger, K: Ledger>(
 }
 
 // The error of a failed agent.
-pub(crate) fn error_of<M: Meaning, C: Ledger, A: Ledger, K: Ledger>(
-    world: &World<M, C, A, K>,
+pub(crate) fn error_of<M: Meaning>(
+    world: &World<M>,
     g: u32,
 ) -> Reply
     ensures { (s : SimSeen) → ReadsError (present (record s { world = world.now })) g result []

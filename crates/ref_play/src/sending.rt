@@ -11,11 +11,10 @@ use ref_log::MakeFault;
 use ref_value::Value;
 use ref_world::World;
 use std::alloc::{AllocError, Global};
-use std::sync::ledger::Ledger;
 
 // Sends an action to an agent.
-pub(crate) fn send<M: Meaning, C: Ledger, A: Ledger, K: Ledger>(
-    world: &mut World<M, C, A, K>,
+pub(crate) fn send<M: Meaning>(
+    world: &mut World<M>,
     g: u32,
     action: &Action,
 ) -> Reply
@@ -33,8 +32,8 @@ pub(crate) fn send<M: Meaning, C: Ledger, A: Ledger, K: Ledger>(
 }
 
 // Lets the sends of a commit be taken.
-pub(crate) fn release<M: Meaning, C: Ledger, A: Ledger, K: Ledger>(
-    world: &mut World<M, C, A, K>,
+pub(crate) fn release<M: Meaning>(
+    world: &mut World<M>,
     point: u64,
 ) -> Reply
     ensures acts { (s : SimSeen) → Releases (present (record s { world = world.old })) point result []
@@ -45,8 +44,8 @@ pub(crate) fn release<M: Meaning, C: Ledger, A: Ledger, K: Ledger>(
 }
 
 // Releases what the last action of an agent carried.
-pub(crate) fn release_carried<M: Meaning, C: Ledger, A: Ledger, K: Ledger>(
-    world: &mut World<M, C, A, K>,
+pub(crate) fn release_carried<M: Meaning>(
+    world: &mut World<M>,
     g: u32,
 ) -> Reply
     ensures acts { (s : SimSeen) → ReleasesCarried (present (record s { world = world.old })) g result []
@@ -57,9 +56,9 @@ pub(crate) fn release_carried<M: Meaning, C: Ledger, A: Ledger, K: Ledger>(
 }
 
 // Restarts a failed agent.
-pub(crate) fn restart<M: Meaning, C: Ledger, A: Ledger, K: Ledger, F: Functions<M>>(
+pub(crate) fn restart<M: Meaning, F: Functions<M>>(
     funs: &F,
-    world: &mut World<M, C, A, K>,
+    world: &mut World<M>,
     g: u32,
     state: &Value,
     clear: bool,
@@ -79,8 +78,8 @@ pub(crate) fn restart<M: Meaning, C: Ledger, A: Ledger, K: Ledger, F: Functions<
 }
 
 // Sets what happens where an action of an agent fails.
-pub(crate) fn set_error_mode<M: Meaning, C: Ledger, A: Ledger, K: Ledger>(
-    world: &mut World<M, C, A, K>,
+pub(crate) fn set_error_mode<M: Meaning>(
+    world: &mut World<M>,
     g: u32,
     mode: ErrorMode,
 ) -> Reply
@@ -95,8 +94,8 @@ pub(crate) fn set_error_mode<M: Meaning, C: Ledger, A: Ledger, K: Ledger>(
 }
 
 // Folds the account of an agent.
-pub(crate) fn fold_agent<M: Meaning, C: Ledger, A: Ledger, K: Ledger>(
-    world: &mut World<M, C, A, K>,
+pub(crate) fn fold_agent<M: Meaning>(
+    world: &mut World<M>,
     g: u32,
 ) -> Reply
     ensures acts { (s : SimSeen) → FoldsAgent (present (record s { world = world.old })) g result []
@@ -110,10 +109,10 @@ pub(crate) fn fold_agent<M: Meaning, C: Ledger, A: Ledger, K: Ledger>(
 }
 
 // Makes an agent.
-pub(crate) fn make_agent<M: Meaning, C: Ledger, A: Ledger, K: Ledger, F: Functions<M>>(
+pub(crate) fn make_agent<M: Meaning, F: Functions<M>>(
     alloc: Global,
     funs: &F,
-    world: &mut World<M, C, A, K>,
+    world: &mut World<M>,
     value: &Value,
     rule: &Option<Rule>,
     mode: ErrorMode,

@@ -4,7 +4,7 @@ ghost use Rattle.ref_log.specs.declared.faults.MakeFault.TheVariants as makes;
 ghost use Rattle.ref_play.specs.Machine.{Machine};
 ghost use Rattle.ref_play.specs.Runs.{IsServed, is_out_at};
 ghost use Rattle.ref_play.specs.Sims.{IsPlayed, Stands, all_back, jobs_of, machine_of, present, txs_of};
-ghost use Rattle.ref_world.specs.Shares.{IsBlank, all_parts, whole};
+ghost use Rattle.ref_world.specs.Shares.{AreBlanks, all_parts, whole};
 ghost use Rattle.ref_world.specs.Starts as starts;
 ghost use Rattle.ref_world.specs.Starts.{first_refusal, start_refusal};
 ghost use Rattle.ref_world.specs.World.{IsWorld, with_agents};
@@ -16,21 +16,20 @@ use crate::serving::serve;
 use ref_agents::Start;
 use ref_fun::{Functions, Meaning};
 use ref_log::{MakeFault, Who};
-use ref_world::{Share, World};
+use ref_world::{Blanks, Booked, Books, Share, World};
 use std::alloc::{AllocError, Global};
 use std::marker::Model;
-use std::sync::ledger::{Blank, Ledger};
 
 /// A world, its whole share, and of each actor at most one open transaction and one job. It has to be ended, since jobs have to be
 /// spent.
-pub struct Sim<M: Meaning, C: Ledger, A: Ledger, K: Ledger> {
-    world: World<M, C, A, K>,
-    share: Share<C, A, K>,
+pub struct Sim<M: Meaning, L: Books> {
+    booked: Booked<M, L>,
+    share: Share<L>,
     actors: Actors<M>,
     jobs: Jobs<M>,
 }
 
-impl<M: Meaning, C: Ledger, A: Ledger, K: Ledger> Model for Sim<M, C, A, K> {
+impl<M: Meaning, L: Books> Model for Sim<M, L> {
     ghost use Rattle.std.specs.Coded.{codes};
     ghost use Rattle.ref_value.specs.Code.{edn_code};
     ghost use Rattle.ref_play.specs.Sims.{IsSim, SimSeen};
@@ -39,25 +38,21 @@ impl<M: Meaning, C: Ledger, A: Ledger, K: Ledger> Model for Sim<M, C, A, K> {
 
     ghost coded = { Prim.hlevel (codes, edn_code) };
 
-    ghost view = { λ a. record { world = a.world; share = a.share; slots = a.actors; jobs = a.jobs } };
+    ghost view = { λ a. record { world = a.booked.world; share = a.share; slots = a.actors; jobs = a.jobs } };
 
     ghost invariant = { λ a. IsSim M.means
-        (record { world = a.world; share = a.share; slots = a.actors; jobs = a.jobs }) };
+        (record { world = a.booked.world; share = a.share; slots = a.actors; jobs = a.jobs }) };
 }
 
-impl<M: Meaning, C: Ledger, A: Ledger, K: Ledger> Sim<M, C, A, K> {
-    /// A new world with these references, as [`World::new`] makes it; no actor has anything.
+impl<M: Meaning, L: Books> Sim<M, L> {
+    /// A new world with these references, as [`Booked::new`] makes it; no actor has anything.
     pub fn new<F: Functions<M>>(
         alloc: Global,
         funs: &F,
         start: &Start,
-        commits: Blank,
-        added: Blank,
-        taken: Blank,
-    ) -> Result<Sim<M, C, A, K>, (Who, MakeFault)>
-        requires commits { IsBlank commits C.name C.parts }
-        requires added { IsBlank added A.name A.parts }
-        requires taken { IsBlank taken K.name K.parts }
+        blanks: Blanks,
+    ) -> Result<Sim<M, L>, (Who, MakeFault)>
+        requires { AreBlanks blanks L.commits L.added L.taken }
         ensures ok { OnOk result (start_refusal M.accepts (F.knows funs.now).preds start.now ≡ None) }
         ensures refs { IfOk result (λ s. starts.declared_refs M.accepts (F.knows funs.now).preds start.now.refs.items
             ≡ Ok s.world.refs) }
@@ -75,9 +70,9 @@ impl<M: Meaning, C: Ledger, A: Ledger, K: Ledger> Sim<M, C, A, K> {
         ensures memory { IfErr result (λ e. e.1 ≡ makes.Memory
             → first_refusal M.accepts (F.knows funs.now).preds start.now ≡ None) }
     {
-        let (world, share) = World::new(alloc, funs, start, commits, added, taken)?;
+        let (booked, share) = Booked::new(alloc, funs, start, blanks)?;
         Ok(Sim {
-            world,
+            booked,
             share,
             actors: Actors::none(alloc),
             jobs: Jobs::none(alloc),
@@ -89,17 +84,17 @@ impl<M: Meaning, C: Ledger, A: Ledger, K: Ledger> Sim<M, C, A, K> {
     pub fn served_by<F: Functions<M>>(&self, funs: &F) -> bool
         ensures { result ≡ true ↔ IsServed (F.knows funs.now) (present self.now) }
     {
-        self.world.served_by(funs) && self.actors.are_served(funs)
+        self.booked.world.served_by(funs) && self.actors.are_served(funs)
     }
 
     /// The world that its actors act on.
-    pub fn world(&self) -> &World<M, C, A, K>
+    pub fn world(&self) -> &World<M>
         ensures world { result.now ≡ self.now.world }
         // There is a machine that has seen what the log holds: the one that begins with it.
         ensures stands { Stands M.means (machine_of self.now) self.now }
     {
-        always_so(&self.world);
-        &self.world
+        always_so(&self.booked.world);
+        &self.booked.world
     }
 
     /// Plays events, one after the other, and returns the replies to the actors, one for each event.
@@ -118,11 +113,11 @@ impl<M: Meaning, C: Ledger, A: Ledger, K: Ledger> Sim<M, C, A, K> {
     {
         let mut replies = Vec::with_capacity(alloc, events.len())?;
         for event in events {
-            always_so(&self.world);
+            always_so(&self.booked.world);
             let reply = serve(
                 alloc,
                 funs,
-                &mut self.world,
+                &mut self.booked,
                 &mut self.share,
                 &mut self.actors,
                 &mut self.jobs,
@@ -133,27 +128,27 @@ impl<M: Meaning, C: Ledger, A: Ledger, K: Ledger> Sim<M, C, A, K> {
         Ok(replies)
     }
 
-    /// Puts every job back, drops the open transactions, and returns the world and its whole share.
-    pub fn end(self) -> (World<M, C, A, K>, Share<C, A, K>)
-        ensures world { result.0 ≡ with_agents self.world (all_back self.jobs self.world.agents) }
+    /// Puts every job back, drops the open transactions, and returns the world with its books, and its whole share.
+    pub fn end(self) -> (Booked<M, L>, Share<L>)
+        ensures world { result.0.world ≡ with_agents self.world (all_back self.jobs self.world.agents) }
         ensures share { result.1 ≡ self.share }
         ensures whole { result.1.parts ≡ all_parts }
         // No job is out.
-        ensures jobs { (g : ℕ) → is_out_at result.0.agents.agents g ≡ false }
+        ensures jobs { (g : ℕ) → is_out_at result.0.world.agents.agents g ≡ false }
     {
         let Sim {
-            mut world,
+            mut booked,
             share,
             actors: _actors,
             jobs,
         } = self;
-        jobs.put_all_back(&mut world);
-        (world, share)
+        jobs.put_all_back(&mut booked.world);
+        (booked, share)
     }
 }
 
 // What is always so of a world.
-fn always_so<M: Meaning, C: Ledger, A: Ledger, K: Ledger>(world: &World<M, C, A, K>)
+fn always_so<M: Meaning>(world: &World<M>)
     ensures world { IsWorld M.means world.now.base world.now.log world.now.refs world.now.atoms
         world.now.agents.unreleased }
     ensures count { length world.now.refs.lasts ≡ length world.now.refs.values }

@@ -13,12 +13,11 @@ use ref_tx::TxFault;
 use ref_value::Value;
 use ref_world::World;
 use std::alloc::Global;
-use std::sync::ledger::Ledger;
 
 // Begins a transaction, where the actor has none open.
-pub(crate) fn begin<M: Meaning, C: Ledger, A: Ledger, K: Ledger>(
+pub(crate) fn begin<M: Meaning>(
     alloc: Global,
-    world: &World<M, C, A, K>,
+    world: &World<M>,
     actors: &mut Actors<M>,
     actor: u32,
 ) -> Reply

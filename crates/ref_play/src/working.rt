@@ -10,11 +10,10 @@ use crate::jobs::{Held, Jobs, Stage};
 use ref_fun::{Functions, Meaning};
 use ref_world::World;
 use std::alloc::Global;
-use std::sync::ledger::Ledger;
 
 // Takes a job of any agent that is ready, where the actor has none.
-pub(crate) fn take<M: Meaning, C: Ledger, A: Ledger, K: Ledger>(
-    world: &mut World<M, C, A, K>,
+pub(crate) fn take<M: Meaning>(
+    world: &mut World<M>,
     jobs: &mut Jobs<M>,
     actor: u32,
 ) -> Reply
@@ -91,8 +90,8 @@ pub(crate) fn run<M: Meaning, F: Functions<M>>(
 }
 
 // Puts the job of an actor back, whether it has run or not.
-pub(crate) fn put_back<M: Meaning, C: Ledger, A: Ledger, K: Ledger>(
-    world: &mut World<M, C, A, K>,
+pub(crate) fn put_back<M: Meaning>(
+    world: &mut World<M>,
     jobs: &mut Jobs<M>,
     actor: u32,
 ) -> Reply
@@ -111,10 +110,10 @@ pub(crate) fn put_back<M: Meaning, C: Ledger, A: Ledger, K: Ledger>(
 }
 
 // Ends the job of an actor, where it has run. A refused one stays with the actor.
-pub(crate) fn finish<M: Meaning, C: Ledger, A: Ledger, K: Ledger, F: Functions<M>>(
+pub(crate) fn finish<M: Meaning, F: Functions<M>>(
     alloc: Global,
     funs: &F,
-    world: &mut World<M, C, A, K>,
+    world: &mut World<M>,
     jobs: &mut Jobs<M>,
     actor: u32,
 ) -> Reply

@@ -12,7 +12,7 @@ ghost use Rattle.ref_log.specs.declared.faults.MakeFault.TheVariants as makes;
 ghost use Rattle.ref_player.specs.Lines.{event_lines, start_line};
 ghost use Rattle.ref_player.specs.Plays.{Begins, IsPlayOf, Plays, PlaysTo, shown, start_refusal};
 ghost use Rattle.ref_workload.specs.Run.{IsOfPlan};
-ghost use Rattle.ref_world.specs.Shares.{IsBlank};
+ghost use Rattle.ref_world.specs.Shares.{AreBlanks};
 
 use crate::lines::{lines_of, start_line};
 use ref_agents::Start;
@@ -26,28 +26,24 @@ use ref_play::{Event, Reply, Sim};
 use ref_value::{Items, Value};
 use ref_workload::RunFault;
 use ref_workload::texts::{audited, check_audit};
-use ref_world::World;
+use ref_world::{Blanks, Books, World};
 use std::alloc::Global;
-use std::sync::ledger::{Blank, Ledger};
+use std::marker::Brand;
 
 // The world that is declared, on which no actor has acted, or why there is none.
-fn begin<F: Functions<Core>, C: Ledger, A: Ledger, K: Ledger>(
+fn begin<F: Functions<Core>, L: Books>(
     alloc: Global,
     funs: &F,
     start: &Start,
-    commits: Blank,
-    added: Blank,
-    taken: Blank,
-) -> Result<Sim<Core, C, A, K>, (Who, MakeFault)>
-    requires commits { IsBlank commits C.name C.parts }
-    requires added { IsBlank added A.name A.parts }
-    requires taken { IsBlank taken K.name K.parts }
+    blanks: Blanks,
+) -> Result<Sim<Core, L>, (Who, MakeFault)>
+    requires { AreBlanks blanks L.commits L.added L.taken }
     ensures begins { IfOk result (Begins (F.knows funs.now) start.now.refs.items start.now.atoms.items
         start.now.agents.items) }
     ensures fault { IfErr result (λ e. e.1 ≢ makes.Memory → start_refusal (F.knows funs.now) start.now.refs.items
         start.now.atoms.items start.now.agents.items ≡ Some e) }
 {
-    match Sim::new(alloc, funs, start, commits, added, taken) {
+    match Sim::new(alloc, funs, start, blanks) {
         Ok(sim) => Ok(sim),
         Err(refused) => Err(refused),
     }
@@ -69,13 +65,13 @@ fn refused_start(alloc: Global, who: Who, fault: MakeFault) -> Result<Vec<u8>, R
 }
 
 // The replies, and the world that it came to.
-struct Played<C: Ledger, A: Ledger, K: Ledger> {
+struct Played {
     replies: Vec<Reply>,
-    world: World<Core, C, A, K>,
+    world: World<Core>,
 }
 
 // Written by hand: a derived one would be written out wherever it is dropped.
-impl<C: Ledger, A: Ledger, K: Ledger> Drop for Played<C, A, K> {
+impl Drop for Played {
     fn drop(self) {
         let Played {
             replies: _replies,
@@ -85,10 +81,10 @@ impl<C: Ledger, A: Ledger, K: Ledger> Drop for Played<C, A, K> {
 }
 
 // Plays the events on a world, where its table serves it.
-fn replies_of<F: Functions<Core>, C: Ledger, A: Ledger, K: Ledger>(
+fn replies_of<F: Functions<Core>, L: Books>(
     alloc: Global,
     funs: &F,
-    sim: &mut Sim<Core, C, A, K>,
+    sim: &mut Sim<Core, L>,
     events: &[Event],
 ) -> Result<Vec<Reply>, RunFault>
     ensures plays { IfOk result (λ replies. PlaysTo (F.knows funs.now) sim.old events.now replies.items sim.new) }
@@ -105,19 +101,22 @@ fn replies_of<F: Functions<Core>, C: Ledger, A: Ledger, K: Ledger>(
 }
 
 // Plays the events, and takes the world out.
-fn play<F: Functions<Core>, C: Ledger, A: Ledger, K: Ledger>(
+fn play<F: Functions<Core>, L: Books>(
     alloc: Global,
     funs: &F,
-    mut sim: Sim<Core, C, A, K>,
+    mut sim: Sim<Core, L>,
     events: &[Event],
-) -> Result<Played<C, A, K>, RunFault>
+) -> Result<Played, RunFault>
     ensures plays { IfOk result (λ p. Plays (F.knows funs.now) sim events.now p.replies.items p.world) }
     ensures inner { IfErr result IsOfPlan }
 {
     let told = replies_of(alloc, funs, &mut sim, events);
-    let (world, _share) = sim.end();
+    let (booked, _share) = sim.end();
     match told {
-        Ok(replies) => Ok(Played { replies, world }),
+        Ok(replies) => Ok(Played {
+            replies,
+            world: booked.into_world(),
+        }),
         Err(fault) => Err(fault),
     }
 }
@@ -134,11 +133,11 @@ fn append_dump(alloc: Global, dumped: &Value, text: &mut Vec<u8>) -> Result<(), 
 }
 
 // Appends the report of a world that is audited, or its dump, which is.
-fn append_end<F: Functions<Core>, C: Ledger, A: Ledger, K: Ledger>(
+fn append_end<F: Functions<Core>>(
     alloc: Global,
     funs: &F,
     names: &Names,
-    world: &World<Core, C, A, K>,
+    world: &World<Core>,
     dump: bool,
     text: &mut Vec<u8>,
 ) -> Result<(), RunFault>
@@ -159,12 +158,12 @@ fn append_end<F: Functions<Core>, C: Ledger, A: Ledger, K: Ledger>(
 }
 
 // The lines of a play, and then the report or the dump of the world that it came to, which is audited.
-fn text_of<F: Functions<Core>, C: Ledger, A: Ledger, K: Ledger>(
+fn text_of<F: Functions<Core>>(
     alloc: Global,
     funs: &F,
     names: &Names,
     forms: &Items,
-    played: &Played<C, A, K>,
+    played: &Played,
     dump: bool,
 ) -> Result<Vec<u8>, RunFault>
     requires { HasCore (F.knows funs.now) }
@@ -184,20 +183,33 @@ fn text_of<F: Functions<Core>, C: Ledger, A: Ledger, K: Ledger>(
 
 /// What is written of a list of events that is played by a table of Core's functions: a line for each event, and the report, or the dump,
 /// of the world that it came to, where all jobs were put back and all open transactions dropped. Where a rule or the tally refuses the start,
-/// it is the line that says so, and no event is played. The blanks become the books.
-pub fn output_of<F: Functions<Core>, C: Ledger, A: Ledger, K: Ledger>(
+/// it is the line that says so, and no event is played.
+pub fn output_of<F: Functions<Core>>(
     alloc: Global,
     funs: &F,
     script: Script,
     dump: bool,
-    commits: Blank,
-    added: Blank,
-    taken: Blank,
+) -> Result<Vec<u8>, RunFault>
+    requires { HasCore (F.knows funs.now) }
+    ensures ok { IfOk result (λ output. IsPlayOf dump script output.items) }
+    ensures inner { IfErr result IsOfPlan }
+{
+    match output_in::<F, Brand>(alloc, funs, script, dump, Blanks::new()) {
+        Ok(output) => Ok(output),
+        Err(fault) => Err(fault),
+    }
+}
+
+// The same, in a world whose books L names.
+fn output_in<F: Functions<Core>, L: Books>(
+    alloc: Global,
+    funs: &F,
+    script: Script,
+    dump: bool,
+    blanks: Blanks,
 ) -> Result<Vec<u8>, RunFault>
     requires core { HasCore (F.knows funs.now) }
-    requires commits { IsBlank commits C.name C.parts }
-    requires added { IsBlank added A.name A.parts }
-    requires taken { IsBlank taken K.name K.parts }
+    requires blanks { AreBlanks blanks L.commits L.added L.taken }
     ensures ok { IfOk result (λ output. IsPlayOf dump script output.items) }
     ensures inner { IfErr result IsOfPlan }
 {
@@ -207,7 +219,7 @@ pub fn output_of<F: Functions<Core>, C: Ledger, A: Ledger, K: Ledger>(
         events,
         forms,
     } = script.into_parts();
-    match begin::<F, C, A, K>(alloc, funs, &start, commits, added, taken) {
+    match begin::<F, L>(alloc, funs, &start, blanks) {
         Ok(sim) => {
             let played = play(alloc, funs, sim, events.as_slice())?;
             text_of(alloc, funs, &names, &forms, &played, dump)

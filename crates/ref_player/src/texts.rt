@@ -15,10 +15,7 @@ use ref_edn::{Sink, Source, read_one};
 use ref_events::script_of;
 use ref_fun::{Core, Functions};
 use ref_workload::streams::{read_input, write_output};
-use ref_world::ALL_PARTS;
 use std::alloc::Global;
-use std::marker::Brand;
-use std::sync::ledger::Blank;
 
 /// Reads a list of events to its end, plays it by a table of Core's functions, audits the world that it came to, and writes a line for
 /// each event, and then the report, or, where it is asked for, the dump that was audited and a newline.
@@ -65,12 +62,7 @@ pub fn play_text<F: Functions<Core>>(
 {
     let value = read_one(alloc, text)?;
     let script = script_of(alloc, &value)?;
-    let (commits, added, taken) = (
-        Blank::new(ALL_PARTS),
-        Blank::new(ALL_PARTS),
-        Blank::new(ALL_PARTS),
-    );
-    match output_of::<F, Brand, Brand, Brand>(alloc, funs, script, dump, commits, added, taken) {
+    match output_of(alloc, funs, script, dump) {
         Ok(output) => Ok(output),
         Err(fault) => Err(PlayFault::Run(fault)),
     }

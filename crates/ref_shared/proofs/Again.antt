@@ -3,7 +3,7 @@ use Rattle.std.proofs.Common.{◌≡◌, ℕ, suc, ◌+◌, ◌<◌, ◌≤◌, 
 use Rattle.std.specs.List.{All}
 use Rattle.std.specs.Prelude.{Result, Option}
 use Rattle.ref_tx.specs.Seen.{TxSeen}
-use Rattle.ref_shared.specs.Bodies.{BodyOf, Call, Called, Calls, earlier_of}
+use Rattle.ref_shared.specs.Bodies.{Doing, Call, Called, Calls, earlier_of}
 use Rattle.ref_shared.specs.Waits.{AllWaits, IsCalledAgain, is_value, tried}
 
 -- one more that passes, or doesn't
@@ -25,9 +25,9 @@ not_ready None never = refl
 not_ready (Some x) never = absurd (never x refl)
 
 -- one call more, where fewer than that were tried
-pub one_more : {B T E : Type 0} (g : BodyOf B (Result (Option T) E)) (body before after : B) (earlier : List (Call (Result (Option T) E))) (i tries : ℕ) (call : Call (Result (Option T) E))
-    → Called g body earlier before → length (tried earlier) ≡ i → All IsCalledAgain earlier → i < tries → Calls g before call after → AllWaits g body after (call ∷ earlier) tries
-one_more g body before after earlier i tries call called count again room calls =
+pub one_more : {B T E : Type 0} (does : Doing B (Result (Option T) E)) (body before after : B) (earlier : List (Call (Result (Option T) E))) (i tries : ℕ) (call : Call (Result (Option T) E))
+    → Called does body earlier before → length (tried earlier) ≡ i → All IsCalledAgain earlier → i < tries → Calls does before call after → AllWaits does body after (call ∷ earlier) tries
+one_more does body before after earlier i tries call called count again room calls =
     let most = longer_by (λ c. is_value c.answer) call earlier (is_value call.answer) refl in
     record { called = (before, called, calls); few = omega (arith, count, room, most); again = again }
 

@@ -4,12 +4,12 @@ use Rattle.std.specs.Prelude.{Result}
 use Rattle.ref_refs.specs.declared.faults.CommitFault.{CommitFault}
 use Rattle.ref_refs.specs.declared.faults.CommitFault.TheVariants as commits
 use Rattle.ref_refs.specs.declared.faults.Conflict.{Conflict}
-use Rattle.ref_shared.specs.Bodies.{IsFinal, IsRetried, earlier_of, AllCalls, BodyOf, Call, Called, Calls}
+use Rattle.ref_shared.specs.Bodies.{IsFinal, IsRetried, earlier_of, AllCalls, Doing, Call, Called, Calls}
 
 -- one call more, where there were fewer than that
-pub one_more : {B T E : Type 0} (g : BodyOf B (Result T E)) (body before after : B) (earlier : List (Call (Result T E))) (i tries : ℕ) (call : Call (Result T E))
-    → Called g body earlier before → length earlier ≡ i → All IsRetried earlier → i < tries → Calls g before call after → AllCalls g body after (call ∷ earlier) tries
-one_more g body before after earlier i tries call called count retried room calls =
+pub one_more : {B T E : Type 0} (does : Doing B (Result T E)) (body before after : B) (earlier : List (Call (Result T E))) (i tries : ℕ) (call : Call (Result T E))
+    → Called does body earlier before → length earlier ≡ i → All IsRetried earlier → i < tries → Calls does before call after → AllCalls does body after (call ∷ earlier) tries
+one_more does body before after earlier i tries call called count retried room calls =
     record { called = (before, called, calls); few = omega (arith, count, room); retried = retried }
 
 -- a fault that is neither a conflict nor out of memory

@@ -6,7 +6,7 @@ use denote.Param.Send.{IsSend, IsSync, sendable}
 use denote.Param.SendFields.{declared_send, declared_sync}
 use Rattle.std.proofs.Crossing.{crosses as std_crosses}
 use Rattle.std.proofs.MapsCrossing.{crosses as map_crosses}
-use Rattle.std.specs.declared.sync.ledger.Ledger as Ledger
+use Rattle.ref_world.specs.declared.books.Books as Books
 use Rattle.ref_fun.specs.declared.meanings.Meaning as Meaning
 use Rattle.ref_world.proofs.Crossing.{share_send, world_send}
 use Rattle.ref_shared.specs.contracts.shared.Held as Held
@@ -20,11 +20,11 @@ awaited_send = declared_send Awaited.the_type (search (std_crosses, sendable) de
 waiters_send : IsSend Waiters.the_row
 waiters_send = declared_send Waiters.the_type (search (std_crosses, sendable) depth 60, (search (awaited_send, map_crosses, std_crosses, sendable) depth 60, tt))
 
-module _ (M C A K : RattleType) (gM : Meaning.Ghosts M.Denot) (gC : Ledger.Ghosts C.Denot) (gA : Ledger.Ghosts A.Denot) (gK : Ledger.Ghosts K.Denot) where
-  held_send : IsSend (Held.the_row M C A K gM gC gA gK)
-  held_send = declared_send (Held.the_type M C A K gM gC gA gK) (world_send C A K gC gA gK M gM, (search (std_crosses, sendable) depth 60, (waiters_send, tt)))
+module _ (M L : RattleType) (gM : Meaning.Ghosts M.Denot) (gL : Books.Ghosts L.Denot) where
+  held_send : IsSend (Held.the_row M L gM gL)
+  held_send = declared_send (Held.the_type M L gM gL) (world_send L gL M gM, (search (std_crosses, sendable) depth 60, (waiters_send, tt)))
 
-  pub shared_sync : IsSync (Shared.the_row M C A K gM gC gA gK)
-  shared_sync = declared_sync (Shared.the_type M C A K gM gC gA gK) (search (held_send, std_crosses, sendable) depth 60, (search (std_crosses, sendable) depth 60, (search (std_crosses, sendable) depth 60, tt)))
+  pub shared_sync : IsSync (Shared.the_row M L gM gL)
+  shared_sync = declared_sync (Shared.the_type M L gM gL) (search (held_send, std_crosses, sendable) depth 60, (search (std_crosses, sendable) depth 60, (search (std_crosses, sendable) depth 60, tt)))
 
 pub ruleset crosses = (share_send, shared_sync)

@@ -15,9 +15,14 @@ use Rattle.ref_shared.specs.Commits.{HasCommitted}
 use Rattle.ref_shared.specs.declared.faults.TransactFault.{TransactFault}
 use Rattle.ref_shared.specs.declared.faults.TransactFault.TheVariants.{GaveUp, Body, Commit, Memory}
 
--- what the predicates of a body over a transaction are, which answers an R
-abbrev pub BodyOf : Type 0 → Type 0 → Type 1
-BodyOf B R = Mut B (MutBor TxSeen × Unit {0}) (R × (MutBor TxSeen × Unit {0}))
+-- What a call of a body may do: the body before it, the transaction that it gets, what it answers, the transaction that it leaves, and the
+-- body after it.
+abbrev pub Doing : Type 0 → Type 0 → Type 1
+Doing B R = B → TxSeen → R → TxSeen → B → Type 0
+
+-- that of a closure over a transaction
+abbrev pub calls_of : {B R : Type 0} → Mut B (MutBor TxSeen × Unit {0}) (R × (MutBor TxSeen × Unit {0})) → Doing B R
+calls_of g before began answer left after = CalledAtMut g before began answer after left
 
 -- a call of a body: the transaction that it got, what it answered, and the transaction that it left
 pub record Call (R : Type 0) : Type 0 where
@@ -31,14 +36,14 @@ pub record IsFresh (tx : TxSeen) : Type 0 where
   pub sends : tx.sends ≡ []
 
 -- The body, called so, may answer so: it gets a fresh transaction.
-pub record Calls {B R : Type 0} (g : BodyOf B R) (before : B) (call : Call R) (after : B) : Type 0 where
+pub record Calls {B R : Type 0} (does : Doing B R) (before : B) (call : Call R) (after : B) : Type 0 where
   pub fresh : IsFresh call.began
-  pub called : CalledAtMut g before call.began call.answer after call.left
+  pub called : does before call.began call.answer call.left after
 
 -- the calls of the body, the latest first, that took it from one state to another, each from where the one before it left it
-abbrev pub Called : {B R : Type 0} → BodyOf B R → B → List (Call R) → B → Type 0
-Called g first [] last = first ≡ last
-Called {B} g first (call ∷ earlier) last = (between : B) × Called g first earlier between × Calls g between call last
+abbrev pub Called : {B R : Type 0} → Doing B R → B → List (Call R) → B → Type 0
+Called does first [] last = first ≡ last
+Called {B} does first (call ∷ earlier) last = (between : B) × Called does first earlier between × Calls does between call last
 
 -- A call after which the body is called again: it answered a value, and the commit of what it left was in conflict.
 pub record IsRetried {T E : Type 0} (call : Call (Result T E)) : Type 0 where
@@ -52,16 +57,16 @@ earlier_of [] = []
 earlier_of (call ∷ earlier) = earlier
 
 -- These are all calls of the body that there were, and at most so many. Each but the last ended in a conflict.
-pub record AllCalls {B T E : Type 0} (g : BodyOf B (Result T E)) (body last : B) (calls : List (Call (Result T E))) (tries : ℕ) : Type 0 where
-  pub called : Called g body calls last
+pub record AllCalls {B T E : Type 0} (does : Doing B (Result T E)) (body last : B) (calls : List (Call (Result T E))) (tries : ℕ) : Type 0 where
+  pub called : Called does body calls last
   pub few : length calls ≤ tries
   pub retried : All IsRetried (earlier_of calls)
 
 -- The last call of the body answered so, and what it left was committed.
-pub record Committed {B T E : Type 0} (g : BodyOf B (Result T E)) (body last : B) (tries : ℕ) (answer : Result T E) (stamp : Stamp) (point : ℕ) (old new : ShareSeen) : Type 0 where
+pub record Committed {B T E : Type 0} (does : Doing B (Result T E)) (body last : B) (tries : ℕ) (answer : Result T E) (stamp : Stamp) (point : ℕ) (old new : ShareSeen) : Type 0 where
   pub call : Call (Result T E)
   pub earlier : List (Call (Result T E))
-  pub calls : AllCalls g body last (call ∷ earlier) tries
+  pub calls : AllCalls does body last (call ∷ earlier) tries
   pub answered : call.answer ≡ answer
   pub landed : HasCommitted stamp call.left point old new
 
@@ -78,15 +83,15 @@ IsFinal (commits.NoSuchFun code) = Unit {0}
 
 -- When a transaction's faults come: giving up after all tries, with a conflict of what the last call left; a body's fault as the
 -- last call answered; a commit's fault behind a last call that answered a value.
-abbrev pub FaultComes : {B T E : Type 0} → BodyOf B (Result T E) → B → B → ℕ → TransactFault E → Type 0
-FaultComes {B} {T} {E} g body last tries (GaveUp n conflict) =
-    (call : Call (Result T E)) × (earlier : List (Call (Result T E))) × AllCalls g body last (call ∷ earlier) tries
+abbrev pub FaultComes : {B T E : Type 0} → Doing B (Result T E) → B → B → ℕ → TransactFault E → Type 0
+FaultComes {B} {T} {E} does body last tries (GaveUp n conflict) =
+    (call : Call (Result T E)) × (earlier : List (Call (Result T E))) × AllCalls does body last (call ∷ earlier) tries
     × (is_ok call.answer ≡ true) × (n ≡ tries) × (length earlier + 1 ≡ tries) × IsConflictOf call.left conflict
-FaultComes {B} {T} {E} g body last tries (Body e) =
-    (call : Call (Result T E)) × (earlier : List (Call (Result T E))) × AllCalls g body last (call ∷ earlier) tries
+FaultComes {B} {T} {E} does body last tries (Body e) =
+    (call : Call (Result T E)) × (earlier : List (Call (Result T E))) × AllCalls does body last (call ∷ earlier) tries
     × (call.answer ≡ Err e)
-FaultComes {B} {T} {E} g body last tries (Commit fault) =
-    (call : Call (Result T E)) × (earlier : List (Call (Result T E))) × AllCalls g body last (call ∷ earlier) tries
+FaultComes {B} {T} {E} does body last tries (Commit fault) =
+    (call : Call (Result T E)) × (earlier : List (Call (Result T E))) × AllCalls does body last (call ∷ earlier) tries
     × (is_ok call.answer ≡ true) × IsFinal fault
-FaultComes {B} {T} {E} g body last tries Memory =
-    (calls : List (Call (Result T E))) × AllCalls g body last calls tries
+FaultComes {B} {T} {E} does body last tries Memory =
+    (calls : List (Call (Result T E))) × AllCalls does body last calls tries

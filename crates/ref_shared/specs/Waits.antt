@@ -13,7 +13,7 @@ use Rattle.ref_log.specs.declared.entries.Stamp.{Stamp}
 use Rattle.ref_refs.specs.Conflicts.{IsConflictOf}
 use Rattle.ref_refs.specs.declared.faults.Conflict.{Conflict}
 use Rattle.ref_world.specs.Seen.{ShareSeen}
-use Rattle.ref_shared.specs.Bodies.{BodyOf, Call, Called, IsFinal, earlier_of}
+use Rattle.ref_shared.specs.Bodies.{Doing, Call, Called, IsFinal, earlier_of}
 use Rattle.ref_shared.specs.Commits.{HasCommitted}
 use Rattle.ref_shared.specs.declared.faults.AwaitFault.{AwaitFault}
 use Rattle.ref_shared.specs.declared.faults.AwaitFault.TheVariants as awaits
@@ -157,33 +157,33 @@ IsCalledAgain call = (call.answer ≡ Ok None) ⊎ IsInConflict call
 
 -- These are all calls of the body that there were, and after at most so many of them a commit was tried. Each but the last wasn't ready
 -- or ended in a conflict.
-pub record AllWaits {B T E : Type 0} (g : BodyOf B (Result (Option T) E)) (body last : B) (calls : List (Call (Result (Option T) E))) (tries : ℕ) : Type 0 where
-  pub called : Called g body calls last
+pub record AllWaits {B T E : Type 0} (does : Doing B (Result (Option T) E)) (body last : B) (calls : List (Call (Result (Option T) E))) (tries : ℕ) : Type 0 where
+  pub called : Called does body calls last
   pub few : length (tried calls) ≤ tries
   pub again : All IsCalledAgain (earlier_of calls)
 
 -- The last call of the body returned this value, and what it left was committed.
-pub record Landed {B T E : Type 0} (g : BodyOf B (Result (Option T) E)) (body last : B) (tries : ℕ) (answer : T) (stamp : Stamp) (point : ℕ) (old new : ShareSeen) : Type 0 where
+pub record Landed {B T E : Type 0} (does : Doing B (Result (Option T) E)) (body last : B) (tries : ℕ) (answer : T) (stamp : Stamp) (point : ℕ) (old new : ShareSeen) : Type 0 where
   pub call : Call (Result (Option T) E)
   pub earlier : List (Call (Result (Option T) E))
-  pub calls : AllWaits g body last (call ∷ earlier) tries
+  pub calls : AllWaits does body last (call ∷ earlier) tries
   pub answered : call.answer ≡ Ok (Some answer)
   pub landed : HasCommitted stamp call.left point old new
 
 -- When a transaction that waits fails: closed behind a last call that wasn't ready; giving up after all tries, with a conflict of what
 -- the last call left; with a body's fault as the last call returned it; with a commit's fault behind a last call that returned a value.
-abbrev pub WaitFails : {B T E : Type 0} → BodyOf B (Result (Option T) E) → B → B → ℕ → WaitFault E → Type 0
-WaitFails {B} {T} {E} g body last tries waits.Closed =
-    (call : Call (Result (Option T) E)) × (earlier : List (Call (Result (Option T) E))) × AllWaits g body last (call ∷ earlier) tries
+abbrev pub WaitFails : {B T E : Type 0} → Doing B (Result (Option T) E) → B → B → ℕ → WaitFault E → Type 0
+WaitFails {B} {T} {E} does body last tries waits.Closed =
+    (call : Call (Result (Option T) E)) × (earlier : List (Call (Result (Option T) E))) × AllWaits does body last (call ∷ earlier) tries
     × (call.answer ≡ Ok None)
-WaitFails {B} {T} {E} g body last tries (waits.Transact (transacts.GaveUp n conflict)) =
-    (call : Call (Result (Option T) E)) × (earlier : List (Call (Result (Option T) E))) × AllWaits g body last (call ∷ earlier) tries
+WaitFails {B} {T} {E} does body last tries (waits.Transact (transacts.GaveUp n conflict)) =
+    (call : Call (Result (Option T) E)) × (earlier : List (Call (Result (Option T) E))) × AllWaits does body last (call ∷ earlier) tries
     × (is_value call.answer ≡ true) × (n ≡ tries) × (length (tried (call ∷ earlier)) ≡ tries) × IsConflictOf call.left conflict
-WaitFails {B} {T} {E} g body last tries (waits.Transact (transacts.Body e)) =
-    (call : Call (Result (Option T) E)) × (earlier : List (Call (Result (Option T) E))) × AllWaits g body last (call ∷ earlier) tries
+WaitFails {B} {T} {E} does body last tries (waits.Transact (transacts.Body e)) =
+    (call : Call (Result (Option T) E)) × (earlier : List (Call (Result (Option T) E))) × AllWaits does body last (call ∷ earlier) tries
     × (call.answer ≡ Err e)
-WaitFails {B} {T} {E} g body last tries (waits.Transact (transacts.Commit fault)) =
-    (call : Call (Result (Option T) E)) × (earlier : List (Call (Result (Option T) E))) × AllWaits g body last (call ∷ earlier) tries
+WaitFails {B} {T} {E} does body last tries (waits.Transact (transacts.Commit fault)) =
+    (call : Call (Result (Option T) E)) × (earlier : List (Call (Result (Option T) E))) × AllWaits does body last (call ∷ earlier) tries
     × (is_value call.answer ≡ true) × IsFinal fault
-WaitFails {B} {T} {E} g body last tries (waits.Transact transacts.Memory) =
-    (calls : List (Call (Result (Option T) E))) × AllWaits g body last calls tries
+WaitFails {B} {T} {E} does body last tries (waits.Transact transacts.Memory) =
+    (calls : List (Call (Result (Option T) E))) × AllWaits does body last calls tries

@@ -4,12 +4,11 @@ ghost use Rattle.ref_world.specs.Shares.{forgotten};
 
 use crate::shared::{Held, Shared};
 use ref_fun::{Functions, Meaning};
-use ref_world::{CheckpointFault, Share};
+use ref_world::{Books, CheckpointFault, Share};
 use std::alloc::{AllocError, Global};
-use std::sync::ledger::Ledger;
 use std::sync::{MutexGuard, Wait};
 
-impl<M: Meaning, C: Ledger, A: Ledger, K: Ledger> Shared<M, C, A, K> {
+impl<M: Meaning, L: Books> Shared<M, L> {
     /// Folds the entries up to this point into the base, and returns how many these were: see [`ref_world::World::checkpoint`]. The
     /// lock is held while these entries are replayed, for a step for each ref and atom, and for a logarithm of the entries that are left: so
     /// not for longer than the entries since the last checkpoint take. Whoever calls it often holds it for a short time each. What is
@@ -63,10 +62,10 @@ impl<M: Meaning, C: Ledger, A: Ledger, K: Ledger> Shared<M, C, A, K> {
         requires { 0 < bite }
     {
         let held = self.lock(rt);
-        if point > held.world.point() {
+        if point > held.booked.world.point() {
             return Err(CheckpointFault::NoSuchPoint);
         }
-        let base = held.world.base().point;
+        let base = held.booked.world.base().point;
         if point <= base {
             return Ok(0);
         }
@@ -81,10 +80,10 @@ impl<M: Meaning, C: Ledger, A: Ledger, K: Ledger> Shared<M, C, A, K> {
     /// Drops the receipts of a share whose entries are folded into the base: see [`ref_world::World::forget`]. The lock is held for a look at
     /// the base, and the receipts are dropped with the lock free. A receipt holds its entry whole, so a checkpoint frees entries only once the
     /// shares have forgotten them.
-    pub fn forget<R: Wait>(&self, rt: &R, share: &mut Share<C, A, K>)
+    pub fn forget<R: Wait>(&self, rt: &R, share: &mut Share<L>)
         ensures { (point : ℕ) × (share.new ≡ forgotten share.old point) }
     {
-        let point = self.lock(rt).world.base().point;
+        let point = self.lock(rt).booked.world.base().point;
         share.forget(point);
     }
 
@@ -92,13 +91,13 @@ impl<M: Meaning, C: Ledger, A: Ledger, K: Ledger> Shared<M, C, A, K> {
     /// action that ended since the last fold or restart: what is dropped is dropped under it. Actions may be queued, on their way, and end
     /// meanwhile.
     pub fn fold_agent<R: Wait>(&self, rt: &R, g: u32) -> Result<bool, AllocError> {
-        self.lock(rt).world.fold_agent(g)
+        self.lock(rt).booked.world.fold_agent(g)
     }
 }
 
 // Folds the entries up to this point, frees the lock, and returns how many these were.
-fn fold_and_free<M: Meaning, C: Ledger, A: Ledger, K: Ledger, F: Functions<M>>(
-    held: MutexGuard<'_, Held<M, C, A, K>>,
+fn fold_and_free<M: Meaning, L: Books, F: Functions<M>>(
+    held: MutexGuard<'_, Held<M, L>>,
     alloc: Global,
     funs: &F,
     point: u64,
@@ -106,8 +105,8 @@ fn fold_and_free<M: Meaning, C: Ledger, A: Ledger, K: Ledger, F: Functions<M>>(
     let mut held = held;
     // One owner more, so that the base and the log before are dropped when the lock is free again. Where it is refused they are dropped
     // under it.
-    let before = held.world.view();
-    let folded = held.world.checkpoint(alloc, funs, point);
+    let before = held.booked.world.view();
+    let folded = held.booked.world.checkpoint(alloc, funs, point);
     drop(held);
     drop(before);
     folded

@@ -41,6 +41,7 @@
 //! tested.
 #![tactic(auto)]
 
+pub mod bodies;
 pub mod faults;
 mod folding;
 mod gates;
@@ -53,6 +54,7 @@ mod waiters;
 mod waiting;
 mod working;
 
+pub use bodies::{Body, OnDosync, OnTx};
 pub use faults::{AwaitFault, GatherFault, TransactFault, WaitFault, WorkFault};
 pub use gates::{Gate, Open, Quiet, Spot, WatchSink};
 pub use gathering::{folded_receipts_say_nothing, match_receipts};

@@ -20,10 +20,9 @@ use ref_log::{MakeFault, RuleFault, Stamp, WatchFault, Who};
 use ref_refs::CommitFault;
 use ref_tx::Tx;
 use ref_value::Value;
-use ref_world::{Receipt, Share, Totals, View, World};
+use ref_world::{Booked, Books, Receipt, Share, Totals, View, World};
 use std::alloc::{AllocError, Global};
 use std::hint::spin_loop;
-use std::sync::ledger::Ledger;
 use std::sync::{Condvar, Mutex, MutexGuard, Wait};
 
 // How often the processor pauses between one look at a lock that is held and the next, before a thread sleeps. A pause takes some
@@ -33,8 +32,8 @@ const PAUSES: &[u32] = &[1_024, 4_096, 16_384, 16_384, 16_384, 16_384];
 
 // What the lock is round: the world, whether the shared world was closed, and who waits for what.
 #[derive(Drop)]
-pub(crate) struct Held<M: Meaning, C: Ledger, A: Ledger, K: Ledger> {
-    pub(crate) world: World<M, C, A, K>,
+pub(crate) struct Held<M: Meaning, L: Books> {
+    pub(crate) booked: Booked<M, L>,
     pub(crate) is_closed: bool,
     pub(crate) waiters: Waiters,
 }
@@ -51,8 +50,8 @@ pub(crate) struct Held<M: Meaning, C: Ledger, A: Ledger, K: Ledger> {
 /// The calls may wait for the lock, and promise what they say where they return. A thread that never lets its body, its gate or
 /// its sink return holds up nobody who waits for the lock.
 #[derive(Drop)]
-pub struct Shared<M: Meaning, C: Ledger, A: Ledger, K: Ledger> {
-    held: Mutex<Held<M, C, A, K>>,
+pub struct Shared<M: Meaning, L: Books> {
+    held: Mutex<Held<M, L>>,
     // Woken where an agent may have become ready, and at the end: threads that run actions wait for it.
     pub(crate) ready: Condvar,
     // Woken where an entry has come, or enough actions of an agent are gone, and somebody waits for it; and at the end. All who wait are
@@ -60,11 +59,11 @@ pub struct Shared<M: Meaning, C: Ledger, A: Ledger, K: Ledger> {
     pub(crate) moved: Condvar,
 }
 
-impl<M: Meaning, C: Ledger, A: Ledger, K: Ledger> Shared<M, C, A, K> {
+impl<M: Meaning, L: Books> Shared<M, L> {
     /// Puts a world under a lock. It waits for nobody.
-    pub fn new(world: World<M, C, A, K>) -> Shared<M, C, A, K> {
+    pub fn new(booked: Booked<M, L>) -> Shared<M, L> {
         let held = Held {
-            world,
+            booked,
             is_closed: false,
             waiters: Waiters::none(),
         };
@@ -77,7 +76,7 @@ impl<M: Meaning, C: Ledger, A: Ledger, K: Ledger> Shared<M, C, A, K> {
 
     // The lock. It is free again where the guard is dropped. Whoever finds it held looks again after pauses, and then sleeps: a call
     // holds it for some microseconds, and to sleep and be woken takes longer.
-    pub(crate) fn lock<R: Wait>(&self, rt: &R) -> MutexGuard<'_, Held<M, C, A, K>> {
+    pub(crate) fn lock<R: Wait>(&self, rt: &R) -> MutexGuard<'_, Held<M, L>> {
         for pauses in PAUSES {
             if let Some(guard) = self.held.try_lock() {
                 return guard;
@@ -93,7 +92,7 @@ impl<M: Meaning, C: Ledger, A: Ledger, K: Ledger> Shared<M, C, A, K> {
     pub fn begin<R: Wait>(&self, rt: &R, alloc: Global) -> Result<Tx<M>, AllocError>
         ensures { IfOk result (λ tx. IsFresh tx) }
     {
-        self.lock(rt).world.begin(alloc)
+        self.lock(rt).booked.world.begin(alloc)
     }
 
     /// Commits a transaction: see [`World::commit_with`]. The caller delivers the notices of the receipt to the watches, and
@@ -103,7 +102,7 @@ impl<M: Meaning, C: Ledger, A: Ledger, K: Ledger> Shared<M, C, A, K> {
         rt: &R,
         alloc: Global,
         funs: &F,
-        share: &mut Share<C, A, K>,
+        share: &mut Share<L>,
         stamp: Stamp,
         tx: Tx<M>,
     ) -> Result<Receipt, (Tx<M>, CommitFault)>
@@ -115,14 +114,14 @@ impl<M: Meaning, C: Ledger, A: Ledger, K: Ledger> Shared<M, C, A, K> {
         ensures same { OnErr result (share.new ≡ share.old) }
     {
         let mut held = self.lock(rt);
-        let committed = held.world.commit_with(alloc, funs, share, stamp, tx);
+        let committed = held.booked.commit_with(alloc, funs, share, stamp, tx);
         self.free_with_entry(held, committed.is_ok());
         committed
     }
 
     /// Releases what the commit at this point sent, and wakes the threads that wait for an action to run: see [`World::release`].
     pub fn release<R: Wait>(&self, rt: &R, point: u64) -> bool {
-        let had_sends = self.lock(rt).world.release(point);
+        let had_sends = self.lock(rt).booked.world.release(point);
         if had_sends {
             self.ready.notify_all();
         }
@@ -132,7 +131,7 @@ impl<M: Meaning, C: Ledger, A: Ledger, K: Ledger> Shared<M, C, A, K> {
     /// Releases what the last handled action of an agent carried, and wakes the threads that wait for an action to run: see
     /// [`World::release_carried`]. [`Shared::work_once`] does it.
     pub fn release_carried<R: Wait>(&self, rt: &R, g: u32) -> bool {
-        let had_carries = self.lock(rt).world.release_carried(g);
+        let had_carries = self.lock(rt).booked.world.release_carried(g);
         if had_carries {
             self.ready.notify_all();
         }
@@ -142,7 +141,7 @@ impl<M: Meaning, C: Ledger, A: Ledger, K: Ledger> Shared<M, C, A, K> {
     /// The value of a reference now, if it is there: of an agent its state. It takes no memory, but std can refuse one more
     /// owner.
     pub fn value_of<R: Wait>(&self, rt: &R, who: Who) -> Result<Option<Value>, AllocError> {
-        match self.lock(rt).world.value_of(who) {
+        match self.lock(rt).booked.world.value_of(who) {
             Some(value) => Ok(Some(value.share()?)),
             None => Ok(None),
         }
@@ -156,17 +155,17 @@ impl<M: Meaning, C: Ledger, A: Ledger, K: Ledger> Shared<M, C, A, K> {
         who: Who,
         rule: Option<Rule>,
     ) -> Result<(), RuleFault> {
-        self.lock(rt).world.set_validator(funs, who, rule)
+        self.lock(rt).booked.world.set_validator(funs, who, rule)
     }
 
     /// Adds a watch to a reference: see [`World::add_watch`].
     pub fn add_watch<R: Wait>(&self, rt: &R, who: Who, key: Value) -> Result<bool, WatchFault> {
-        self.lock(rt).world.add_watch(who, key)
+        self.lock(rt).booked.world.add_watch(who, key)
     }
 
     /// Takes a watch away from a reference: see [`World::remove_watch`].
     pub fn remove_watch<R: Wait>(&self, rt: &R, who: Who, key: &Value) -> bool {
-        self.lock(rt).world.remove_watch(who, key)
+        self.lock(rt).booked.world.remove_watch(who, key)
     }
 
     /// Makes a ref: see [`World::make_ref`].
@@ -180,7 +179,7 @@ impl<M: Meaning, C: Ledger, A: Ledger, K: Ledger> Shared<M, C, A, K> {
         tally: bool,
     ) -> Result<u32, MakeFault> {
         let mut held = self.lock(rt);
-        let made = held.world.make_ref(alloc, funs, value, rule, tally);
+        let made = held.booked.world.make_ref(alloc, funs, value, rule, tally);
         self.free_with_entry(held, made.is_ok());
         made
     }
@@ -195,7 +194,7 @@ impl<M: Meaning, C: Ledger, A: Ledger, K: Ledger> Shared<M, C, A, K> {
         rule: Option<Rule>,
     ) -> Result<u32, MakeFault> {
         let mut held = self.lock(rt);
-        let made = held.world.make_atom(alloc, funs, value, rule);
+        let made = held.booked.world.make_atom(alloc, funs, value, rule);
         self.free_with_entry(held, made.is_ok());
         made
     }
@@ -211,6 +210,7 @@ impl<M: Meaning, C: Ledger, A: Ledger, K: Ledger> Shared<M, C, A, K> {
         mode: ErrorMode,
     ) -> Result<u32, MakeFault> {
         self.lock(rt)
+            .booked
             .world
             .make_agent(alloc, funs, value, rule, mode)
     }
@@ -222,7 +222,7 @@ impl<M: Meaning, C: Ledger, A: Ledger, K: Ledger> Shared<M, C, A, K> {
         rt: &R,
         alloc: Global,
         funs: &F,
-        share: &mut Share<C, A, K>,
+        share: &mut Share<L>,
         a: u32,
         code: u32,
         args: Args,
@@ -233,7 +233,7 @@ impl<M: Meaning, C: Ledger, A: Ledger, K: Ledger> Shared<M, C, A, K> {
         ensures same { OnErr result (share.new ≡ share.old) }
     {
         let mut held = self.lock(rt);
-        let swapped = held.world.swap(alloc, funs, share, a, code, args);
+        let swapped = held.booked.swap(alloc, funs, share, a, code, args);
         self.free_with_entry(held, swapped.is_ok());
         swapped
     }
@@ -245,7 +245,7 @@ impl<M: Meaning, C: Ledger, A: Ledger, K: Ledger> Shared<M, C, A, K> {
         rt: &R,
         alloc: Global,
         funs: &F,
-        share: &mut Share<C, A, K>,
+        share: &mut Share<L>,
         a: u32,
         value: Value,
     ) -> Result<Swapped, AtomFault>
@@ -255,7 +255,7 @@ impl<M: Meaning, C: Ledger, A: Ledger, K: Ledger> Shared<M, C, A, K> {
         ensures same { OnErr result (share.new ≡ share.old) }
     {
         let mut held = self.lock(rt);
-        let swapped = held.world.reset(alloc, funs, share, a, value);
+        let swapped = held.booked.reset(alloc, funs, share, a, value);
         self.free_with_entry(held, swapped.is_ok());
         swapped
     }
@@ -267,7 +267,7 @@ impl<M: Meaning, C: Ledger, A: Ledger, K: Ledger> Shared<M, C, A, K> {
         rt: &R,
         alloc: Global,
         funs: &F,
-        share: &mut Share<C, A, K>,
+        share: &mut Share<L>,
         a: u32,
         old: &Value,
         new: Value,
@@ -280,14 +280,14 @@ impl<M: Meaning, C: Ledger, A: Ledger, K: Ledger> Shared<M, C, A, K> {
         ensures same { OnErr result (share.new ≡ share.old) }
     {
         let mut held = self.lock(rt);
-        let compared = held.world.compare_and_set(alloc, funs, share, a, old, new);
+        let compared = held.booked.compare_and_set(alloc, funs, share, a, old, new);
         self.free_with_entry(held, matches!(&compared, Ok(Cas { done: true, .. })));
         compared
     }
 
     /// Sends an action to an agent, and wakes a thread that waits for an action to run: see [`World::send`].
     pub fn send<R: Wait>(&self, rt: &R, g: u32, action: Action) -> Result<(), SendFault> {
-        let sent = self.lock(rt).world.send(g, action);
+        let sent = self.lock(rt).booked.world.send(g, action);
         if sent.is_ok() {
             self.ready.notify_one();
         }
@@ -309,7 +309,7 @@ impl<M: Meaning, C: Ledger, A: Ledger, K: Ledger> Shared<M, C, A, K> {
         } else {
             0
         };
-        let restarted = held.world.restart(funs, g, state, clear);
+        let restarted = held.booked.world.restart(funs, g, state, clear);
         held.note_restart(g, queued, &restarted);
         drop(held);
         if restarted.is_ok() {
@@ -325,30 +325,30 @@ impl<M: Meaning, C: Ledger, A: Ledger, K: Ledger> Shared<M, C, A, K> {
         g: u32,
         mode: ErrorMode,
     ) -> Result<(), ModeFault> {
-        self.lock(rt).world.set_error_mode(g, mode)
+        self.lock(rt).booked.world.set_error_mode(g, mode)
     }
 
     /// The error of a failed agent: see [`World::error_of`].
     pub fn error_of<R: Wait>(&self, rt: &R, g: u32) -> Option<AgentError> {
-        self.lock(rt).world.error_of(g)
+        self.lock(rt).booked.world.error_of(g)
     }
 
     /// The base and the log as they are now: see [`World::view`]. The lock is held for a few steps, whatever the length of
     /// the log; the view is read with the lock free.
     pub fn view<R: Wait>(&self, rt: &R) -> Result<View<M>, AllocError> {
-        self.lock(rt).world.view()
+        self.lock(rt).booked.world.view()
     }
 
-    /// Takes the world out, with the totals of all its shares, which have to be joined again. It takes no lock and waits for
+    /// Takes the world out of its books, with the totals of all its shares, which have to be joined again. It takes no lock and waits for
     /// nobody: it takes the whole shared world. The receipts are compared with the log by
-    /// [`match_receipts`]; where they don't fit, or there is no memory to compare them, world and share come back. Of entries that a
+    /// [`match_receipts`]; where they don't fit, or there is no memory to compare them, the world with its books and the share come back. Of entries that a
     /// checkpoint folded nothing is compared. A share that forgot receipts past the base ([`Share::forget`]) doesn't fit until a
     /// checkpoint has reached the point up to which it forgot.
     pub fn finish(
         self,
         alloc: Global,
-        share: Share<C, A, K>,
-    ) -> Result<(World<M, C, A, K>, Totals), (World<M, C, A, K>, Share<C, A, K>, GatherFault)>
+        share: Share<L>,
+    ) -> Result<(World<M>, Totals), (Booked<M, L>, Share<L>, GatherFault)>
         requires whole { share.parts ≡ all_parts }
         ensures totals { IfOk result (λ r. (r.1.commits ≡ share.commits) × (r.1.added ≡ share.added)
             × (r.1.taken ≡ share.taken)) }
@@ -356,7 +356,7 @@ impl<M: Meaning, C: Ledger, A: Ledger, K: Ledger> Shared<M, C, A, K> {
             × (r.1.taken ≡ r.0.books.taken)) }
         ensures ok { IfOk result (λ r. ReceiptsMatch r.0.base.point r.0.log share.receipts
             × InOrder r.0.base.point r.0.log) }
-        ensures fault { IfErr result (λ e. GatherFails e.0.base.point e.0.log share.receipts e.2) }
+        ensures fault { IfErr result (λ e. GatherFails e.0.world.base.point e.0.world.log share.receipts e.2) }
         ensures back { IfErr result (λ e. e.1 ≡ share) }
     {
         let Shared {
@@ -365,17 +365,18 @@ impl<M: Meaning, C: Ledger, A: Ledger, K: Ledger> Shared<M, C, A, K> {
             moved: _,
         } = self;
         let Held {
-            mut world,
+            mut booked,
             is_closed: _,
             waiters: _,
         } = held.into_inner();
         // A world's points end at 2^62.
-        let _ = world.point();
+        let point = booked.world.base().point;
+        let _ = booked.world.point();
         let mut share = share;
-        let totals = world.totals(&mut share);
-        match match_receipts(alloc, world.base().point, world.log(), share.receipts()) {
-            Ok(()) => Ok((world, totals)),
-            Err(fault) => Err((world, share, fault)),
+        let totals = booked.totals(&mut share);
+        match match_receipts(alloc, point, booked.world.log(), share.receipts()) {
+            Ok(()) => Ok((booked.into_world(), totals)),
+            Err(fault) => Err((booked, share, fault)),
         }
     }
 }

@@ -1,21 +1,21 @@
 //! Transactions that are tried again.
 ghost use Rattle.std.specs.Prelude.{◌≡◌, ◌<◌, Ok, IfOk, IfErr, OnErr};
-ghost use Rattle.ref_shared.specs.Bodies.{Committed, FaultComes};
+ghost use Rattle.ref_shared.specs.Bodies.{Committed, FaultComes, calls_of};
 ghost use Rattle.ref_shared.specs.Sinks.{TakesAll};
 
+use crate::bodies::{Body, OnTx};
 use crate::faults::TransactFault;
 use crate::gates::{Gate, Spot, WatchSink, tell};
 use crate::shared::Shared;
-use ref_fun::{Core, Functions};
+use ref_fun::{Core, Functions, Meaning};
 use ref_log::Stamp;
 use ref_refs::CommitFault;
-use ref_tx::Tx;
-use ref_world::{Receipt, Share};
+use ref_tx::{Dosync, Tx};
+use ref_world::{Books, Receipt, Share};
 use std::alloc::Global;
 use std::sync::Wait;
-use std::sync::ledger::Ledger;
 
-impl<C: Ledger, A: Ledger, K: Ledger> Shared<Core, C, A, K> {
+impl<M: Meaning, L: Books> Shared<M, L> {
     /// Runs a body on a transaction and commits it, as Clojure's `dosync`. Where the commit is in conflict all begins anew, with
     /// the values then, at most `tries` times, at least once. After a commit the sink gets the notices for the watches,
     /// and then what the transaction sent is released, which takes the lock once more where it sent something. The answer is what
@@ -25,82 +25,45 @@ impl<C: Ledger, A: Ledger, K: Ledger> Shared<Core, C, A, K> {
     /// What its earlier calls did outside the transaction stays done. Where a fault is returned, this call has committed nothing,
     /// and no send is left of it. A fault of the body, a refused commit other than a conflict, and out of memory end it.
     ///
-    /// A program whose functions mean what [`Core`]'s mean calls this; another begins, commits and releases by itself.
-    pub fn transact<
-        R: Wait,
-        F: Functions<Core>,
-        T: Drop,
-        E,
-        G: Gate,
-        S: WatchSink,
-        B: FnMut(&mut Tx<Core>) -> Result<T, E>,
-    >(
+    /// [`Shared::transact`] takes a closure, where functions mean what [`Core`]'s mean.
+    pub fn transact_body<R: Wait, F: Functions<M>, G: Gate, S: WatchSink, B: Body<Meaning = M>>(
         &self,
         rt: &R,
         alloc: Global,
         funs: &F,
-        share: &mut Share<C, A, K>,
-        stamp: Stamp,
-        tries: u32,
-        gate: &mut G,
-        sink: &mut S,
-        mut body: B,
-    ) -> Result<(T, Receipt), TransactFault<E>>
-        requires body { B.IsAlwaysCallable body }
-        requires tries { 0 < tries }
-        ensures ok { IfOk result (λ r. (last : B)
-            × Committed B.FnMut body last tries (Ok r.0) stamp r.1.point share.old share.new) }
-        ensures stamp { IfOk result (λ r. r.1.stamp ≡ stamp) }
-        ensures fault { IfErr result (λ f. (last : B) × FaultComes B.FnMut body last tries f) }
-        ensures same { OnErr result (share.new ≡ share.old) }
-        ensures told { IfOk result (λ r. TakesAll S.takes sink.old r.1.notices.items sink.new) }
-        ensures untold { OnErr result (sink.new ≡ sink.old) }
-    {
-        self.transact_by(rt, alloc, funs, share, stamp, tries, gate, sink, &mut body)
-    }
-
-    /// As [`Shared::transact`], with a body that is lent: it comes back as its last call left it, and the clauses name all its
-    /// calls, at most `tries`.
-    pub fn transact_by<
-        R: Wait,
-        F: Functions<Core>,
-        T: Drop,
-        E,
-        G: Gate,
-        S: WatchSink,
-        B: FnMut(&mut Tx<Core>) -> Result<T, E>,
-    >(
-        &self,
-        rt: &R,
-        alloc: Global,
-        funs: &F,
-        share: &mut Share<C, A, K>,
+        share: &mut Share<L>,
         stamp: Stamp,
         tries: u32,
         gate: &mut G,
         sink: &mut S,
         body: &mut B,
-    ) -> Result<(T, Receipt), TransactFault<E>>
-        requires body { B.IsAlwaysCallable body.old }
+    ) -> Result<(B::Answer, Receipt), TransactFault<B::Fault>>
+        requires body { B.may body.old }
         requires tries { 0 < tries }
-        ensures ok { IfOk result (λ r. Committed B.FnMut body.old body.new tries
+        ensures ok { IfOk result (λ r. Committed B.does body.old body.new tries
             (Ok r.0) stamp r.1.point share.old share.new) }
         ensures stamp { IfOk result (λ r. r.1.stamp ≡ stamp) }
-        ensures fault { IfErr result (λ f. FaultComes B.FnMut body.old body.new tries f) }
+        ensures fault { IfErr result (λ f. FaultComes B.does body.old body.new tries f) }
         ensures same { OnErr result (share.new ≡ share.old) }
         ensures told { IfOk result (λ r. TakesAll S.takes sink.old r.1.notices.items sink.new) }
         ensures untold { OnErr result (sink.new ≡ sink.old) }
     {
         for attempt in 0..tries {
-            let Ok(mut tx) = self.begin(rt, alloc) else {
+            let Ok(tx) = self.begin(rt, alloc) else {
                 return Err(TransactFault::Memory);
             };
+            let mut tx = Dosync {
+                tx,
+                alloc,
+                funs: body.functions(),
+            };
             gate.pass(Spot::BeforeBody);
-            let answer = match body(&mut tx) {
+            let answer = match body.run(&mut tx) {
                 Ok(answer) => answer,
                 Err(e) => return Err(TransactFault::Body(e)),
             };
             gate.pass(Spot::AfterBody);
+            let Dosync { tx, .. } = tx;
             let has_sends = !tx.sends().is_empty();
             match self.commit(rt, alloc, funs, share, stamp, tx) {
                 Ok(receipt) => {
@@ -123,5 +86,51 @@ impl<C: Ledger, A: Ledger, K: Ledger> Shared<Core, C, A, K> {
             }
         }
         unreachable!()
+    }
+}
+
+impl<L: Books> Shared<Core, L> {
+    /// Runs a closure on a transaction and commits it, as Clojure's `dosync`. Where the commit is in conflict all begins anew, with
+    /// the values then, at most `tries` times, at least once. After a commit the sink gets the notices for the watches,
+    /// and then what the transaction sent is released, which takes the lock once more where it sent something. The answer is what
+    /// the body's last call returned, and the receipt.
+    ///
+    /// The body is called with the lock free, at most `tries` times, each time with a transaction in which nothing was done.
+    /// What its earlier calls did outside the transaction stays done. Where a fault is returned, this call has committed nothing,
+    /// and no send is left of it. A fault of the body, a refused commit other than a conflict, and out of memory end it.
+    ///
+    /// A program whose functions mean what [`Core`]'s mean calls this; another begins, commits and releases by itself.
+    pub fn transact<
+        R: Wait,
+        F: Functions<Core>,
+        T: Drop,
+        E,
+        G: Gate,
+        S: WatchSink,
+        B: FnMut(&mut Tx<Core>) -> Result<T, E>,
+    >(
+        &self,
+        rt: &R,
+        alloc: Global,
+        funs: &F,
+        share: &mut Share<L>,
+        stamp: Stamp,
+        tries: u32,
+        gate: &mut G,
+        sink: &mut S,
+        body: B,
+    ) -> Result<(T, Receipt), TransactFault<E>>
+        requires body { B.IsAlwaysCallable body }
+        requires tries { 0 < tries }
+        ensures ok { IfOk result (λ r. (last : B)
+            × Committed (calls_of B.FnMut) body last tries (Ok r.0) stamp r.1.point share.old share.new) }
+        ensures stamp { IfOk result (λ r. r.1.stamp ≡ stamp) }
+        ensures fault { IfErr result (λ f. (last : B) × FaultComes (calls_of B.FnMut) body last tries f) }
+        ensures same { OnErr result (share.new ≡ share.old) }
+        ensures told { IfOk result (λ r. TakesAll S.takes sink.old r.1.notices.items sink.new) }
+        ensures untold { OnErr result (sink.new ≡ sink.old) }
+    {
+        let mut body = OnTx::of(body);
+        self.transact_body(rt, alloc, funs, share, stamp, tries, gate, sink, &mut body)
     }
 }

@@ -6,9 +6,9 @@ use crate::faults::AwaitFault;
 use crate::shared::Held;
 use ref_agents::Finished;
 use ref_fun::Meaning;
+use ref_world::Books;
 use std::alloc::{AllocError, Global};
 use std::collections::BTreeMap;
-use std::sync::ledger::Ledger;
 
 // Of an agent that is waited for.
 #[derive(Clone, Copy, Drop)]
@@ -206,12 +206,12 @@ impl Waiters {
     }
 }
 
-impl<M: Meaning, C: Ledger, A: Ledger, K: Ledger> Held<M, C, A, K> {
+impl<M: Meaning, L: Books> Held<M, L> {
     // How many actions wait for an agent, if it is there; the one that is on its way counts.
     pub(crate) fn queued(&self, g: u32) -> Option<u64>
-        ensures { result ≡ queued_at self.now.world.agents.agents g }
+        ensures { result ≡ queued_at self.now.booked.world.agents.agents g }
     {
-        match self.world.account(g) {
+        match self.booked.world.account(g) {
             Some(account) => Some(account.waiting() as u64),
             None => None,
         }
@@ -224,7 +224,7 @@ impl<M: Meaning, C: Ledger, A: Ledger, K: Ledger> Held<M, C, A, K> {
         agents: &[u32],
     ) -> Result<Vec<Target>, AwaitFault>
         ensures targets { IfOk result (λ targets. targets.items
-            ≡ map (target_of self.old.waiters.agents self.old.world.agents.agents) agents.now) }
+            ≡ map (target_of self.old.waiters.agents self.old.booked.world.agents.agents) agents.now) }
         ensures counts { OnOk result ((h : ℕ) → gone_at self.new.waiters.agents h ≡ gone_at self.old.waiters.agents h) }
         ensures fault { IfErr result (λ f. NamesOneOf agents.now f) }
     {
@@ -248,10 +248,10 @@ impl<M: Meaning, C: Ledger, A: Ledger, K: Ledger> Held<M, C, A, K> {
 
     // One more waits for this agent.
     fn enter(&mut self, alloc: Global, g: u32) -> Result<Target, AwaitFault>
-        ensures target { IfOk result (λ t. t ≡ target_of self.old.waiters.agents self.old.world.agents.agents g) }
+        ensures target { IfOk result (λ t. t ≡ target_of self.old.waiters.agents self.old.booked.world.agents.agents g) }
         ensures fault { IfErr result (NamesNoOther g) }
         ensures counts { (h : ℕ) → gone_at self.new.waiters.agents h ≡ gone_at self.old.waiters.agents h }
-        ensures world { self.new.world ≡ self.old.world }
+        ensures world { self.new.booked.world ≡ self.old.booked.world }
     {
         let Some(queued) = self.queued(g) else {
             return Err(AwaitFault::NoSuchAgent(g));
@@ -275,7 +275,7 @@ impl<M: Meaning, C: Ledger, A: Ledger, K: Ledger> Held<M, C, A, K> {
     // Asks to be woken as soon as one of these targets that isn't through yet is.
     pub(crate) fn wake_all(&mut self, targets: &[Target])
         ensures counts { (h : ℕ) → gone_at self.new.waiters.agents h ≡ gone_at self.old.waiters.agents h }
-        ensures world { self.new.world ≡ self.old.world }
+        ensures world { self.new.booked.world ≡ self.old.booked.world }
     {
         for target in targets {
             if !self.waiters.is_through(target) {
@@ -286,12 +286,12 @@ impl<M: Meaning, C: Ledger, A: Ledger, K: Ledger> Held<M, C, A, K> {
 
     // Looks at what is waited for.
     pub(crate) fn look(&self, targets: &[Target]) -> Look
-        ensures { result ≡ look_of self.now.waiters.agents self.now.world.agents.agents targets.now }
+        ensures { result ≡ look_of self.now.waiters.agents self.now.booked.world.agents.agents targets.now }
     {
         let mut is_left = false;
         for target in targets {
             if !self.waiters.is_through(target) {
-                if self.world.error_of(target.g).is_some() {
+                if self.booked.world.error_of(target.g).is_some() {
                     return Look::Failed(target.g);
                 }
                 is_left = true;

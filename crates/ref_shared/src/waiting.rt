@@ -1,8 +1,10 @@
 //! Waiting: for the actions that were sent to agents, and for an entry after which a transaction may be ready.
 ghost use Rattle.std.specs.Prelude.{◌≡◌, ◌<◌, IfOk, IfErr, OnErr};
 ghost use Rattle.ref_shared.specs.Sinks.{TakesAll};
+ghost use Rattle.ref_shared.specs.Bodies.{calls_of};
 ghost use Rattle.ref_shared.specs.Waits.{Landed, NamesOneOf, WaitFails};
 
+use crate::bodies::{Body, OnTx};
 use crate::faults::{AwaitFault, TransactFault, WaitFault};
 use crate::gates::{Gate, Spot, WatchSink, tell};
 use crate::shared::{Held, Shared};
@@ -10,13 +12,12 @@ use crate::waiters::Look;
 use ref_fun::{Core, Functions, Meaning};
 use ref_log::Stamp;
 use ref_refs::CommitFault;
-use ref_tx::Tx;
-use ref_world::{Receipt, Share};
+use ref_tx::{Dosync, Tx};
+use ref_world::{Books, Receipt, Share};
 use std::alloc::Global;
-use std::sync::ledger::Ledger;
 use std::sync::{MutexGuard, Wait};
 
-impl<M: Meaning, C: Ledger, A: Ledger, K: Ledger> Shared<M, C, A, K> {
+impl<M: Meaning, L: Books> Shared<M, L> {
     /// Waits until each action that these agents had in their queues when it was called is gone: it ended, or was dropped by a
     /// restart. That is Clojure's `await`, for all actions and not for the caller's alone. For no agents it returns at once.
     ///
@@ -67,7 +68,7 @@ impl<M: Meaning, C: Ledger, A: Ledger, K: Ledger> Shared<M, C, A, K> {
     fn wait_past<R: Wait>(&self, rt: &R, point: u64) -> bool {
         let mut held = self.lock(rt);
         for _ in rt.forever() {
-            if held.world.point() > point {
+            if held.booked.world.point() > point {
                 return true;
             }
             if held.is_closed {
@@ -81,13 +82,13 @@ impl<M: Meaning, C: Ledger, A: Ledger, K: Ledger> Shared<M, C, A, K> {
     }
 
     // Frees the lock, and wakes those who wait for an entry if one has come.
-    pub(crate) fn free_with_entry(&self, held: MutexGuard<'_, Held<M, C, A, K>>, has_come: bool) {
+    pub(crate) fn free_with_entry(&self, held: MutexGuard<'_, Held<M, L>>, has_come: bool) {
         let wakes = has_come && held.waiters.for_entries > 0;
         self.free_and_wake(held, wakes);
     }
 
     // Frees the lock, and wakes those who wait for an entry or for an agent, if asked.
-    pub(crate) fn free_and_wake(&self, held: MutexGuard<'_, Held<M, C, A, K>>, wakes: bool) {
+    pub(crate) fn free_and_wake(&self, held: MutexGuard<'_, Held<M, L>>, wakes: bool) {
         drop(held);
         if wakes {
             self.moved.notify_all();
@@ -95,55 +96,60 @@ impl<M: Meaning, C: Ledger, A: Ledger, K: Ledger> Shared<M, C, A, K> {
     }
 }
 
-impl<C: Ledger, A: Ledger, K: Ledger> Shared<Core, C, A, K> {
-    /// As [`Shared::transact_by`], but the body may also return None, which says that it isn't ready. Then the transaction is dropped,
+impl<M: Meaning, L: Books> Shared<M, L> {
+    /// As [`Shared::transact_body`], but the body may also return None, which says that it isn't ready. Then the transaction is dropped,
     /// the thread sleeps until an entry has come since the transaction began, and all begins anew. That is `retry` of Haskell's
     /// STM, by the world's point alone: each commit, each change of an atom and each making of a ref or atom wakes each transaction
     /// that waits. `tries` counts the commits that were tried, so it doesn't limit how often the body is called.
     ///
     /// It fails with [`WaitFault::Closed`] if the shared world is closed, the body isn't ready, and no entry has come since the
-    /// transaction began; with [`WaitFault::Transact`] as `transact_by`.
-    pub fn transact_when<
+    /// transaction began; with [`WaitFault::Transact`] as `transact_body`.
+    pub fn transact_body_when<
         R: Wait,
-        F: Functions<Core>,
+        F: Functions<M>,
         T: Drop,
-        E,
         G: Gate,
         S: WatchSink,
-        B: FnMut(&mut Tx<Core>) -> Result<Option<T>, E>,
+        B: Body<Meaning = M, Answer = Option<T>>,
     >(
         &self,
         rt: &R,
         alloc: Global,
         funs: &F,
-        share: &mut Share<C, A, K>,
+        share: &mut Share<L>,
         stamp: Stamp,
         tries: u32,
         gate: &mut G,
         sink: &mut S,
         body: &mut B,
-    ) -> Result<(T, Receipt), WaitFault<E>>
-        requires body { B.IsAlwaysCallable body.old }
+    ) -> Result<(T, Receipt), WaitFault<B::Fault>>
+        requires body { B.may body.old }
         requires tries { 0 < tries }
-        ensures ok { IfOk result (λ r. Landed B.FnMut body.old body.new tries
+        ensures ok { IfOk result (λ r. Landed B.does body.old body.new tries
             r.0 stamp r.1.point share.old share.new) }
         ensures stamp { IfOk result (λ r. r.1.stamp ≡ stamp) }
-        ensures fault { IfErr result (λ f. WaitFails B.FnMut body.old body.new tries f) }
+        ensures fault { IfErr result (λ f. WaitFails B.does body.old body.new tries f) }
         ensures same { OnErr result (share.new ≡ share.old) }
         ensures told { IfOk result (λ r. TakesAll S.takes sink.old r.1.notices.items sink.new) }
         ensures untold { OnErr result (sink.new ≡ sink.old) }
     {
         let mut conflicts = 0u32;
         for _ in rt.forever() {
-            let Ok(mut tx) = self.begin(rt, alloc) else {
+            let Ok(tx) = self.begin(rt, alloc) else {
                 return Err(WaitFault::Transact(TransactFault::Memory));
             };
+            let mut tx = Dosync {
+                tx,
+                alloc,
+                funs: body.functions(),
+            };
             gate.pass(Spot::BeforeBody);
-            let answer = match body(&mut tx) {
+            let answer = match body.run(&mut tx) {
                 Ok(answer) => answer,
                 Err(e) => return Err(WaitFault::Transact(TransactFault::Body(e))),
             };
             gate.pass(Spot::AfterBody);
+            let Dosync { tx, .. } = tx;
             let Some(answer) = answer else {
                 // What the transaction began with is dropped before the thread sleeps.
                 let point = tx.read_point();
@@ -179,5 +185,48 @@ impl<C: Ledger, A: Ledger, K: Ledger> Shared<Core, C, A, K> {
             }
         }
         unreachable!()
+    }
+}
+
+impl<L: Books> Shared<Core, L> {
+    /// As [`Shared::transact`], but the closure may also return None, which says that it isn't ready. Then the transaction is dropped,
+    /// the thread sleeps until an entry has come since the transaction began, and all begins anew. That is `retry` of Haskell's
+    /// STM, by the world's point alone: each commit, each change of an atom and each making of a ref or atom wakes each transaction
+    /// that waits. `tries` counts the commits that were tried, so it doesn't limit how often the body is called.
+    ///
+    /// It fails with [`WaitFault::Closed`] if the shared world is closed, the body isn't ready, and no entry has come since the
+    /// transaction began; with [`WaitFault::Transact`] as `transact`.
+    pub fn transact_when<
+        R: Wait,
+        F: Functions<Core>,
+        T: Drop,
+        E,
+        G: Gate,
+        S: WatchSink,
+        B: FnMut(&mut Tx<Core>) -> Result<Option<T>, E>,
+    >(
+        &self,
+        rt: &R,
+        alloc: Global,
+        funs: &F,
+        share: &mut Share<L>,
+        stamp: Stamp,
+        tries: u32,
+        gate: &mut G,
+        sink: &mut S,
+        body: B,
+    ) -> Result<(T, Receipt), WaitFault<E>>
+        requires body { B.IsAlwaysCallable body }
+        requires tries { 0 < tries }
+        ensures ok { IfOk result (λ r. (last : B) × Landed (calls_of B.FnMut) body last tries
+            r.0 stamp r.1.point share.old share.new) }
+        ensures stamp { IfOk result (λ r. r.1.stamp ≡ stamp) }
+        ensures fault { IfErr result (λ f. (last : B) × WaitFails (calls_of B.FnMut) body last tries f) }
+        ensures same { OnErr result (share.new ≡ share.old) }
+        ensures told { IfOk result (λ r. TakesAll S.takes sink.old r.1.notices.items sink.new) }
+        ensures untold { OnErr result (sink.new ≡ sink.old) }
+    {
+        let mut body = OnTx::of(body);
+        self.transact_body_when(rt, alloc, funs, share, stamp, tries, gate, sink, &mut body)
     }
 }

@@ -7,9 +7,9 @@ use crate::gates::{Gate, Spot, WatchSink, tell_end};
 use crate::shared::Shared;
 use ref_agents::{FinishFault, Finished, Job};
 use ref_fun::{Functions, Meaning};
+use ref_world::Books;
 use std::alloc::{AllocError, Global};
 use std::sync::Wait;
-use std::sync::ledger::Ledger;
 
 /// What a call of [`Shared::work_once`] did.
 #[derive(Clone, Copy, Debug, Drop, PartialEq, Eq)]
@@ -20,7 +20,7 @@ pub enum Worked {
     Closed,
 }
 
-impl<M: Meaning, C: Ledger, A: Ledger, K: Ledger> Shared<M, C, A, K> {
+impl<M: Meaning, L: Books> Shared<M, L> {
     /// Waits for a ready agent, runs its next action with the lock free, ends it, gives the sink the notices for the watches and then
     /// how the action ended ([`WatchSink::ended`]), and at last releases what the action carried, if its value became the state.
     /// Where [`Shared::close`] was called and no agent is ready, it says so and does nothing. A thread that calls this in
@@ -55,7 +55,7 @@ impl<M: Meaning, C: Ledger, A: Ledger, K: Ledger> Shared<M, C, A, K> {
         };
         gate.pass(Spot::AfterAction);
         let mut held = self.lock(rt);
-        let finished = held.world.finish(alloc, funs, ran);
+        let finished = held.booked.world.finish(alloc, funs, ran);
         let wakes = held.note_end(agent, &finished);
         self.free_and_wake(held, wakes);
         match finished {
@@ -100,7 +100,7 @@ impl<M: Meaning, C: Ledger, A: Ledger, K: Ledger> Shared<M, C, A, K> {
     fn next_job<R: Wait>(&self, rt: &R) -> Result<Option<Job>, AllocError> {
         let mut held = self.lock(rt);
         for _ in rt.forever() {
-            match held.world.take() {
+            match held.booked.world.take() {
                 Ok(Some(job)) => return Ok(Some(job)),
                 Ok(None) => {}
                 Err(e) => {
@@ -120,7 +120,7 @@ impl<M: Meaning, C: Ledger, A: Ledger, K: Ledger> Shared<M, C, A, K> {
 
     // Puts a job back, and returns the fault for which it is; where it isn't taken back it is forsaken.
     fn give_up<R: Wait>(&self, rt: &R, job: Job, fault: WorkFault) -> WorkFault {
-        let put_back = self.lock(rt).world.put_back(job);
+        let put_back = self.lock(rt).booked.world.put_back(job);
         match put_back {
             Ok(()) => {
                 self.ready.notify_one();

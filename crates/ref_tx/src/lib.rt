@@ -7,6 +7,7 @@
 //! | Type | Is |
 //! |---|---|
 //! | [`Tx`] | an open transaction: its operations so far with their answers, and what it sends |
+//! | [`Dosync`] | a [`Tx`] with its allocator and functions, so that its calls are as short as Clojure's |
 //! | [`TxFault`] | why a call of it was refused; the transaction is then as it was |
 //! | [`Snapshot`] | all refs at one point, by number; one that is shared and then gets another value has all else in common with it |
 //! | [`Version`] | a ref in a snapshot: its value, and the point of its last change |
@@ -31,11 +32,13 @@
 //! much memory is taken, of which snapshots share what, or of the last changes in the snapshot that a `Tx` lends.
 #![tactic(auto)]
 
+pub mod dosync;
 pub mod faults;
 pub mod snapshots;
 mod tables;
 pub mod transactions;
 
+pub use dosync::Dosync;
 pub use faults::TxFault;
 pub use snapshots::{Snapshot, Version};
 pub use transactions::Tx;

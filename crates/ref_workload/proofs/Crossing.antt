@@ -6,7 +6,7 @@ use denote.Ref.{NamedLft}
 use denote.Param.Send.{IsSend, IsSync, sendable}
 use denote.Param.SendFields.{declared_send, declared_sync, variants_send, variants_sync}
 use Rattle.std.proofs.Crossing as std
-use Rattle.std.specs.declared.sync.ledger.Ledger as Ledger
+use Rattle.ref_world.specs.declared.books.Books as Books
 use Rattle.ref_value.proofs.data.Value.TheLaws.TheKnot as knot
 use Rattle.ref_fun.proofs.lists.SharedVec.TheSendSync as lists
 use Rattle.ref_audit.specs.contracts.reports.Reason as Reason
@@ -102,9 +102,9 @@ progress_sync : IsSync Progress.the_row
 progress_sync = declared_sync Progress.the_type
     (search plain depth 60, (search plain depth 60, (search plain depth 60, (search plain depth 60, tt))))
 
-module _ (κ : NamedLft) (F C A K : RattleType) (gC : Ledger.Ghosts C.Denot) (gA : Ledger.Ghosts A.Denot) (gK : Ledger.Ghosts K.Denot) where
-  pub run_sync : IsSync F → IsSync (Run.the_row κ F C A K gC gA gK)
-  run_sync y = declared_sync (Run.the_type κ F C A K gC gA gK) (
+module _ (κ : NamedLft) (F L : RattleType) (gL : Books.Ghosts L.Denot) where
+  pub run_sync : IsSync F → IsSync (Run.the_row κ F L gL)
+  run_sync y = declared_sync (Run.the_type κ F L gL) (
     search plain depth 60,
     (
       search (y, plain) depth 60,
@@ -115,11 +115,11 @@ module _ (κ : NamedLft) (F C A K : RattleType) (gC : Ledger.Ghosts C.Denot) (gA
     ),
   )
 
-module _ (C A K : RattleType) (gC : Ledger.Ghosts C.Denot) (gA : Ledger.Ghosts A.Denot) (gK : Ledger.Ghosts K.Denot) where
-  pub ended_send : IsSend (Ended.the_row C A K gC gA gK)
-  ended_send = declared_send (Ended.the_type C A K gC gA gK)
+module _ (L : RattleType) (gL : Books.Ghosts L.Denot) where
+  pub ended_send : IsSend (Ended.the_row L gL)
+  ended_send = declared_send (Ended.the_type L gL)
       (search (share_send, plain) depth 60, (search (refusal_send, plain) depth 60, (search plain depth 60, tt)))
 
-  pub start_send : (G : RattleType) → IsSend G → IsSend (WorkerStart.the_row C A K G gC gA gK)
-  start_send G y = declared_send (WorkerStart.the_type C A K G gC gA gK)
+  pub start_send : (G : RattleType) → IsSend G → IsSend (WorkerStart.the_row L G gL)
+  start_send G y = declared_send (WorkerStart.the_type L G gL)
       (search plain depth 60, (search (share_send, plain) depth 60, (search (y, plain) depth 60, tt)))

@@ -18,15 +18,14 @@ use ref_world::World;
 pub(crate) use refusals::{are_in_order, have_reasons};
 use start::is_base;
 use std::alloc::{AllocError, Global};
-use std::sync::ledger::Ledger;
 
 /// Whether this world and these refused steps are what running a plan may end with. The order of the log, which whoever takes a
 /// world out of a shared one has compared, is asked of the caller. Linear in the sizes of the plan, the log and the refused
 /// steps; it takes a byte for each step of the plan.
-pub fn is_orderly<C: Ledger, A: Ledger, K: Ledger>(
+pub fn is_orderly(
     alloc: Global,
     plan: &Plan,
-    world: &World<Core, C, A, K>,
+    world: &World<Core>,
     refused: &[Refusal],
 ) -> Result<bool, AllocError>
     requires { InOrder world.now.base.point world.now.log }

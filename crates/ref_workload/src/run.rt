@@ -5,7 +5,7 @@ ghost use Rattle.ref_workload.specs.Orderly.{AreInOrder, IsOrderly};
 ghost use Rattle.ref_workload.specs.Reasons.{HaveReasons};
 ghost use Rattle.ref_workload.specs.Run.{IsAlwaysSo, IsOfPlan};
 ghost use Rattle.ref_shared.specs.Gather.{InOrder};
-ghost use Rattle.ref_world.specs.Shares.{IsBlank, whole};
+ghost use Rattle.ref_world.specs.Shares.{AreBlanks, whole};
 ghost use Rattle.ref_world.specs.Starts.{declared_agents, declared_atoms, declared_refs};
 
 use crate::faults::{RunFault, Stop};
@@ -17,50 +17,41 @@ use ref_fun::{Core, Functions};
 use ref_log::{MakeFault, SharedVec, Who};
 use ref_plan::{Plan, Step};
 use ref_shared::{Gate, GatherFault, Shared};
-use ref_world::{Share, Totals, World};
+use ref_world::{Blanks, Booked, Books, Share, Totals, World};
 use std::alloc::Global;
+use std::marker::Brand;
 use std::sync::Wait;
-use std::sync::ledger::{Blank, Ledger};
 use std::thread::Threads;
 
 /// What comes of a run: the world that is taken out, its totals, and the refused steps, by worker, then step.
 #[derive(Drop)]
-pub struct RunOut<C: Ledger, A: Ledger, K: Ledger> {
-    pub world: World<Core, C, A, K>,
+pub struct RunOut {
+    pub world: World<Core>,
     pub totals: Totals,
     pub refused: Vec<Refusal>,
 }
 
 /// Runs a plan in a world of its own: each worker's steps in order, in a thread of its own, next to a pool of threads that run
 /// the actions of agents. A transaction is tried so often, and once where that is 0. Each thread gets a gate, the workers the
-/// first ones, by number. The blanks become the books.
+/// first ones, by number.
 ///
 /// When all workers have ended the shared world is closed, and the pool does what is left. Where a thread can't be made, or one
 /// meets a fault, the others run to their end before the fault is returned, the first of the workers by number and then of the
 /// pool. A table that lacks a function or a predicate that the plan names ends the run with [`RunFault::Internal`]. What comes
 /// out is compared with the plan, in time linear in both.
-pub fn run_plan<F, C, A, K, R, G>(
+pub fn run_plan<F, R, G>(
     rt: &R,
     alloc: Global,
     funs: &F,
     plan: &Plan,
     tries: u32,
     gates: Vec<G>,
-    commits: Blank,
-    added: Blank,
-    taken: Blank,
-) -> Result<RunOut<C, A, K>, RunFault>
+) -> Result<RunOut, RunFault>
 where
     F: Functions<Core> + Sync,
-    C: Ledger + Send + Sync,
-    A: Ledger + Send + Sync,
-    K: Ledger + Send + Sync,
     R: Threads + Wait + Sync,
     G: Gate + Send + Drop,
     requires gates { vec_len gates ≡ length plan.now.workers + plan.now.pool }
-    requires commits { IsBlank commits C.name C.parts }
-    requires added { IsBlank added A.name A.parts }
-    requires taken { IsBlank taken K.name K.parts }
     ensures orderly { IfOk result (λ out. IsOrderly plan.now out.world out.refused.items) }
     ensures order { IfOk result (λ out. AreInOrder out.refused.items) }
     ensures reasons { IfOk result (λ out. HaveReasons plan.now.workers out.refused.items) }
@@ -70,13 +61,11 @@ where
     ensures inner { IfErr result IsOfPlan }
 {
     let progress = Progress::new();
-    run_plan_with::<F, C, A, K, R, G>(
-        rt, alloc, funs, plan, tries, gates, &progress, commits, added, taken,
-    )
+    run_plan_with(rt, alloc, funs, plan, tries, gates, &progress)
 }
 
 /// As [`run_plan`], and counts in `progress` how far it is.
-pub fn run_plan_with<F, C, A, K, R, G>(
+pub fn run_plan_with<F, R, G>(
     rt: &R,
     alloc: Global,
     funs: &F,
@@ -84,21 +73,12 @@ pub fn run_plan_with<F, C, A, K, R, G>(
     tries: u32,
     gates: Vec<G>,
     progress: &Progress,
-    commits: Blank,
-    added: Blank,
-    taken: Blank,
-) -> Result<RunOut<C, A, K>, RunFault>
+) -> Result<RunOut, RunFault>
 where
     F: Functions<Core> + Sync,
-    C: Ledger + Send + Sync,
-    A: Ledger + Send + Sync,
-    K: Ledger + Send + Sync,
     R: Threads + Wait + Sync,
     G: Gate + Send + Drop,
     requires gates { vec_len gates ≡ length plan.now.workers + plan.now.pool }
-    requires commits { IsBlank commits C.name C.parts }
-    requires added { IsBlank added A.name A.parts }
-    requires taken { IsBlank taken K.name K.parts }
     ensures orderly { IfOk result (λ out. IsOrderly plan.now out.world out.refused.items) }
     ensures order { IfOk result (λ out. AreInOrder out.refused.items) }
     ensures reasons { IfOk result (λ out. HaveReasons plan.now.workers out.refused.items) }
@@ -107,11 +87,52 @@ where
         × (out.totals.added ≡ out.world.books.added) × (out.totals.taken ≡ out.world.books.taken)) }
     ensures inner { IfErr result IsOfPlan }
 {
-    let (world, mut share) = open_world::<F, C, A, K>(alloc, funs, plan, commits, added, taken)?;
+    match run_booked::<F, Brand, R, G>(
+        rt,
+        alloc,
+        funs,
+        plan,
+        tries,
+        gates,
+        progress,
+        Blanks::new(),
+    ) {
+        Ok(out) => Ok(out),
+        Err(fault) => Err(fault),
+    }
+}
+
+// The run, in a world whose books L names.
+fn run_booked<F, L, R, G>(
+    rt: &R,
+    alloc: Global,
+    funs: &F,
+    plan: &Plan,
+    tries: u32,
+    gates: Vec<G>,
+    progress: &Progress,
+    blanks: Blanks,
+) -> Result<RunOut, RunFault>
+where
+    F: Functions<Core> + Sync,
+    L: Books + Send + Sync,
+    R: Threads + Wait + Sync,
+    G: Gate + Send + Drop,
+    requires gates { vec_len gates ≡ length plan.now.workers + plan.now.pool }
+    requires blanks { AreBlanks blanks L.commits L.added L.taken }
+    ensures orderly { IfOk result (λ out. IsOrderly plan.now out.world out.refused.items) }
+    ensures order { IfOk result (λ out. AreInOrder out.refused.items) }
+    ensures reasons { IfOk result (λ out. HaveReasons plan.now.workers out.refused.items) }
+    ensures world { IfOk result (λ out. IsAlwaysSo out.world) }
+    ensures totals { IfOk result (λ out. (out.totals.commits ≡ out.world.books.commits)
+        × (out.totals.added ≡ out.world.books.added) × (out.totals.taken ≡ out.world.books.taken)) }
+    ensures inner { IfErr result IsOfPlan }
+{
+    let (booked, mut share) = open_world::<F, L>(alloc, funs, plan, blanks)?;
     let run = Run {
         alloc,
         funs,
-        shared: Shared::new(world),
+        shared: Shared::new(booked),
         workers: plan.workers(),
         tries,
         progress,
@@ -132,26 +153,22 @@ fn count_steps(workers: &[SharedVec<Step>]) -> u64 {
 }
 
 // The world that a plan declares, with its whole share.
-fn open_world<F: Functions<Core>, C: Ledger, A: Ledger, K: Ledger>(
+fn open_world<F: Functions<Core>, L: Books>(
     alloc: Global,
     funs: &F,
     plan: &Plan,
-    commits: Blank,
-    added: Blank,
-    taken: Blank,
-) -> Result<(World<Core, C, A, K>, Share<C, A, K>), Stop>
-    requires commits { IsBlank commits C.name C.parts }
-    requires added { IsBlank added A.name A.parts }
-    requires taken { IsBlank taken K.name K.parts }
-    ensures refs { IfOk result (λ r. declared_refs core_accepts (F.knows funs.now).preds plan.now.refs ≡ Ok r.0.refs) }
+    blanks: Blanks,
+) -> Result<(Booked<Core, L>, Share<L>), Stop>
+    requires { AreBlanks blanks L.commits L.added L.taken }
+    ensures refs { IfOk result (λ r. declared_refs core_accepts (F.knows funs.now).preds plan.now.refs ≡ Ok r.0.world.refs) }
     ensures atoms { IfOk result (λ r. declared_atoms core_accepts (F.knows funs.now).preds plan.now.atoms
-        ≡ Ok r.0.atoms) }
+        ≡ Ok r.0.world.atoms) }
     ensures agents { IfOk result (λ r. declared_agents core_accepts (F.knows funs.now).preds plan.now.agents
-        ≡ Ok r.0.agents) }
-    ensures log { IfOk result (λ r. r.0.log ≡ []) }
+        ≡ Ok r.0.world.agents) }
+    ensures log { IfOk result (λ r. r.0.world.log ≡ []) }
     ensures share { IfOk result (λ r. r.1 ≡ whole) }
 {
-    match World::new(alloc, funs, plan.start(), commits, added, taken) {
+    match Booked::new(alloc, funs, plan.start(), blanks) {
         Ok(opened) => Ok(opened),
         Err((_, MakeFault::Memory)) => Err(Stop::Memory),
         Err((_, _)) => Err(Stop::Internal),
@@ -159,13 +176,13 @@ fn open_world<F: Functions<Core>, C: Ledger, A: Ledger, K: Ledger>(
 }
 
 // Takes the world out of a shared one, and compares it with the plan.
-fn take_out<C: Ledger, A: Ledger, K: Ledger>(
+fn take_out<L: Books>(
     alloc: Global,
     plan: &Plan,
-    shared: Shared<Core, C, A, K>,
-    share: Share<C, A, K>,
+    shared: Shared<Core, L>,
+    share: Share<L>,
     refused: Vec<Refusal>,
-) -> Result<RunOut<C, A, K>, RunFault>
+) -> Result<RunOut, RunFault>
     ensures orderly { IfOk result (λ out. IsOrderly plan.now out.world out.refused.items) }
     ensures order { IfOk result (λ out. AreInOrder out.refused.items) }
     ensures reasons { IfOk result (λ out. HaveReasons plan.now.workers out.refused.items) }
@@ -184,11 +201,11 @@ fn take_out<C: Ledger, A: Ledger, K: Ledger>(
 }
 
 // The world and its totals, where all shares were joined and their receipts fit its log.
-fn finished<C: Ledger, A: Ledger, K: Ledger>(
+fn finished<L: Books>(
     alloc: Global,
-    shared: Shared<Core, C, A, K>,
-    share: Share<C, A, K>,
-) -> Result<(World<Core, C, A, K>, Totals), RunFault>
+    shared: Shared<Core, L>,
+    share: Share<L>,
+) -> Result<(World<Core>, Totals), RunFault>
     ensures order { IfOk result (λ r. InOrder r.0.base.point r.0.log) }
     ensures world { IfOk result (λ r. IsAlwaysSo r.0) }
     ensures totals { IfOk result (λ r. (r.1.commits ≡ r.0.books.commits) × (r.1.added ≡ r.0.books.added)
@@ -209,10 +226,10 @@ fn finished<C: Ledger, A: Ledger, K: Ledger>(
 }
 
 // Whether the world and the refused steps are those of a run of the plan.
-fn check<C: Ledger, A: Ledger, K: Ledger>(
+fn check(
     alloc: Global,
     plan: &Plan,
-    world: &World<Core, C, A, K>,
+    world: &World<Core>,
     refused: &[Refusal],
 ) -> Result<(), RunFault>
     requires { InOrder world.now.base.point world.now.log }
@@ -236,7 +253,7 @@ fn check<C: Ledger, A: Ledger, K: Ledger>(
 }
 
 // What is always so of a world. It changes nothing.
-fn ask_always_so<C: Ledger, A: Ledger, K: Ledger>(world: &World<Core, C, A, K>)
+fn ask_always_so(world: &World<Core>)
     ensures { IsAlwaysSo world.now }
 {
     let _ = world.point();

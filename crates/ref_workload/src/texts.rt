@@ -10,7 +10,6 @@ ghost use Rattle.ref_audit.specs.Verdict.{verdict_on};
 ghost use Rattle.ref_verdict.specs.declared.reports.Verdict.TheVariants as verdicts;
 ghost use Rattle.ref_workload.specs.Run.{IsAtFault, IsOfPlan, IsOfText, IsPlanRun, IsRun};
 ghost use Rattle.ref_workload.specs.Streams.{CountsReads, CountsWrites, HasBrokenOff, HasWritten};
-ghost use Rattle.ref_world.specs.Shares.{IsBlank};
 ghost use Rattle.ref_workload.specs.Streams.{most_input};
 
 use crate::faults::RunFault;
@@ -24,11 +23,9 @@ use ref_plan::Plan;
 use ref_plan::plan::plan;
 use ref_shared::Open;
 use ref_value::Value;
-use ref_world::{ALL_PARTS, World};
+use ref_world::World;
 use std::alloc::Global;
-use std::marker::Brand;
 use std::sync::Wait;
-use std::sync::ledger::{Blank, Ledger};
 use std::thread::Threads;
 
 /// How a workload is run.
@@ -99,46 +96,30 @@ pub fn run_text<F: Functions<Core> + Sync, R: Threads + Wait + Sync>(
     let plan = plan(alloc, &value)?;
     // A run needs its memory.
     drop(value);
-    let (commits, added, taken) = (
-        Blank::new(ALL_PARTS),
-        Blank::new(ALL_PARTS),
-        Blank::new(ALL_PARTS),
-    );
-    match output_of_plan::<F, Brand, Brand, Brand, R>(
-        rt, alloc, funs, &plan, options, progress, commits, added, taken,
-    ) {
+    match output_of_plan(rt, alloc, funs, &plan, options, progress) {
         Ok(output) => Ok(output),
         Err(fault) => Err(fault),
     }
 }
 
 // What is written of a plan that is run.
-fn output_of_plan<F, C, A, K, R>(
+fn output_of_plan<F, R>(
     rt: &R,
     alloc: Global,
     funs: &F,
     plan: &Plan,
     options: Options,
     progress: &Progress,
-    commits: Blank,
-    added: Blank,
-    taken: Blank,
 ) -> Result<Vec<u8>, RunFault>
 where
     F: Functions<Core> + Sync,
-    C: Ledger + Send + Sync,
-    A: Ledger + Send + Sync,
-    K: Ledger + Send + Sync,
     R: Threads + Wait + Sync,
-    requires core { HasCore (F.knows funs.now) }
-    requires commits { IsBlank commits C.name C.parts }
-    requires added { IsBlank added A.name A.parts }
-    requires taken { IsBlank taken K.name K.parts }
+    requires { HasCore (F.knows funs.now) }
     ensures ok { IfOk result (λ output. IsPlanRun options.dump plan.now output.items) }
     ensures inner { IfErr result IsOfPlan }
 {
     let gates = open_gates(alloc, plan)?;
-    let ran = run_plan_with::<F, C, A, K, R, Open>(
+    let ran = run_plan_with(
         rt,
         alloc,
         funs,
@@ -146,9 +127,6 @@ where
         options.tries,
         gates,
         progress,
-        commits,
-        added,
-        taken,
     );
     let out = ran?;
     if options.dump {
@@ -175,10 +153,10 @@ fn open_gates(alloc: Global, plan: &Plan) -> Result<Vec<Open>, RunFault>
 }
 
 /// The dump of a world, which was audited and is ok. A world that a plan was run in has one.
-pub fn audited<F: Functions<Core>, C: Ledger, A: Ledger, K: Ledger>(
+pub fn audited<F: Functions<Core>>(
     alloc: Global,
     funs: &F,
-    world: &World<Core, C, A, K>,
+    world: &World<Core>,
 ) -> Result<Value, RunFault>
     requires { HasCore (F.knows funs.now) }
     ensures dumped { IfOk result (λ v. v ≡ dumped world.now) }
@@ -200,10 +178,10 @@ pub fn audited<F: Functions<Core>, C: Ledger, A: Ledger, K: Ledger>(
 }
 
 /// Audits a world without its dump: no form is made of what nobody reads.
-pub fn check_audit<F: Functions<Core>, C: Ledger, A: Ledger, K: Ledger>(
+pub fn check_audit<F: Functions<Core>>(
     alloc: Global,
     funs: &F,
-    world: &World<Core, C, A, K>,
+    world: &World<Core>,
 ) -> Result<(), RunFault>
     requires { HasCore (F.knows funs.now) }
     ensures audited { OnOk result (verdict_on (dump_of (dumped world.now)) ≡ Ok verdicts.Ok) }
@@ -229,10 +207,10 @@ fn dump_line(alloc: Global, dumped: &Value) -> Result<Vec<u8>, RunFault>
 }
 
 // The report of a run whose world was audited.
-fn report_of<C: Ledger, A: Ledger, K: Ledger>(
+fn report_of(
     alloc: Global,
     plan: &Plan,
-    out: &RunOut<C, A, K>,
+    out: &RunOut,
 ) -> Result<Vec<u8>, RunFault>
     ensures ok { IfOk result (λ text. text.items
         ≡ reported plan.now.names out.now.world out.now.refused.items verdicts.Ok) }

@@ -7,7 +7,7 @@ use denote.Param.Send.{IsSend, IsSync, sendable, view_send, view_sync}
 use denote.Param.SendFields.{declared_send, declared_sync, variants_send, variants_sync}
 use Rattle.std.proofs.Crossing.{crosses, Arc-send}
 use Rattle.std.proofs.MapsCrossingOver as over
-use Rattle.std.specs.declared.sync.ledger.Ledger as Ledger
+use Rattle.ref_world.specs.declared.books.Books as Books
 use Rattle.ref_value.proofs.data.Value.TheLaws.TheKnot as knot
 use Rattle.ref_fun.proofs.lists.SharedVec.TheSendSync as lists
 use Rattle.ref_pmap.proofs.Crossing.{numbered_send}
@@ -296,9 +296,9 @@ module _ (M : RattleType) (g : Meaning.Ghosts M.Denot) where
     (vector_send _ entry_send entry_sync, (search plain depth 60, tt)),
   ))
 
-module _ (C A K : RattleType) (gC : Ledger.Ghosts C.Denot) (gA : Ledger.Ghosts A.Denot) (gK : Ledger.Ghosts K.Denot) where
-  pub share_send : IsSend (Share.the_row C A K gC gA gK)
-  share_send = view_send _ _ _ _ _ (declared_send (InShare.the_type C A K gC gA gK) (
+module _ (L : RattleType) (gL : Books.Ghosts L.Denot) where
+  pub share_send : IsSend (Share.the_row L gL)
+  share_send = view_send _ _ _ _ _ (declared_send (InShare.the_type L gL) (
     search plain depth 60,
     (
       search (part.the_send, plain) depth 60,
@@ -312,8 +312,8 @@ module _ (C A K : RattleType) (gC : Ledger.Ghosts C.Denot) (gA : Ledger.Ghosts A
     ),
   ))
 
-  books_send : IsSend (Books.the_row C A K gC gA gK)
-  books_send = view_send _ _ _ _ _ (declared_send (InBooks.the_type C A K gC gA gK) (
+  books_send : IsSend (Books.the_row L gL)
+  books_send = view_send _ _ _ _ _ (declared_send (InBooks.the_type L gL) (
     search plain depth 60,
     (
       search plain depth 60,
@@ -334,8 +334,8 @@ module _ (C A K : RattleType) (gC : Ledger.Ghosts C.Denot) (gA : Ledger.Ghosts A
   ))
 
   module _ (M : RattleType) (gM : Meaning.Ghosts M.Denot) where
-    pub world_send : IsSend (World.the_row M C A K gM gC gA gK)
-    world_send = view_send _ _ _ _ _ (declared_send (InWorld.the_type M C A K gM gC gA gK) (
+    pub world_send : IsSend (World.the_row M L gM gL)
+    world_send = view_send _ _ _ _ _ (declared_send (InWorld.the_type M L gM gL) (
       Arc-send _ base_send base_sync,
       (
         vector_send _ entry_send entry_sync,

@@ -1,4 +1,4 @@
-pub mod Booked
+pub mod Counted
 pub mod Starting
 pub mod Crossing
 pub mod Folded

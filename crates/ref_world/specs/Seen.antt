@@ -15,6 +15,12 @@ pub record BooksSeen : Type 0 where
   pub taken : ℕ
   pub start : ℕ
 
+-- what stands in the three books of a world
+pub record TotalsSeen : Type 0 where
+  pub commits : ℕ
+  pub added : ℕ
+  pub taken : ℕ
+
 -- the base, the log of the entries after it, all refs, atoms and agents as they are now, and the books
 pub record WorldSeen : Type 0 where
   pub base : Base

@@ -1,6 +1,6 @@
 -- What a call does to a share.
 use Rattle.std.specs.Prelude.{◌≡◌, ℕ, nat_lt, ◌+◌, List, [], ◌∷◌, ◌++◌, filter}
-use Rattle.std.specs.declared.sync.ledger.Blank.{Blank}
+use Rattle.ref_world.specs.declared.names.Blanks.{Blanks}
 use Rattle.ref_log.specs.declared.entries.Entry.{Entry}
 use Rattle.ref_world.specs.Seen.{ShareSeen}
 use Rattle.ref_world.specs.declared.shares.LogReceipt.{LogReceipt}
@@ -9,9 +9,9 @@ use Rattle.ref_world.specs.declared.shares.LogReceipt.{LogReceipt}
 abbrev pub all_parts : ℕ
 all_parts = 4294967296
 
--- A blank is that of the ledger with this name and so many parts, which are as many as the shares of a world have.
-abbrev pub IsBlank : Blank → ℕ → ℕ → Type 0
-IsBlank blank name parts = (blank.name ≡ name) × (blank.parts ≡ parts) × (blank.parts ≡ all_parts)
+-- These are the blanks of the books that have these names.
+abbrev pub AreBlanks : Blanks → ℕ → ℕ → ℕ → Type 0
+AreBlanks blanks commits added taken = (blanks.commits.name ≡ commits) × (blanks.added.name ≡ added) × (blanks.taken.name ≡ taken)
 
 -- a whole share of a world in which nothing was done
 abbrev pub whole : ShareSeen

@@ -1,15 +1,17 @@
 -- What is always so in a world, and what a call adds.
-use Rattle.std.specs.Prelude.{◌≡◌, ◌≤◌, ℕ, ◌^◌, ◌+◌, ◌-◌, nat_lt, not, Bool, true, List, [], ◌∷◌, ◌++◌, if◌then◌else◌, length, Option, Ok}
+use Rattle.std.specs.Prelude.{◌≡◌, ◌<◌, ◌≤◌, ℕ, ◌^◌, ◌+◌, ◌-◌, nat_lt, not, Bool, true, false, List, [], ◌∷◌, ◌++◌, if◌then◌else◌, length, slice_get, slice_set, Option, Ok}
 use Rattle.std.specs.List.{list_all}
 use Rattle.std.specs.Result.{is_ok}
 use Rattle.ref_value.specs.Edn.{Edn}
 use Rattle.ref_fun.specs.Calls.{Known}
 use Rattle.ref_fun.specs.Meaning.{Means}
 use Rattle.ref_fun.specs.Rule.{Accepts}
-use Rattle.ref_log.specs.Replay.{last_change, point_after, replay, sets_atom}
-use Rattle.ref_log.specs.Tally.{IsMoved, commits_in, commits_of, counted, fits_entry, moved_in, moved_of}
+use Rattle.ref_log.specs.Guards.{AreAccepted}
+use Rattle.ref_log.specs.Replay.{after_dones, is_changed_by, is_protected, last_change, point_after, replay, sets_atom, step}
+use Rattle.ref_log.specs.Tally.{IsMoved, commits_in, commits_of, counted, fit_tally, fits_entry, moved_by_dones, moved_in, moved_of}
 use Rattle.ref_log.specs.declared.counting.Side.TheVariants.{Added, Taken}
 use Rattle.ref_log.specs.declared.entries.Entry.{Entry}
+use Rattle.ref_log.specs.declared.entries.Stamp.{Stamp}
 use Rattle.ref_log.specs.declared.entries.Entry.TheVariants.{MadeRef}
 use Rattle.ref_log.specs.declared.sends.Sent.{Sent}
 use Rattle.ref_log.specs.declared.states.Base.{Base}
@@ -17,9 +19,13 @@ use Rattle.ref_log.specs.declared.states.PlainState.{PlainState}
 use Rattle.ref_agents.specs.Agents as agents
 use Rattle.ref_agents.specs.Agents.{AgentsSeen}
 use Rattle.ref_atoms.specs.Atoms.{AtomsSeen}
+use Rattle.ref_atoms.specs.declared.changes.Change.{Change}
 use Rattle.ref_refs.specs.Commit as refs
 use Rattle.ref_refs.specs.Seen.{RefsSeen, are_unchanged_since, changed_at}
+use Rattle.ref_refs.specs.Watches.{notices, touched_refs}
+use Rattle.ref_refs.specs.declared.committing.Prepared.{Prepared}
 use Rattle.ref_refs.specs.declared.faults.CommitFault.{CommitFault}
+use Rattle.ref_tx.specs.Inner.{inner_value}
 use Rattle.ref_tx.specs.Seen.{TxSeen}
 use Rattle.ref_world.specs.Seen.{BooksSeen, WorldSeen}
 use Rattle.ref_log.specs.Limits.{last_point}
@@ -93,6 +99,36 @@ early_refusal knows world tx = refs.early_refusal knows world.refs (point_of wor
 abbrev pub commit_refusal : Means → Accepts → Known → WorldSeen → TxSeen → Option CommitFault
 commit_refusal means accepts knows world tx =
     refs.commit_refusal means accepts knows world.refs (point_of world + 1) (length world.agents.agents) (room world.books.added) (room world.books.taken) tx
+
+-- What a commit of this transaction that was prepared does, on this world: it has its entry, which is one step from the values now to those
+-- that it puts in their places; these keep the rules, the points of last change follow, and the books have room for what it moves.
+pub record IsReady (means : Means) (accepts : Accepts) (world : WorldSeen) (stamp : Stamp) (tx : TxSeen) (p : Prepared) : Type 0 where
+  pub base : p.refs.base ≡ record { values = world.refs.values; lasts = world.refs.lasts }
+  pub values : (atoms : List Edn) → step means (point_of world + 1) (refs.entry_of stamp tx) (record { refs = world.refs.values; atoms = atoms }) ≡ Ok (record { refs = p.refs.values; atoms = atoms })
+  pub fits : fit_tally world.refs.tally tx.dones ≡ true
+  pub made : after_dones means tx.dones (point_of world + 1) tx.dones (Ok world.refs.values) ≡ Ok p.refs.values
+  pub accepted : AreAccepted accepts world.refs.guards p.refs.values
+  pub moved : (r : ℕ) → changed_at p.refs.lasts r ≡ refs.changed_by world.refs.lasts (point_of world + 1) tx.dones r
+  pub all : length p.refs.lasts ≡ length world.refs.lasts
+  pub entry : p.landed.entry ≡ refs.entry_of stamp tx
+  pub notices : p.landed.notices.items ≡ notices world.refs.guards world.refs.values p.refs.values (touched_refs tx.dones)
+  pub inner : (r : ℕ) → is_protected tx.dones r ≡ true → slice_get p.refs.values r ≡ inner_value means tx r
+  pub limit : point_of world + 1 ≤ last_point
+  pub added : p.added ≡ moved_by_dones Added world.refs.tally tx.dones
+  pub taken : p.taken ≡ moved_by_dones Taken world.refs.tally tx.dones
+  pub room_added : world.books.added + p.added ≤ most_booked
+  pub room_taken : world.books.taken + p.taken ≤ most_booked
+
+-- What a change of an atom that was prepared does, on this world: its entry is one step to the values with this one in its place, which keeps
+-- the rules; it is an entry of an atom, and nothing that the books count.
+pub record CanEnter (means : Means) (accepts : Accepts) (world : WorldSeen) (a : ℕ) (change : Change) : Type 0 where
+  pub here : a < length world.atoms.values
+  pub accepted : AreAccepted accepts world.atoms.guards (slice_set world.atoms.values a change.value)
+  pub limit : point_of world + 1 ≤ last_point
+  pub step : (refs : List Edn) → step means (point_of world + 1) change.entry (record { refs = refs; atoms = world.atoms.values }) ≡ Ok (record { refs = refs; atoms = slice_set world.atoms.values a change.value })
+  pub sets : sets_atom change.entry ≡ true
+  pub leaves : (refs r : ℕ) → is_changed_by refs change.entry r ≡ false
+  pub uncounted : (tally : Option ℕ) → IsUncounted tally change.entry
 
 -- ---- a world after a call
 

@@ -21,9 +21,8 @@ use ref_fun::{Action, Functions, Meaning, Rule};
 use ref_log::MakeFault;
 use ref_value::Value;
 use std::alloc::{AllocError, Global};
-use std::sync::ledger::Ledger;
 
-impl<M: Meaning, C: Ledger, A: Ledger, K: Ledger> World<M, C, A, K> {
+impl<M: Meaning> World<M> {
     /// Makes an agent with this state, this rule, if any, and this error mode, and answers its number. A transaction that was
     /// begun before knows no such agent. A refused call changes nothing.
     pub fn make_agent<F: Functions<M>>(

@@ -1,37 +1,31 @@
 //! The calls that change one atom.
 ghost use Rattle.ref_log.specs.Told.{TellsOrMemory, TellsThenMemory};
-ghost use Rattle.std.specs.Prelude.{◌≡◌, ◌≤◌, ◌<◌, ◌+◌, ℕ, List, true, false, [], Option, Some, Ok, IfOk, IfErr, OnErr, OnOk, length, slice_get, slice_set};
-ghost use Rattle.ref_value.specs.Edn.{Edn};
-ghost use Rattle.ref_log.specs.Guards.{AreAccepted, keys_at};
+ghost use Rattle.std.specs.Prelude.{◌≡◌, ◌+◌, true, false, [], Some, Ok, IfOk, IfErr, OnErr, OnOk, slice_get};
+ghost use Rattle.ref_log.specs.Guards.{keys_at};
 ghost use Rattle.ref_atoms.specs.Atoms.{with_value};
 ghost use Rattle.ref_atoms.specs.Change.{change_refusal, compare_refusal, early_refusal, is_same_at};
 ghost use Rattle.ref_atoms.specs.declared.faults.AtomFault.TheVariants as faults;
-ghost use Rattle.ref_log.specs.Replay.{is_changed_by, place, sets_atom, step};
+ghost use Rattle.ref_log.specs.Replay.{place, step};
 ghost use Rattle.ref_log.specs.Watches.{notices_of};
 ghost use Rattle.ref_log.specs.declared.entries.Entry.TheVariants as entries;
 ghost use Rattle.ref_log.specs.declared.notices.Who.TheVariants as who;
 ghost use Rattle.ref_log.specs.declared.operations.Op.TheVariants.{Alter, Set};
-ghost use Rattle.ref_world.specs.Shares.{with_receipt};
-ghost use Rattle.ref_world.specs.World.{IsUncounted, point_of, values_now, with_entry};
-ghost use Rattle.ref_log.specs.Limits.{last_point};
+ghost use Rattle.ref_world.specs.World.{CanEnter, point_of, values_now, with_entry};
 
-use crate::shares::{LogReceipt, Share};
 use crate::worlds::World;
 use ref_atoms::{AtomFault, Cas, Change, Swapped};
 use ref_fun::{Args, Functions, Meaning};
-use ref_log::{Op, Shareable as _};
+use ref_log::Op;
 use ref_value::Value;
 use std::alloc::{AllocError, Global};
-use std::sync::ledger::Ledger;
 
-impl<M: Meaning, C: Ledger, A: Ledger, K: Ledger> World<M, C, A, K> {
+impl<M: Meaning> World<M> {
     /// Sets an atom to the function of its value and the arguments, as Clojure's `swap!`, and adds one entry. The atom's rule
-    /// is asked of the new value. The share gets the entry's receipt. A refused call changes nothing.
+    /// is asked of the new value. A refused call changes nothing.
     pub fn swap<F: Functions<M>>(
         &mut self,
         alloc: Global,
         funs: &F,
-        share: &mut Share<C, A, K>,
         a: u32,
         code: u32,
         args: Args,
@@ -50,25 +44,21 @@ impl<M: Meaning, C: Ledger, A: Ledger, K: Ledger> World<M, C, A, K> {
             ≡ Ok (values_now self.new.refs self.new.atoms)) }
         ensures notices { IfOk result (λ s. s.notices.items
             ≡ notices_of (who.Atom a) (keys_at self.old.atoms.guards a) s.old s.new) }
-        ensures share { IfOk result (λ s. share.new
-            ≡ with_receipt share.old (point_of self.old + 1) (entries.Atom a (Alter code args) s.new)) }
         ensures err { OnErr result (self.new ≡ self.old) }
-        ensures same { OnErr result (share.new ≡ share.old) }
     {
         let at = self.point() + 1;
         let change = self
             .atoms
             .prepare(alloc, funs, at, a, Op::Alter(code, args))?;
-        Ok(self.enter(alloc, share, a, change)?)
+        Ok(self.enter(alloc, a, change)?)
     }
 
     /// Sets an atom to a value regardless of the one that it has, as Clojure's `reset!`, and adds one entry. The atom's rule
-    /// is asked of the new value. The share gets the entry's receipt. A refused call changes nothing.
+    /// is asked of the new value. A refused call changes nothing.
     pub fn reset<F: Functions<M>>(
         &mut self,
         alloc: Global,
         funs: &F,
-        share: &mut Share<C, A, K>,
         a: u32,
         value: Value,
     ) -> Result<Swapped, AtomFault>
@@ -84,25 +74,21 @@ impl<M: Meaning, C: Ledger, A: Ledger, K: Ledger> World<M, C, A, K> {
             (values_now self.old.refs self.old.atoms) ≡ Ok (values_now self.new.refs self.new.atoms)) }
         ensures notices { IfOk result (λ s. s.notices.items
             ≡ notices_of (who.Atom a) (keys_at self.old.atoms.guards a) s.old value) }
-        ensures share { OnOk result (share.new
-            ≡ with_receipt share.old (point_of self.old + 1) (entries.Atom a (Set value) value)) }
         ensures err { OnErr result (self.new ≡ self.old) }
-        ensures same { OnErr result (share.new ≡ share.old) }
     {
         let at = self.point() + 1;
         let change = self.atoms.prepare(alloc, funs, at, a, Op::Set(value))?;
-        Ok(self.enter(alloc, share, a, change)?)
+        Ok(self.enter(alloc, a, change)?)
     }
 
     /// Sets an atom to a new value where it has the old one that is given, as Clojure's `compare-and-set!`, and answers
     /// whether it did. The atom's rule is asked of the new value before the comparison. Where it did one entry is added, also
-    /// where the values are equal, and the share gets its receipt; where it answers false, and where it is refused, nothing is
+    /// where the values are equal; where it answers false, and where it is refused, nothing is
     /// changed.
     pub fn compare_and_set<F: Functions<M>>(
         &mut self,
         alloc: Global,
         funs: &F,
-        share: &mut Share<C, A, K>,
         a: u32,
         old: &Value,
         new: Value,
@@ -119,14 +105,10 @@ impl<M: Meaning, C: Ledger, A: Ledger, K: Ledger> World<M, C, A, K> {
             (values_now self.old.refs self.old.atoms) ≡ Ok (values_now self.new.refs self.new.atoms)) }
         ensures notices { IfOk result (λ c. c.done ≡ true
             → c.notices.items ≡ notices_of (who.Atom a) (keys_at self.old.atoms.guards a) old.now new) }
-        ensures share { IfOk result (λ c. c.done ≡ true
-            → share.new ≡ with_receipt share.old (point_of self.old + 1) (entries.Atom a (Set new) new)) }
         ensures unset { IfOk result (λ c. c.done ≡ false → self.new ≡ self.old) }
-        ensures unshared { IfOk result (λ c. c.done ≡ false → share.new ≡ share.old) }
         ensures untold { IfOk result (λ c. c.done ≡ false → c.notices.items ≡ []) }
         ensures grows { IfErr result (λ f. f ≡ faults.Memory → is_same_at self.old.atoms a old.now ≡ true) }
         ensures err { OnErr result (self.new ≡ self.old) }
-        ensures same { OnErr result (share.new ≡ share.old) }
     {
         let at = self.point() + 1;
         let Some(change) = self.atoms.prepare_compare(alloc, funs, at, a, old, new)? else {
@@ -135,46 +117,30 @@ impl<M: Meaning, C: Ledger, A: Ledger, K: Ledger> World<M, C, A, K> {
                 notices: Vec::new(alloc),
             });
         };
-        let swapped = self.enter(alloc, share, a, change)?;
+        let swapped = self.enter(alloc, a, change)?;
         Ok(Cas {
             done: true,
             notices: swapped.notices,
         })
     }
 
-    // Puts a change of an atom in its place, with its entry, and answers what it answers. The growths come first.
-    fn enter(
+    // Puts a change of an atom in its place, with its entry, and answers what it answers.
+    pub(crate) fn enter(
         &mut self,
         alloc: Global,
-        share: &mut Share<C, A, K>,
         a: u32,
         change: Change,
     ) -> Result<Swapped, AllocError>
-        requires here { a < length self.old.atoms.values }
-        requires accepted { AreAccepted M.accepts self.old.atoms.guards
-            (slice_set self.old.atoms.values a change.value) }
-        requires limit { point_of self.old + 1 ≤ last_point }
-        requires step { (refs : List Edn) → step M.means (point_of self.old + 1) change.entry
-            (record { refs = refs; atoms = self.old.atoms.values })
-            ≡ Ok (record { refs = refs; atoms = slice_set self.old.atoms.values a change.value }) }
-        requires sets { sets_atom change.entry ≡ true }
-        requires leaves { (refs r : ℕ) → is_changed_by refs change.entry r ≡ false }
-        requires uncounted { (tally : Option ℕ) → IsUncounted tally change.entry }
+        requires { CanEnter M.means M.accepts self.old a change }
         ensures entry { OnOk result (self.new
             ≡ with_entry self.old change.entry self.old.refs (with_value self.old.atoms a change.value)) }
         ensures values { OnOk result (step M.means (point_of self.old + 1) change.entry
             (values_now self.old.refs self.old.atoms) ≡ Ok (values_now self.new.refs self.new.atoms)) }
         ensures swapped { IfOk result (λ s. s ≡ change.swapped) }
-        ensures share { OnOk result (share.new ≡ with_receipt share.old (point_of self.old + 1) change.entry) }
         ensures err { OnErr result (self.new ≡ self.old) }
-        ensures same { OnErr result (share.new ≡ share.old) }
     {
-        let point = self.point() + 1;
-        let entry = change.entry.share()?;
-        share.receipts.reserve(1)?;
         self.log.push(alloc, change.entry)?;
         self.atoms.install(a, change.value);
-        share.receipts.push_reserved(LogReceipt { point, entry });
         Ok(change.swapped)
     }
 }

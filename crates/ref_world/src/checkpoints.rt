@@ -17,9 +17,8 @@ use ref_log::{AuditFault, Base, Entry, fold, lacking_fun};
 use ref_pvec::PVec;
 use std::alloc::{AllocError, Global};
 use std::sync::Arc;
-use std::sync::ledger::Ledger;
 
-impl<M: Meaning, C: Ledger, A: Ledger, K: Ledger> World<M, C, A, K> {
+impl<M: Meaning> World<M> {
     /// Folds the entries up to this point into the base, and answers how many these were: the base gets the values and the last
     /// change of each ref at that point, and the commits, additions and takings up to there. The log holds the entries after it. All
     /// values, last changes, rules, agents and books stay, so that no later call answers otherwise. The table has to have the

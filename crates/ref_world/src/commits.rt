@@ -1,5 +1,5 @@
 //! Transactions: where they begin, and the world's only commit.
-ghost use Rattle.ref_log.specs.Told.{TellsBack};
+ghost use Rattle.ref_log.specs.Told.{TellsBack, TellsOrMemory};
 ghost use Rattle.std.specs.Prelude.{◌≡◌, ◌+◌, ◌++◌, ◌∷◌, ℕ, [], true, Ok, IfOk, IfErr, OnErr, OnOk, length, slice_get};
 ghost use Rattle.ref_log.specs.Replay.{is_protected, step};
 ghost use Rattle.ref_refs.specs.Commit.{changed_by, entry_of};
@@ -7,15 +7,11 @@ ghost use Rattle.ref_refs.specs.Conflicts.{ConflictFits};
 ghost use Rattle.ref_refs.specs.Seen.{changed_at};
 ghost use Rattle.ref_refs.specs.Watches.{notices, touched_refs};
 ghost use Rattle.ref_refs.specs.declared.faults.CommitFault.TheVariants as commits;
-ghost use Rattle.ref_log.specs.Tally.{moved_by_dones};
-ghost use Rattle.ref_log.specs.declared.counting.Side.TheVariants.{Added, Taken};
 ghost use Rattle.ref_tx.specs.Inner.{inner_value};
 ghost use Rattle.ref_agents.specs.Agents as queues;
-ghost use Rattle.ref_world.specs.Shares as shares;
-ghost use Rattle.ref_world.specs.World.{commit_refusal, early_refusal, point_of, values_now, with_commit};
+ghost use Rattle.ref_world.specs.World.{IsReady, commit_refusal, early_refusal, point_of, values_now, with_commit};
 
-use crate::books::room;
-use crate::shares::{LogReceipt, Share};
+use crate::counts::room;
 use crate::worlds::World;
 use ref_agents::AgentStore;
 use ref_fun::{Functions, Meaning};
@@ -24,7 +20,6 @@ use ref_pvec::PVec;
 use ref_refs::{CommitFault, Landed, Prepared};
 use ref_tx::Tx;
 use std::alloc::{AllocError, Global};
-use std::sync::ledger::Ledger;
 
 /// What a commit returns: its point, its stamp, and the notices for the watches.
 #[derive(Drop)]
@@ -34,7 +29,7 @@ pub struct Receipt {
     pub notices: Vec<Notice>,
 }
 
-impl<M: Meaning, C: Ledger, A: Ledger, K: Ledger> World<M, C, A, K> {
+impl<M: Meaning> World<M> {
     /// Begins a transaction over the values as they are now. It takes no memory, and as long whatever the number of refs; but where memory
     /// was refused to put changes of earlier commits into their places, it takes as much as that takes.
     pub fn begin(&self, alloc: Global) -> Result<Tx<M>, AllocError>
@@ -54,8 +49,7 @@ impl<M: Meaning, C: Ledger, A: Ledger, K: Ledger> World<M, C, A, K> {
     /// Commits a transaction at the next point, as one entry more of the log. What was commuted is made on the latest value;
     /// where a ref was set, altered or ensured too, it gets its in-transaction value. The stamp goes into the entry. What the
     /// transaction sends waits at the ends of its agents' queues, in order, and is held until [`World::release`] is called with
-    /// the commit's point; a failed agent takes it too. The share gets the commit, what it adds to the tally and takes from it, and its
-    /// receipt.
+    /// the commit's point; a failed agent takes it too.
     ///
     /// A refused commit changes nothing and returns the transaction. The tests are made in this order: what is foreign,
     /// functions and predicates that the table lacks, the conflict, a foreign value, a refusal over the latest values, a rule
@@ -63,11 +57,12 @@ impl<M: Meaning, C: Ledger, A: Ledger, K: Ledger> World<M, C, A, K> {
     /// where there is no memory for all of them. The cost is that of the store's commit, logarithmic in the number of refs for
     /// each operation; that of one entry more, as [`PVec::push`] or, where it sends, [`PVec::pushed`] has it; and a step for each
     /// send, logarithmic in the number of agents with actions that wait.
-    pub fn commit_with<F: Functions<M>>(
+    ///
+    /// [`Booked::commit_with`](crate::Booked::commit_with) counts the commit in a share, too.
+    pub fn commit<F: Functions<M>>(
         &mut self,
         alloc: Global,
         funs: &F,
-        share: &mut Share<C, A, K>,
         stamp: Stamp,
         tx: Tx<M>,
     ) -> Result<Receipt, (Tx<M>, CommitFault)>
@@ -86,25 +81,67 @@ impl<M: Meaning, C: Ledger, A: Ledger, K: Ledger> World<M, C, A, K> {
         ensures receipt { IfOk result (λ receipt. (receipt.point ≡ point_of self.old + 1) × (receipt.stamp ≡ stamp)) }
         ensures notices { IfOk result (λ receipt. receipt.notices.items
             ≡ notices self.old.refs.guards self.old.refs.values self.new.refs.values (touched_refs tx.dones)) }
-        ensures share { OnOk result (share.new
-            ≡ shares.with_commit share.old (point_of self.old + 1) (entry_of stamp tx)
-            (moved_by_dones Added self.old.refs.tally tx.dones) (moved_by_dones Taken self.old.refs.tally tx.dones)) }
         // A conflict is returned with a ref that the transaction protects, its read point and a later point.
         ensures conflict { IfErr result (λ e. ConflictFits tx e.1) }
         ensures back { IfErr result (λ e. e.0 ≡ tx) }
         ensures err { OnErr result (self.new ≡ self.old) }
-        ensures same { OnErr result (share.new ≡ share.old) }
+    {
+        let prepared = match self.prepare(alloc, funs, stamp, &tx) {
+            Ok(prepared) => prepared,
+            Err(fault) => return Err((tx, fault)),
+        };
+        match self.install(alloc, stamp, prepared, tx) {
+            Ok(receipt) => Ok(receipt),
+            Err(tx) => Err((tx, CommitFault::Memory)),
+        }
+    }
+
+    // All tests of a commit, and its first growths. It changes nothing.
+    pub(crate) fn prepare<F: Functions<M>>(
+        &self,
+        alloc: Global,
+        funs: &F,
+        stamp: Stamp,
+        tx: &Tx<M>,
+    ) -> Result<Prepared, CommitFault>
+        ensures refused { TellsOrMemory commits.Memory (early_refusal (F.knows funs.now) self.now tx.now)
+            (commit_refusal M.means M.accepts (F.knows funs.now) self.now tx.now) result }
+        ensures ready { IfOk result (IsReady M.means M.accepts self.now stamp tx.now) }
+        ensures conflict { IfErr result (ConflictFits tx.now) }
     {
         let at = self.point() + 1;
         let agents = self.agents.len();
         let most_added = room(self.added());
         let most_taken = room(self.taken());
-        let prepared = match self.refs.prepare(
-            alloc, funs, at, agents, most_added, most_taken, stamp, &tx,
-        ) {
-            Ok(prepared) => prepared,
-            Err(fault) => return Err((tx, fault)),
-        };
+        self.refs
+            .prepare(alloc, funs, at, agents, most_added, most_taken, stamp, tx)
+    }
+
+    // Makes a commit that was prepared. Where there is no memory for its entry and its sends it changes nothing.
+    pub(crate) fn install(
+        &mut self,
+        alloc: Global,
+        stamp: Stamp,
+        prepared: Prepared,
+        tx: Tx<M>,
+    ) -> Result<Receipt, Tx<M>>
+        requires { IsReady M.means M.accepts self.old stamp tx prepared }
+        ensures entry { OnOk result (self.new ≡ with_commit self.old (entry_of stamp tx) self.new.refs tx.sends) }
+        ensures values { OnOk result (step M.means (point_of self.old + 1) (entry_of stamp tx)
+            (values_now self.old.refs self.old.atoms) ≡ Ok (values_now self.new.refs self.new.atoms)) }
+        ensures inner { OnOk result ((r : ℕ) → is_protected tx.dones r ≡ true
+            → slice_get self.new.refs.values r ≡ inner_value M.means tx r) }
+        ensures lasts { OnOk result ((r : ℕ)
+            → changed_at self.new.refs.lasts r ≡ changed_by self.old.refs.lasts (point_of self.old + 1) tx.dones r) }
+        ensures rest { OnOk result ((self.new.refs.tally ≡ self.old.refs.tally)
+            × (self.new.refs.guards ≡ self.old.refs.guards)) }
+        ensures receipt { IfOk result (λ receipt. (receipt.point ≡ point_of self.old + 1) × (receipt.stamp ≡ stamp)) }
+        ensures notices { IfOk result (λ receipt. receipt.notices.items
+            ≡ notices self.old.refs.guards self.old.refs.values self.new.refs.values (touched_refs tx.dones)) }
+        ensures back { IfErr result (λ same. same ≡ tx) }
+        ensures err { OnErr result (self.new ≡ self.old) }
+    {
+        let at = self.point() + 1;
         let Prepared {
             refs,
             landed,
@@ -112,29 +149,19 @@ impl<M: Meaning, C: Ledger, A: Ledger, K: Ledger> World<M, C, A, K> {
             taken,
         } = prepared;
         let Landed { entry, notices } = landed;
-        let Ok(kept) = entry.share() else {
-            return Err((tx, CommitFault::Memory));
-        };
-        if share.receipts.reserve(1).is_err() {
-            return Err((tx, CommitFault::Memory));
-        }
         let Ok(dones) = tx.shared_dones().share() else {
-            return Err((tx, CommitFault::Memory));
+            return Err(tx);
         };
         let sends = tx.sends();
         let written = write(alloc, &mut self.log, &mut self.agents, at, entry, sends);
         if written.is_err() {
-            return Err((tx, CommitFault::Memory));
+            return Err(tx);
         }
         // From here on nothing can fail. The transaction is dropped first: where no other one reads the refs as they were, they are changed
         // in place.
         drop(tx);
         self.refs.install(alloc, at, refs, dones.as_slice());
-        share.receipts.push_reserved(LogReceipt {
-            point: at,
-            entry: kept,
-        });
-        self.books.book(share, added, taken);
+        self.books.book(added, taken);
         Ok(Receipt {
             point: at,
             stamp,

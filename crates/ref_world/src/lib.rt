@@ -39,20 +39,26 @@
 
 mod agents;
 mod atoms;
-mod books;
+pub mod booked;
 mod checkpoints;
 mod commits;
+mod counts;
 mod declared;
 pub mod faults;
+pub mod ledgers;
 mod making;
+pub mod names;
 mod references;
 pub mod shares;
 pub mod views;
 pub mod worlds;
 
-pub use books::MOST_BOOKED;
+pub use booked::Booked;
 pub use commits::Receipt;
+pub use counts::MOST_BOOKED;
 pub use faults::CheckpointFault;
+pub use ledgers::Ledgers;
+pub use names::{Added, Blanks, Books, Commits, Taken};
 pub use ref_agents::{AgentStart, AtomStart, RefStart, Start, starts};
 pub use shares::{ALL_PARTS, LogReceipt, Share};
 pub use views::View;

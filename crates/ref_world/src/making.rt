@@ -16,9 +16,8 @@ use ref_refs::RefStore;
 use ref_value::Value;
 use std::alloc::{AllocError, Global};
 use std::sync::Arc;
-use std::sync::ledger::Ledger;
 
-impl<M: Meaning, C: Ledger, A: Ledger, K: Ledger> World<M, C, A, K> {
+impl<M: Meaning> World<M> {
     /// Makes a ref with this value and this rule, if any, the tally or not, and answers its number. It adds one entry, and the
     /// ref's last change is at its point. A transaction that was begun before knows no such ref. A refused call changes
     /// nothing.

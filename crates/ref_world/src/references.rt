@@ -11,9 +11,8 @@ use crate::worlds::World;
 use ref_fun::{Functions, Meaning, Rule};
 use ref_log::{RuleFault, WatchFault, Who};
 use ref_value::Value;
-use std::sync::ledger::Ledger;
 
-impl<M: Meaning, C: Ledger, A: Ledger, K: Ledger> World<M, C, A, K> {
+impl<M: Meaning> World<M> {
     /// How many refs there are, at most 2^20.
     pub fn ref_count(&self) -> usize
         ensures value { result ≡ length self.now.refs.values }

@@ -2,9 +2,10 @@
 ghost use Rattle.std.specs.Prelude.{◌≡◌, ◌≢◌, ◌+◌, ◌<◌, ◌≤◌, ◌==◌, ◌↔◌, [], IsSome, IfSome, IfNone, OnOk, OnErr, IfErr};
 ghost use Rattle.ref_world.specs.Shares.{all_parts, forgotten, joined, whole};
 
+use crate::names::{Added, Books, Commits, Taken};
 use ref_log::Entry;
 use std::marker::Model;
-use std::sync::ledger::{Ledger, Share as Part};
+use std::sync::ledger::Share as Part;
 
 /// How many parts all shares of a world have: 2^32.
 pub const ALL_PARTS: u64 = 4_294_967_296;
@@ -24,15 +25,15 @@ pub struct LogReceipt {
 /// world and meets no share of one. Where all are joined again, what is in the share is what is in the world's books. A share
 /// that is dropped takes its parts with it.
 #[derive(Drop)]
-pub struct Share<C: Ledger, A: Ledger, K: Ledger> {
+pub struct Share<L: Books> {
     parts: u64,
-    pub(crate) commits: Part<C>,
-    pub(crate) added: Part<A>,
-    pub(crate) taken: Part<K>,
+    pub(crate) commits: Part<Commits<L>>,
+    pub(crate) added: Part<Added<L>>,
+    pub(crate) taken: Part<Taken<L>>,
     pub(crate) receipts: Vec<LogReceipt>,
 }
 
-impl<C: Ledger, A: Ledger, K: Ledger> Model for Share<C, A, K> {
+impl<L: Books> Model for Share<L> {
     ghost use Rattle.std.specs.Prelude.{◌≡◌, ◌<◌, ◌≤◌};
     ghost use Rattle.std.specs.Coded.{codes};
     ghost use Rattle.ref_value.specs.Code.{edn_code};
@@ -52,20 +53,18 @@ impl<C: Ledger, A: Ledger, K: Ledger> Model for Share<C, A, K> {
     } };
 
     ghost invariant = { λ s. (s.commits.parts ≡ s.parts) × (s.added.parts ≡ s.parts) × (s.taken.parts ≡ s.parts)
-        × (0 < s.parts) × (s.parts ≤ all_parts) × (C.parts ≡ all_parts) × (A.parts ≡ all_parts)
-        × (K.parts ≡ all_parts) };
+        × (0 < s.parts) × (s.parts ≤ all_parts) };
 }
 
-impl<C: Ledger, A: Ledger, K: Ledger> Share<C, A, K> {
+impl<L: Books> Share<L> {
     // The share with all parts, of a world in which nothing was done.
     pub(crate) fn whole(
         receipts: Vec<LogReceipt>,
-        commits: Part<C>,
-        added: Part<A>,
-        taken: Part<K>,
-    ) -> Share<C, A, K>
+        commits: Part<Commits<L>>,
+        added: Part<Added<L>>,
+        taken: Part<Taken<L>>,
+    ) -> Share<L>
         requires parts { (commits.parts ≡ all_parts) × (added.parts ≡ all_parts) × (taken.parts ≡ all_parts) }
-        requires names { (C.parts ≡ all_parts) × (A.parts ≡ all_parts) × (K.parts ≡ all_parts) }
         requires amounts { (commits.amount ≡ 0) × (added.amount ≡ 0) × (taken.amount ≡ 0) }
         requires receipts { receipts.items ≡ [] }
         ensures { result ≡ whole }
@@ -105,7 +104,7 @@ impl<C: Ledger, A: Ledger, K: Ledger> Share<C, A, K> {
 
     /// Another share with so many of the parts, with which nothing was done; None for 0 of them, and for as many as it has or
     /// more. It takes no memory.
-    pub fn split(&mut self, parts: u64) -> Option<Share<C, A, K>>
+    pub fn split(&mut self, parts: u64) -> Option<Share<L>>
         ensures when { IsSome result ↔ ((0 < parts) × (parts < self.old.parts)) }
         ensures some { IfSome result (λ s. s ≡ record whole { parts = parts }) }
         ensures left { IfSome result (λ s. self.new.parts + parts ≡ self.old.parts) }
@@ -130,7 +129,7 @@ impl<C: Ledger, A: Ledger, K: Ledger> Share<C, A, K> {
     }
 
     /// Drops the receipts of the entries up to this point. All else stays, and so do the receipts of later entries, in their order.
-    /// [`World::forget`](crate::World::forget) passes the point of the base, up to which no receipt is asked for any more. With a
+    /// [`Booked::forget`](crate::Booked::forget) passes the point of the base, up to which no receipt is asked for any more. With a
     /// later point the share lacks receipts that are still asked for, until a checkpoint has reached that point.
     ///
     /// It takes no memory, and the list of receipts has room for as many as before. Linear in the number of receipts.
@@ -144,7 +143,7 @@ impl<C: Ledger, A: Ledger, K: Ledger> Share<C, A, K> {
     /// so where both shares were used side by side, the receipts of the joined one needn't stand in the order of their points.
     /// Linear in the number of the other's receipts. Where there is no memory for these it changes nothing and returns the other
     /// share back; one without receipts takes no memory.
-    pub fn join(&mut self, other: Share<C, A, K>) -> Result<(), Share<C, A, K>>
+    pub fn join(&mut self, other: Share<L>) -> Result<(), Share<L>>
         ensures ok { OnOk result (self.new ≡ joined self.old other) }
         ensures back { IfErr result (λ s. s ≡ other) }
         ensures err { OnErr result (self.new ≡ self.old) }

@@ -11,7 +11,6 @@ use ref_pvec::PVec;
 use std::alloc::AllocError;
 use std::marker::{Model, PhantomData};
 use std::sync::Arc;
-use std::sync::ledger::Ledger;
 
 /// The base and the log of a world as they were when [`World::view`] was called. What is done to the world since doesn't show
 /// in it, and a checkpoint takes nothing from it. Contracts see the base and the list of the entries.
@@ -84,7 +83,7 @@ impl<M: Meaning> View<M> {
     }
 }
 
-impl<M: Meaning, C: Ledger, A: Ledger, K: Ledger> World<M, C, A, K> {
+impl<M: Meaning> World<M> {
     /// The base and the log as they are now. It takes no memory, and as long whatever the length of the log; only a count
     /// of owners can refuse.
     pub fn view(&self) -> Result<View<M>, AllocError>

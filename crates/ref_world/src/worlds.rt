@@ -8,13 +8,11 @@ ghost use Rattle.ref_log.specs.declared.faults.MakeFault.TheVariants as makes;
 ghost use Rattle.ref_refs.specs.Seen.{are_unchanged_since};
 ghost use Rattle.ref_world.specs.Starts as starts;
 ghost use Rattle.ref_world.specs.Starts.{first_refusal, start_refusal};
-ghost use Rattle.ref_world.specs.Shares.{IsBlank, all_parts, forgotten, whole};
 ghost use Rattle.ref_world.specs.World.{HasLastChanges, are_past, most_booked, point_of};
 ghost use Rattle.ref_log.specs.Limits.{last_point};
 
-use crate::books::Books;
+use crate::counts::Counts;
 use crate::declared::{base_of, declared_agents, declared_atoms, declared_refs, start_of};
-use crate::shares::Share;
 use ref_agents::{AgentStore, Start};
 use ref_atoms::AtomStore;
 use ref_fun::{Functions, Meaning};
@@ -24,7 +22,6 @@ use ref_refs::RefStore;
 use std::alloc::Global;
 use std::marker::Model;
 use std::sync::Arc;
-use std::sync::ledger::{Blank, Ledger};
 
 /// Refs and atoms with a base and a log, agents, and books. Contracts see plain data.
 ///
@@ -34,21 +31,18 @@ use std::sync::ledger::{Blank, Ledger};
 /// that no commit whose sends are held comes after the present point. The books have how many transactions were committed and how
 /// much they added to the tally and took from it, as base and log say, and the tally holds its start plus what was added less what
 /// was taken.
-///
-/// C, A and K name the three books, of commits, of what was added and of what was taken: the shares of a world have these names too,
-/// and what is in the books is what all of its shares have together.
 #[derive(Drop)]
-pub struct World<M: Meaning, C: Ledger, A: Ledger, K: Ledger> {
+pub struct World<M: Meaning> {
     // It may have several owners, and so may the log: views.
     pub(crate) base: Arc<Base>,
     pub(crate) log: PVec<Entry>,
     pub(crate) refs: RefStore<M>,
     pub(crate) atoms: AtomStore<M>,
     pub(crate) agents: AgentStore<M>,
-    pub(crate) books: Books<C, A, K>,
+    pub(crate) books: Counts,
 }
 
-impl<M: Meaning, C: Ledger, A: Ledger, K: Ledger> Model for World<M, C, A, K> {
+impl<M: Meaning> Model for World<M> {
     ghost use Rattle.std.specs.Coded.{codes};
     ghost use Rattle.ref_value.specs.Code.{edn_code};
     ghost use Rattle.ref_world.specs.Seen.{WorldSeen};
@@ -71,33 +65,25 @@ impl<M: Meaning, C: Ledger, A: Ledger, K: Ledger> Model for World<M, C, A, K> {
         × AreBooks a.base.value a.log a.refs.tally a.refs.values a.books };
 }
 
-impl<M: Meaning, C: Ledger, A: Ledger, K: Ledger> World<M, C, A, K> {
-    /// A world that begins with these references, refs made before atoms before agents, at point 0 and with no entry, and its
-    /// whole share. Where one of the references can't be made which and why is returned; where memory is refused, which one says
-    /// nothing. The blanks become the books, and are spent where the world is refused, too.
+impl<M: Meaning> World<M> {
+    /// A world that begins with these references, refs made before atoms before agents, at point 0 and with no entry. Where one of the
+    /// references can't be made which and why is returned; where memory is refused, which one says nothing.
     #[tactic(auto, using(crate::proofs::Starting::first_made))]
     pub fn new<F: Functions<M>>(
         alloc: Global,
         funs: &F,
         start: &Start,
-        commits: Blank,
-        added: Blank,
-        taken: Blank,
-    ) -> Result<(World<M, C, A, K>, Share<C, A, K>), (Who, MakeFault)>
-        requires commits { IsBlank commits C.name C.parts }
-        requires added { IsBlank added A.name A.parts }
-        requires taken { IsBlank taken K.name K.parts }
+    ) -> Result<World<M>, (Who, MakeFault)>
         ensures ok { OnOk result (start_refusal M.accepts (F.knows funs.now).preds start.now ≡ None) }
-        ensures refs { IfOk result (λ r. starts.declared_refs M.accepts (F.knows funs.now).preds start.now.refs.items
-            ≡ Ok r.0.refs) }
-        ensures atoms { IfOk result (λ r. starts.declared_atoms M.accepts (F.knows funs.now).preds start.now.atoms.items
-            ≡ Ok r.0.atoms) }
-        ensures agents { IfOk result (λ r. starts.declared_agents M.accepts
-            (F.knows funs.now).preds start.now.agents.items ≡ Ok r.0.agents) }
-        ensures base { IfOk result (λ r. r.0.base ≡ starts.base_of r.0.refs r.0.atoms) }
-        ensures log { IfOk result (λ r. r.0.log ≡ []) }
-        ensures books { IfOk result (λ r. r.0.books ≡ starts.books_of r.0.refs) }
-        ensures share { IfOk result (λ r. r.1 ≡ whole) }
+        ensures refs { IfOk result (λ w. starts.declared_refs M.accepts (F.knows funs.now).preds start.now.refs.items
+            ≡ Ok w.refs) }
+        ensures atoms { IfOk result (λ w. starts.declared_atoms M.accepts (F.knows funs.now).preds start.now.atoms.items
+            ≡ Ok w.atoms) }
+        ensures agents { IfOk result (λ w. starts.declared_agents M.accepts
+            (F.knows funs.now).preds start.now.agents.items ≡ Ok w.agents) }
+        ensures base { IfOk result (λ w. w.base ≡ starts.base_of w.refs w.atoms) }
+        ensures log { IfOk result (λ w. w.log ≡ []) }
+        ensures books { IfOk result (λ w. w.books ≡ starts.books_of w.refs) }
         ensures fault { IfErr result (λ e. e.1 ≢ makes.Memory
             → start_refusal M.accepts (F.knows funs.now).preds start.now ≡ Some e) }
         ensures memory { IfErr result (λ e. e.1 ≡ makes.Memory
@@ -112,24 +98,15 @@ impl<M: Meaning, C: Ledger, A: Ledger, K: Ledger> World<M, C, A, K> {
         let Ok(base) = Arc::new(alloc, base) else {
             return Err((Who::Ref(0), MakeFault::Memory));
         };
-        let (books, commit_parts, added_parts, taken_parts) = Books::open(
-            start_of(&refs),
-            commits,
-            added,
-            taken,
-        );
-        let world = World {
+        let books = Counts::none(start_of(&refs));
+        Ok(World {
             base,
             log: PVec::empty(),
             refs,
             atoms,
             agents,
             books,
-        };
-        Ok((
-            world,
-            Share::whole(Vec::new(alloc), commit_parts, added_parts, taken_parts),
-        ))
+        })
     }
 
     /// The present point: how many entries there ever were, at most 2^62.
@@ -198,29 +175,14 @@ impl<M: Meaning, C: Ledger, A: Ledger, K: Ledger> World<M, C, A, K> {
         self.books.taken
     }
 
-    /// Drops the receipts of a share whose entries are folded into the base. The others stay, and so do commits, additions, takings and
-    /// parts. It takes no memory. Linear in the number of the share's receipts.
-    pub fn forget(&self, share: &mut Share<C, A, K>)
-        ensures { share.new ≡ forgotten share.old self.now.base.point }
-    {
-        share.forget(self.base.point);
-    }
-
-    /// What a share has of the books, where it is whole: all commits, and all that was added to the tally and taken from it. It
-    /// changes nothing.
-    pub fn totals(&mut self, share: &mut Share<C, A, K>) -> Totals
-        ensures value { result ≡ record {
-          commits = self.old.books.commits;
-          added = self.old.books.added;
-          taken = self.old.books.taken;
+    /// How many transactions were committed, and how much they added to the tally and took from it.
+    pub fn totals(&self) -> Totals
+        ensures { result ≡ record {
+          commits = self.now.books.commits;
+          added = self.now.books.added;
+          taken = self.now.books.taken;
         } }
-        ensures whole { share.old.parts ≡ all_parts
-            → (result.commits ≡ share.old.commits) × (result.added ≡ share.old.added)
-            × (result.taken ≡ share.old.taken) }
-        ensures world { self.new ≡ self.old }
-        ensures share { share.new ≡ share.old }
     {
-        self.books.audit(share);
         Totals {
             commits: self.books.commits,
             added: self.books.added,

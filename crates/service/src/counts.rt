@@ -1,7 +1,7 @@
 //! What threads did, as they count it.
 use crate::Trouble;
 use ref_world::Share;
-use std::sync::ledger::Ledger;
+use ref_world::Books;
 
 /// What is to be found in the world.
 #[derive(Clone, Copy, Debug, Default, Drop)]
@@ -38,13 +38,13 @@ impl Counts {
 
 /// What came of threads: the share that was used, and what they count.
 #[derive(Drop)]
-pub(crate) struct Done<C: Ledger, A: Ledger, K: Ledger> {
-    pub(crate) share: Share<C, A, K>,
+pub(crate) struct Done<L: Books> {
+    pub(crate) share: Share<L>,
     pub(crate) counts: Counts,
 }
 
-impl<C: Ledger, A: Ledger, K: Ledger> Done<C, A, K> {
-    pub(crate) fn of(share: Share<C, A, K>) -> Done<C, A, K> {
+impl<L: Books> Done<L> {
+    pub(crate) fn of(share: Share<L>) -> Done<L> {
         Done {
             share,
             counts: Counts::default(),
@@ -52,7 +52,7 @@ impl<C: Ledger, A: Ledger, K: Ledger> Done<C, A, K> {
     }
 
     /// Joins what came of others.
-    pub(crate) fn join(&mut self, other: Done<C, A, K>) -> Result<(), Trouble> {
+    pub(crate) fn join(&mut self, other: Done<L>) -> Result<(), Trouble> {
         let Done { share, counts } = other;
         if let Err(share) = self.share.join(share) {
             drop(share);

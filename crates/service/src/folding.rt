@@ -10,7 +10,7 @@ use ref_shared::{Open, Quiet, WaitFault};
 use ref_tx::{Tx, TxFault};
 use ref_world::Share;
 use std::sync::Wait;
-use std::sync::ledger::Ledger;
+use ref_world::Books;
 
 // How much is taken between two folds: what some thousand sales bring.
 pub(crate) const TAKINGS_TO_A_FOLD: i64 = 2_500;
@@ -19,11 +19,11 @@ pub(crate) const TAKINGS_TO_A_FOLD: i64 = 2_500;
 pub(crate) const BITE: u32 = 1_000;
 
 /// Folds until the shop is closed, and returns its share.
-pub(crate) fn keep_folding<C: Ledger, A: Ledger, K: Ledger, R: Wait, F: Functions<Core>>(
+pub(crate) fn keep_folding<L: Books, R: Wait, F: Functions<Core>>(
     rt: &R,
-    shop: &Shop<F, C, A, K>,
-    share: Share<C, A, K>,
-) -> Result<Done<C, A, K>, Trouble> {
+    shop: &Shop<F, L>,
+    share: Share<L>,
+) -> Result<Done<L>, Trouble> {
     shop.note_folder();
     let mut done = Done::of(share);
     match fold_each(rt, shop, &mut done) {
@@ -37,10 +37,10 @@ pub(crate) fn keep_folding<C: Ledger, A: Ledger, K: Ledger, R: Wait, F: Function
 }
 
 // Folds whenever so much more was taken.
-fn fold_each<C: Ledger, A: Ledger, K: Ledger, R: Wait, F: Functions<Core>>(
+fn fold_each<L: Books, R: Wait, F: Functions<Core>>(
     rt: &R,
-    shop: &Shop<F, C, A, K>,
-    done: &mut Done<C, A, K>,
+    shop: &Shop<F, L>,
+    done: &mut Done<L>,
 ) -> Result<(), Trouble> {
     let mut stamps = Stamps::of(COUNTERS);
     let mut takings = 0i64;
@@ -58,10 +58,10 @@ fn fold_each<C: Ledger, A: Ledger, K: Ledger, R: Wait, F: Functions<Core>>(
 }
 
 // Waits until so much was taken, and notes it in the world, at the point that is returned. None where the shop is closed before.
-pub(crate) fn wait_for<C: Ledger, A: Ledger, K: Ledger, R: Wait, F: Functions<Core>>(
+pub(crate) fn wait_for<L: Books, R: Wait, F: Functions<Core>>(
     rt: &R,
-    shop: &Shop<F, C, A, K>,
-    share: &mut Share<C, A, K>,
+    shop: &Shop<F, L>,
+    share: &mut Share<L>,
     stamp: Stamp,
     takings: i64,
 ) -> Result<Option<u64>, Trouble> {
@@ -83,8 +83,8 @@ pub(crate) fn wait_for<C: Ledger, A: Ledger, K: Ledger, R: Wait, F: Functions<Co
 }
 
 // The body of that transaction, which isn't ready before so much was taken.
-fn note_if_taken<C: Ledger, A: Ledger, K: Ledger, F: Functions<Core>>(
-    shop: &Shop<F, C, A, K>,
+fn note_if_taken<L: Books, F: Functions<Core>>(
+    shop: &Shop<F, L>,
     tx: &mut Tx<Core>,
     takings: i64,
 ) -> Result<Option<()>, TxFault> {
@@ -98,9 +98,9 @@ fn note_if_taken<C: Ledger, A: Ledger, K: Ledger, F: Functions<Core>>(
 }
 
 // Folds the entries up to this point, and what the logs have handled.
-fn fold<C: Ledger, A: Ledger, K: Ledger, R: Wait, F: Functions<Core>>(
+fn fold<L: Books, R: Wait, F: Functions<Core>>(
     rt: &R,
-    shop: &Shop<F, C, A, K>,
+    shop: &Shop<F, L>,
     point: u64,
 ) -> Result<(), Trouble> {
     let (alloc, funs) = (shop.alloc, shop.funs);

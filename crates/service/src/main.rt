@@ -12,7 +12,7 @@
 #![tactic(auto)]
 
 ghost use Rattle.std.specs.Prelude.{◌≡◌};
-ghost use Rattle.ref_world.specs.Shares.{IsBlank};
+ghost use Rattle.ref_world.specs.Shares.{AreBlanks};
 
 mod counts;
 mod errors;
@@ -36,7 +36,7 @@ use std::marker::Brand;
 use std::process::ExitCode;
 use std::rt::Env;
 use std::sync::Wait;
-use std::sync::ledger::{Blank, Ledger};
+use ref_world::{Blanks, Books};
 use std::thread::Threads;
 use threads::open_hours;
 use values::integer;
@@ -86,35 +86,27 @@ fn run_day<R: AllocGlobal + Print + Threads + Wait + Sync>(
     sales: u64,
 ) -> Result<(), Trouble> {
     // The books of a world begin as blanks, each of which is named as it is made.
-    day::<Brand, Brand, Brand, R>(
+    day::<Brand, R>(
         rt,
         &CoreFunctions,
         sales,
-        Blank::new(ALL_PARTS),
-        Blank::new(ALL_PARTS),
-        Blank::new(ALL_PARTS),
+        Blanks::new(),
     )
 }
 
 // The day in a world. C, A and K name the books of its world, which only their types distinguish from those of another world.
 fn day<
-    C: Ledger + Send + Sync,
-    A: Ledger + Send + Sync,
-    K: Ledger + Send + Sync,
+    L: Books + Send + Sync,
     R: AllocGlobal + Print + Threads + Wait + Sync,
 >(
     rt: &R,
     funs: &CoreFunctions,
     sales: u64,
-    commits: Blank,
-    added: Blank,
-    taken: Blank,
+    blanks: Blanks,
 ) -> Result<(), Trouble>
-    requires commits { IsBlank commits C.name C.parts }
-    requires added { IsBlank added A.name A.parts }
-    requires taken { IsBlank taken K.name K.parts }
+    requires { AreBlanks blanks L.commits L.added L.taken }
 {
-    let (world, share) = begin::<C, A, K>(rt.alloc(), funs, commits, added, taken)?;
+    let (world, share) = begin::<L>(rt.alloc(), funs, blanks)?;
     let shop = Shop::of(rt.alloc(), funs, sales, world);
     match open_hours(rt, &shop, share) {
         Ok((done, errors)) => close_up(rt, shop, done, errors),
@@ -126,28 +118,24 @@ fn day<
 }
 
 // The world of the shop, and the share with all its parts.
-fn begin<C: Ledger, A: Ledger, K: Ledger>(
+fn begin<L: Books>(
     alloc: Global,
     funs: &CoreFunctions,
-    commits: Blank,
-    added: Blank,
-    taken: Blank,
-) -> Result<(World<Core, C, A, K>, Share<C, A, K>), Trouble>
-    requires commits { IsBlank commits C.name C.parts }
-    requires added { IsBlank added A.name A.parts }
-    requires taken { IsBlank taken K.name K.parts }
+    blanks: Blanks,
+) -> Result<(World<Core, L>, Share<L>), Trouble>
+    requires { AreBlanks blanks L.commits L.added L.taken }
 {
-    match World::<Core, C, A, K>::new(alloc, funs, &start(alloc)?, commits, added, taken) {
+    match World::<Core, L>::new(alloc, funs, &start(alloc)?, blanks) {
         Ok(begun) => Ok(begun),
         Err(_) => Err(Trouble),
     }
 }
 
 // Takes the world out, and says what is in it.
-fn close_up<C: Ledger, A: Ledger, K: Ledger, R: AllocGlobal + Print, F: Functions<Core>>(
+fn close_up<L: Books, R: AllocGlobal + Print, F: Functions<Core>>(
     rt: &R,
-    shop: Shop<F, C, A, K>,
-    done: Done<C, A, K>,
+    shop: Shop<F, L>,
+    done: Done<L>,
     errors: Errors,
 ) -> Result<(), Trouble> {
     let Done { share, counts } = done;
@@ -159,10 +147,10 @@ fn close_up<C: Ledger, A: Ledger, K: Ledger, R: AllocGlobal + Print, F: Function
 }
 
 // Takes the world out, with its totals.
-fn take_out<C: Ledger, A: Ledger, K: Ledger, F: Functions<Core>>(
-    shop: Shop<F, C, A, K>,
-    share: Share<C, A, K>,
-) -> Result<(World<Core, C, A, K>, Totals), Trouble> {
+fn take_out<L: Books, F: Functions<Core>>(
+    shop: Shop<F, L>,
+    share: Share<L>,
+) -> Result<(World<Core, L>, Totals), Trouble> {
     let Shop { alloc, shared, .. } = shop;
     if share.is_whole() {
         shared.finish(alloc, share).ok().ok_or(Trouble)
@@ -173,9 +161,9 @@ fn take_out<C: Ledger, A: Ledger, K: Ledger, F: Functions<Core>>(
 }
 
 // What is in the world.
-fn say_world<C: Ledger, A: Ledger, K: Ledger, R: Print>(
+fn say_world<L: Books, R: Print>(
     rt: &R,
-    world: &World<Core, C, A, K>,
+    world: &World<Core, L>,
     totals: Totals,
 ) -> Result<(), Trouble> {
     let own = sum(world, COUNTERS, Who::Ref)?;
@@ -219,8 +207,8 @@ fn say_counts<R: Print>(rt: &R, counts: Counts, errors: Errors) -> Result<(), Tr
 }
 
 // The sum of so many references of a kind.
-fn sum<C: Ledger, A: Ledger, K: Ledger, W: Fn(u32) -> Who>(
-    world: &World<Core, C, A, K>,
+fn sum<L: Books, W: Fn(u32) -> Who>(
+    world: &World<Core, L>,
     many: u32,
     who: W,
 ) -> Result<i64, Trouble>
@@ -234,8 +222,8 @@ fn sum<C: Ledger, A: Ledger, K: Ledger, W: Fn(u32) -> Who>(
 }
 
 // The integer that a reference holds.
-fn held<C: Ledger, A: Ledger, K: Ledger>(
-    world: &World<Core, C, A, K>,
+fn held<L: Books>(
+    world: &World<Core, L>,
     who: Who,
 ) -> Result<i64, Trouble> {
     integer(world.value_of(who).ok_or(Trouble)?).ok_or(Trouble)

@@ -8,7 +8,7 @@ use ref_fun::{Args, Core, Functions};
 use ref_world::{ALL_PARTS, Share};
 use std::alloc::{AllocError, Global};
 use std::sync::Wait;
-use std::sync::ledger::Ledger;
+use ref_world::Books;
 use std::thread;
 use std::thread::Threads;
 
@@ -20,9 +20,9 @@ const SALES_TO_A_REST: u64 = 128;
 
 // A thread's number, and its part of the share.
 #[derive(Drop)]
-struct Shift<C: Ledger, A: Ledger, K: Ledger> {
+struct Shift<L: Books> {
     worker: u32,
-    share: Share<C, A, K>,
+    share: Share<L>,
 }
 
 // What one thread sells with. Each has its own, so that no two threads count the owners of the same arguments.
@@ -80,22 +80,20 @@ fn is_damaged(n: u64) -> bool {
 
 /// Has all threads sell, each with a part of the share, and joins what came of them.
 pub(crate) fn sell_all<
-    C: Ledger + Send + Sync,
-    A: Ledger + Send + Sync,
-    K: Ledger + Send + Sync,
+    L: Books + Send + Sync,
     R: Threads + Wait + Sync,
     F: Functions<Core> + Sync,
->(rt: &R, shop: &Shop<F, C, A, K>, all: &mut Done<C, A, K>) -> Result<(), Trouble> {
+>(rt: &R, shop: &Shop<F, L>, all: &mut Done<L>) -> Result<(), Trouble> {
     let shifts = shifts(shop.alloc, &mut all.share)?;
     let done = thread::map_vec(rt, shifts, &|shift| work(rt, shop, shift))?;
     join_all(all, done)
 }
 
 // A shift for each thread, and for each a part of the share.
-fn shifts<C: Ledger, A: Ledger, K: Ledger>(
+fn shifts<L: Books>(
     alloc: Global,
-    share: &mut Share<C, A, K>,
-) -> Result<Vec<Shift<C, A, K>>, Trouble> {
+    share: &mut Share<L>,
+) -> Result<Vec<Shift<L>>, Trouble> {
     let mut shifts = Vec::new(alloc);
     for worker in 0..COUNTERS {
         let Some(share) = share.split(PARTS) else {
@@ -106,9 +104,9 @@ fn shifts<C: Ledger, A: Ledger, K: Ledger>(
     Ok(shifts)
 }
 
-fn join_all<C: Ledger, A: Ledger, K: Ledger>(
-    all: &mut Done<C, A, K>,
-    done: Vec<Result<Done<C, A, K>, Trouble>>,
+fn join_all<L: Books>(
+    all: &mut Done<L>,
+    done: Vec<Result<Done<L>, Trouble>>,
 ) -> Result<(), Trouble> {
     for one in done {
         all.join(one?)?;
@@ -117,11 +115,11 @@ fn join_all<C: Ledger, A: Ledger, K: Ledger>(
 }
 
 // What a thread does.
-fn work<C: Ledger, A: Ledger, K: Ledger, R: Wait, F: Functions<Core>>(
+fn work<L: Books, R: Wait, F: Functions<Core>>(
     rt: &R,
-    shop: &Shop<F, C, A, K>,
-    shift: Shift<C, A, K>,
-) -> Result<Done<C, A, K>, Trouble> {
+    shop: &Shop<F, L>,
+    shift: Shift<L>,
+) -> Result<Done<L>, Trouble> {
     let Shift { worker, share } = shift;
     let mut done = Done::of(share);
     match sell_each(rt, shop, worker, &mut done) {
@@ -134,11 +132,11 @@ fn work<C: Ledger, A: Ledger, K: Ledger, R: Wait, F: Functions<Core>>(
 }
 
 // The sales of one thread.
-fn sell_each<C: Ledger, A: Ledger, K: Ledger, R: Wait, F: Functions<Core>>(
+fn sell_each<L: Books, R: Wait, F: Functions<Core>>(
     rt: &R,
-    shop: &Shop<F, C, A, K>,
+    shop: &Shop<F, L>,
     worker: u32,
-    done: &mut Done<C, A, K>,
+    done: &mut Done<L>,
 ) -> Result<(), Trouble> {
     let clerk = Clerk::of(shop.alloc, worker)?;
     let mut stamps = Stamps::of(worker);

@@ -11,7 +11,7 @@ use ref_world::{AgentStart, RefStart, Share, Start, World};
 use std::alloc::{AllocError, Global};
 use std::sync::Wait;
 use std::sync::atomic::{AtomicBool, Ordering};
-use std::sync::ledger::Ledger;
+use ref_world::Books;
 
 /// How many threads sell. The refs 0 to 3 are their counters: how many pieces were sold there.
 pub(crate) const COUNTERS: u32 = 4;
@@ -37,11 +37,11 @@ pub(crate) const TRIES: u32 = u32::MAX;
 /// What all threads share: the world, the table of the functions that it names, and how many sales each thread is to make. C, A and K
 /// name the world's books.
 #[derive(Drop)]
-pub(crate) struct Shop<'a, F: Functions<Core>, C: Ledger, A: Ledger, K: Ledger> {
+pub(crate) struct Shop<'a, F: Functions<Core>, L: Books> {
     pub(crate) alloc: Global,
     pub(crate) funs: &'a F,
     pub(crate) sales: u64,
-    pub(crate) shared: Shared<Core, C, A, K>,
+    pub(crate) shared: Shared<Core, L>,
     // Whether somebody runs what is sent, and whether somebody folds: nobody waits for who isn't there.
     has_helper: AtomicBool,
     has_folder: AtomicBool,
@@ -94,14 +94,14 @@ pub(crate) fn start(alloc: Global) -> Result<Start, AllocError> {
     })
 }
 
-impl<'a, F: Functions<Core>, C: Ledger, A: Ledger, K: Ledger> Shop<'a, F, C, A, K> {
+impl<'a, F: Functions<Core>, L: Books> Shop<'a, F, L> {
     /// Shares a world.
     pub(crate) fn of(
         alloc: Global,
         funs: &'a F,
         sales: u64,
-        world: World<Core, C, A, K>,
-    ) -> Shop<'a, F, C, A, K> {
+        world: World<Core, L>,
+    ) -> Shop<'a, F, L> {
         Shop {
             alloc,
             funs,
@@ -117,7 +117,7 @@ impl<'a, F: Functions<Core>, C: Ledger, A: Ledger, K: Ledger> Shop<'a, F, C, A, 
     pub(crate) fn sell<R: Wait>(
         &self,
         rt: &R,
-        share: &mut Share<C, A, K>,
+        share: &mut Share<L>,
         stamp: Stamp,
         sale: Sale,
     ) -> Result<(), Trouble> {
@@ -146,7 +146,7 @@ impl<'a, F: Functions<Core>, C: Ledger, A: Ledger, K: Ledger> Shop<'a, F, C, A, 
     pub(crate) fn rest<R: Wait>(
         &self,
         rt: &R,
-        share: &mut Share<C, A, K>,
+        share: &mut Share<L>,
         log: u32,
     ) -> Result<(), Trouble> {
         self.shared.forget(rt, share);

@@ -9,7 +9,7 @@ use crate::shop::Shop;
 use ref_fun::{Core, Functions};
 use ref_world::{ALL_PARTS, Share};
 use std::sync::Wait;
-use std::sync::ledger::Ledger;
+use ref_world::Books;
 use std::thread;
 use std::thread::Threads;
 
@@ -18,16 +18,14 @@ use std::thread::Threads;
 /// If no thread can be made, `join` runs its second closure and then the first. So those who wait for the others, the helpers and who
 /// folds, are the first.
 pub(crate) fn open_hours<
-    C: Ledger + Send + Sync,
-    A: Ledger + Send + Sync,
-    K: Ledger + Send + Sync,
+    L: Books + Send + Sync,
     R: Threads + Wait + Sync,
     F: Functions<Core> + Sync,
 >(
     rt: &R,
-    shop: &Shop<F, C, A, K>,
-    share: Share<C, A, K>,
-) -> Result<(Done<C, A, K>, Errors), Trouble> {
+    shop: &Shop<F, L>,
+    share: Share<L>,
+) -> Result<(Done<L>, Errors), Trouble> {
     let mut share = share;
     let Some(part) = share.split(ALL_PARTS / 2) else {
         drop(share);
@@ -48,17 +46,15 @@ pub(crate) fn open_hours<
 }
 
 fn sell_and_fold<
-    C: Ledger + Send + Sync,
-    A: Ledger + Send + Sync,
-    K: Ledger + Send + Sync,
+    L: Books + Send + Sync,
     R: Threads + Wait + Sync,
     F: Functions<Core> + Sync,
 >(
     rt: &R,
-    shop: &Shop<F, C, A, K>,
-    share: Share<C, A, K>,
-    part: Share<C, A, K>,
-) -> Result<Done<C, A, K>, Trouble> {
+    shop: &Shop<F, L>,
+    share: Share<L>,
+    part: Share<L>,
+) -> Result<Done<L>, Trouble> {
     let (folded, sold) = thread::join(
         rt,
         move || keep_folding(rt, shop, part),
@@ -69,12 +65,10 @@ fn sell_and_fold<
 
 // Sells, and closes the shop, also where selling failed.
 pub(crate) fn sell_until_close<
-    C: Ledger + Send + Sync,
-    A: Ledger + Send + Sync,
-    K: Ledger + Send + Sync,
+    L: Books + Send + Sync,
     R: Threads + Wait + Sync,
     F: Functions<Core> + Sync,
->(rt: &R, shop: &Shop<F, C, A, K>, share: Share<C, A, K>) -> Result<Done<C, A, K>, Trouble> {
+>(rt: &R, shop: &Shop<F, L>, share: Share<L>) -> Result<Done<L>, Trouble> {
     let mut done = Done::of(share);
     let sold = sell_all(rt, shop, &mut done);
     shop.shared.close(rt);
@@ -88,10 +82,10 @@ pub(crate) fn sell_until_close<
 }
 
 // What came of two, as one.
-pub(crate) fn both<C: Ledger, A: Ledger, K: Ledger>(
-    one: Result<Done<C, A, K>, Trouble>,
-    other: Result<Done<C, A, K>, Trouble>,
-) -> Result<Done<C, A, K>, Trouble> {
+pub(crate) fn both<L: Books>(
+    one: Result<Done<L>, Trouble>,
+    other: Result<Done<L>, Trouble>,
+) -> Result<Done<L>, Trouble> {
     match one {
         Ok(mut done) => match join(&mut done, other) {
             Ok(()) => Ok(done),
@@ -107,9 +101,9 @@ pub(crate) fn both<C: Ledger, A: Ledger, K: Ledger>(
     }
 }
 
-fn join<C: Ledger, A: Ledger, K: Ledger>(
-    done: &mut Done<C, A, K>,
-    other: Result<Done<C, A, K>, Trouble>,
+fn join<L: Books>(
+    done: &mut Done<L>,
+    other: Result<Done<L>, Trouble>,
 ) -> Result<(), Trouble> {
     done.join(other?)
 }

@@ -11,11 +11,10 @@ use ref_fun::{Core, CoreFunctions};
 use ref_log::{Stamp, Who};
 use ref_shared::{Open, Quiet, Shared};
 use ref_tx::Tx;
-use ref_world::{RefStart, Share, Start, Totals, World};
+use ref_world::{Books, RefStart, Share, Start, Totals, World};
 use std::alloc::{AllocError, Global};
 use std::process::ExitCode;
 use std::sync::Wait;
-use std::sync::ledger::Ledger;
 use values::{Trouble, int_of, text, value, value_of};
 
 // The ref that has the votes. Refs are numbered from 0, in the order of `start`. RENAME
@@ -49,11 +48,11 @@ fn start(alloc: Global) -> Result<Start, AllocError> {
 }
 
 // What a thread does: its transactions, one after the other. RENAME
-fn work<C: Ledger, A: Ledger, K: Ledger, R: AllocGlobal + Wait>(
+fn work<L: Books, R: AllocGlobal + Wait>(
     rt: &R,
-    shared: &Shared<Core, C, A, K>,
+    shared: &Shared<Core, L>,
     worker: u32,
-    share: &mut Share<C, A, K>,
+    share: &mut Share<L>,
 ) -> Result<(), Trouble> {
     let (alloc, funs) = (rt.alloc(), &CoreFunctions);
     let (gate, board) = (&mut Open, &mut Quiet);
@@ -87,9 +86,9 @@ fn one_more(alloc: Global, votes: &Value, choice: Value) -> Result<Value, Troubl
 }
 
 // Prints what is in the world at the end. RENAME
-fn report<C: Ledger, A: Ledger, K: Ledger, R: AllocGlobal + Print>(
+fn report<R: AllocGlobal + Print>(
     rt: &R,
-    world: &World<Core, C, A, K>,
+    world: &World<Core>,
     totals: Totals,
 ) -> Result<(), Trouble> {
     let votes = text(rt.alloc(), world.value_of(Who::Ref(VOTES)).ok_or(Trouble)?)?;

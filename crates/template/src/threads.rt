@@ -3,17 +3,16 @@
 //! A world, a share and a shared world have many fields. A `?` that drops one writes its drop out at that place, while `drop(x)` and
 //! `ok()` are calls. So what owns one here has no `?` that drops it, and lends it to functions that have.
 ghost use Rattle.std.specs.Prelude.{◌≡◌};
-ghost use Rattle.ref_world.specs.Shares.{IsBlank};
+ghost use Rattle.ref_world.specs.Shares.{AreBlanks};
 
 use crate::values::Trouble;
 use crate::{report, start, work};
 use ref_fun::{Core, CoreFunctions};
 use ref_shared::Shared;
-use ref_world::{ALL_PARTS, Share, Totals, World};
+use ref_world::{ALL_PARTS, Blanks, Booked, Books, Share, Totals, World};
 use std::alloc::{AllocError, Global};
 use std::marker::Brand;
 use std::sync::Wait;
-use std::sync::ledger::{Blank, Ledger};
 use std::thread;
 use std::thread::Threads;
 
@@ -24,26 +23,17 @@ const PARTS: u64 = ALL_PARTS / 8;
 
 /// Runs the program. The books of its world begin as blanks, each of which is named as it is made.
 pub(crate) fn run<R: AllocGlobal + Print + Threads + Wait + Sync>(rt: &R) -> Result<(), Trouble> {
-    run_world::<Brand, Brand, Brand, R>(
-        rt,
-        Blank::new(ALL_PARTS),
-        Blank::new(ALL_PARTS),
-        Blank::new(ALL_PARTS),
-    )
+    run_world::<Brand, R>(rt, Blanks::new())
 }
 
 // The program in a world, whose books C, A and K name.
-fn run_world<
-    C: Ledger + Send + Sync,
-    A: Ledger + Send + Sync,
-    K: Ledger + Send + Sync,
-    R: AllocGlobal + Print + Threads + Wait + Sync,
->(rt: &R, commits: Blank, added: Blank, taken: Blank) -> Result<(), Trouble>
-    requires commits { IsBlank commits C.name C.parts }
-    requires added { IsBlank added A.name A.parts }
-    requires taken { IsBlank taken K.name K.parts }
+fn run_world<L: Books + Send + Sync, R: AllocGlobal + Print + Threads + Wait + Sync>(
+    rt: &R,
+    blanks: Blanks,
+) -> Result<(), Trouble>
+    requires { AreBlanks blanks L.commits L.added L.taken }
 {
-    let (shared, mut share) = open::<C, A, K>(rt.alloc(), commits, added, taken)?;
+    let (shared, mut share) = open::<L>(rt.alloc(), blanks)?;
     match work_all(rt, &shared, &mut share) {
         Ok(()) => close(rt, shared, share),
         Err(Trouble) => {
@@ -54,29 +44,21 @@ fn run_world<
 }
 
 // Makes the world, and puts it under a lock. The share has all its parts.
-fn open<C: Ledger, A: Ledger, K: Ledger>(
-    alloc: Global,
-    commits: Blank,
-    added: Blank,
-    taken: Blank,
-) -> Result<(Shared<Core, C, A, K>, Share<C, A, K>), Trouble>
-    requires commits { IsBlank commits C.name C.parts }
-    requires added { IsBlank added A.name A.parts }
-    requires taken { IsBlank taken K.name K.parts }
+fn open<L: Books>(alloc: Global, blanks: Blanks) -> Result<(Shared<Core, L>, Share<L>), Trouble>
+    requires { AreBlanks blanks L.commits L.added L.taken }
 {
-    match World::new(alloc, &CoreFunctions, &start(alloc)?, commits, added, taken) {
-        Ok((world, share)) => Ok((Shared::new(world), share)),
+    match Booked::new(alloc, &CoreFunctions, &start(alloc)?, blanks) {
+        Ok((booked, share)) => Ok((Shared::new(booked), share)),
         Err(_) => Err(Trouble),
     }
 }
 
 // Gives each thread a part of the share, and joins what they return.
-fn work_all<
-    C: Ledger + Send + Sync,
-    A: Ledger + Send + Sync,
-    K: Ledger + Send + Sync,
-    R: AllocGlobal + Threads + Wait + Sync,
->(rt: &R, shared: &Shared<Core, C, A, K>, share: &mut Share<C, A, K>) -> Result<(), Trouble> {
+fn work_all<L: Books + Send + Sync, R: AllocGlobal + Threads + Wait + Sync>(
+    rt: &R,
+    shared: &Shared<Core, L>,
+    share: &mut Share<L>,
+) -> Result<(), Trouble> {
     let parts = parts(rt.alloc(), share)?;
     let worked = thread::map_vec(
         rt,
@@ -87,10 +69,10 @@ fn work_all<
 }
 
 // A part of the share for each thread, with its number.
-fn parts<C: Ledger, A: Ledger, K: Ledger>(
+fn parts<L: Books>(
     alloc: Global,
-    share: &mut Share<C, A, K>,
-) -> Result<Vec<(u32, Share<C, A, K>)>, AllocError> {
+    share: &mut Share<L>,
+) -> Result<Vec<(u32, Share<L>)>, AllocError> {
     let mut parts = Vec::new(alloc);
     for worker in 0..THREADS {
         let Some(part) = share.split(PARTS) else {
@@ -101,12 +83,12 @@ fn parts<C: Ledger, A: Ledger, K: Ledger>(
     Ok(parts)
 }
 
-fn work_in<C: Ledger, A: Ledger, K: Ledger, R: AllocGlobal + Wait>(
+fn work_in<L: Books, R: AllocGlobal + Wait>(
     rt: &R,
-    shared: &Shared<Core, C, A, K>,
+    shared: &Shared<Core, L>,
     worker: u32,
-    mut part: Share<C, A, K>,
-) -> Result<Share<C, A, K>, Trouble> {
+    mut part: Share<L>,
+) -> Result<Share<L>, Trouble> {
     match work(rt, shared, worker, &mut part) {
         Ok(()) => Ok(part),
         Err(Trouble) => {
@@ -116,9 +98,9 @@ fn work_in<C: Ledger, A: Ledger, K: Ledger, R: AllocGlobal + Wait>(
     }
 }
 
-fn join_all<C: Ledger, A: Ledger, K: Ledger>(
-    share: &mut Share<C, A, K>,
-    parts: Vec<Result<Share<C, A, K>, Trouble>>,
+fn join_all<L: Books>(
+    share: &mut Share<L>,
+    parts: Vec<Result<Share<L>, Trouble>>,
 ) -> Result<(), Trouble> {
     for part in parts {
         if let Err(part) = share.join(part?) {
@@ -130,10 +112,10 @@ fn join_all<C: Ledger, A: Ledger, K: Ledger>(
 }
 
 // Takes the world out, and reports.
-fn close<C: Ledger, A: Ledger, K: Ledger, R: AllocGlobal + Print>(
+fn close<L: Books, R: AllocGlobal + Print>(
     rt: &R,
-    shared: Shared<Core, C, A, K>,
-    share: Share<C, A, K>,
+    shared: Shared<Core, L>,
+    share: Share<L>,
 ) -> Result<(), Trouble> {
     let (world, totals) = take_out(rt.alloc(), shared, share)?;
     let reported = report(rt, &world, totals);
@@ -142,11 +124,11 @@ fn close<C: Ledger, A: Ledger, K: Ledger, R: AllocGlobal + Print>(
 }
 
 // The world, and what the share counted. It compares the log with the receipts of all threads.
-fn take_out<C: Ledger, A: Ledger, K: Ledger>(
+fn take_out<L: Books>(
     alloc: Global,
-    shared: Shared<Core, C, A, K>,
-    share: Share<C, A, K>,
-) -> Result<(World<Core, C, A, K>, Totals), Trouble> {
+    shared: Shared<Core, L>,
+    share: Share<L>,
+) -> Result<(World<Core>, Totals), Trouble> {
     if share.is_whole() {
         shared.finish(alloc, share).ok().ok_or(Trouble)
     } else {

@@ -10,7 +10,7 @@ use ref_refs::CommitFault;
 use ref_tx::{Tx, TxFault};
 use ref_world::{Share, World};
 use std::alloc::{AllocError, Global};
-use std::sync::ledger::Ledger;
+use ref_world::Books;
 
 /// The stamp of each commit that is made here.
 pub(crate) const STAMP: Stamp = Stamp { worker: 1, step: 2 };
@@ -70,11 +70,11 @@ impl<'a> Scenario for Look<'a> {
         format!(in alloc; "{who:?} {fault}")
     }
 
-    fn look<C: Ledger, A: Ledger, K: Ledger>(
+    fn look<L: Books>(
         self,
         alloc: Global,
-        world: &mut World<Core, C, A, K>,
-        share: &mut Share<C, A, K>,
+        world: &mut World<Core, L>,
+        share: &mut Share<L>,
         rest: &[Event],
     ) -> Result<String, AllocError> {
         let Look {
@@ -94,10 +94,10 @@ impl<'a> Scenario for Look<'a> {
 }
 
 // Whether a transaction is refused for this fault.
-fn is_refused<C: Ledger, A: Ledger, K: Ledger>(
+fn is_refused<L: Books>(
     alloc: Global,
-    world: &mut World<Core, C, A, K>,
-    share: &mut Share<C, A, K>,
+    world: &mut World<Core, L>,
+    share: &mut Share<L>,
     table: &Table,
     tx: Tx<Core>,
     fault: CommitFault,
@@ -109,10 +109,10 @@ fn is_refused<C: Ledger, A: Ledger, K: Ledger>(
 }
 
 /// What comes of a commit. A refused one is refused again, for the same fault.
-pub(crate) fn committed<C: Ledger, A: Ledger, K: Ledger>(
+pub(crate) fn committed<L: Books>(
     alloc: Global,
-    world: &mut World<Core, C, A, K>,
-    share: &mut Share<C, A, K>,
+    world: &mut World<Core, L>,
+    share: &mut Share<L>,
     table: &Table,
     tx: Tx<Core>,
 ) -> Result<String, AllocError> {
@@ -149,11 +149,11 @@ impl Scenario for Beginning {
         Err(AllocError)
     }
 
-    fn look<C: Ledger, A: Ledger, K: Ledger>(
+    fn look<L: Books>(
         self,
         alloc: Global,
-        world: &mut World<Core, C, A, K>,
-        _share: &mut Share<C, A, K>,
+        world: &mut World<Core, L>,
+        _share: &mut Share<L>,
         rest: &[Event],
     ) -> Result<Tx<Core>, AllocError> {
         transaction(alloc, world, rest)
@@ -161,9 +161,9 @@ impl Scenario for Beginning {
 }
 
 /// A transaction with these operations.
-pub(crate) fn transaction<C: Ledger, A: Ledger, K: Ledger>(
+pub(crate) fn transaction<L: Books>(
     alloc: Global,
-    world: &World<Core, C, A, K>,
+    world: &World<Core, L>,
     events: &[Event],
 ) -> Result<Tx<Core>, AllocError> {
     let mut tx = world.begin(alloc)?;

@@ -6,7 +6,7 @@ use ref_fun::Core;
 use ref_play::Event;
 use ref_world::{ALL_PARTS, Share, World};
 use std::alloc::{AllocError, Global};
-use std::sync::ledger::Ledger;
+use ref_world::Books;
 use std::test::Fail;
 
 // What is left: the totals of the whole share, how many receipts it has, and the jobs that can be taken, by agent and number.
@@ -29,9 +29,9 @@ fn ends_leave_a_whole_share(rt: HostRuntime) -> Result<(), Fail> {
     )
 }
 
-fn jobs<C: Ledger, A: Ledger, K: Ledger>(
+fn jobs<L: Books>(
     alloc: Global,
-    world: &mut World<Core, C, A, K>,
+    world: &mut World<Core, L>,
 ) -> Result<Vec<(u32, u64)>, AllocError> {
     let mut all = Vec::new(alloc);
     // A job that came back would come without end.
@@ -47,17 +47,17 @@ fn jobs<C: Ledger, A: Ledger, K: Ledger>(
 }
 
 /// What is left of a world and its share.
-pub(crate) fn left<C: Ledger, A: Ledger, K: Ledger>(
+pub(crate) fn left<L: Books>(
     alloc: Global,
-    world: &mut World<Core, C, A, K>,
-    share: &mut Share<C, A, K>,
+    world: &mut World<Core, L>,
+    share: &mut Share<L>,
 ) -> Result<String, AllocError> {
     let (totals, receipts, jobs) = (
         world.totals(share),
         share.receipts().len(),
         jobs(alloc, world)?,
     );
-    let (commits, added, taken) = (totals.commits, totals.added, totals.taken);
+    let (blanks) = (totals.commits, totals.added, totals.taken);
     format!(in alloc; "{commits} {added} {taken}, {receipts}, {jobs:?}")
 }
 
@@ -79,10 +79,10 @@ fn shares_are_split_joined_and_forget(rt: HostRuntime) -> Result<(), Fail> {
 }
 
 // Commits a transaction, of which a share gets the receipt, at a point.
-fn is_committed<C: Ledger, A: Ledger, K: Ledger>(
+fn is_committed<L: Books>(
     alloc: Global,
-    world: &mut World<Core, C, A, K>,
-    share: &mut Share<C, A, K>,
+    world: &mut World<Core, L>,
+    share: &mut Share<L>,
     events: &[Event],
     point: u64,
 ) -> Result<bool, AllocError> {
@@ -91,10 +91,10 @@ fn is_committed<C: Ledger, A: Ledger, K: Ledger>(
     Ok(said == format!(in alloc; "point {point}")?)
 }
 
-fn told<C: Ledger, A: Ledger, K: Ledger>(
+fn told<L: Books>(
     alloc: Global,
-    world: &mut World<Core, C, A, K>,
-    share: &mut Share<C, A, K>,
+    world: &mut World<Core, L>,
+    share: &mut Share<L>,
     is_right: bool,
 ) -> Result<String, AllocError> {
     let mut points = Vec::new(alloc);
@@ -102,15 +102,15 @@ fn told<C: Ledger, A: Ledger, K: Ledger>(
         points.push(receipt.point)?;
     }
     let totals = world.totals(share);
-    let (commits, added, taken) = (totals.commits, totals.added, totals.taken);
+    let (blanks) = (totals.commits, totals.added, totals.taken);
     format!(in alloc; "{is_right} {points:?} {commits} {added} {taken}")
 }
 
 /// What comes of three commits, the first of which is counted in one half of a share, and the others in the other.
-pub(crate) fn split<C: Ledger, A: Ledger, K: Ledger>(
+pub(crate) fn split<L: Books>(
     alloc: Global,
-    world: &mut World<Core, C, A, K>,
-    share: &mut Share<C, A, K>,
+    world: &mut World<Core, L>,
+    share: &mut Share<L>,
     events: &[Event],
 ) -> Result<String, AllocError> {
     let none = share.split(0).is_none() && share.split(ALL_PARTS).is_none();
@@ -126,10 +126,10 @@ pub(crate) fn split<C: Ledger, A: Ledger, K: Ledger>(
 }
 
 /// What comes of three commits, the first two of which are folded and forgotten.
-pub(crate) fn forgotten<C: Ledger, A: Ledger, K: Ledger>(
+pub(crate) fn forgotten<L: Books>(
     alloc: Global,
-    world: &mut World<Core, C, A, K>,
-    share: &mut Share<C, A, K>,
+    world: &mut World<Core, L>,
+    share: &mut Share<L>,
     events: &[Event],
 ) -> Result<String, AllocError> {
     let done = is_committed(alloc, world, share, events, 1)?

@@ -1,6 +1,6 @@
 //! Worlds that a list of events came to. They are owned and dropped in this module alone: a test is lent them.
 ghost use Rattle.std.specs.Prelude.{◌≡◌};
-ghost use Rattle.ref_world.specs.Shares.{IsBlank};
+ghost use Rattle.ref_world.specs.Shares.{AreBlanks};
 
 use crate::tables::{FEWER, FULL};
 use ref_edn::read_one;
@@ -11,7 +11,7 @@ use ref_play::{Event, Reply, Sim};
 use ref_world::{ALL_PARTS, Share, World};
 use std::alloc::{AllocError, Global};
 use std::marker::Brand;
-use std::sync::ledger::{Blank, Ledger};
+use ref_world::{Blanks, Books};
 
 /// What a test does with a world.
 pub trait Scenario: Drop + Sized {
@@ -27,11 +27,11 @@ pub trait Scenario: Drop + Sized {
     fn refuse(self, alloc: Global, who: Who, fault: MakeFault) -> Result<Self::Seen, AllocError>;
 
     /// Makes calls on the world and the whole share that are left, and returns what is seen.
-    fn look<C: Ledger, A: Ledger, K: Ledger>(
+    fn look<L: Books>(
         self,
         alloc: Global,
-        world: &mut World<Core, C, A, K>,
-        share: &mut Share<C, A, K>,
+        world: &mut World<Core, L>,
+        share: &mut Share<L>,
         rest: &[Event],
     ) -> Result<Self::Seen, AllocError>;
 }
@@ -45,9 +45,9 @@ pub fn parts_of(alloc: Global, row: &str) -> Result<ScriptParts, AllocError> {
 }
 
 // Plays the events up to the first of actor 9, each as a list of its own that its table has to serve, and returns how many these are.
-fn play_front<C: Ledger, A: Ledger, K: Ledger, S: Scenario>(
+fn play_front<L: Books, S: Scenario>(
     alloc: Global,
-    sim: &mut Sim<Core, C, A, K>,
+    sim: &mut Sim<Core, L>,
     events: &[Event],
     scenario: &mut S,
 ) -> Result<usize, AllocError> {
@@ -73,39 +73,33 @@ fn play_front<C: Ledger, A: Ledger, K: Ledger, S: Scenario>(
 
 /// Does what a test does with the world of a row.
 pub fn run<S: Scenario>(alloc: Global, row: &str, scenario: S) -> Result<S::Seen, AllocError> {
-    let (commits, added, taken) = (
-        Blank::new(ALL_PARTS),
-        Blank::new(ALL_PARTS),
-        Blank::new(ALL_PARTS),
+    let (blanks) = (
+        Blanks::new(),
     );
     let parts = parts_of(alloc, row)?;
-    run_in::<Brand, Brand, Brand, S>(alloc, parts, scenario, commits, added, taken)
+    run_in::<Brand, S>(alloc, parts, scenario, blanks)
 }
 
 // It takes no `&str`: no names are picked for the books at a call that passes one.
-fn run_in<C: Ledger, A: Ledger, K: Ledger, S: Scenario>(
+fn run_in<L: Books, S: Scenario>(
     alloc: Global,
     parts: ScriptParts,
     scenario: S,
-    commits: Blank,
-    added: Blank,
-    taken: Blank,
+    blanks: Blanks,
 ) -> Result<S::Seen, AllocError>
-    requires commits { IsBlank commits C.name C.parts }
-    requires added { IsBlank added A.name A.parts }
-    requires taken { IsBlank taken K.name K.parts }
+    requires { AreBlanks blanks L.commits L.added L.taken }
 {
     let ScriptParts { start, events, .. } = parts;
     let table = if scenario.has_fewer(0) { FEWER } else { FULL };
-    match Sim::<Core, C, A, K>::new(alloc, &table, &start, commits, added, taken) {
+    match Sim::<Core, L>::new(alloc, &table, &start, blanks) {
         Ok(sim) => run_sim(alloc, sim, &events, scenario),
         Err((who, fault)) => scenario.refuse(alloc, who, fault),
     }
 }
 
-fn run_sim<C: Ledger, A: Ledger, K: Ledger, S: Scenario>(
+fn run_sim<L: Books, S: Scenario>(
     alloc: Global,
-    mut sim: Sim<Core, C, A, K>,
+    mut sim: Sim<Core, L>,
     events: &[Event],
     mut scenario: S,
 ) -> Result<S::Seen, AllocError> {

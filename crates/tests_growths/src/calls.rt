@@ -9,7 +9,7 @@ use ref_tx::Tx;
 use ref_world::{Receipt, Share};
 use std::alloc::Global;
 use std::sync::Wait;
-use std::sync::ledger::Ledger;
+use ref_world::Books;
 use tests_shared::jobs::work;
 use tests_shared::worlds::{STAMP, Stop};
 
@@ -74,13 +74,13 @@ pub(crate) struct Made {
 }
 
 /// A shared world that is lent.
-pub(crate) struct Lent<'a, R, C: Ledger, A: Ledger, K: Ledger> {
+pub(crate) struct Lent<'a, R, L: Books> {
     pub(crate) rt: &'a R,
     pub(crate) alloc: Global,
-    pub(crate) shared: &'a Shared<Core, C, A, K>,
+    pub(crate) shared: &'a Shared<Core, L>,
 }
 
-impl<'a, R, C: Ledger, A: Ledger, K: Ledger> Drop for Lent<'a, R, C, A, K> {
+impl<'a, R, L: Books> Drop for Lent<'a, R, L> {
     fn drop(self) {
         let Lent {
             rt: _,
@@ -99,7 +99,7 @@ fn transacted(answer: Result<((), Receipt), TransactFault<Stop>>) -> Said {
     }
 }
 
-impl<'a, R: Input + Wait, C: Ledger, A: Ledger, K: Ledger> Lent<'a, R, C, A, K> {
+impl<'a, R: Input + Wait, L: Books> Lent<'a, R, L> {
     // A transaction in which something was done.
     fn begun(&self, r: u32) -> Result<Begun, Stop> {
         let mut tx = self.shared.begin(self.rt, self.alloc)?;
@@ -107,7 +107,7 @@ impl<'a, R: Input + Wait, C: Ledger, A: Ledger, K: Ledger> Lent<'a, R, C, A, K> 
         Ok(Some(tx))
     }
 
-    fn transact(&self, share: &mut Share<C, A, K>) -> Said {
+    fn transact(&self, share: &mut Share<L>) -> Said {
         let (rt, alloc, funs, shared) = (self.rt, self.alloc, &CoreFunctions, self.shared);
         let work = |tx: &mut Tx<Core>| body(alloc, tx, 0, SENT_TO);
         let (gate, sink) = (&mut Open, &mut Quiet);
@@ -115,7 +115,7 @@ impl<'a, R: Input + Wait, C: Ledger, A: Ledger, K: Ledger> Lent<'a, R, C, A, K> 
     }
 
     // With a body that is ready at once.
-    fn transact_when(&self, share: &mut Share<C, A, K>) -> Said {
+    fn transact_when(&self, share: &mut Share<L>) -> Said {
         let (rt, alloc, funs, shared) = (self.rt, self.alloc, &CoreFunctions, self.shared);
         let mut work = |tx: &mut Tx<Core>| body(alloc, tx, 0, SENT_TO).map(Some);
         let (gate, sink) = (&mut Open, &mut Quiet);
@@ -127,7 +127,7 @@ impl<'a, R: Input + Wait, C: Ledger, A: Ledger, K: Ledger> Lent<'a, R, C, A, K> 
     }
 
     // Commits a transaction, if there is one. A refused one is open still.
-    fn commit(&self, share: &mut Share<C, A, K>, stamp: Stamp, open: &mut Begun) -> Said {
+    fn commit(&self, share: &mut Share<L>, stamp: Stamp, open: &mut Begun) -> Said {
         let Some(tx) = open.take() else {
             return Ok(CLOSED);
         };
@@ -162,7 +162,7 @@ impl<'a, R: Input + Wait, C: Ledger, A: Ledger, K: Ledger> Lent<'a, R, C, A, K> 
     }
 
     // Makes a call, but for `finish`, which takes the shared world.
-    fn make(&self, share: &mut Share<C, A, K>, own: &mut Begun, call: Call) -> Said {
+    fn make(&self, share: &mut Share<L>, own: &mut Begun, call: Call) -> Said {
         match call {
             Call::Transact => self.transact(share),
             Call::TransactWhen => self.transact_when(share),
@@ -203,7 +203,7 @@ impl<'a, R: Input + Wait, C: Ledger, A: Ledger, K: Ledger> Lent<'a, R, C, A, K> 
     }
 
     /// Makes the calls of a trial, and later ones.
-    pub(crate) fn try_it(self, share: &mut Share<C, A, K>, trial: Trial) -> Result<Made, Stop> {
+    pub(crate) fn try_it(self, share: &mut Share<L>, trial: Trial) -> Result<Made, Stop> {
         self.shared.close(self.rt);
         let (is_commit, is_full) = (trial.call == Call::Commit, trial.state > 0);
         let mut own = if is_commit { self.begun(0)? } else { None };

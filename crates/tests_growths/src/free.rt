@@ -20,7 +20,7 @@ use ref_value::{Node, Value};
 use ref_world::{Share, World};
 use std::alloc::Global;
 use std::sync::Wait;
-use std::sync::ledger::Ledger;
+use ref_world::Books;
 use tests_shared::worlds::{Stop, at_least, done, one_arg, value};
 
 // Ends a group of calls, of which each was right or not, and prints how many there are.
@@ -83,9 +83,9 @@ fn call_on_data<R: Input + Print>(rt: &R, alloc: Global) -> Result<(), Stop> {
     end(rt, "data", &of_data(&funs, args.as_slice(), &map, &list))
 }
 
-fn of_world<C: Ledger, A: Ledger, K: Ledger>(
+fn of_world<L: Books>(
     alloc: Global,
-    world: &World<Core, C, A, K>,
+    world: &World<Core, L>,
     rule: &Rule,
 ) -> [bool; 18] {
     let Ok(tx) = world.begin(alloc) else {
@@ -113,8 +113,8 @@ fn of_world<C: Ledger, A: Ledger, K: Ledger>(
     ]
 }
 
-fn of_reference<C: Ledger, A: Ledger, K: Ledger>(
-    world: &mut World<Core, C, A, K>,
+fn of_reference<L: Books>(
+    world: &mut World<Core, L>,
     who: Who,
     key: &Value,
 ) -> [bool; 3] {
@@ -126,9 +126,9 @@ fn of_reference<C: Ledger, A: Ledger, K: Ledger>(
 }
 
 // Takes a job, runs it and puts it back; takes it again and forsakes it. The sends of the commit at point 2 are held.
-fn of_agents<C: Ledger, A: Ledger, K: Ledger>(
+fn of_agents<L: Books>(
     alloc: Global,
-    world: &mut World<Core, C, A, K>,
+    world: &mut World<Core, L>,
     zero: Value,
 ) -> [bool; 6] {
     let Some(job) = world.take().ok().flatten() else {
@@ -155,7 +155,7 @@ fn of_agents<C: Ledger, A: Ledger, K: Ledger>(
     ]
 }
 
-fn of_share<C: Ledger, A: Ledger, K: Ledger>(share: &mut Share<C, A, K>) -> [bool; 3] {
+fn of_share<L: Books>(share: &mut Share<L>) -> [bool; 3] {
     let Some(part) = share.split(5) else {
         return [false; 3];
     };
@@ -165,10 +165,10 @@ fn of_share<C: Ledger, A: Ledger, K: Ledger>(share: &mut Share<C, A, K>) -> [boo
     [is_split, is_joined, share.is_whole()]
 }
 
-fn of_shared<R: Wait, C: Ledger, A: Ledger, K: Ledger>(
+fn of_shared<R: Wait, L: Books>(
     rt: &R,
     alloc: Global,
-    shared: &Shared<Core, C, A, K>,
+    shared: &Shared<Core, L>,
 ) -> [bool; 4] {
     shared.close(rt);
     [
@@ -179,11 +179,11 @@ fn of_shared<R: Wait, C: Ledger, A: Ledger, K: Ledger>(
     ]
 }
 
-fn call_on_world<R: Input + Print, C: Ledger, A: Ledger, K: Ledger>(
+fn call_on_world<R: Input + Print, L: Books>(
     rt: &R,
     alloc: Global,
-    world: &mut World<Core, C, A, K>,
-    share: &mut Share<C, A, K>,
+    world: &mut World<Core, L>,
+    share: &mut Share<L>,
 ) -> Result<(), Stop> {
     let (key, rule) = (value(alloc, ":k")?, at_least(alloc, "0")?);
     let zero = value(alloc, "0")?;
@@ -205,7 +205,7 @@ struct Calls;
 impl<R: AllocGlobal + Input + Print + Wait> Use<R> for Calls {
     type Out = Result<(), Stop>;
 
-    fn used<C: Ledger, A: Ledger, K: Ledger>(self, rt: &R, sim: Sim<Core, C, A, K>) -> Self::Out {
+    fn used<L: Books>(self, rt: &R, sim: Sim<Core, L>) -> Self::Out {
         let (alloc, Calls) = (rt.alloc(), self);
         refuse(rt, EACH);
         let (mut world, mut share) = sim.end();

@@ -10,7 +10,7 @@ use ref_value::Value;
 use ref_world::{Share, Totals, World};
 use std::alloc::Global;
 use std::sync::Wait;
-use std::sync::ledger::Ledger;
+use ref_world::Books;
 use tests_shared::worlds::{Stop, closed, done};
 
 /// What came of a call, and what the world shows then.
@@ -31,14 +31,14 @@ impl Seen {
 }
 
 // Ends a shared world. If that was refused, it is done once more.
-fn end<R: Input, C: Ledger, A: Ledger, K: Ledger>(
+fn end<R: Input, L: Books>(
     rt: &R,
     alloc: Global,
-    shared: Shared<Core, C, A, K>,
-    share: Share<C, A, K>,
+    shared: Shared<Core, L>,
+    share: Share<L>,
     trial: Trial,
     made: &mut Made,
-) -> Result<(World<Core, C, A, K>, Totals), Stop> {
+) -> Result<(World<Core, L>, Totals), Stop> {
     if !share.is_whole() {
         return Err(Stop::Refused);
     }
@@ -60,7 +60,7 @@ fn end<R: Input, C: Ledger, A: Ledger, K: Ledger>(
 impl<R: AllocGlobal + Input + Wait> Use<R> for Trial {
     type Out = Result<Seen, Stop>;
 
-    fn used<C: Ledger, A: Ledger, K: Ledger>(self, rt: &R, sim: Sim<Core, C, A, K>) -> Self::Out {
+    fn used<L: Books>(self, rt: &R, sim: Sim<Core, L>) -> Self::Out {
         let alloc = rt.alloc();
         let (world, mut share) = sim.end();
         let shared = Shared::new(world);

@@ -1,5 +1,5 @@
 //! The states of a world in which calls are made. It has three refs, a tally, an atom, and the agents g, h, i and j.
-ghost use Rattle.ref_world.specs.Shares.{IsBlank};
+ghost use Rattle.ref_world.specs.Shares.{AreBlanks};
 
 use crate::calls::Call;
 use ref_agents::ErrorMode;
@@ -11,7 +11,7 @@ use ref_tx::Tx;
 use ref_world::{ALL_PARTS, Start};
 use std::alloc::Global;
 use std::marker::Brand;
-use std::sync::ledger::{Blank, Ledger};
+use ref_world::{Blanks, Books};
 use tests_shared::worlds::{Stop, action, add, agent, at_least, done, one_arg, plain_start, value};
 
 const TALLY: u32 = 3;
@@ -162,24 +162,20 @@ fn events(alloc: Global, state: u32, call: Call) -> Result<Vec<Event>, Stop> {
 pub(crate) trait Use<R>: Drop {
     type Out;
 
-    fn used<C: Ledger, A: Ledger, K: Ledger>(self, rt: &R, sim: Sim<Core, C, A, K>) -> Self::Out;
+    fn used<L: Books>(self, rt: &R, sim: Sim<Core, L>) -> Self::Out;
 }
 
-fn open<R: AllocGlobal, W: Use<R>, C: Ledger, A: Ledger, K: Ledger>(
+fn open<R: AllocGlobal, W: Use<R>, L: Books>(
     rt: &R,
     start: &Start,
     events: &[Event],
     what: W,
-    commits: Blank,
-    added: Blank,
-    taken: Blank,
+    blanks: Blanks,
 ) -> Result<W::Out, Stop>
-    requires commits { IsBlank commits C.name C.parts }
-    requires added { IsBlank added A.name A.parts }
-    requires taken { IsBlank taken K.name K.parts }
+    requires { AreBlanks blanks L.commits L.added L.taken }
 {
     let (alloc, funs) = (rt.alloc(), &CoreFunctions);
-    let Ok(mut sim) = Sim::<Core, C, A, K>::new(alloc, funs, start, commits, added, taken) else {
+    let Ok(mut sim) = Sim::<Core, L>::new(alloc, funs, start, blanks) else {
         return Err(Stop::Refused);
     };
     if sim.served_by(funs) && sim.play(alloc, funs, events).is_ok() {
@@ -197,11 +193,9 @@ pub(crate) fn opened<R: AllocGlobal, W: Use<R>>(
     what: W,
 ) -> Result<W::Out, Stop> {
     let (start, events) = (start(rt.alloc())?, events(rt.alloc(), state, call)?);
-    let (commits, added, taken) = (
-        Blank::new(ALL_PARTS),
-        Blank::new(ALL_PARTS),
-        Blank::new(ALL_PARTS),
+    let (blanks) = (
+        Blanks::new(),
     );
     let events = events.as_slice();
-    open::<R, W, Brand, Brand, Brand>(rt, &start, events, what, commits, added, taken)
+    open::<R, W, Brand>(rt, &start, events, what, blanks)
 }

@@ -13,14 +13,14 @@ use ref_shared::{Open, Shared, Worked};
 use ref_world::Share;
 use std::alloc::Global;
 use std::sync::Wait;
-use std::sync::ledger::Ledger;
+use ref_world::Books;
 
 // What calls are made on.
 #[derive(Drop)]
-pub(crate) struct On<'a, 'b, R: Wait, C: Ledger, A: Ledger, K: Ledger> {
+pub(crate) struct On<'a, 'b, R: Wait, L: Books> {
     pub(crate) rt: &'a R,
     pub(crate) alloc: Global,
-    pub(crate) shared: &'b Shared<Core, C, A, K>,
+    pub(crate) shared: &'b Shared<Core, L>,
 }
 
 // The numbers before and after, and the notices.
@@ -45,7 +45,7 @@ fn compared(alloc: Global, answer: Result<Cas, AtomFault>) -> Said {
     }
 }
 
-impl<'a, 'b, R: Wait, C: Ledger, A: Ledger, K: Ledger> On<'a, 'b, R, C, A, K> {
+impl<'a, 'b, R: Wait, L: Books> On<'a, 'b, R, L> {
     // The numbers of the first nine of one kind that are there, in order.
     fn values(&self, kind: &str) -> Said {
         let mut list = text(self.alloc, "")?;
@@ -93,7 +93,7 @@ impl<'a, 'b, R: Wait, C: Ledger, A: Ledger, K: Ledger> On<'a, 'b, R, C, A, K> {
         said(alloc, made)
     }
 
-    pub(crate) fn atom(&self, share: &mut Share<C, A, K>, call: &[&str]) -> Said {
+    pub(crate) fn atom(&self, share: &mut Share<L>, call: &[&str]) -> Said {
         let (rt, alloc, shared, funs) = (self.rt, self.alloc, self.shared, &CoreFunctions);
         let (a, word, last) = (index_at(call, 1), at(call, 2), at(call, 3));
         match at(call, 0) {
@@ -182,7 +182,7 @@ impl<'a, 'b, R: Wait, C: Ledger, A: Ledger, K: Ledger> On<'a, 'b, R, C, A, K> {
     }
 
     // How many receipts the share has, once it has forgotten some if it is to.
-    pub(crate) fn receipts(&self, share: &mut Share<C, A, K>, call: &[&str]) -> Said {
+    pub(crate) fn receipts(&self, share: &mut Share<L>, call: &[&str]) -> Said {
         match (at(call, 0), at(call, 1)) {
             ("forget", "") => self.shared.forget(self.rt, share),
             ("forget", _) => share.forget(u64::from(number_at(call, 1))),

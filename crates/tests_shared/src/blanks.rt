@@ -3,7 +3,7 @@ ghost use Rattle.std.specs.Prelude.{◌≡◌};
 ghost use Rattle.ref_world.specs.Shares.{all_parts};
 
 use ref_world::ALL_PARTS;
-use std::sync::ledger::Blank;
+use ref_world::Blanks;
 
 /// The blanks of which a world makes its books: of commits, of what is added to the tally, and of what is taken from it.
 #[derive(Drop)]

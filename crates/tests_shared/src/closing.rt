@@ -11,7 +11,7 @@ use ref_pvec::PVec;
 use ref_shared::GatherFault;
 use ref_world::{Share, Totals, World};
 use std::alloc::Global;
-use std::sync::ledger::Ledger;
+use ref_world::Books;
 
 // As `1/0 at 0`, by its read point; or as `1/0 10`, by the kept answer of its first operation.
 fn transaction_text(alloc: Global, transaction: &Transaction, by_answer: bool) -> Said {
@@ -47,9 +47,9 @@ fn account_text(alloc: Global, account: &Account, word: &str) -> Said {
     }
 }
 
-fn of_world<C: Ledger, A: Ledger, K: Ledger>(
+fn of_world<L: Books>(
     alloc: Global,
-    world: &World<Core, C, A, K>,
+    world: &World<Core, L>,
     totals: Totals,
     call: &[&str],
 ) -> Said {
@@ -79,10 +79,10 @@ pub(crate) struct Ends<'t>(pub(crate) &'t [&'t str]);
 impl<'t> Inspection for Ends<'t> {
     type Seen = Wrong<'t>;
 
-    fn inspect<C: Ledger, A: Ledger, K: Ledger>(
+    fn inspect<L: Books>(
         &self,
         alloc: Global,
-        world: &mut World<Core, C, A, K>,
+        world: &mut World<Core, L>,
         totals: Totals,
     ) -> Result<Wrong<'t>, Stop> {
         for row in self.0 {
@@ -98,11 +98,11 @@ impl<'t> Inspection for Ends<'t> {
     }
 
     // There is to be one row of the end, which says it.
-    fn refused<C: Ledger, A: Ledger, K: Ledger>(
+    fn refused<L: Books>(
         &self,
         alloc: Global,
-        world: &World<Core, C, A, K>,
-        share: &Share<C, A, K>,
+        world: &World<Core, L>,
+        share: &Share<L>,
         fault: GatherFault,
     ) -> Result<Wrong<'t>, Stop> {
         let (whole, receipts) = (share.is_whole(), share.receipts().len());

@@ -12,7 +12,7 @@ use ref_shared::{Gate, Quiet, Shared, Spot, Worked};
 use ref_world::Share;
 use std::alloc::Global;
 use std::sync::Wait;
-use std::sync::ledger::Ledger;
+use ref_world::Books;
 use std::test::Fail;
 
 const FORGETTING: &str = "
@@ -52,13 +52,13 @@ fn receipts_of_folded_entries_are_not_asked_for(rt: HostRuntime) -> Result<(), F
 
 // A gate that folds an agent while an action is on its way, and stores what that answers.
 #[derive(Drop)]
-struct Folder<'a, R: Wait, C: Ledger, A: Ledger, K: Ledger> {
+struct Folder<'a, R: Wait, L: Books> {
     rt: &'a R,
-    shared: &'a Shared<Core, C, A, K>,
+    shared: &'a Shared<Core, L>,
     folded: Option<bool>,
 }
 
-impl<'a, R: Wait, C: Ledger, A: Ledger, K: Ledger> Gate for Folder<'a, R, C, A, K> {
+impl<'a, R: Wait, L: Books> Gate for Folder<'a, R, L> {
     fn pass(&mut self, spot: Spot) {
         if spot == Spot::AfterAction {
             self.folded = self.shared.fold_agent(self.rt, 0).ok();
@@ -73,12 +73,12 @@ struct Folding;
 impl<R: Wait> Scenario<R> for Folding {
     type Outcome = (Option<bool>, Work, Option<bool>);
 
-    fn run<C: Ledger, A: Ledger, K: Ledger>(
+    fn run<L: Books>(
         &self,
         rt: &R,
         alloc: Global,
-        shared: &Shared<Core, C, A, K>,
-        _share: &mut Share<C, A, K>,
+        shared: &Shared<Core, L>,
+        _share: &mut Share<L>,
     ) -> Result<(Option<bool>, Work, Option<bool>), Stop> {
         send(rt, alloc, shared, 0, PLUS, "1")?;
         let _ = done(work(rt, alloc, shared))?;

@@ -8,17 +8,17 @@ use ref_tx::Tx;
 use ref_world::Start;
 use std::alloc::{AllocError, Global};
 use std::sync::Wait;
-use std::sync::ledger::Ledger;
+use ref_world::Books;
 
 /// What a call of `work_once` answers.
 pub type Work = Result<Worked, WorkFault>;
 
 pub const CLOSED: Work = Ok(Worked::Closed);
 
-pub fn work<R: Wait, C: Ledger, A: Ledger, K: Ledger>(
+pub fn work<R: Wait, L: Books>(
     rt: &R,
     alloc: Global,
-    shared: &Shared<Core, C, A, K>,
+    shared: &Shared<Core, L>,
 ) -> Work {
     shared.work_once(rt, alloc, &CoreFunctions, &mut Open, &mut Quiet)
 }
@@ -39,9 +39,9 @@ pub fn send_four(alloc: Global, tx: &mut Tx<Core>) -> Result<(), Stop> {
 }
 
 /// The numbers that both agents hold now.
-pub fn agents_at<C: Ledger, A: Ledger, K: Ledger, R: Wait>(
+pub fn agents_at<L: Books, R: Wait>(
     rt: &R,
-    shared: &Shared<Core, C, A, K>,
+    shared: &Shared<Core, L>,
 ) -> (Option<i64>, Option<i64>) {
     (
         int_at(rt, shared, Who::Agent(0)),

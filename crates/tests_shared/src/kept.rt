@@ -10,12 +10,12 @@ use ref_log::Who;
 use ref_shared::Shared;
 use ref_world::{Share, Totals, World};
 use std::alloc::{AllocError, Global};
-use std::sync::ledger::Ledger;
+use ref_world::Books;
 use std::test::Fail;
 
 // The agent whose job is taken, which stays out.
-fn taken<C: Ledger, A: Ledger, K: Ledger>(
-    world: &mut World<Core, C, A, K>,
+fn taken<L: Books>(
+    world: &mut World<Core, L>,
 ) -> Result<Option<u32>, AllocError> {
     match world.take()? {
         Some(job) => {
@@ -28,9 +28,9 @@ fn taken<C: Ledger, A: Ledger, K: Ledger>(
 }
 
 // How a job ends that is run.
-fn ended<C: Ledger, A: Ledger, K: Ledger>(
+fn ended<L: Books>(
     alloc: Global,
-    world: &mut World<Core, C, A, K>,
+    world: &mut World<Core, L>,
     job: Job,
 ) -> Result<Finished, Stop> {
     let ran = match job.run(alloc, &CoreFunctions) {
@@ -50,9 +50,9 @@ fn ended<C: Ledger, A: Ledger, K: Ledger>(
 }
 
 // The agent whose job is taken and run, and the error with which it goes on.
-fn continued<C: Ledger, A: Ledger, K: Ledger>(
+fn continued<L: Books>(
     alloc: Global,
-    world: &mut World<Core, C, A, K>,
+    world: &mut World<Core, L>,
 ) -> Result<Option<(u32, AgentError)>, Stop> {
     let Some(job) = world.take()? else {
         return Ok(None);
@@ -65,10 +65,10 @@ fn continued<C: Ledger, A: Ledger, K: Ledger>(
 }
 
 // Commits `send g + 1`, which is held, at point 1.
-fn commit_send<C: Ledger, A: Ledger, K: Ledger>(
+fn commit_send<L: Books>(
     alloc: Global,
-    world: &mut World<Core, C, A, K>,
-    share: &mut Share<C, A, K>,
+    world: &mut World<Core, L>,
+    share: &mut Share<L>,
 ) -> Result<(), Stop> {
     let mut tx = world.begin(alloc)?;
     done(tx.send(alloc, &CoreFunctions, 0, action(alloc, PLUS, "1")?))?;
@@ -93,11 +93,11 @@ struct Keeping;
 impl<R> Scenario<R> for Keeping {
     type Outcome = ();
 
-    fn prepare<C: Ledger, A: Ledger, K: Ledger>(
+    fn prepare<L: Books>(
         &self,
         alloc: Global,
-        world: &mut World<Core, C, A, K>,
-        share: &mut Share<C, A, K>,
+        world: &mut World<Core, L>,
+        share: &mut Share<L>,
     ) -> Result<(), Stop> {
         let (key, action) = (value(alloc, ":w")?, action(alloc, PLUS, ":k")?);
         done(world.add_watch(Who::Ref(0), key))?;
@@ -106,12 +106,12 @@ impl<R> Scenario<R> for Keeping {
         commit_send(alloc, world, share)
     }
 
-    fn run<C: Ledger, A: Ledger, K: Ledger>(
+    fn run<L: Books>(
         &self,
         _rt: &R,
         _alloc: Global,
-        _shared: &Shared<Core, C, A, K>,
-        _share: &mut Share<C, A, K>,
+        _shared: &Shared<Core, L>,
+        _share: &mut Share<L>,
     ) -> Result<(), Stop> {
         Ok(())
     }
@@ -120,10 +120,10 @@ impl<R> Scenario<R> for Keeping {
 impl Inspection for Keeping {
     type Seen = Kept;
 
-    fn inspect<C: Ledger, A: Ledger, K: Ledger>(
+    fn inspect<L: Books>(
         &self,
         alloc: Global,
-        world: &mut World<Core, C, A, K>,
+        world: &mut World<Core, L>,
         _totals: Totals,
     ) -> Result<Kept, Stop> {
         let key = value(alloc, ":w")?;

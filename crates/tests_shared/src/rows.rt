@@ -52,7 +52,7 @@ use ref_world::{Share, Start};
 use std::alloc::{AllocError, Global};
 use std::process::Abort;
 use std::sync::Wait;
-use std::sync::ledger::Ledger;
+use ref_world::Books;
 use std::test::Fail;
 
 // A row that is wrong, and what is said.
@@ -95,9 +95,9 @@ fn start(alloc: Global, text: &str) -> Result<Start, AllocError> {
 
 // ---- The calls
 
-impl<'a, 'b, R: Wait, C: Ledger, A: Ledger, K: Ledger> On<'a, 'b, R, C, A, K> {
+impl<'a, 'b, R: Wait, L: Books> On<'a, 'b, R, L> {
     // Makes a call. Behind ": " are the operations of a transaction.
-    fn make_call(&self, share: &mut Share<C, A, K>, acts: &mut Acts, call: &str) -> Said {
+    fn make_call(&self, share: &mut Share<L>, acts: &mut Acts, call: &str) -> Said {
         let (head, body) = call.split_once(": ").unwrap_or((call, ""));
         let call = words(self.alloc, head)?;
         let call = call.as_slice();
@@ -118,7 +118,7 @@ impl<'a, 'b, R: Wait, C: Ledger, A: Ledger, K: Ledger> On<'a, 'b, R, C, A, K> {
     }
 
     // Makes all calls of a row.
-    fn answer(&self, share: &mut Share<C, A, K>, acts: &mut Acts, calls: &str) -> Said {
+    fn answer(&self, share: &mut Share<L>, acts: &mut Acts, calls: &str) -> Said {
         let mut all = text(self.alloc, "")?;
         for call in calls.split("; ") {
             add_reply(&mut all, self.make_call(share, acts, call))?;
@@ -129,7 +129,7 @@ impl<'a, 'b, R: Wait, C: Ledger, A: Ledger, K: Ledger> On<'a, 'b, R, C, A, K> {
     // The first row that is wrong.
     fn wrong_of<'t>(
         &self,
-        share: &mut Share<C, A, K>,
+        share: &mut Share<L>,
         acts: &mut Acts,
         rows: &'t [&'t str],
     ) -> Result<Wrong<'t>, AllocError> {
@@ -153,12 +153,12 @@ pub(crate) struct Rows<'t>(pub(crate) &'t [&'t str]);
 impl<'t, R: Wait> Scenario<R> for Rows<'t> {
     type Outcome = Wrong<'t>;
 
-    fn run<C: Ledger, A: Ledger, K: Ledger>(
+    fn run<L: Books>(
         &self,
         rt: &R,
         alloc: Global,
-        shared: &Shared<Core, C, A, K>,
-        share: &mut Share<C, A, K>,
+        shared: &Shared<Core, L>,
+        share: &mut Share<L>,
     ) -> Result<Wrong<'t>, Stop> {
         let on = On { rt, alloc, shared };
         let mut acts = Acts {

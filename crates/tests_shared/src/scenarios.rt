@@ -10,28 +10,28 @@ use ref_world::{Share, Start, Totals, World};
 use std::alloc::Global;
 use std::marker::Brand;
 use std::sync::Wait;
-use std::sync::ledger::Ledger;
+use ref_world::Books;
 
 /// What a test does with a shared world and its whole share.
 pub trait Scenario<R> {
     type Outcome: Drop;
 
     /// What is done with the world and the share before the world is shared.
-    fn prepare<C: Ledger, A: Ledger, K: Ledger>(
+    fn prepare<L: Books>(
         &self,
         _alloc: Global,
-        _world: &mut World<Core, C, A, K>,
-        _share: &mut Share<C, A, K>,
+        _world: &mut World<Core, L>,
+        _share: &mut Share<L>,
     ) -> Result<(), Stop> {
         Ok(())
     }
 
-    fn run<C: Ledger, A: Ledger, K: Ledger>(
+    fn run<L: Books>(
         &self,
         rt: &R,
         alloc: Global,
-        shared: &Shared<Core, C, A, K>,
-        share: &mut Share<C, A, K>,
+        shared: &Shared<Core, L>,
+        share: &mut Share<L>,
     ) -> Result<Self::Outcome, Stop>;
 }
 
@@ -39,19 +39,19 @@ pub trait Scenario<R> {
 pub trait Inspection {
     type Seen: Drop;
 
-    fn inspect<C: Ledger, A: Ledger, K: Ledger>(
+    fn inspect<L: Books>(
         &self,
         alloc: Global,
-        world: &mut World<Core, C, A, K>,
+        world: &mut World<Core, L>,
         totals: Totals,
     ) -> Result<Self::Seen, Stop>;
 
     /// The same where no world comes out, of what comes back.
-    fn refused<C: Ledger, A: Ledger, K: Ledger>(
+    fn refused<L: Books>(
         &self,
         _alloc: Global,
-        _world: &World<Core, C, A, K>,
-        _share: &Share<C, A, K>,
+        _world: &World<Core, L>,
+        _share: &Share<L>,
         _fault: GatherFault,
     ) -> Result<Self::Seen, Stop> {
         Err(Stop::Refused)
@@ -65,10 +65,10 @@ pub struct CommitCount;
 impl Inspection for CommitCount {
     type Seen = u64;
 
-    fn inspect<C: Ledger, A: Ledger, K: Ledger>(
+    fn inspect<L: Books>(
         &self,
         _alloc: Global,
-        _world: &mut World<Core, C, A, K>,
+        _world: &mut World<Core, L>,
         totals: Totals,
     ) -> Result<u64, Stop> {
         Ok(totals.commits)
@@ -89,10 +89,10 @@ pub struct AllCommits;
 impl Inspection for AllCommits {
     type Seen = Commits;
 
-    fn inspect<C: Ledger, A: Ledger, K: Ledger>(
+    fn inspect<L: Books>(
         &self,
         alloc: Global,
-        world: &mut World<Core, C, A, K>,
+        world: &mut World<Core, L>,
         totals: Totals,
     ) -> Result<Commits, Stop> {
         Ok(Commits {
@@ -111,10 +111,10 @@ pub fn run_to_end<R: Wait, S: Scenario<R>, I: Inspection>(
     inspection: &I,
 ) -> Result<(S::Outcome, I::Seen), Stop> {
     let blanks = Blanks::new();
-    run_to_end_in::<Brand, Brand, Brand, R, S, I>(rt, alloc, start, scenario, inspection, blanks)
+    run_to_end_in::<Brand, R, S, I>(rt, alloc, start, scenario, inspection, blanks)
 }
 
-fn run_to_end_in<C: Ledger, A: Ledger, K: Ledger, R: Wait, S: Scenario<R>, I: Inspection>(
+fn run_to_end_in<L: Books, R: Wait, S: Scenario<R>, I: Inspection>(
     rt: &R,
     alloc: Global,
     start: Start,
@@ -124,7 +124,7 @@ fn run_to_end_in<C: Ledger, A: Ledger, K: Ledger, R: Wait, S: Scenario<R>, I: In
 ) -> Result<(S::Outcome, I::Seen), Stop>
     requires { AreBlank blanks C.name C.parts A.name A.parts K.name K.parts }
 {
-    let (mut world, mut share) = made::<C, A, K>(alloc, start, blanks)?;
+    let (mut world, mut share) = made::<L>(alloc, start, blanks)?;
     if let Err(stop) = scenario.prepare(alloc, &mut world, &mut share) {
         return Err(stop);
     }
@@ -140,10 +140,10 @@ fn run_to_end_in<C: Ledger, A: Ledger, K: Ledger, R: Wait, S: Scenario<R>, I: In
 
 /// What is read of the world that a shared world ends with, or, where log and receipts don't fit, of what comes back. The share has to
 /// be whole.
-pub fn seen_at_end<C: Ledger, A: Ledger, K: Ledger, I: Inspection>(
+pub fn seen_at_end<L: Books, I: Inspection>(
     alloc: Global,
-    shared: Shared<Core, C, A, K>,
-    share: Share<C, A, K>,
+    shared: Shared<Core, L>,
+    share: Share<L>,
     inspection: &I,
 ) -> Result<I::Seen, Stop> {
     if !share.is_whole() {

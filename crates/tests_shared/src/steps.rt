@@ -7,13 +7,13 @@ use ref_tx::Tx;
 use ref_world::Share;
 use std::alloc::Global;
 use std::sync::Wait;
-use std::sync::ledger::Ledger;
+use ref_world::Books;
 
 /// Adds a watch with this key.
-pub fn watch<C: Ledger, A: Ledger, K: Ledger, R: Wait>(
+pub fn watch<L: Books, R: Wait>(
     rt: &R,
     alloc: Global,
-    shared: &Shared<Core, C, A, K>,
+    shared: &Shared<Core, L>,
     who: Who,
     key: &str,
 ) -> Result<(), Stop> {
@@ -23,10 +23,10 @@ pub fn watch<C: Ledger, A: Ledger, K: Ledger, R: Wait>(
 }
 
 /// Sends an action of one argument to an agent.
-pub fn send<C: Ledger, A: Ledger, K: Ledger, R: Wait>(
+pub fn send<L: Books, R: Wait>(
     rt: &R,
     alloc: Global,
-    shared: &Shared<Core, C, A, K>,
+    shared: &Shared<Core, L>,
     g: u32,
     code: u32,
     argument: &str,
@@ -36,11 +36,11 @@ pub fn send<C: Ledger, A: Ledger, K: Ledger, R: Wait>(
 }
 
 /// Commits a transaction, and returns the point.
-pub fn commit<C: Ledger, A: Ledger, K: Ledger, R: Wait>(
+pub fn commit<L: Books, R: Wait>(
     rt: &R,
     alloc: Global,
-    shared: &Shared<Core, C, A, K>,
-    share: &mut Share<C, A, K>,
+    shared: &Shared<Core, L>,
+    share: &mut Share<L>,
     stamp: Stamp,
     tx: Tx<Core>,
 ) -> Result<u64, Stop> {
@@ -49,11 +49,11 @@ pub fn commit<C: Ledger, A: Ledger, K: Ledger, R: Wait>(
 }
 
 /// Commits `ref-set 0 text`, and returns the point.
-pub fn commit_set<C: Ledger, A: Ledger, K: Ledger, R: Wait>(
+pub fn commit_set<L: Books, R: Wait>(
     rt: &R,
     alloc: Global,
-    shared: &Shared<Core, C, A, K>,
-    share: &mut Share<C, A, K>,
+    shared: &Shared<Core, L>,
+    share: &mut Share<L>,
     stamp: Stamp,
     text: &str,
 ) -> Result<u64, Stop> {

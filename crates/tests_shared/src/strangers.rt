@@ -14,7 +14,7 @@ use ref_world::Share;
 use std::alloc::Global;
 use std::mem::replace;
 use std::sync::Wait;
-use std::sync::ledger::Ledger;
+use ref_world::Books;
 use std::test::Fail;
 
 // Begins a transaction that sets r0, which is 0, to 7, after so many commits of `ref-set r0 0`.
@@ -26,12 +26,12 @@ struct Begun {
 impl<R: Wait> Scenario<R> for Begun {
     type Outcome = Tx<Core>;
 
-    fn run<C: Ledger, A: Ledger, K: Ledger>(
+    fn run<L: Books>(
         &self,
         rt: &R,
         alloc: Global,
-        shared: &Shared<Core, C, A, K>,
-        share: &mut Share<C, A, K>,
+        shared: &Shared<Core, L>,
+        share: &mut Share<L>,
     ) -> Result<Tx<Core>, Stop> {
         for step in 0..self.commits {
             let _ = commit_set(rt, alloc, shared, share, Stamp { worker: 0, step }, "0")?;
@@ -42,9 +42,9 @@ impl<R: Wait> Scenario<R> for Begun {
     }
 }
 
-impl<'a, 'b, R: Wait, C: Ledger, A: Ledger, K: Ledger> On<'a, 'b, R, C, A, K> {
+impl<'a, 'b, R: Wait, L: Books> On<'a, 'b, R, L> {
     // What comes of a `transact` whose body leaves a transaction in the place of its own.
-    fn leave(&self, share: &mut Share<C, A, K>, stranger: Option<Tx<Core>>) -> Said {
+    fn leave(&self, share: &mut Share<L>, stranger: Option<Tx<Core>>) -> Said {
         let (rt, alloc, funs, mut stranger) = (self.rt, self.alloc, &CoreFunctions, stranger);
         let committed = self.shared.transact(
             rt,
@@ -76,7 +76,7 @@ impl<'a, 'b, R: Wait, C: Ledger, A: Ledger, K: Ledger> On<'a, 'b, R, C, A, K> {
 
     pub(crate) fn foreign(
         &self,
-        share: &mut Share<C, A, K>,
+        share: &mut Share<L>,
         acts: &mut Acts,
         call: &[&str],
     ) -> Said {

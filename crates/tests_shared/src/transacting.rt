@@ -15,7 +15,7 @@ use ref_world::{Receipt, Share};
 use std::alloc::{AllocError, Global};
 use std::mem::replace;
 use std::sync::Wait;
-use std::sync::ledger::Ledger;
+use ref_world::Books;
 
 // What the calls of a world have open: the transactions `t` and `u`. Of the last `transact` or `when` how many bodies it began and called, and
 // how many receipts the share had then, without the other caller's. The step of the next one is how many there were.
@@ -80,18 +80,18 @@ fn landed(alloc: Global, answer: i64, receipt: Receipt, ear: Ear) -> Said {
 
 // A gate that lets another caller set r0 to 10 at the first bodies, before or after them, and counts the bodies.
 #[derive(Drop)]
-struct Between<'a, 'b, R: Wait, C: Ledger, A: Ledger, K: Ledger> {
+struct Between<'a, 'b, R: Wait, L: Books> {
     rt: &'a R,
     alloc: Global,
-    shared: &'b Shared<Core, C, A, K>,
-    share: Share<C, A, K>,
+    shared: &'b Shared<Core, L>,
+    share: Share<L>,
     at: Spot,
     left: u32,
     step: u32,
     bodies: u32,
 }
 
-impl<'a, 'b, R: Wait, C: Ledger, A: Ledger, K: Ledger> Gate for Between<'a, 'b, R, C, A, K> {
+impl<'a, 'b, R: Wait, L: Books> Gate for Between<'a, 'b, R, L> {
     fn pass(&mut self, spot: Spot) {
         if spot == Spot::BeforeBody {
             self.bodies = self.bodies.saturating_add(1);
@@ -106,14 +106,14 @@ impl<'a, 'b, R: Wait, C: Ledger, A: Ledger, K: Ledger> Gate for Between<'a, 'b, 
     }
 }
 
-impl<'a, 'b, R: Wait, C: Ledger, A: Ledger, K: Ledger> On<'a, 'b, R, C, A, K> {
+impl<'a, 'b, R: Wait, L: Books> On<'a, 'b, R, L> {
     fn transact(
         &self,
-        share: &mut Share<C, A, K>,
+        share: &mut Share<L>,
         acts: &mut Acts,
         call: &[&str],
         body: &str,
-        gate: &mut Between<'_, '_, R, C, A, K>,
+        gate: &mut Between<'_, '_, R, L>,
     ) -> Said {
         let (rt, alloc, shared, funs) = (self.rt, self.alloc, self.shared, table_at(call, 3));
         let (worker, step, tries) = (0, acts.step, count_at(call, 1));
@@ -143,11 +143,11 @@ impl<'a, 'b, R: Wait, C: Ledger, A: Ledger, K: Ledger> On<'a, 'b, R, C, A, K> {
     // The word for a body is behind that for the one before.
     fn when(
         &self,
-        share: &mut Share<C, A, K>,
+        share: &mut Share<L>,
         acts: &mut Acts,
         call: &[&str],
         body: &str,
-        gate: &mut Between<'_, '_, R, C, A, K>,
+        gate: &mut Between<'_, '_, R, L>,
     ) -> Said {
         let (rt, alloc, shared, funs) = (self.rt, self.alloc, self.shared, &CoreFunctions);
         let (worker, step, tries) = (0, acts.step, count_at(call, 1));
@@ -183,7 +183,7 @@ impl<'a, 'b, R: Wait, C: Ledger, A: Ledger, K: Ledger> On<'a, 'b, R, C, A, K> {
     // Makes one of these two next to a gate, which has a part of the share, and gives it back.
     pub(crate) fn transacted(
         &self,
-        share: &mut Share<C, A, K>,
+        share: &mut Share<L>,
         acts: &mut Acts,
         call: &[&str],
         body: &str,
@@ -225,7 +225,7 @@ impl<'a, 'b, R: Wait, C: Ledger, A: Ledger, K: Ledger> On<'a, 'b, R, C, A, K> {
     // Commits a transaction, which comes back where it is refused.
     fn commit(
         &self,
-        share: &mut Share<C, A, K>,
+        share: &mut Share<L>,
         call: &[&str],
         tx: Tx<Core>,
     ) -> (Said, Option<Tx<Core>>) {
@@ -243,7 +243,7 @@ impl<'a, 'b, R: Wait, C: Ledger, A: Ledger, K: Ledger> On<'a, 'b, R, C, A, K> {
     // A call on an open transaction, or none, and what is open then.
     fn on_tx(
         &self,
-        share: &mut Share<C, A, K>,
+        share: &mut Share<L>,
         call: &[&str],
         body: &str,
         tx: Option<Tx<Core>>,
@@ -266,7 +266,7 @@ impl<'a, 'b, R: Wait, C: Ledger, A: Ledger, K: Ledger> On<'a, 'b, R, C, A, K> {
     // A call on `t` or `u`.
     pub(crate) fn open(
         &self,
-        share: &mut Share<C, A, K>,
+        share: &mut Share<L>,
         acts: &mut Acts,
         call: &[&str],
         body: &str,

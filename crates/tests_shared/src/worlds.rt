@@ -15,7 +15,7 @@ use ref_tx::Tx;
 use ref_world::{AgentStart, AtomStart, RefStart, Share, Start, Totals, World};
 use std::alloc::{AllocError, AllocFailed, Global};
 use std::sync::Wait;
-use std::sync::ledger::Ledger;
+use ref_world::Books;
 
 /// The stamp of a commit where nothing hangs on it.
 pub const STAMP: Stamp = Stamp { worker: 0, step: 0 };
@@ -102,11 +102,11 @@ pub fn agent(value: Value, rule: Option<Rule>) -> AgentStart {
 }
 
 /// A world of these references, and its whole share.
-pub fn made<C: Ledger, A: Ledger, K: Ledger>(
+pub fn made<L: Books>(
     alloc: Global,
     start: Start,
     blanks: Blanks,
-) -> Result<(World<Core, C, A, K>, Share<C, A, K>), Stop>
+) -> Result<(World<Core, L>, Share<L>), Stop>
     requires { AreBlank blanks C.name C.parts A.name A.parts K.name K.parts }
 {
     let Blanks {
@@ -114,18 +114,18 @@ pub fn made<C: Ledger, A: Ledger, K: Ledger>(
         added,
         taken,
     } = blanks;
-    match World::new(alloc, &CoreFunctions, &start, commits, added, taken) {
+    match World::new(alloc, &CoreFunctions, &start, blanks) {
         Ok(made) => Ok(made),
         Err(_) => Err(Stop::Refused),
     }
 }
 
 /// The world that a shared world ends with, and its totals, where the share is whole and log and receipts fit.
-pub fn closed<C: Ledger, A: Ledger, K: Ledger>(
+pub fn closed<L: Books>(
     alloc: Global,
-    shared: Shared<Core, C, A, K>,
-    share: Share<C, A, K>,
-) -> Result<(World<Core, C, A, K>, Totals), Stop> {
+    shared: Shared<Core, L>,
+    share: Share<L>,
+) -> Result<(World<Core, L>, Totals), Stop> {
     if !share.is_whole() {
         return Err(Stop::Refused);
     }
@@ -133,9 +133,9 @@ pub fn closed<C: Ledger, A: Ledger, K: Ledger>(
 }
 
 /// The number that a reference holds now, if it is there and holds one.
-pub fn int_at<C: Ledger, A: Ledger, K: Ledger, R: Wait>(
+pub fn int_at<L: Books, R: Wait>(
     rt: &R,
-    shared: &Shared<Core, C, A, K>,
+    shared: &Shared<Core, L>,
     who: Who,
 ) -> Option<i64> {
     int_of(&shared.value_of(rt, who).ok()??)

@@ -14,7 +14,7 @@ use std::alloc::{AllocError, Global};
 use std::marker::Brand;
 use std::process::Abort;
 use std::sync::Wait;
-use std::sync::ledger::Ledger;
+use ref_world::Books;
 use std::test::Fail;
 use std::thread::Threads;
 use std::time::Clock;
@@ -69,15 +69,13 @@ fn start(alloc: Global, case: Case) -> Result<Start, AllocError> {
 }
 
 fn see<
-    C: Ledger + Send + Sync,
-    A: Ledger + Send + Sync,
-    K: Ledger + Send + Sync,
+    L: Books + Send + Sync,
     R: AllocGlobal + Threads + Wait + Clock + Abort + Sync,
 >(
     rt: &R,
     case: Case,
-    shared: &Shared<Core, C, A, K>,
-    share: &mut Share<C, A, K>,
+    shared: &Shared<Core, L>,
+    share: &mut Share<L>,
 ) -> Result<(), Stop> {
     match case {
         Case::Sum => threads::see_sum(rt, shared, share),
@@ -98,15 +96,13 @@ fn see<
 }
 
 fn see_waking<
-    C: Ledger + Send + Sync,
-    A: Ledger + Send + Sync,
-    K: Ledger + Send + Sync,
+    L: Books + Send + Sync,
     R: AllocGlobal + Threads + Wait + Clock + Abort + Sync,
 >(
     rt: &R,
     case: Case,
-    shared: &Shared<Core, C, A, K>,
-    share: &mut Share<C, A, K>,
+    shared: &Shared<Core, L>,
+    share: &mut Share<L>,
 ) -> Result<(), Stop> {
     match case {
         Case::Release => releases::see_release(rt, shared, share),
@@ -123,10 +119,10 @@ fn see_waking<
     }
 }
 
-fn look_at<C: Ledger, A: Ledger, K: Ledger, R: AllocGlobal + Abort>(
+fn look_at<L: Books, R: AllocGlobal + Abort>(
     rt: &R,
     case: Case,
-    world: &World<Core, C, A, K>,
+    world: &World<Core, L>,
     totals: Totals,
 ) -> Result<(), Stop> {
     match case {
@@ -143,11 +139,11 @@ fn look_at<C: Ledger, A: Ledger, K: Ledger, R: AllocGlobal + Abort>(
     }
 }
 
-fn end<C: Ledger, A: Ledger, K: Ledger, R: AllocGlobal + Abort>(
+fn end<L: Books, R: AllocGlobal + Abort>(
     rt: &R,
     case: Case,
-    shared: Shared<Core, C, A, K>,
-    share: Share<C, A, K>,
+    shared: Shared<Core, L>,
+    share: Share<L>,
 ) -> Result<(), Stop> {
     match closed(rt.alloc(), shared, share) {
         Ok((world, totals)) => look_at(rt, case, &world, totals),
@@ -156,14 +152,12 @@ fn end<C: Ledger, A: Ledger, K: Ledger, R: AllocGlobal + Abort>(
 }
 
 fn run<
-    C: Ledger + Send + Sync,
-    A: Ledger + Send + Sync,
-    K: Ledger + Send + Sync,
+    L: Books + Send + Sync,
     R: AllocGlobal + Threads + Wait + Clock + Abort + Sync,
 >(rt: &R, case: Case, start: Start, blanks: Blanks) -> Result<(), Stop>
     requires { AreBlank blanks C.name C.parts A.name A.parts K.name K.parts }
 {
-    let (mut world, mut share) = made::<C, A, K>(rt.alloc(), start, blanks)?;
+    let (mut world, mut share) = made::<L>(rt.alloc(), start, blanks)?;
     let prepared = match case {
         Case::CarriedRelease => releases::carry_both(rt.alloc(), &mut world),
         _ => Ok(()),
@@ -183,6 +177,6 @@ pub(crate) fn check<R: AllocGlobal + Threads + Wait + Clock + Abort + Sync>(
     case: Case,
 ) -> Result<(), Fail> {
     let start = start(rt.alloc(), case)?;
-    run::<Brand, Brand, Brand, R>(rt, case, start, Blanks::new())?;
+    run::<Brand, R>(rt, case, start, Blanks::new())?;
     Ok(())
 }

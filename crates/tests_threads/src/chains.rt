@@ -11,7 +11,7 @@ use ref_world::{Start, World};
 use std::alloc::{AllocError, Global};
 use std::process::Abort;
 use std::sync::Wait;
-use std::sync::ledger::Ledger;
+use ref_world::Books;
 use std::test::Fail;
 use std::thread;
 use std::thread::Threads;
@@ -64,10 +64,10 @@ fn link(alloc: Global, g: u32, n: i64) -> Result<Action, AllocError> {
     })
 }
 
-fn send_all<R: Wait, C: Ledger, A: Ledger, K: Ledger>(
+fn send_all<R: Wait, L: Books>(
     rt: &R,
     alloc: Global,
-    shared: &Shared<Core, C, A, K>,
+    shared: &Shared<Core, L>,
 ) -> Result<(), Stop> {
     for n in 0..ROUNDS {
         for g in 0..AGENTS {
@@ -78,10 +78,10 @@ fn send_all<R: Wait, C: Ledger, A: Ledger, K: Ledger>(
 }
 
 // Sends all, and then closes the shared world, also if a send was refused.
-fn send_and_close<R: Wait, C: Ledger, A: Ledger, K: Ledger>(
+fn send_and_close<R: Wait, L: Books>(
     rt: &R,
     alloc: Global,
-    shared: &Shared<Core, C, A, K>,
+    shared: &Shared<Core, L>,
 ) -> Result<(), Stop> {
     let sent = send_all(rt, alloc, shared);
     shared.close(rt);
@@ -89,11 +89,9 @@ fn send_and_close<R: Wait, C: Ledger, A: Ledger, K: Ledger>(
 }
 
 fn four_pools<
-    C: Ledger + Send + Sync,
-    A: Ledger + Send + Sync,
-    K: Ledger + Send + Sync,
+    L: Books + Send + Sync,
     R: Threads + Wait + Sync,
->(rt: &R, alloc: Global, shared: &Shared<Core, C, A, K>) -> Result<u32, Stop> {
+>(rt: &R, alloc: Global, shared: &Shared<Core, L>) -> Result<u32, Stop> {
     let (one, two) = thread::join(
         rt,
         move || two_pools(rt, alloc, shared),
@@ -128,7 +126,7 @@ fn is_right(g: u32, state: &Value) -> bool {
 }
 
 // The first agent that isn't as it should be.
-fn first_wrong<C: Ledger, A: Ledger, K: Ledger>(world: &World<Core, C, A, K>) -> Option<u32> {
+fn first_wrong<L: Books>(world: &World<Core, L>) -> Option<u32> {
     for g in 0..AGENTS {
         match world.value_of(Who::Agent(g)) {
             Some(state) if is_right(g, state) => {}
@@ -140,11 +138,9 @@ fn first_wrong<C: Ledger, A: Ledger, K: Ledger>(world: &World<Core, C, A, K>) ->
 
 // Four threads run actions, while another one sends them: six to each agent, and six to each but the first of a chain.
 pub(crate) fn see<
-    C: Ledger + Send + Sync,
-    A: Ledger + Send + Sync,
-    K: Ledger + Send + Sync,
+    L: Books + Send + Sync,
     R: AllocGlobal + Threads + Wait + Clock + Abort + Sync,
->(rt: &R, shared: &Shared<Core, C, A, K>) -> Result<(), Stop> {
+>(rt: &R, shared: &Shared<Core, L>) -> Result<(), Stop> {
     let alloc = rt.alloc();
     let (ran, sent) = thread::join(
         rt,
@@ -155,9 +151,9 @@ pub(crate) fn see<
     Ok(())
 }
 
-pub(crate) fn look_at<C: Ledger, A: Ledger, K: Ledger, R: AllocGlobal + Abort>(
+pub(crate) fn look_at<L: Books, R: AllocGlobal + Abort>(
     rt: &R,
-    world: &World<Core, C, A, K>,
+    world: &World<Core, L>,
 ) -> Result<(), Stop> {
     same(rt, first_wrong(world), None);
     Ok(())

@@ -8,7 +8,7 @@ use ref_world::{CheckpointFault, Share, Totals, View, World};
 use std::alloc::{AllocError, Global};
 use std::process::Abort;
 use std::sync::Wait;
-use std::sync::ledger::Ledger;
+use ref_world::Books;
 use std::test::Fail;
 use std::thread;
 use std::thread::Threads;
@@ -18,10 +18,10 @@ use tests_shared::steps::commit;
 use tests_shared::worlds::{Stop, add};
 
 // Checkpoints at a point, at it again, before it, and past the last.
-fn fold<R: Wait, C: Ledger, A: Ledger, K: Ledger>(
+fn fold<R: Wait, L: Books>(
     rt: &R,
     alloc: Global,
-    shared: &Shared<Core, C, A, K>,
+    shared: &Shared<Core, L>,
 ) -> Result<Vec<Result<u64, CheckpointFault>>, AllocError> {
     let mut answers = Vec::new(alloc);
     for point in [2, 2, 1, 4] {
@@ -41,11 +41,9 @@ fn read(alloc: Global, view: View<Core>) -> (usize, Option<i64>) {
 
 // The checkpoints by one thread, and the view by another, which has the entries from before.
 pub(crate) fn see<
-    C: Ledger + Send + Sync,
-    A: Ledger + Send + Sync,
-    K: Ledger + Send + Sync,
+    L: Books + Send + Sync,
     R: AllocGlobal + Threads + Wait + Clock + Abort + Sync,
->(rt: &R, shared: &Shared<Core, C, A, K>, share: &mut Share<C, A, K>) -> Result<(), Stop> {
+>(rt: &R, shared: &Shared<Core, L>, share: &mut Share<L>) -> Result<(), Stop> {
     let alloc = rt.alloc();
     for step in 0..3u32 {
         commit_add(rt, alloc, shared, share, Stamp { worker: 0, step })?;
@@ -66,11 +64,11 @@ pub(crate) fn see<
     Ok(())
 }
 
-fn commit_add<R: Wait, C: Ledger, A: Ledger, K: Ledger>(
+fn commit_add<R: Wait, L: Books>(
     rt: &R,
     alloc: Global,
-    shared: &Shared<Core, C, A, K>,
-    share: &mut Share<C, A, K>,
+    shared: &Shared<Core, L>,
+    share: &mut Share<L>,
     stamp: Stamp,
 ) -> Result<(), Stop> {
     let mut tx = shared.begin(rt, alloc)?;
@@ -79,9 +77,9 @@ fn commit_add<R: Wait, C: Ledger, A: Ledger, K: Ledger>(
 }
 
 // The world's base, and how many entries there are after it.
-pub(crate) fn look_at<C: Ledger, A: Ledger, K: Ledger, R: AllocGlobal + Abort>(
+pub(crate) fn look_at<L: Books, R: AllocGlobal + Abort>(
     rt: &R,
-    world: &World<Core, C, A, K>,
+    world: &World<Core, L>,
     totals: Totals,
 ) -> Result<(), Stop> {
     let base = world.base();

@@ -17,7 +17,7 @@ use std::alloc::Global;
 use std::process::Abort;
 use std::sync::Wait;
 use std::sync::atomic::Ordering;
-use std::sync::ledger::Ledger;
+use ref_world::Books;
 use std::test::Fail;
 use std::thread;
 use std::thread::Threads;
@@ -87,9 +87,9 @@ impl<'a, 'b, R: Clock> Functions<Core> for Pause<'a, 'b, R> {
 type Look = Result<(Option<i64>, Work), Stop>;
 
 // Looks once the other is there, and says so.
-fn look<R: AllocGlobal + Wait + Clock, C: Ledger, A: Ledger, K: Ledger>(
+fn look<R: AllocGlobal + Wait + Clock, L: Books>(
     rt: &R,
-    shared: &Shared<Core, C, A, K>,
+    shared: &Shared<Core, L>,
     who: Who,
     flags: &Flags,
 ) -> Look {
@@ -105,14 +105,14 @@ fn look<R: AllocGlobal + Wait + Clock, C: Ledger, A: Ledger, K: Ledger>(
 
 // Adds 1 to a and sends `+ 4` to h, in a transaction that waits if asked, though it is ready. It returns the share, and whether it was
 // committed.
-fn transact<R: AllocGlobal + Wait + Clock, C: Ledger, A: Ledger, K: Ledger>(
+fn transact<R: AllocGlobal + Wait + Clock, L: Books>(
     rt: &R,
-    shared: &Shared<Core, C, A, K>,
-    mut share: Share<C, A, K>,
+    shared: &Shared<Core, L>,
+    mut share: Share<L>,
     place: Place,
     waits: bool,
     flags: &Flags,
-) -> (Share<C, A, K>, bool) {
+) -> (Share<L>, bool) {
     let is_ok = if waits {
         commit_waiting(rt, shared, &mut share, place, flags)
     } else {
@@ -121,10 +121,10 @@ fn transact<R: AllocGlobal + Wait + Clock, C: Ledger, A: Ledger, K: Ledger>(
     (share, is_ok)
 }
 
-fn commit<R: AllocGlobal + Wait + Clock, C: Ledger, A: Ledger, K: Ledger>(
+fn commit<R: AllocGlobal + Wait + Clock, L: Books>(
     rt: &R,
-    shared: &Shared<Core, C, A, K>,
-    share: &mut Share<C, A, K>,
+    shared: &Shared<Core, L>,
+    share: &mut Share<L>,
     place: Place,
     flags: &Flags,
 ) -> bool {
@@ -148,10 +148,10 @@ fn commit<R: AllocGlobal + Wait + Clock, C: Ledger, A: Ledger, K: Ledger>(
     committed.is_ok()
 }
 
-fn commit_waiting<R: AllocGlobal + Wait + Clock, C: Ledger, A: Ledger, K: Ledger>(
+fn commit_waiting<R: AllocGlobal + Wait + Clock, L: Books>(
     rt: &R,
-    shared: &Shared<Core, C, A, K>,
-    share: &mut Share<C, A, K>,
+    shared: &Shared<Core, L>,
+    share: &mut Share<L>,
     place: Place,
     flags: &Flags,
 ) -> bool {
@@ -183,14 +183,12 @@ fn add_and_send(alloc: Global, tx: &mut Tx<Core>) -> Result<(), Stop> {
 // A transaction in a world that is closed, so that a worker there learns that no agent is ready. The look comes before the waiting is given
 // up. What it sends isn't ready before the watches are called.
 pub(crate) fn see_transaction<
-    C: Ledger + Send + Sync,
-    A: Ledger + Send + Sync,
-    K: Ledger + Send + Sync,
+    L: Books + Send + Sync,
     R: AllocGlobal + Threads + Wait + Clock + Abort + Sync,
 >(
     rt: &R,
-    shared: &Shared<Core, C, A, K>,
-    share: &mut Share<C, A, K>,
+    shared: &Shared<Core, L>,
+    share: &mut Share<L>,
     place: Place,
     seen: i64,
     waits: bool,
@@ -238,9 +236,9 @@ fn the_lock_is_free_at_each_step_of_a_transaction(rt: HostRuntime) -> Result<(),
 // ---- An action
 
 // Runs the action of h, and answers whether it did.
-fn act<R: AllocGlobal + Wait + Clock, C: Ledger, A: Ledger, K: Ledger>(
+fn act<R: AllocGlobal + Wait + Clock, L: Books>(
     rt: &R,
-    shared: &Shared<Core, C, A, K>,
+    shared: &Shared<Core, L>,
     place: Place,
     flags: &Flags,
 ) -> bool {
@@ -253,11 +251,9 @@ fn act<R: AllocGlobal + Wait + Clock, C: Ledger, A: Ledger, K: Ledger>(
 
 // An action in a world that is closed.
 pub(crate) fn see_action<
-    C: Ledger + Send + Sync,
-    A: Ledger + Send + Sync,
-    K: Ledger + Send + Sync,
+    L: Books + Send + Sync,
     R: AllocGlobal + Threads + Wait + Clock + Abort + Sync,
->(rt: &R, shared: &Shared<Core, C, A, K>, place: Place, seen: i64) -> Result<(), Stop> {
+>(rt: &R, shared: &Shared<Core, L>, place: Place, seen: i64) -> Result<(), Stop> {
     watch(rt, rt.alloc(), shared, Who::Agent(1), ":k")?;
     send(rt, rt.alloc(), shared, 1, PLUS, "4")?;
     shared.close(rt);

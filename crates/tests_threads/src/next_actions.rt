@@ -14,7 +14,7 @@ use std::alloc::{AllocError, Global};
 use std::process::Abort;
 use std::sync::Wait;
 use std::sync::atomic::{AtomicBool, Ordering};
-use std::sync::ledger::Ledger;
+use ref_world::Books;
 use std::test::Fail;
 use std::thread;
 use std::thread::Threads;
@@ -40,11 +40,9 @@ fn carrying(alloc: Global, text: &str) -> Result<Action, AllocError> {
 }
 
 pub(crate) fn see_carried<
-    C: Ledger + Send + Sync,
-    A: Ledger + Send + Sync,
-    K: Ledger + Send + Sync,
+    L: Books + Send + Sync,
     R: AllocGlobal + Threads + Wait + Clock + Abort + Sync,
->(rt: &R, shared: &Shared<Core, C, A, K>) -> Result<(), Stop> {
+>(rt: &R, shared: &Shared<Core, L>) -> Result<(), Stop> {
     let alloc = rt.alloc();
     done(shared.send(rt, 0, carrying(alloc, "1")?))?;
     let turns = take_turns(rt, alloc, shared);
@@ -71,10 +69,10 @@ impl<'a, 'b, R: Clock> WatchSink for Late<'a, 'b, R> {
 }
 
 // Runs the first action, held until the other thread waits for the next one, with that sink, and closes.
-fn work_watched<R: Wait + Clock, C: Ledger, A: Ledger, K: Ledger>(
+fn work_watched<R: Wait + Clock, L: Books>(
     rt: &R,
     alloc: Global,
-    shared: &Shared<Core, C, A, K>,
+    shared: &Shared<Core, L>,
     flags: &Flags,
 ) -> (Work, bool) {
     let mut gate = Meet {
@@ -94,11 +92,9 @@ fn work_watched<R: Wait + Clock, C: Ledger, A: Ledger, K: Ledger>(
 }
 
 pub(crate) fn see_watched<
-    C: Ledger + Send + Sync,
-    A: Ledger + Send + Sync,
-    K: Ledger + Send + Sync,
+    L: Books + Send + Sync,
     R: AllocGlobal + Threads + Wait + Clock + Abort + Sync,
->(rt: &R, shared: &Shared<Core, C, A, K>) -> Result<(), Stop> {
+>(rt: &R, shared: &Shared<Core, L>) -> Result<(), Stop> {
     let alloc = rt.alloc();
     watch(rt, alloc, shared, Who::Agent(0), ":k")?;
     send(rt, alloc, shared, 0, PLUS, "1")?;
@@ -120,9 +116,9 @@ pub(crate) fn see_watched<
 
 // Waits while the first action of g is on its way: for g, or for an action of g to run. Returns whether this went well, and whether it came
 // in time.
-fn wait_next<R: AllocGlobal + Wait + Clock, C: Ledger, A: Ledger, K: Ledger>(
+fn wait_next<R: AllocGlobal + Wait + Clock, L: Books>(
     rt: &R,
-    shared: &Shared<Core, C, A, K>,
+    shared: &Shared<Core, L>,
     awaits: bool,
     flags: &Flags,
 ) -> (bool, bool) {
@@ -139,11 +135,9 @@ fn wait_next<R: AllocGlobal + Wait + Clock, C: Ledger, A: Ledger, K: Ledger>(
 
 // g goes on where an action fails. If it isn't waited for, `+ 2` stands behind the action that is passed over. Nothing is left for h.
 pub(crate) fn see_passing<
-    C: Ledger + Send + Sync,
-    A: Ledger + Send + Sync,
-    K: Ledger + Send + Sync,
+    L: Books + Send + Sync,
     R: AllocGlobal + Threads + Wait + Clock + Abort + Sync,
->(rt: &R, shared: &Shared<Core, C, A, K>, awaits: bool, value: i64) -> Result<(), Stop> {
+>(rt: &R, shared: &Shared<Core, L>, awaits: bool, value: i64) -> Result<(), Stop> {
     let alloc = rt.alloc();
     done(shared.set_error_mode(rt, 0, ErrorMode::Continue))?;
     done(shared.send(rt, 0, carrying(alloc, ":k")?))?;

@@ -5,17 +5,17 @@ use ref_shared::{Open, Quiet, Shared, Worked};
 use std::alloc::Global;
 use std::sync::Wait;
 use std::sync::atomic::Ordering;
-use std::sync::ledger::Ledger;
+use ref_world::Books;
 use std::thread;
 use std::thread::Threads;
 use tests_shared::jobs::{Work, work};
 use tests_shared::worlds::{Stop, done};
 
 /// Runs actions until the shared world is closed and no agent is ready, and returns how many.
-pub fn pool<R: Wait, C: Ledger, A: Ledger, K: Ledger>(
+pub fn pool<R: Wait, L: Books>(
     rt: &R,
     alloc: Global,
-    shared: &Shared<Core, C, A, K>,
+    shared: &Shared<Core, L>,
 ) -> Result<u32, Stop> {
     for did in 0..1_000u32 {
         match done(shared.work_once(rt, alloc, &CoreFunctions, &mut Open, &mut Quiet))? {
@@ -28,11 +28,9 @@ pub fn pool<R: Wait, C: Ledger, A: Ledger, K: Ledger>(
 
 /// Two threads run actions, as [`pool`] does; it returns how many.
 pub fn two_pools<
-    C: Ledger + Send + Sync,
-    A: Ledger + Send + Sync,
-    K: Ledger + Send + Sync,
+    L: Books + Send + Sync,
     R: Threads + Wait + Sync,
->(rt: &R, alloc: Global, shared: &Shared<Core, C, A, K>) -> Result<u32, Stop> {
+>(rt: &R, alloc: Global, shared: &Shared<Core, L>) -> Result<u32, Stop> {
     let (one, two) = thread::join(
         rt,
         move || pool(rt, alloc, shared),
@@ -42,10 +40,10 @@ pub fn two_pools<
 }
 
 /// Works three times, and says before each that it comes, and when it has ended.
-pub fn work_thrice<R: Wait, C: Ledger, A: Ledger, K: Ledger>(
+pub fn work_thrice<R: Wait, L: Books>(
     rt: &R,
     alloc: Global,
-    shared: &Shared<Core, C, A, K>,
+    shared: &Shared<Core, L>,
     flags: &Flags,
 ) -> (Work, Work, Work) {
     flags.first.store(true, Ordering::SeqCst);

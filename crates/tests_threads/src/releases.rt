@@ -15,7 +15,7 @@ use std::alloc::{AllocError, Global};
 use std::process::Abort;
 use std::sync::Wait;
 use std::sync::atomic::{AtomicBool, Ordering};
-use std::sync::ledger::Ledger;
+use ref_world::Books;
 use std::test::Fail;
 use std::thread;
 use std::thread::Threads;
@@ -25,9 +25,9 @@ use tests_shared::steps::commit;
 use tests_shared::worlds::{STAMP, Stop, action, done, one_arg};
 
 // Runs one action, which is held until the other's has begun, and says before that it comes.
-fn come_and_meet<R: AllocGlobal + Wait + Clock, C: Ledger, A: Ledger, K: Ledger>(
+fn come_and_meet<R: AllocGlobal + Wait + Clock, L: Books>(
     rt: &R,
-    shared: &Shared<Core, C, A, K>,
+    shared: &Shared<Core, L>,
     comes: &AtomicBool,
     here: &AtomicBool,
     there: &AtomicBool,
@@ -37,11 +37,9 @@ fn come_and_meet<R: AllocGlobal + Wait + Clock, C: Ledger, A: Ledger, K: Ledger>
 }
 
 fn two_meet<
-    C: Ledger + Send + Sync,
-    A: Ledger + Send + Sync,
-    K: Ledger + Send + Sync,
+    L: Books + Send + Sync,
     R: AllocGlobal + Threads + Wait + Clock + Sync,
->(rt: &R, shared: &Shared<Core, C, A, K>, flags: &Flags) -> ((bool, bool), (bool, bool)) {
+>(rt: &R, shared: &Shared<Core, L>, flags: &Flags) -> ((bool, bool), (bool, bool)) {
     let (one, two) = thread::join(
         rt,
         move || come_and_meet(rt, shared, &flags.first, &flags.third, &flags.fourth),
@@ -57,9 +55,9 @@ fn both_wait<R: Clock>(rt: &R, flags: &Flags) -> bool {
 }
 
 // Waits until each has begun an action, and returns whether they were woken to do so.
-fn both_begin<R: AllocGlobal + Wait + Clock, C: Ledger, A: Ledger, K: Ledger>(
+fn both_begin<R: AllocGlobal + Wait + Clock, L: Books>(
     rt: &R,
-    shared: &Shared<Core, C, A, K>,
+    shared: &Shared<Core, L>,
     flags: &Flags,
 ) -> bool {
     let (one, other) = (wait_for(rt, &flags.third), wait_for(rt, &flags.fourth));
@@ -72,9 +70,9 @@ fn both_begin<R: AllocGlobal + Wait + Clock, C: Ledger, A: Ledger, K: Ledger>(
 
 // Releases what was sent to g and to h while two wait, by the commit at a point or, without one, by an action of g; and returns whether both
 // were woken.
-fn release_to_two<R: AllocGlobal + Wait + Clock, C: Ledger, A: Ledger, K: Ledger>(
+fn release_to_two<R: AllocGlobal + Wait + Clock, L: Books>(
     rt: &R,
-    shared: &Shared<Core, C, A, K>,
+    shared: &Shared<Core, L>,
     point: Option<u64>,
     flags: &Flags,
 ) -> bool {
@@ -89,11 +87,9 @@ fn release_to_two<R: AllocGlobal + Wait + Clock, C: Ledger, A: Ledger, K: Ledger
 
 // Two run an action each, that of g `+ 1` and that of h `+ 4`, and meet, and a third one wakes both.
 pub(crate) fn see_released<
-    C: Ledger + Send + Sync,
-    A: Ledger + Send + Sync,
-    K: Ledger + Send + Sync,
+    L: Books + Send + Sync,
     R: AllocGlobal + Threads + Wait + Clock + Abort + Sync,
->(rt: &R, shared: &Shared<Core, C, A, K>, point: Option<u64>) -> Result<(), Stop> {
+>(rt: &R, shared: &Shared<Core, L>, point: Option<u64>) -> Result<(), Stop> {
     let flags = Flags::new();
     let lent = &flags;
     let (works, woke) = thread::join(
@@ -116,11 +112,9 @@ fn send_both(alloc: Global, tx: &mut Tx<Core>) -> Result<(), Stop> {
 
 // Commits both sends, and releases them while two wait.
 pub(crate) fn see_release<
-    C: Ledger + Send + Sync,
-    A: Ledger + Send + Sync,
-    K: Ledger + Send + Sync,
+    L: Books + Send + Sync,
     R: AllocGlobal + Threads + Wait + Clock + Abort + Sync,
->(rt: &R, shared: &Shared<Core, C, A, K>, share: &mut Share<C, A, K>) -> Result<(), Stop> {
+>(rt: &R, shared: &Shared<Core, L>, share: &mut Share<L>) -> Result<(), Stop> {
     let mut tx = shared.begin(rt, rt.alloc())?;
     send_both(rt.alloc(), &mut tx)?;
     let point = commit(rt, rt.alloc(), shared, share, STAMP, tx)?;
@@ -130,12 +124,12 @@ pub(crate) fn see_release<
 // ---- By a `transact`, which releases what it sent
 
 // Sends both in a `transact` while two wait, and returns whether both were woken.
-fn transact_for_two<R: AllocGlobal + Wait + Clock, C: Ledger, A: Ledger, K: Ledger>(
+fn transact_for_two<R: AllocGlobal + Wait + Clock, L: Books>(
     rt: &R,
-    shared: &Shared<Core, C, A, K>,
-    mut share: Share<C, A, K>,
+    shared: &Shared<Core, L>,
+    mut share: Share<L>,
     flags: &Flags,
-) -> (Share<C, A, K>, bool) {
+) -> (Share<L>, bool) {
     let alloc = rt.alloc();
     let were_there = both_wait(rt, flags);
     let committed = shared.transact(
@@ -154,11 +148,9 @@ fn transact_for_two<R: AllocGlobal + Wait + Clock, C: Ledger, A: Ledger, K: Ledg
 }
 
 pub(crate) fn see_transact<
-    C: Ledger + Send + Sync,
-    A: Ledger + Send + Sync,
-    K: Ledger + Send + Sync,
+    L: Books + Send + Sync,
     R: AllocGlobal + Threads + Wait + Clock + Abort + Sync,
->(rt: &R, shared: &Shared<Core, C, A, K>, share: &mut Share<C, A, K>) -> Result<(), Stop> {
+>(rt: &R, shared: &Shared<Core, L>, share: &mut Share<L>) -> Result<(), Stop> {
     let part = share.split(1).ok_or(Stop::Refused)?;
     let flags = Flags::new();
     let lent = &flags;
@@ -196,9 +188,9 @@ fn carrying_both(alloc: Global) -> Result<Action, AllocError> {
 }
 
 // Runs a job, and releases nothing of what its action carried.
-fn end_job<C: Ledger, A: Ledger, K: Ledger>(
+fn end_job<L: Books>(
     alloc: Global,
-    world: &mut World<Core, C, A, K>,
+    world: &mut World<Core, L>,
     job: Job,
 ) -> Result<(), Stop> {
     let ran = match job.run(alloc, &CoreFunctions) {
@@ -216,9 +208,9 @@ fn end_job<C: Ledger, A: Ledger, K: Ledger>(
 }
 
 // Sends that action, and ends it. `work_once` releases what it ended itself, so this is done before the world is shared.
-pub(crate) fn carry_both<C: Ledger, A: Ledger, K: Ledger>(
+pub(crate) fn carry_both<L: Books>(
     alloc: Global,
-    world: &mut World<Core, C, A, K>,
+    world: &mut World<Core, L>,
 ) -> Result<(), Stop> {
     done(world.send(0, carrying_both(alloc)?))?;
     match done(world.take())? {

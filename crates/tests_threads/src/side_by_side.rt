@@ -13,7 +13,7 @@ use std::alloc::Global;
 use std::process::Abort;
 use std::sync::Wait;
 use std::sync::atomic::{AtomicBool, Ordering};
-use std::sync::ledger::Ledger;
+use ref_world::Books;
 use std::test::Fail;
 use std::thread;
 use std::thread::Threads;
@@ -23,9 +23,9 @@ use tests_shared::steps::send;
 use tests_shared::worlds::{Stop, done, int_at};
 
 // Runs one action, and answers whether it met the other.
-pub(crate) fn work_and_meet<R: AllocGlobal + Wait + Clock, C: Ledger, A: Ledger, K: Ledger>(
+pub(crate) fn work_and_meet<R: AllocGlobal + Wait + Clock, L: Books>(
     rt: &R,
-    shared: &Shared<Core, C, A, K>,
+    shared: &Shared<Core, L>,
     here: &AtomicBool,
     there: &AtomicBool,
 ) -> (bool, bool) {
@@ -42,11 +42,9 @@ pub(crate) fn work_and_meet<R: AllocGlobal + Wait + Clock, C: Ledger, A: Ledger,
 
 // Two threads, each of which runs an action that is held until the other's has begun.
 pub(crate) fn see_meeting<
-    C: Ledger + Send + Sync,
-    A: Ledger + Send + Sync,
-    K: Ledger + Send + Sync,
+    L: Books + Send + Sync,
     R: AllocGlobal + Threads + Wait + Clock + Abort + Sync,
->(rt: &R, shared: &Shared<Core, C, A, K>) -> Result<(), Stop> {
+>(rt: &R, shared: &Shared<Core, L>) -> Result<(), Stop> {
     send(rt, rt.alloc(), shared, 0, PLUS, "1")?;
     send(rt, rt.alloc(), shared, 1, PLUS, "2")?;
     let flags = Flags::new();
@@ -62,10 +60,10 @@ pub(crate) fn see_meeting<
 }
 
 // Runs one action by a table, held until the other waits for the next one, and closes once that one was run.
-pub(crate) fn work_first<R: Wait + Clock, C: Ledger, A: Ledger, K: Ledger, F: Functions<Core>>(
+pub(crate) fn work_first<R: Wait + Clock, L: Books, F: Functions<Core>>(
     rt: &R,
     alloc: Global,
-    shared: &Shared<Core, C, A, K>,
+    shared: &Shared<Core, L>,
     funs: &F,
     flags: &Flags,
 ) -> (Work, bool) {
@@ -82,10 +80,10 @@ pub(crate) fn work_first<R: Wait + Clock, C: Ledger, A: Ledger, K: Ledger, F: Fu
 }
 
 // Waits for the next action while the first is on its way, and runs it.
-pub(crate) fn work_next<R: Wait + Clock, C: Ledger, A: Ledger, K: Ledger>(
+pub(crate) fn work_next<R: Wait + Clock, L: Books>(
     rt: &R,
     alloc: Global,
-    shared: &Shared<Core, C, A, K>,
+    shared: &Shared<Core, L>,
     flags: &Flags,
 ) -> (Work, bool) {
     let in_time = wait_for(rt, &flags.first);
@@ -97,11 +95,9 @@ pub(crate) fn work_next<R: Wait + Clock, C: Ledger, A: Ledger, K: Ledger>(
 
 // Two threads that run two actions of one agent.
 pub(crate) fn take_turns<
-    C: Ledger + Send + Sync,
-    A: Ledger + Send + Sync,
-    K: Ledger + Send + Sync,
+    L: Books + Send + Sync,
     R: Threads + Wait + Clock + Sync,
->(rt: &R, alloc: Global, shared: &Shared<Core, C, A, K>) -> ((Work, bool), (Work, bool)) {
+>(rt: &R, alloc: Global, shared: &Shared<Core, L>) -> ((Work, bool), (Work, bool)) {
     let flags = Flags::new();
     let lent = &flags;
     let (next, first) = thread::join(
@@ -114,11 +110,9 @@ pub(crate) fn take_turns<
 
 // The first action calls the function of this code with 1. If the agent's rule doesn't accept its value, the agent goes on.
 pub(crate) fn see_turns<
-    C: Ledger + Send + Sync,
-    A: Ledger + Send + Sync,
-    K: Ledger + Send + Sync,
+    L: Books + Send + Sync,
     R: AllocGlobal + Threads + Wait + Clock + Abort + Sync,
->(rt: &R, shared: &Shared<Core, C, A, K>, code: u32, value: i64) -> Result<(), Stop> {
+>(rt: &R, shared: &Shared<Core, L>, code: u32, value: i64) -> Result<(), Stop> {
     let alloc = rt.alloc();
     done(shared.set_error_mode(rt, 0, ErrorMode::Continue))?;
     send(rt, alloc, shared, 0, code, "1")?;
@@ -158,9 +152,9 @@ struct Did {
 }
 
 // Runs one action, and says so once the call has returned.
-fn work_beside<R: AllocGlobal + Wait + Clock, C: Ledger, A: Ledger, K: Ledger>(
+fn work_beside<R: AllocGlobal + Wait + Clock, L: Books>(
     rt: &R,
-    shared: &Shared<Core, C, A, K>,
+    shared: &Shared<Core, L>,
     flags: &Flags,
 ) -> Did {
     let alloc = rt.alloc();
@@ -181,11 +175,9 @@ fn work_beside<R: AllocGlobal + Wait + Clock, C: Ledger, A: Ledger, K: Ledger>(
 
 // One action is held, in time, and these are of both agents.
 pub(crate) fn see_holding<
-    C: Ledger + Send + Sync,
-    A: Ledger + Send + Sync,
-    K: Ledger + Send + Sync,
+    L: Books + Send + Sync,
     R: AllocGlobal + Threads + Wait + Clock + Abort + Sync,
->(rt: &R, shared: &Shared<Core, C, A, K>) -> Result<(), Stop> {
+>(rt: &R, shared: &Shared<Core, L>) -> Result<(), Stop> {
     send(rt, rt.alloc(), shared, 0, PLUS, "1")?;
     send(rt, rt.alloc(), shared, 1, PLUS, "2")?;
     let flags = Flags::new();

@@ -11,7 +11,7 @@ use ref_world::{RefStart, Share, Start, Totals, World};
 use std::alloc::{AllocError, Global};
 use std::process::Abort;
 use std::sync::Wait;
-use std::sync::ledger::Ledger;
+use ref_world::Books;
 use std::test::Fail;
 use std::thread;
 use std::thread::Threads;
@@ -72,13 +72,13 @@ fn change(alloc: Global, tx: &mut Tx<Core>, n: u32) -> Result<(), Stop> {
 }
 
 // Fifty rounds of a transaction and a change of the atom. It answers the share, and whether none was refused.
-fn fifty<R: Wait, C: Ledger, A: Ledger, K: Ledger>(
+fn fifty<R: Wait, L: Books>(
     rt: &R,
     alloc: Global,
-    shared: &Shared<Core, C, A, K>,
-    mut share: Share<C, A, K>,
+    shared: &Shared<Core, L>,
+    mut share: Share<L>,
     worker: u32,
-) -> (Share<C, A, K>, Result<(), Stop>) {
+) -> (Share<L>, Result<(), Stop>) {
     for step in 0..50u32 {
         if let Err(stop) = round(rt, alloc, shared, &mut share, Stamp { worker, step }) {
             return (share, Err(stop));
@@ -87,11 +87,11 @@ fn fifty<R: Wait, C: Ledger, A: Ledger, K: Ledger>(
     (share, Ok(()))
 }
 
-fn round<R: Wait, C: Ledger, A: Ledger, K: Ledger>(
+fn round<R: Wait, L: Books>(
     rt: &R,
     alloc: Global,
-    shared: &Shared<Core, C, A, K>,
-    share: &mut Share<C, A, K>,
+    shared: &Shared<Core, L>,
+    share: &mut Share<L>,
     stamp: Stamp,
 ) -> Result<(), Stop> {
     let n = stamp.worker.saturating_add(stamp.step);
@@ -113,17 +113,15 @@ fn round<R: Wait, C: Ledger, A: Ledger, K: Ledger>(
 
 // Two threads' rounds, each with a part of the share. It answers the parts joined, and whether none was refused.
 fn two_by_fifty<
-    C: Ledger + Send + Sync,
-    A: Ledger + Send + Sync,
-    K: Ledger + Send + Sync,
+    L: Books + Send + Sync,
     R: Threads + Wait + Sync,
 >(
     rt: &R,
     alloc: Global,
-    shared: &Shared<Core, C, A, K>,
-    mut share: Share<C, A, K>,
+    shared: &Shared<Core, L>,
+    mut share: Share<L>,
     worker: u32,
-) -> (Share<C, A, K>, Result<(), Stop>) {
+) -> (Share<L>, Result<(), Stop>) {
     let Some(other) = share.split(1) else {
         return (share, Err(Stop::Refused));
     };
@@ -137,10 +135,10 @@ fn two_by_fifty<
 }
 
 // Two shares joined, and what came of both.
-fn together<C: Ledger, A: Ledger, K: Ledger>(
-    mine: (Share<C, A, K>, Result<(), Stop>),
-    theirs: (Share<C, A, K>, Result<(), Stop>),
-) -> (Share<C, A, K>, Result<(), Stop>) {
+fn together<L: Books>(
+    mine: (Share<L>, Result<(), Stop>),
+    theirs: (Share<L>, Result<(), Stop>),
+) -> (Share<L>, Result<(), Stop>) {
     let (mut share, mine) = mine;
     let (other, theirs) = theirs;
     let joined = match share.join(other) {
@@ -152,16 +150,14 @@ fn together<C: Ledger, A: Ledger, K: Ledger>(
 
 // Four threads' rounds; then the shared world is closed.
 fn four_by_fifty<
-    C: Ledger + Send + Sync,
-    A: Ledger + Send + Sync,
-    K: Ledger + Send + Sync,
+    L: Books + Send + Sync,
     R: Threads + Wait + Sync,
 >(
     rt: &R,
     alloc: Global,
-    shared: &Shared<Core, C, A, K>,
-    mut share: Share<C, A, K>,
-) -> (Share<C, A, K>, Result<(), Stop>) {
+    shared: &Shared<Core, L>,
+    mut share: Share<L>,
+) -> (Share<L>, Result<(), Stop>) {
     let Some(other) = share.split(2) else {
         return (share, Err(Stop::Refused));
     };
@@ -174,12 +170,12 @@ fn four_by_fifty<
     together(mine, theirs)
 }
 
-fn held<C: Ledger, A: Ledger, K: Ledger>(world: &World<Core, C, A, K>, who: Who) -> Option<i64> {
+fn held<L: Books>(world: &World<Core, L>, who: Who) -> Option<i64> {
     int_of(world.value_of(who)?)
 }
 
 // What so many refs come to.
-fn sum_of<C: Ledger, A: Ledger, K: Ledger>(world: &World<Core, C, A, K>, refs: u32) -> i64 {
+fn sum_of<L: Books>(world: &World<Core, L>, refs: u32) -> i64 {
     let mut sum = 0i64;
     for r in 0..refs {
         sum = sum.saturating_add(held(world, Who::Ref(r)).unwrap_or(0));
@@ -189,11 +185,9 @@ fn sum_of<C: Ledger, A: Ledger, K: Ledger>(world: &World<Core, C, A, K>, refs: u
 
 // Two threads that run actions, and four threads' rounds with what can be split off the share.
 pub(crate) fn see<
-    C: Ledger + Send + Sync,
-    A: Ledger + Send + Sync,
-    K: Ledger + Send + Sync,
+    L: Books + Send + Sync,
     R: AllocGlobal + Threads + Wait + Clock + Abort + Sync,
->(rt: &R, shared: &Shared<Core, C, A, K>, share: &mut Share<C, A, K>) -> Result<(), Stop> {
+>(rt: &R, shared: &Shared<Core, L>, share: &mut Share<L>) -> Result<(), Stop> {
     let (alloc, part) = (rt.alloc(), share.split(4).ok_or(Stop::Refused)?);
     let (actions, all) = thread::join(
         rt,
@@ -208,9 +202,9 @@ pub(crate) fn see<
 }
 
 // What six threads come to, on however many refs: these together, the tally, the atom, the agents, and that no action waits.
-pub(crate) fn look_at<C: Ledger, A: Ledger, K: Ledger, R: AllocGlobal + Abort>(
+pub(crate) fn look_at<L: Books, R: AllocGlobal + Abort>(
     rt: &R,
-    world: &World<Core, C, A, K>,
+    world: &World<Core, L>,
     totals: Totals,
     refs: u32,
 ) -> Result<(), Stop> {

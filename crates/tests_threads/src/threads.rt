@@ -12,7 +12,7 @@ use std::alloc::Global;
 use std::process::Abort;
 use std::sync::Wait;
 use std::sync::atomic::{AtomicBool, Ordering};
-use std::sync::ledger::Ledger;
+use ref_world::Books;
 use std::test::Fail;
 use std::thread;
 use std::thread::Threads;
@@ -24,13 +24,13 @@ use tests_shared::worlds::{STAMP, Stop, Told, add, all_commits, done, int_at, to
 const OTHER: Stamp = Stamp { worker: 1, step: 0 };
 
 // A hundred commits that add 1 to a. It answers the share, and how many weren't committed.
-fn hundred<R: Wait, C: Ledger, A: Ledger, K: Ledger>(
+fn hundred<R: Wait, L: Books>(
     rt: &R,
     alloc: Global,
-    shared: &Shared<Core, C, A, K>,
-    mut share: Share<C, A, K>,
+    shared: &Shared<Core, L>,
+    mut share: Share<L>,
     worker: u32,
-) -> (Share<C, A, K>, u32) {
+) -> (Share<L>, u32) {
     let mut refused = 0u32;
     for step in 0..100u32 {
         let committed = shared.transact(
@@ -52,9 +52,9 @@ fn hundred<R: Wait, C: Ledger, A: Ledger, K: Ledger>(
 }
 
 // A part of the share for each of two threads.
-fn two_parts<C: Ledger, A: Ledger, K: Ledger>(
-    share: &mut Share<C, A, K>,
-) -> Result<(Share<C, A, K>, Share<C, A, K>), Stop> {
+fn two_parts<L: Books>(
+    share: &mut Share<L>,
+) -> Result<(Share<L>, Share<L>), Stop> {
     match (share.split(1), share.split(1)) {
         (Some(one), Some(other)) => Ok((one, other)),
         _ => Err(Stop::Refused),
@@ -62,10 +62,10 @@ fn two_parts<C: Ledger, A: Ledger, K: Ledger>(
 }
 
 // Gives them back.
-fn join_both<C: Ledger, A: Ledger, K: Ledger>(
-    share: &mut Share<C, A, K>,
-    one: Share<C, A, K>,
-    other: Share<C, A, K>,
+fn join_both<L: Books>(
+    share: &mut Share<L>,
+    one: Share<L>,
+    other: Share<L>,
 ) -> Result<(), Stop> {
     match (share.join(one), share.join(other)) {
         (Ok(()), Ok(())) => Ok(()),
@@ -75,11 +75,9 @@ fn join_both<C: Ledger, A: Ledger, K: Ledger>(
 
 // A hundred commits of each of two threads, of which none is lost.
 pub(crate) fn see_sum<
-    C: Ledger + Send + Sync,
-    A: Ledger + Send + Sync,
-    K: Ledger + Send + Sync,
+    L: Books + Send + Sync,
     R: AllocGlobal + Threads + Wait + Clock + Abort + Sync,
->(rt: &R, shared: &Shared<Core, C, A, K>, share: &mut Share<C, A, K>) -> Result<(), Stop> {
+>(rt: &R, shared: &Shared<Core, L>, share: &mut Share<L>) -> Result<(), Stop> {
     let alloc = rt.alloc();
     let (one, other) = two_parts(share)?;
     let (mine, theirs) = thread::join(
@@ -122,11 +120,11 @@ impl<'a, 'b, 'c, R: Clock> Gate for Hold<'a, 'b, 'c, R> {
 }
 
 // Adds 1 to a next to a gate, and returns the commit's point, and what a was before in the last body.
-fn add_beside<R: Wait, C: Ledger, A: Ledger, K: Ledger, G: Gate>(
+fn add_beside<R: Wait, L: Books, G: Gate>(
     rt: &R,
     alloc: Global,
-    shared: &Shared<Core, C, A, K>,
-    share: &mut Share<C, A, K>,
+    shared: &Shared<Core, L>,
+    share: &mut Share<L>,
     gate: &mut G,
 ) -> Result<(u64, Option<i64>), Stop> {
     let (read, receipt) = done(shared.transact(
@@ -156,12 +154,12 @@ struct Held {
 }
 
 // Adds 1 to a, held after its first body.
-fn add_held<R: AllocGlobal + Wait + Clock, C: Ledger, A: Ledger, K: Ledger>(
+fn add_held<R: AllocGlobal + Wait + Clock, L: Books>(
     rt: &R,
-    shared: &Shared<Core, C, A, K>,
-    mut share: Share<C, A, K>,
+    shared: &Shared<Core, L>,
+    mut share: Share<L>,
     flags: &Flags,
-) -> (Share<C, A, K>, Result<Held, Stop>) {
+) -> (Share<L>, Result<Held, Stop>) {
     let alloc = rt.alloc();
     let mut gate = Hold {
         rt,
@@ -184,12 +182,12 @@ fn add_held<R: AllocGlobal + Wait + Clock, C: Ledger, A: Ledger, K: Ledger>(
 }
 
 // Adds 10 to a while the other is held. It answers the share, and the commit's point.
-fn add_meanwhile<R: AllocGlobal + Wait + Clock, C: Ledger, A: Ledger, K: Ledger>(
+fn add_meanwhile<R: AllocGlobal + Wait + Clock, L: Books>(
     rt: &R,
-    shared: &Shared<Core, C, A, K>,
-    mut share: Share<C, A, K>,
+    shared: &Shared<Core, L>,
+    mut share: Share<L>,
     flags: &Flags,
-) -> (Share<C, A, K>, Result<u64, Stop>) {
+) -> (Share<L>, Result<u64, Stop>) {
     let alloc = rt.alloc();
     if !wait_for(rt, &flags.first) {
         return (share, Err(Stop::Late));
@@ -215,11 +213,9 @@ fn add_meanwhile<R: AllocGlobal + Wait + Clock, C: Ledger, A: Ledger, K: Ledger>
 
 // A commit of one thread, held until one of the other is there: it begins anew.
 pub(crate) fn see_overtaking<
-    C: Ledger + Send + Sync,
-    A: Ledger + Send + Sync,
-    K: Ledger + Send + Sync,
+    L: Books + Send + Sync,
     R: AllocGlobal + Threads + Wait + Clock + Abort + Sync,
->(rt: &R, shared: &Shared<Core, C, A, K>, share: &mut Share<C, A, K>) -> Result<(), Stop> {
+>(rt: &R, shared: &Shared<Core, L>, share: &mut Share<L>) -> Result<(), Stop> {
     let (one, other) = two_parts(share)?;
     let flags = Flags::new();
     let lent = &flags;
@@ -240,9 +236,9 @@ pub(crate) fn see_overtaking<
     Ok(())
 }
 
-pub(crate) fn look_at_overtaking<C: Ledger, A: Ledger, K: Ledger, R: AllocGlobal + Abort>(
+pub(crate) fn look_at_overtaking<L: Books, R: AllocGlobal + Abort>(
     rt: &R,
-    world: &World<Core, C, A, K>,
+    world: &World<Core, L>,
     totals: Totals,
 ) -> Result<(), Stop> {
     let log = all_commits(rt.alloc(), world.log())?;
@@ -285,11 +281,11 @@ struct Delivered {
 }
 
 // Adds 1 to a, whose notices go to a sink, and returns what the receipt says of them.
-fn add_to<R: Wait, C: Ledger, A: Ledger, K: Ledger, W: WatchSink>(
+fn add_to<R: Wait, L: Books, W: WatchSink>(
     rt: &R,
     alloc: Global,
-    shared: &Shared<Core, C, A, K>,
-    share: &mut Share<C, A, K>,
+    shared: &Shared<Core, L>,
+    share: &mut Share<L>,
     sink: &mut W,
 ) -> Result<Vec<Told>, Stop> {
     let (_, receipt) = done(shared.transact(
@@ -311,12 +307,12 @@ fn add_to<R: Wait, C: Ledger, A: Ledger, K: Ledger, W: WatchSink>(
 }
 
 // Adds 1 to a, and returns the share, and the notices.
-fn add_told<R: AllocGlobal + Wait + Clock, C: Ledger, A: Ledger, K: Ledger>(
+fn add_told<R: AllocGlobal + Wait + Clock, L: Books>(
     rt: &R,
-    shared: &Shared<Core, C, A, K>,
-    mut share: Share<C, A, K>,
+    shared: &Shared<Core, L>,
+    mut share: Share<L>,
     flags: &Flags,
-) -> (Share<C, A, K>, Result<Delivered, Stop>) {
+) -> (Share<L>, Result<Delivered, Stop>) {
     let alloc = rt.alloc();
     let mut sink = Watcher {
         rt,
@@ -340,9 +336,9 @@ fn add_told<R: AllocGlobal + Wait + Clock, C: Ledger, A: Ledger, K: Ledger>(
 }
 
 // What a holds once the sink is called.
-fn look<R: Wait + Clock, C: Ledger, A: Ledger, K: Ledger>(
+fn look<R: Wait + Clock, L: Books>(
     rt: &R,
-    shared: &Shared<Core, C, A, K>,
+    shared: &Shared<Core, L>,
     flags: &Flags,
 ) -> Result<Option<i64>, Stop> {
     if !wait_for(rt, &flags.first) {
@@ -355,11 +351,9 @@ fn look<R: Wait + Clock, C: Ledger, A: Ledger, K: Ledger>(
 
 // A commit of one thread, whose watch is called while another looks.
 pub(crate) fn see_telling<
-    C: Ledger + Send + Sync,
-    A: Ledger + Send + Sync,
-    K: Ledger + Send + Sync,
+    L: Books + Send + Sync,
     R: AllocGlobal + Threads + Wait + Clock + Abort + Sync,
->(rt: &R, shared: &Shared<Core, C, A, K>, share: &mut Share<C, A, K>) -> Result<(), Stop> {
+>(rt: &R, shared: &Shared<Core, L>, share: &mut Share<L>) -> Result<(), Stop> {
     watch(rt, rt.alloc(), shared, Who::Ref(0), ":k")?;
     let part = share.split(1).ok_or(Stop::Refused)?;
     let flags = Flags::new();

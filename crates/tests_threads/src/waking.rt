@@ -16,7 +16,7 @@ use std::alloc::Global;
 use std::process::Abort;
 use std::sync::Wait;
 use std::sync::atomic::{AtomicBool, Ordering};
-use std::sync::ledger::Ledger;
+use ref_world::Books;
 use std::test::Fail;
 use std::thread;
 use std::thread::Threads;
@@ -26,10 +26,10 @@ use tests_shared::steps::{commit, send};
 use tests_shared::worlds::{STAMP, Stop, action, done, int_at, value};
 
 // Wakes one who waits, so that a test ends which has failed.
-pub(crate) fn nudge<R: Wait, C: Ledger, A: Ledger, K: Ledger>(
+pub(crate) fn nudge<R: Wait, L: Books>(
     rt: &R,
     alloc: Global,
-    shared: &Shared<Core, C, A, K>,
+    shared: &Shared<Core, L>,
 ) {
     if let Ok(action) = action(alloc, PLUS, "1") {
         let _ = shared.send(rt, 1, action);
@@ -40,10 +40,10 @@ pub(crate) fn nudge<R: Wait, C: Ledger, A: Ledger, K: Ledger>(
 
 // Sends to g, lets out what a commit sent to h, and closes, each while the other waits. It answers whether the other was there and
 // woken in time, and nothing was refused.
-fn wake<R: Wait + Clock, C: Ledger, A: Ledger, K: Ledger>(
+fn wake<R: Wait + Clock, L: Books>(
     rt: &R,
     alloc: Global,
-    shared: &Shared<Core, C, A, K>,
+    shared: &Shared<Core, L>,
     action: Action,
     point: u64,
     flags: &Flags,
@@ -63,11 +63,9 @@ fn wake<R: Wait + Clock, C: Ledger, A: Ledger, K: Ledger>(
 
 // One thread's work, and the other's waking of it.
 pub(crate) fn see_waking<
-    C: Ledger + Send + Sync,
-    A: Ledger + Send + Sync,
-    K: Ledger + Send + Sync,
+    L: Books + Send + Sync,
     R: AllocGlobal + Threads + Wait + Clock + Abort + Sync,
->(rt: &R, shared: &Shared<Core, C, A, K>, share: &mut Share<C, A, K>) -> Result<(), Stop> {
+>(rt: &R, shared: &Shared<Core, L>, share: &mut Share<L>) -> Result<(), Stop> {
     let alloc = rt.alloc();
     let mut tx = shared.begin(rt, alloc)?;
     send_four(alloc, &mut tx)?;
@@ -89,10 +87,10 @@ pub(crate) fn see_waking<
 // ---- By a restart
 
 // Works once, and says before that it comes, and when it has ended.
-fn work_between<R: Wait, C: Ledger, A: Ledger, K: Ledger>(
+fn work_between<R: Wait, L: Books>(
     rt: &R,
     alloc: Global,
-    shared: &Shared<Core, C, A, K>,
+    shared: &Shared<Core, L>,
     here: &AtomicBool,
     ended: &AtomicBool,
 ) -> Work {
@@ -103,10 +101,10 @@ fn work_between<R: Wait, C: Ledger, A: Ledger, K: Ledger>(
 }
 
 // Restarts g while the other waits, and answers whether that one was woken in time.
-fn restart<R: Wait + Clock, C: Ledger, A: Ledger, K: Ledger>(
+fn restart<R: Wait + Clock, L: Books>(
     rt: &R,
     alloc: Global,
-    shared: &Shared<Core, C, A, K>,
+    shared: &Shared<Core, L>,
     state: Value,
     flags: &Flags,
 ) -> bool {
@@ -119,11 +117,9 @@ fn restart<R: Wait + Clock, C: Ledger, A: Ledger, K: Ledger>(
 
 // `- 5`, which fails g, and `+ 2`, which is held until it is restarted with 10.
 pub(crate) fn see_restart<
-    C: Ledger + Send + Sync,
-    A: Ledger + Send + Sync,
-    K: Ledger + Send + Sync,
+    L: Books + Send + Sync,
     R: AllocGlobal + Threads + Wait + Clock + Abort + Sync,
->(rt: &R, shared: &Shared<Core, C, A, K>) -> Result<(), Stop> {
+>(rt: &R, shared: &Shared<Core, L>) -> Result<(), Stop> {
     let alloc = rt.alloc();
     send(rt, alloc, shared, 0, MINUS, "5")?;
     send(rt, alloc, shared, 0, PLUS, "2")?;
@@ -144,10 +140,10 @@ pub(crate) fn see_restart<
 // ---- By an action that is put back
 
 // Takes an action and has no function for it, once the other waits.
-fn work_without<R: Wait + Clock, C: Ledger, A: Ledger, K: Ledger>(
+fn work_without<R: Wait + Clock, L: Books>(
     rt: &R,
     alloc: Global,
-    shared: &Shared<Core, C, A, K>,
+    shared: &Shared<Core, L>,
     flags: &Flags,
 ) -> (Work, bool) {
     let funs = FunTable::empty(alloc);
@@ -156,11 +152,9 @@ fn work_without<R: Wait + Clock, C: Ledger, A: Ledger, K: Ledger>(
 
 // Two threads and one action, which the first can't run.
 pub(crate) fn see_handing_on<
-    C: Ledger + Send + Sync,
-    A: Ledger + Send + Sync,
-    K: Ledger + Send + Sync,
+    L: Books + Send + Sync,
     R: AllocGlobal + Threads + Wait + Clock + Abort + Sync,
->(rt: &R, shared: &Shared<Core, C, A, K>) -> Result<(), Stop> {
+>(rt: &R, shared: &Shared<Core, L>) -> Result<(), Stop> {
     let alloc = rt.alloc();
     send(rt, alloc, shared, 0, PLUS, "1")?;
     let flags = Flags::new();
@@ -179,10 +173,10 @@ pub(crate) fn see_handing_on<
 // ---- All who wait
 
 // Closes while two wait, and answers whether both ended then.
-fn close_on_two<R: Wait + Clock, C: Ledger, A: Ledger, K: Ledger>(
+fn close_on_two<R: Wait + Clock, L: Books>(
     rt: &R,
     alloc: Global,
-    shared: &Shared<Core, C, A, K>,
+    shared: &Shared<Core, L>,
     flags: &Flags,
 ) -> bool {
     let (was_one, was_other) = (wait_past(rt, &flags.first), wait_past(rt, &flags.second));
@@ -196,11 +190,9 @@ fn close_on_two<R: Wait + Clock, C: Ledger, A: Ledger, K: Ledger>(
 }
 
 fn two_work<
-    C: Ledger + Send + Sync,
-    A: Ledger + Send + Sync,
-    K: Ledger + Send + Sync,
+    L: Books + Send + Sync,
     R: Threads + Wait + Sync,
->(rt: &R, alloc: Global, shared: &Shared<Core, C, A, K>, flags: &Flags) -> (Work, Work) {
+>(rt: &R, alloc: Global, shared: &Shared<Core, L>, flags: &Flags) -> (Work, Work) {
     let (one, two) = thread::join(
         rt,
         move || work_between(rt, alloc, shared, &flags.first, &flags.third),
@@ -210,11 +202,9 @@ fn two_work<
 }
 
 pub(crate) fn see_close<
-    C: Ledger + Send + Sync,
-    A: Ledger + Send + Sync,
-    K: Ledger + Send + Sync,
+    L: Books + Send + Sync,
     R: AllocGlobal + Threads + Wait + Clock + Abort + Sync,
->(rt: &R, shared: &Shared<Core, C, A, K>) -> Result<(), Stop> {
+>(rt: &R, shared: &Shared<Core, L>) -> Result<(), Stop> {
     let alloc = rt.alloc();
     let flags = Flags::new();
     let lent = &flags;

@@ -7,7 +7,7 @@ use ref_shared::{AwaitFault, Gate, Open, Quiet, Shared, Spot};
 use std::process::Abort;
 use std::sync::Wait;
 use std::sync::atomic::Ordering;
-use std::sync::ledger::Ledger;
+use ref_world::Books;
 use std::test::Fail;
 use std::thread;
 use std::thread::Threads;
@@ -20,9 +20,9 @@ use tests_threads::flags::Flags;
 use tests_threads::waits::{Meet, wait_for, wait_past};
 
 // Waits for these agents once the other is there, and says before that it comes, and when the call has returned.
-pub(crate) fn await_when_told<R: AllocGlobal + Wait + Clock, C: Ledger, A: Ledger, K: Ledger>(
+pub(crate) fn await_when_told<R: AllocGlobal + Wait + Clock, L: Books>(
     rt: &R,
-    shared: &Shared<Core, C, A, K>,
+    shared: &Shared<Core, L>,
     agents: &[u32],
     flags: &Flags,
 ) -> Result<(), AwaitFault> {
@@ -40,9 +40,9 @@ pub(crate) fn meet<R: Clock>(rt: &R, flags: &Flags) -> bool {
 }
 
 // Sends `+ 1` to g so many times, and returns whether all were taken.
-pub(crate) fn send_more<R: AllocGlobal + Wait, C: Ledger, A: Ledger, K: Ledger>(
+pub(crate) fn send_more<R: AllocGlobal + Wait, L: Books>(
     rt: &R,
-    shared: &Shared<Core, C, A, K>,
+    shared: &Shared<Core, L>,
     count: u32,
 ) -> bool {
     let mut sent = true;
@@ -54,17 +54,17 @@ pub(crate) fn send_more<R: AllocGlobal + Wait, C: Ledger, A: Ledger, K: Ledger>(
 
 // A gate that holds an action until the other waits, sends more to g, and sees whether the other has returned before the action ends.
 #[derive(Drop)]
-struct Hold<'a, 'b, 'c, R: AllocGlobal + Wait + Clock, C: Ledger, A: Ledger, K: Ledger> {
+struct Hold<'a, 'b, 'c, R: AllocGlobal + Wait + Clock, L: Books> {
     rt: &'a R,
-    shared: &'b Shared<Core, C, A, K>,
+    shared: &'b Shared<Core, L>,
     flags: &'c Flags,
     sends: u32,
     met: bool,
     early: bool,
 }
 
-impl<'a, 'b, 'c, R: AllocGlobal + Wait + Clock, C: Ledger, A: Ledger, K: Ledger> Gate
-    for Hold<'a, 'b, 'c, R, C, A, K> {
+impl<'a, 'b, 'c, R: AllocGlobal + Wait + Clock, L: Books> Gate
+    for Hold<'a, 'b, 'c, R, L> {
     fn pass(&mut self, spot: Spot) {
         if spot == Spot::BeforeAction {
             self.met = meet(self.rt, self.flags) && send_more(self.rt, self.shared, self.sends);
@@ -92,9 +92,9 @@ pub(crate) enum Step {
     Close,
 }
 
-fn run_held<R: AllocGlobal + Wait + Clock, C: Ledger, A: Ledger, K: Ledger>(
+fn run_held<R: AllocGlobal + Wait + Clock, L: Books>(
     rt: &R,
-    shared: &Shared<Core, C, A, K>,
+    shared: &Shared<Core, L>,
     sends: u32,
     flags: &Flags,
 ) -> (bool, bool) {
@@ -110,9 +110,9 @@ fn run_held<R: AllocGlobal + Wait + Clock, C: Ledger, A: Ledger, K: Ledger>(
     (gate.met && worked.is_ok(), gate.early)
 }
 
-fn run_behind<R: AllocGlobal + Wait + Clock, C: Ledger, A: Ledger, K: Ledger>(
+fn run_behind<R: AllocGlobal + Wait + Clock, L: Books>(
     rt: &R,
-    shared: &Shared<Core, C, A, K>,
+    shared: &Shared<Core, L>,
     flags: &Flags,
 ) -> bool {
     let mut gate = Meet {
@@ -125,9 +125,9 @@ fn run_behind<R: AllocGlobal + Wait + Clock, C: Ledger, A: Ledger, K: Ledger>(
     gate.met && worked.is_ok()
 }
 
-fn put_back<R: AllocGlobal + Wait, C: Ledger, A: Ledger, K: Ledger>(
+fn put_back<R: AllocGlobal + Wait, L: Books>(
     rt: &R,
-    shared: &Shared<Core, C, A, K>,
+    shared: &Shared<Core, L>,
     funs: Poor,
 ) -> bool {
     shared
@@ -135,9 +135,9 @@ fn put_back<R: AllocGlobal + Wait, C: Ledger, A: Ledger, K: Ledger>(
         .is_err()
 }
 
-fn restart<R: AllocGlobal + Wait, C: Ledger, A: Ledger, K: Ledger>(
+fn restart<R: AllocGlobal + Wait, L: Books>(
     rt: &R,
-    shared: &Shared<Core, C, A, K>,
+    shared: &Shared<Core, L>,
     clear: bool,
 ) -> bool {
     let alloc = rt.alloc();
@@ -147,9 +147,9 @@ fn restart<R: AllocGlobal + Wait, C: Ledger, A: Ledger, K: Ledger>(
     }
 }
 
-fn make<R: AllocGlobal + Wait + Clock, C: Ledger, A: Ledger, K: Ledger>(
+fn make<R: AllocGlobal + Wait + Clock, L: Books>(
     rt: &R,
-    shared: &Shared<Core, C, A, K>,
+    shared: &Shared<Core, L>,
     step: Step,
     flags: &Flags,
 ) -> (bool, bool) {
@@ -180,18 +180,18 @@ struct Other {
 }
 
 // Runs what is left in a closed world, so that a test ends which has failed.
-pub(crate) fn run_rest<R: AllocGlobal + Wait, C: Ledger, A: Ledger, K: Ledger>(
+pub(crate) fn run_rest<R: AllocGlobal + Wait, L: Books>(
     rt: &R,
-    shared: &Shared<Core, C, A, K>,
+    shared: &Shared<Core, L>,
 ) {
     for _ in 0..8u32 {
         let _ = work(rt, rt.alloc(), shared);
     }
 }
 
-fn act<R: AllocGlobal + Wait + Clock, C: Ledger, A: Ledger, K: Ledger>(
+fn act<R: AllocGlobal + Wait + Clock, L: Books>(
     rt: &R,
-    shared: &Shared<Core, C, A, K>,
+    shared: &Shared<Core, L>,
     steps: &[Step],
     flags: &Flags,
 ) -> Other {
@@ -218,11 +218,9 @@ fn act<R: AllocGlobal + Wait + Clock, C: Ledger, A: Ledger, K: Ledger>(
 }
 
 fn await_and_act<
-    C: Ledger + Send + Sync,
-    A: Ledger + Send + Sync,
-    K: Ledger + Send + Sync,
+    L: Books + Send + Sync,
     R: AllocGlobal + Threads + Wait + Clock + Sync,
->(rt: &R, shared: &Shared<Core, C, A, K>, case: Waiting) -> (Result<(), AwaitFault>, Other) {
+>(rt: &R, shared: &Shared<Core, L>, case: Waiting) -> (Result<(), AwaitFault>, Other) {
     let flags = Flags::new();
     let lent = &flags;
     let (_queue, agents, steps) = case;
@@ -242,13 +240,11 @@ const AS_PLANNED: Other = Other {
 
 // The call returns this, and all goes as planned.
 pub(crate) fn see<
-    C: Ledger + Send + Sync,
-    A: Ledger + Send + Sync,
-    K: Ledger + Send + Sync,
+    L: Books + Send + Sync,
     R: AllocGlobal + Threads + Wait + Clock + Abort + Sync,
 >(
     rt: &R,
-    shared: &Shared<Core, C, A, K>,
+    shared: &Shared<Core, L>,
     case: Waiting,
     wanted: Result<(), AwaitFault>,
 ) -> Result<(), Stop> {
@@ -322,11 +318,9 @@ fn who_waits_for_an_agent_returns_when_all_has_ended(rt: HostRuntime) -> Result<
 // see the failure before the restart, and returns then. If not, all has to go as planned, until all is gone. Returns whether it missed the
 // failure.
 pub(crate) fn misses_failure<
-    C: Ledger + Send + Sync,
-    A: Ledger + Send + Sync,
-    K: Ledger + Send + Sync,
+    L: Books + Send + Sync,
     R: AllocGlobal + Threads + Wait + Clock + Abort + Sync,
->(rt: &R, shared: &Shared<Core, C, A, K>, steps: &'static [Step]) -> Result<bool, Stop> {
+>(rt: &R, shared: &Shared<Core, L>, steps: &'static [Step]) -> Result<bool, Stop> {
     send(rt, rt.alloc(), shared, 0, PLUS, ":k")?;
     send(rt, rt.alloc(), shared, 0, PLUS, "1")?;
     let (awaited, other) = await_and_act(rt, shared, (&[], &[0], steps));

@@ -12,7 +12,7 @@ use std::alloc::{AllocError, Global};
 use std::marker::Brand;
 use std::process::Abort;
 use std::sync::Wait;
-use std::sync::ledger::Ledger;
+use ref_world::Books;
 use std::test::Fail;
 use std::thread::Threads;
 use std::time::Clock;
@@ -49,15 +49,13 @@ fn start(alloc: Global, case: Case) -> Result<Start, AllocError> {
 
 // It returns whether a failure was missed.
 fn see<
-    C: Ledger + Send + Sync,
-    A: Ledger + Send + Sync,
-    K: Ledger + Send + Sync,
+    L: Books + Send + Sync,
     R: AllocGlobal + Threads + Wait + Clock + Abort + Sync,
 >(
     rt: &R,
     case: Case,
-    shared: &Shared<Core, C, A, K>,
-    share: &mut Share<C, A, K>,
+    shared: &Shared<Core, L>,
+    share: &mut Share<L>,
 ) -> Result<bool, Stop> {
     let seen = match case {
         Case::Misses(steps) => return awaits::misses_failure(rt, shared, steps),
@@ -74,11 +72,11 @@ fn see<
 }
 
 // What is in the log at the end, where all shares are back.
-fn end<C: Ledger, A: Ledger, K: Ledger, R: AllocGlobal + Abort>(
+fn end<L: Books, R: AllocGlobal + Abort>(
     rt: &R,
     case: Case,
-    shared: Shared<Core, C, A, K>,
-    share: Share<C, A, K>,
+    shared: Shared<Core, L>,
+    share: Share<L>,
 ) -> Result<(), Stop> {
     let alloc = rt.alloc();
     match case {
@@ -93,14 +91,12 @@ fn end<C: Ledger, A: Ledger, K: Ledger, R: AllocGlobal + Abort>(
 }
 
 fn run<
-    C: Ledger + Send + Sync,
-    A: Ledger + Send + Sync,
-    K: Ledger + Send + Sync,
+    L: Books + Send + Sync,
     R: AllocGlobal + Threads + Wait + Clock + Abort + Sync,
 >(rt: &R, case: Case, start: Start, blanks: Blanks) -> Result<bool, Stop>
     requires { AreBlank blanks C.name C.parts A.name A.parts K.name K.parts }
 {
-    let (world, mut share) = made::<C, A, K>(rt.alloc(), start, blanks)?;
+    let (world, mut share) = made::<L>(rt.alloc(), start, blanks)?;
     let shared = Shared::new(world);
     match see(rt, case, &shared, &mut share) {
         Ok(missed) => end(rt, case, shared, share).map(|()| missed),
@@ -114,7 +110,7 @@ pub(crate) fn found<R: AllocGlobal + Threads + Wait + Clock + Abort + Sync>(
     case: Case,
 ) -> Result<bool, Stop> {
     let start = start(rt.alloc(), case)?;
-    run::<Brand, Brand, Brand, R>(rt, case, start, Blanks::new())
+    run::<Brand, R>(rt, case, start, Blanks::new())
 }
 
 pub(crate) fn check<R: AllocGlobal + Threads + Wait + Clock + Abort + Sync>(

@@ -11,7 +11,7 @@ use std::alloc::Global;
 use std::process::Abort;
 use std::sync::Wait;
 use std::sync::atomic::{AtomicBool, Ordering};
-use std::sync::ledger::Ledger;
+use ref_world::Books;
 use std::test::Fail;
 use std::thread;
 use std::thread::Threads;
@@ -28,9 +28,9 @@ use tests_threads::waits::wait_for;
 const ROUNDS: u32 = 25;
 
 // Waits until both have ended, and then closes. It returns whether they ended in time.
-fn close_behind<R: Wait + Clock, C: Ledger, A: Ledger, K: Ledger>(
+fn close_behind<R: Wait + Clock, L: Books>(
     rt: &R,
-    shared: &Shared<Core, C, A, K>,
+    shared: &Shared<Core, L>,
     flags: &Flags,
 ) -> bool {
     let in_time = wait_for(rt, &flags.first) && wait_for(rt, &flags.second);
@@ -51,13 +51,13 @@ fn take(alloc: Global, tx: &mut Tx<Core>) -> Result<Option<()>, Stop> {
 }
 
 // Takes 1 from a in each round, waiting for it, and says when it has ended. It returns the share, and how many it took.
-fn take_in_rounds<R: AllocGlobal + Wait, C: Ledger, A: Ledger, K: Ledger>(
+fn take_in_rounds<R: AllocGlobal + Wait, L: Books>(
     rt: &R,
-    shared: &Shared<Core, C, A, K>,
-    mut share: Share<C, A, K>,
+    shared: &Shared<Core, L>,
+    mut share: Share<L>,
     worker: u32,
     ended: &AtomicBool,
-) -> (Share<C, A, K>, u32) {
+) -> (Share<L>, u32) {
     let alloc = rt.alloc();
     let mut count = 0u32;
     for step in 0..ROUNDS {
@@ -81,12 +81,12 @@ fn take_in_rounds<R: AllocGlobal + Wait, C: Ledger, A: Ledger, K: Ledger>(
 }
 
 // Adds 1 to a for each round of two threads, and closes when they have ended. It returns the share, and whether all went well.
-fn give<R: AllocGlobal + Wait + Clock, C: Ledger, A: Ledger, K: Ledger>(
+fn give<R: AllocGlobal + Wait + Clock, L: Books>(
     rt: &R,
-    shared: &Shared<Core, C, A, K>,
-    mut share: Share<C, A, K>,
+    shared: &Shared<Core, L>,
+    mut share: Share<L>,
     flags: &Flags,
-) -> (Share<C, A, K>, bool) {
+) -> (Share<L>, bool) {
     let alloc = rt.alloc();
     let mut went = true;
     for step in 0..2 * ROUNDS {
@@ -108,17 +108,15 @@ fn give<R: AllocGlobal + Wait + Clock, C: Ledger, A: Ledger, K: Ledger>(
 }
 
 fn two_take<
-    C: Ledger + Send + Sync,
-    A: Ledger + Send + Sync,
-    K: Ledger + Send + Sync,
+    L: Books + Send + Sync,
     R: AllocGlobal + Threads + Wait + Sync,
 >(
     rt: &R,
-    shared: &Shared<Core, C, A, K>,
-    share: Share<C, A, K>,
-    other: Share<C, A, K>,
+    shared: &Shared<Core, L>,
+    share: Share<L>,
+    other: Share<L>,
     flags: &Flags,
-) -> ((Share<C, A, K>, u32), (Share<C, A, K>, u32)) {
+) -> ((Share<L>, u32), (Share<L>, u32)) {
     let (mine, theirs) = thread::join(
         rt,
         move || take_in_rounds(rt, shared, share, 0, &flags.first),
@@ -128,10 +126,10 @@ fn two_take<
 }
 
 // The shares of the two joined, and how many each took.
-fn joined<C: Ledger, A: Ledger, K: Ledger>(
-    mine: (Share<C, A, K>, u32),
-    theirs: (Share<C, A, K>, u32),
-) -> (Share<C, A, K>, Option<(u32, u32)>) {
+fn joined<L: Books>(
+    mine: (Share<L>, u32),
+    theirs: (Share<L>, u32),
+) -> (Share<L>, Option<(u32, u32)>) {
     let (mut share, one) = mine;
     let (other, two) = theirs;
     let counts = match share.join(other) {
@@ -142,17 +140,15 @@ fn joined<C: Ledger, A: Ledger, K: Ledger>(
 }
 
 fn give_and_take<
-    C: Ledger + Send + Sync,
-    A: Ledger + Send + Sync,
-    K: Ledger + Send + Sync,
+    L: Books + Send + Sync,
     R: AllocGlobal + Threads + Wait + Clock + Sync,
 >(
     rt: &R,
-    shared: &Shared<Core, C, A, K>,
-    share: Share<C, A, K>,
-    other: Share<C, A, K>,
-    third: Share<C, A, K>,
-) -> ((Share<C, A, K>, Option<(u32, u32)>), (Share<C, A, K>, bool)) {
+    shared: &Shared<Core, L>,
+    share: Share<L>,
+    other: Share<L>,
+    third: Share<L>,
+) -> ((Share<L>, Option<(u32, u32)>), (Share<L>, bool)) {
     let flags = Flags::new();
     let lent = &flags;
     let (both, gave) = thread::join(
@@ -165,11 +161,9 @@ fn give_and_take<
 
 // Each takes what it waits for once.
 pub(crate) fn see_taking<
-    C: Ledger + Send + Sync,
-    A: Ledger + Send + Sync,
-    K: Ledger + Send + Sync,
+    L: Books + Send + Sync,
     R: AllocGlobal + Threads + Wait + Clock + Abort + Sync,
->(rt: &R, shared: &Shared<Core, C, A, K>, share: &mut Share<C, A, K>) -> Result<(), Stop> {
+>(rt: &R, shared: &Shared<Core, L>, share: &mut Share<L>) -> Result<(), Stop> {
     let other = share.split(1).ok_or(Stop::Refused)?;
     let third = share.split(1).ok_or(Stop::Refused)?;
     let part = share.split(1).ok_or(Stop::Refused)?;
@@ -215,9 +209,9 @@ impl Unit {
 }
 
 // Whether at least so many of what one sent to an agent have ended.
-fn is_at_least<R: Wait, C: Ledger, A: Ledger, K: Ledger>(
+fn is_at_least<R: Wait, L: Books>(
     rt: &R,
-    shared: &Shared<Core, C, A, K>,
+    shared: &Shared<Core, L>,
     g: u32,
     unit: Unit,
     least: u32,
@@ -229,9 +223,9 @@ fn is_at_least<R: Wait, C: Ledger, A: Ledger, K: Ledger>(
 }
 
 // Sends to both agents, and waits for both. It returns whether all that it sent so far has ended then.
-fn send_and_await<R: AllocGlobal + Wait, C: Ledger, A: Ledger, K: Ledger>(
+fn send_and_await<R: AllocGlobal + Wait, L: Books>(
     rt: &R,
-    shared: &Shared<Core, C, A, K>,
+    shared: &Shared<Core, L>,
     unit: Unit,
     sent: u32,
 ) -> Result<bool, Stop> {
@@ -243,9 +237,9 @@ fn send_and_await<R: AllocGlobal + Wait, C: Ledger, A: Ledger, K: Ledger>(
 }
 
 // Does that in each round, and says when it has ended. It returns in how many rounds all was well.
-fn await_in_rounds<R: AllocGlobal + Wait, C: Ledger, A: Ledger, K: Ledger>(
+fn await_in_rounds<R: AllocGlobal + Wait, L: Books>(
     rt: &R,
-    shared: &Shared<Core, C, A, K>,
+    shared: &Shared<Core, L>,
     unit: Unit,
     ended: &AtomicBool,
 ) -> u32 {
@@ -260,11 +254,9 @@ fn await_in_rounds<R: AllocGlobal + Wait, C: Ledger, A: Ledger, K: Ledger>(
 }
 
 fn two_await<
-    C: Ledger + Send + Sync,
-    A: Ledger + Send + Sync,
-    K: Ledger + Send + Sync,
+    L: Books + Send + Sync,
     R: AllocGlobal + Threads + Wait + Sync,
->(rt: &R, shared: &Shared<Core, C, A, K>, flags: &Flags) -> (u32, u32) {
+>(rt: &R, shared: &Shared<Core, L>, flags: &Flags) -> (u32, u32) {
     let (one, two) = thread::join(
         rt,
         move || await_in_rounds(rt, shared, Unit::One, &flags.first),
@@ -274,11 +266,9 @@ fn two_await<
 }
 
 fn run_and_close<
-    C: Ledger + Send + Sync,
-    A: Ledger + Send + Sync,
-    K: Ledger + Send + Sync,
+    L: Books + Send + Sync,
     R: AllocGlobal + Threads + Wait + Clock + Sync,
->(rt: &R, shared: &Shared<Core, C, A, K>, flags: &Flags) -> (Result<u32, Stop>, bool) {
+>(rt: &R, shared: &Shared<Core, L>, flags: &Flags) -> (Result<u32, Stop>, bool) {
     let (ran, in_time) = thread::join(
         rt,
         move || two_pools(rt, rt.alloc(), shared),
@@ -291,11 +281,9 @@ fn run_and_close<
 type Awaited = ((u32, u32), (Result<u32, Stop>, bool));
 
 fn await_and_run<
-    C: Ledger + Send + Sync,
-    A: Ledger + Send + Sync,
-    K: Ledger + Send + Sync,
+    L: Books + Send + Sync,
     R: AllocGlobal + Threads + Wait + Clock + Sync,
->(rt: &R, shared: &Shared<Core, C, A, K>) -> Awaited {
+>(rt: &R, shared: &Shared<Core, L>) -> Awaited {
     let flags = Flags::new();
     let lent = &flags;
     let (awaited, ran) = thread::join(
@@ -307,11 +295,9 @@ fn await_and_run<
 }
 
 pub(crate) fn see_awaiting<
-    C: Ledger + Send + Sync,
-    A: Ledger + Send + Sync,
-    K: Ledger + Send + Sync,
+    L: Books + Send + Sync,
     R: AllocGlobal + Threads + Wait + Clock + Abort + Sync,
->(rt: &R, shared: &Shared<Core, C, A, K>) -> Result<(), Stop> {
+>(rt: &R, shared: &Shared<Core, L>) -> Result<(), Stop> {
     same(rt, await_and_run(rt, shared), ((25, 25), (Ok(100), true)));
     same(rt, agents_at(rt, shared), (Some(25_025), Some(25_025)));
     Ok(())

@@ -8,7 +8,7 @@ use ref_shared::{Open, Shared, WatchSink, Worked};
 use ref_world::Share;
 use std::alloc::Global;
 use std::sync::Wait;
-use std::sync::ledger::Ledger;
+use ref_world::Books;
 use std::test::Fail;
 use tests_shared::jobs::{CLOSED, Work, agents_at, two_agents, work};
 use tests_shared::scenarios::{CommitCount, Scenario, run_to_end};
@@ -16,10 +16,10 @@ use tests_shared::steps::{send, watch};
 use tests_shared::worlds::{Stop, action, done, one_arg};
 
 // For g `+ 1`, which carries `+ 4` for h, and behind it `+ 2`.
-fn send_two<R: Wait, C: Ledger, A: Ledger, K: Ledger>(
+fn send_two<R: Wait, L: Books>(
     rt: &R,
     alloc: Global,
-    shared: &Shared<Core, C, A, K>,
+    shared: &Shared<Core, L>,
 ) -> Result<(), Stop> {
     let (g, code, args) = (1, PLUS, one_arg(alloc, "4")?);
     let mut action = action(alloc, PLUS, "1")?;
@@ -30,14 +30,14 @@ fn send_two<R: Wait, C: Ledger, A: Ledger, K: Ledger>(
 
 // A sink that works and then releases what g carried, and stores what both calls say.
 #[derive(Drop)]
-struct Releaser<'a, R: Wait, C: Ledger, A: Ledger, K: Ledger> {
+struct Releaser<'a, R: Wait, L: Books> {
     rt: &'a R,
     alloc: Global,
-    shared: &'a Shared<Core, C, A, K>,
+    shared: &'a Shared<Core, L>,
     told: Option<(Work, bool)>,
 }
 
-impl<'a, R: Wait, C: Ledger, A: Ledger, K: Ledger> WatchSink for Releaser<'a, R, C, A, K> {
+impl<'a, R: Wait, L: Books> WatchSink for Releaser<'a, R, L> {
     fn told(&mut self, _notice: &Notice) {
         let worked = work(self.rt, self.alloc, self.shared);
         self.told = Some((worked, self.shared.release_carried(self.rt, 0)));
@@ -60,12 +60,12 @@ struct AtSink;
 impl<R: Wait> Scenario<R> for AtSink {
     type Outcome = Seen;
 
-    fn run<C: Ledger, A: Ledger, K: Ledger>(
+    fn run<L: Books>(
         &self,
         rt: &R,
         alloc: Global,
-        shared: &Shared<Core, C, A, K>,
-        _share: &mut Share<C, A, K>,
+        shared: &Shared<Core, L>,
+        _share: &mut Share<L>,
     ) -> Result<Seen, Stop> {
         watch(rt, alloc, shared, Who::Agent(0), ":k")?;
         send_two(rt, alloc, shared)?;
@@ -106,14 +106,14 @@ fn what_was_carried_is_held_while_the_sink_is_told(rt: HostRuntime) -> Result<()
 
 // A sink that works where an action ended, and stores what that call and a fold say.
 #[derive(Drop)]
-struct Ender<'a, R: Wait, C: Ledger, A: Ledger, K: Ledger> {
+struct Ender<'a, R: Wait, L: Books> {
     rt: &'a R,
     alloc: Global,
-    shared: &'a Shared<Core, C, A, K>,
+    shared: &'a Shared<Core, L>,
     ended: Option<(Work, Option<bool>)>,
 }
 
-impl<'a, R: Wait, C: Ledger, A: Ledger, K: Ledger> WatchSink for Ender<'a, R, C, A, K> {
+impl<'a, R: Wait, L: Books> WatchSink for Ender<'a, R, L> {
     ghost ends = { λ _ _ _ _. Unit {0} };
 
     fn told(&mut self, _notice: &Notice) {}
@@ -139,12 +139,12 @@ struct AtEnd;
 impl<R: Wait> Scenario<R> for AtEnd {
     type Outcome = Heard;
 
-    fn run<C: Ledger, A: Ledger, K: Ledger>(
+    fn run<L: Books>(
         &self,
         rt: &R,
         alloc: Global,
-        shared: &Shared<Core, C, A, K>,
-        _share: &mut Share<C, A, K>,
+        shared: &Shared<Core, L>,
+        _share: &mut Share<L>,
     ) -> Result<Heard, Stop> {
         send_two(rt, alloc, shared)?;
         shared.close(rt);

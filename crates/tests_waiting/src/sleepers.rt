@@ -11,7 +11,7 @@ use ref_world::Share;
 use std::process::Abort;
 use std::sync::Wait;
 use std::sync::atomic::Ordering;
-use std::sync::ledger::Ledger;
+use ref_world::Books;
 use std::test::Fail;
 use std::thread;
 use std::thread::Threads;
@@ -24,9 +24,9 @@ use tests_threads::pools::work_thrice;
 use tests_threads::waits::{wait_for, wait_past};
 
 // Works three times, once the one has waited for a while that waits for an entry.
-fn work_last<R: AllocGlobal + Wait + Clock, C: Ledger, A: Ledger, K: Ledger>(
+fn work_last<R: AllocGlobal + Wait + Clock, L: Books>(
     rt: &R,
-    shared: &Shared<Core, C, A, K>,
+    shared: &Shared<Core, L>,
     when: &Flags,
     work: &Flags,
 ) -> (Work, Work, Work) {
@@ -34,18 +34,18 @@ fn work_last<R: AllocGlobal + Wait + Clock, C: Ledger, A: Ledger, K: Ledger>(
     work_thrice(rt, rt.alloc(), shared, work)
 }
 
-fn send_to_g<R: AllocGlobal + Wait, C: Ledger, A: Ledger, K: Ledger>(
+fn send_to_g<R: AllocGlobal + Wait, L: Books>(
     rt: &R,
-    shared: &Shared<Core, C, A, K>,
+    shared: &Shared<Core, L>,
 ) -> bool {
     send(rt, rt.alloc(), shared, 0, PLUS, "1").is_ok()
 }
 
 // One waits for h, one for an entry, and then one to run an action. Sends to g twice, and then releases what is held of h, each while
 // that one waits; and returns whether it ran each in time, and the first returned then, and not before.
-fn wake_worker<R: AllocGlobal + Wait + Clock, C: Ledger, A: Ledger, K: Ledger>(
+fn wake_worker<R: AllocGlobal + Wait + Clock, L: Books>(
     rt: &R,
-    shared: &Shared<Core, C, A, K>,
+    shared: &Shared<Core, L>,
     point: u64,
     agent: &Flags,
     when: &Flags,
@@ -65,9 +65,9 @@ fn wake_worker<R: AllocGlobal + Wait + Clock, C: Ledger, A: Ledger, K: Ledger>(
 }
 
 // Wakes the worker as planned, and then closes; and returns whether all went as planned, and the one who waits for an entry returned last.
-fn wake_and_close<R: AllocGlobal + Wait + Clock, C: Ledger, A: Ledger, K: Ledger>(
+fn wake_and_close<R: AllocGlobal + Wait + Clock, L: Books>(
     rt: &R,
-    shared: &Shared<Core, C, A, K>,
+    shared: &Shared<Core, L>,
     point: u64,
     agent: &Flags,
     when: &Flags,
@@ -89,14 +89,12 @@ type Two = (Result<(), AwaitFault>, Option<u32>);
 type Three = (Result<(), AwaitFault>, Option<u32>, (Work, Work, Work));
 
 fn two_wait<
-    C: Ledger + Send + Sync,
-    A: Ledger + Send + Sync,
-    K: Ledger + Send + Sync,
+    L: Books + Send + Sync,
     R: AllocGlobal + Threads + Wait + Clock + Sync,
 >(
     rt: &R,
-    shared: &Shared<Core, C, A, K>,
-    share: Share<C, A, K>,
+    shared: &Shared<Core, L>,
+    share: Share<L>,
     agent: &Flags,
     when: &Flags,
 ) -> Two {
@@ -109,14 +107,12 @@ fn two_wait<
 }
 
 fn three_wait<
-    C: Ledger + Send + Sync,
-    A: Ledger + Send + Sync,
-    K: Ledger + Send + Sync,
+    L: Books + Send + Sync,
     R: AllocGlobal + Threads + Wait + Clock + Sync,
 >(
     rt: &R,
-    shared: &Shared<Core, C, A, K>,
-    share: Share<C, A, K>,
+    shared: &Shared<Core, L>,
+    share: Share<L>,
     agent: &Flags,
     when: &Flags,
     work: &Flags,
@@ -138,11 +134,9 @@ struct ThreeFlags {
 }
 
 fn three_wait_and_wake<
-    C: Ledger + Send + Sync,
-    A: Ledger + Send + Sync,
-    K: Ledger + Send + Sync,
+    L: Books + Send + Sync,
     R: AllocGlobal + Threads + Wait + Clock + Sync,
->(rt: &R, shared: &Shared<Core, C, A, K>, share: Share<C, A, K>, point: u64) -> (Three, bool) {
+>(rt: &R, shared: &Shared<Core, L>, share: Share<L>, point: u64) -> (Three, bool) {
     let flags = ThreeFlags {
         agent: Flags::new(),
         when: Flags::new(),
@@ -158,10 +152,10 @@ fn three_wait_and_wake<
 }
 
 // Commits `send h + 4`, which is held, and returns the point.
-fn commit_four<C: Ledger, A: Ledger, K: Ledger, R: AllocGlobal + Wait>(
+fn commit_four<L: Books, R: AllocGlobal + Wait>(
     rt: &R,
-    shared: &Shared<Core, C, A, K>,
-    share: &mut Share<C, A, K>,
+    shared: &Shared<Core, L>,
+    share: &mut Share<L>,
 ) -> Result<u64, Stop> {
     let mut tx = shared.begin(rt, rt.alloc())?;
     send_four(rt.alloc(), &mut tx)?;
@@ -169,11 +163,9 @@ fn commit_four<C: Ledger, A: Ledger, K: Ledger, R: AllocGlobal + Wait>(
 }
 
 pub(crate) fn see_waking<
-    C: Ledger + Send + Sync,
-    A: Ledger + Send + Sync,
-    K: Ledger + Send + Sync,
+    L: Books + Send + Sync,
     R: AllocGlobal + Threads + Wait + Clock + Abort + Sync,
->(rt: &R, shared: &Shared<Core, C, A, K>, share: &mut Share<C, A, K>) -> Result<(), Stop> {
+>(rt: &R, shared: &Shared<Core, L>, share: &mut Share<L>) -> Result<(), Stop> {
     let point = commit_four(rt, shared, share)?;
     let part = share.split(1).ok_or(Stop::Refused)?;
     let (three, woke) = three_wait_and_wake(rt, shared, part, point);
@@ -191,9 +183,9 @@ fn a_send_wakes_a_worker_beside_others_who_wait(rt: HostRuntime) -> Result<(), F
 // ---- At the end
 
 // Closes while one waits for h, whose action is held, and one for an entry; and returns whether both returned then, and not before.
-fn close_on_both<R: AllocGlobal + Wait + Clock, C: Ledger, A: Ledger, K: Ledger>(
+fn close_on_both<R: AllocGlobal + Wait + Clock, L: Books>(
     rt: &R,
-    shared: &Shared<Core, C, A, K>,
+    shared: &Shared<Core, L>,
     agent: &Flags,
     when: &Flags,
 ) -> bool {
@@ -208,11 +200,9 @@ fn close_on_both<R: AllocGlobal + Wait + Clock, C: Ledger, A: Ledger, K: Ledger>
 }
 
 fn two_wait_and_close<
-    C: Ledger + Send + Sync,
-    A: Ledger + Send + Sync,
-    K: Ledger + Send + Sync,
+    L: Books + Send + Sync,
     R: AllocGlobal + Threads + Wait + Clock + Sync,
->(rt: &R, shared: &Shared<Core, C, A, K>, share: Share<C, A, K>) -> (Two, bool) {
+>(rt: &R, shared: &Shared<Core, L>, share: Share<L>) -> (Two, bool) {
     let (agent, when) = (Flags::new(), Flags::new());
     let (agent, when) = (&agent, &when);
     let (two, woke) = thread::join(
@@ -224,11 +214,9 @@ fn two_wait_and_close<
 }
 
 pub(crate) fn see_closing<
-    C: Ledger + Send + Sync,
-    A: Ledger + Send + Sync,
-    K: Ledger + Send + Sync,
+    L: Books + Send + Sync,
     R: AllocGlobal + Threads + Wait + Clock + Abort + Sync,
->(rt: &R, shared: &Shared<Core, C, A, K>, share: &mut Share<C, A, K>) -> Result<(), Stop> {
+>(rt: &R, shared: &Shared<Core, L>, share: &mut Share<L>) -> Result<(), Stop> {
     let _point = commit_four(rt, shared, share)?;
     let part = share.split(1).ok_or(Stop::Refused)?;
     let wanted = ((Err(AwaitFault::Closed), Some(1)), true);

@@ -8,7 +8,7 @@ use ref_shared::{AwaitFault, Gate, Quiet, Shared, Spot};
 use std::process::Abort;
 use std::sync::Wait;
 use std::sync::atomic::Ordering;
-use std::sync::ledger::Ledger;
+use ref_world::Books;
 use std::test::Fail;
 use std::thread;
 use std::thread::Threads;
@@ -22,9 +22,9 @@ use tests_threads::waits::wait_past;
 // then until the one of this turn waits, for two actions, of which this is the first; and sends one more. When the action ends, neither
 // that one nor the one before may have returned.
 #[derive(Drop)]
-struct Turn<'a, 'b, 'c, R: AllocGlobal + Wait + Clock, C: Ledger, A: Ledger, K: Ledger> {
+struct Turn<'a, 'b, 'c, R: AllocGlobal + Wait + Clock, L: Books> {
     rt: &'a R,
-    shared: &'b Shared<Core, C, A, K>,
+    shared: &'b Shared<Core, L>,
     waiters: &'c [&'c Flags],
     turn: usize,
     went: bool,
@@ -42,9 +42,9 @@ fn has_returned<R: Clock>(rt: &R, waiters: &[&Flags], turn: usize) -> bool {
 }
 
 // Lets the one of this turn begin, if there is one, and sends one more.
-fn meet_next<R: AllocGlobal + Wait + Clock, C: Ledger, A: Ledger, K: Ledger>(
+fn meet_next<R: AllocGlobal + Wait + Clock, L: Books>(
     rt: &R,
-    shared: &Shared<Core, C, A, K>,
+    shared: &Shared<Core, L>,
     waiters: &[&Flags],
     turn: usize,
 ) -> bool {
@@ -64,8 +64,8 @@ fn none_has_returned(waiters: &[&Flags], turn: usize) -> bool {
     true
 }
 
-impl<'a, 'b, 'c, R: AllocGlobal + Wait + Clock, C: Ledger, A: Ledger, K: Ledger> Gate
-    for Turn<'a, 'b, 'c, R, C, A, K> {
+impl<'a, 'b, 'c, R: AllocGlobal + Wait + Clock, L: Books> Gate
+    for Turn<'a, 'b, 'c, R, L> {
     fn pass(&mut self, spot: Spot) {
         if spot == Spot::BeforeAction {
             self.went = has_returned(self.rt, self.waiters, self.turn)
@@ -78,9 +78,9 @@ impl<'a, 'b, 'c, R: AllocGlobal + Wait + Clock, C: Ledger, A: Ledger, K: Ledger>
 }
 
 // Runs an action by that gate, and returns whether all went as planned.
-fn act_in_turn<R: AllocGlobal + Wait + Clock, C: Ledger, A: Ledger, K: Ledger>(
+fn act_in_turn<R: AllocGlobal + Wait + Clock, L: Books>(
     rt: &R,
-    shared: &Shared<Core, C, A, K>,
+    shared: &Shared<Core, L>,
     waiters: &[&Flags],
     turn: usize,
 ) -> bool {
@@ -103,9 +103,9 @@ fn release_all(waiters: &[&Flags]) {
 }
 
 // Runs the actions of four turns, and returns whether each of three returned when its two had ended, and not before.
-fn act_in_turns<R: AllocGlobal + Wait + Clock, C: Ledger, A: Ledger, K: Ledger>(
+fn act_in_turns<R: AllocGlobal + Wait + Clock, L: Books>(
     rt: &R,
-    shared: &Shared<Core, C, A, K>,
+    shared: &Shared<Core, L>,
     waiters: &[&Flags],
 ) -> bool {
     let mut went = true;
@@ -128,13 +128,11 @@ type Three = (
 );
 
 fn two_await<
-    C: Ledger + Send + Sync,
-    A: Ledger + Send + Sync,
-    K: Ledger + Send + Sync,
+    L: Books + Send + Sync,
     R: AllocGlobal + Threads + Wait + Clock + Sync,
 >(
     rt: &R,
-    shared: &Shared<Core, C, A, K>,
+    shared: &Shared<Core, L>,
     one: &Flags,
     two: &Flags,
 ) -> (Result<(), AwaitFault>, Result<(), AwaitFault>) {
@@ -147,11 +145,9 @@ fn two_await<
 }
 
 fn three_await<
-    C: Ledger + Send + Sync,
-    A: Ledger + Send + Sync,
-    K: Ledger + Send + Sync,
+    L: Books + Send + Sync,
     R: AllocGlobal + Threads + Wait + Clock + Sync,
->(rt: &R, shared: &Shared<Core, C, A, K>, one: &Flags, two: &Flags, three: &Flags) -> Three {
+>(rt: &R, shared: &Shared<Core, L>, one: &Flags, two: &Flags, three: &Flags) -> Three {
     let (both, third) = thread::join(
         rt,
         move || two_await(rt, shared, one, two),
@@ -161,11 +157,9 @@ fn three_await<
 }
 
 fn three_await_in_turn<
-    C: Ledger + Send + Sync,
-    A: Ledger + Send + Sync,
-    K: Ledger + Send + Sync,
+    L: Books + Send + Sync,
     R: AllocGlobal + Threads + Wait + Clock + Sync,
->(rt: &R, shared: &Shared<Core, C, A, K>) -> (Three, bool) {
+>(rt: &R, shared: &Shared<Core, L>) -> (Three, bool) {
     let (one, two, three) = (Flags::new(), Flags::new(), Flags::new());
     let (one, two, three) = (&one, &two, &three);
     let (awaited, went) = thread::join(
@@ -177,11 +171,9 @@ fn three_await_in_turn<
 }
 
 pub(crate) fn see<
-    C: Ledger + Send + Sync,
-    A: Ledger + Send + Sync,
-    K: Ledger + Send + Sync,
+    L: Books + Send + Sync,
     R: AllocGlobal + Threads + Wait + Clock + Abort + Sync,
->(rt: &R, shared: &Shared<Core, C, A, K>) -> Result<(), Stop> {
+>(rt: &R, shared: &Shared<Core, L>) -> Result<(), Stop> {
     send(rt, rt.alloc(), shared, 0, PLUS, "1")?;
     send(rt, rt.alloc(), shared, 0, PLUS, "1")?;
     let wanted = ((Ok(()), Ok(()), Ok(())), true);

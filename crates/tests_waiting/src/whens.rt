@@ -11,7 +11,7 @@ use std::alloc::Global;
 use std::process::Abort;
 use std::sync::Wait;
 use std::sync::atomic::Ordering;
-use std::sync::ledger::Ledger;
+use ref_world::Books;
 use std::test::Fail;
 use std::thread;
 use std::thread::Threads;
@@ -45,12 +45,12 @@ struct Added {
 }
 
 // Adds 1 to a in a transaction that waits for an entry, and says when it has returned.
-fn add_when<R: AllocGlobal + Wait, C: Ledger, A: Ledger, K: Ledger>(
+fn add_when<R: AllocGlobal + Wait, L: Books>(
     rt: &R,
-    shared: &Shared<Core, C, A, K>,
-    mut share: Share<C, A, K>,
+    shared: &Shared<Core, L>,
+    mut share: Share<L>,
     flags: &Flags,
-) -> (Share<C, A, K>, Added) {
+) -> (Share<L>, Added) {
     let alloc = rt.alloc();
     let mut bodies = 0u32;
     let committed = shared.transact_when(
@@ -86,29 +86,29 @@ pub(crate) enum Kind {
     MakeAtom,
 }
 
-fn make_ref<R: Wait, C: Ledger, A: Ledger, K: Ledger>(
+fn make_ref<R: Wait, L: Books>(
     rt: &R,
     alloc: Global,
-    shared: &Shared<Core, C, A, K>,
+    shared: &Shared<Core, L>,
 ) -> Result<(), Stop> {
     let new = value(alloc, "7")?;
     done(shared.make_ref(rt, alloc, &CoreFunctions, new, None, false)).map(drop)
 }
 
-pub(crate) fn make_atom<R: Wait, C: Ledger, A: Ledger, K: Ledger>(
+pub(crate) fn make_atom<R: Wait, L: Books>(
     rt: &R,
     alloc: Global,
-    shared: &Shared<Core, C, A, K>,
+    shared: &Shared<Core, L>,
 ) -> Result<(), Stop> {
     let new = value(alloc, "7")?;
     done(shared.make_atom(rt, alloc, &CoreFunctions, new, None)).map(drop)
 }
 
-fn enter<R: Wait, C: Ledger, A: Ledger, K: Ledger>(
+fn enter<R: Wait, L: Books>(
     rt: &R,
     alloc: Global,
-    shared: &Shared<Core, C, A, K>,
-    share: &mut Share<C, A, K>,
+    shared: &Shared<Core, L>,
+    share: &mut Share<L>,
     kind: Kind,
 ) -> Result<(), Stop> {
     match kind {
@@ -132,23 +132,23 @@ fn enter<R: Wait, C: Ledger, A: Ledger, K: Ledger>(
 }
 
 // Wakes all who wait for an entry, so that a test ends which has failed.
-pub(crate) fn nudge<R: Wait, C: Ledger, A: Ledger, K: Ledger>(
+pub(crate) fn nudge<R: Wait, L: Books>(
     rt: &R,
     alloc: Global,
-    shared: &Shared<Core, C, A, K>,
+    shared: &Shared<Core, L>,
 ) {
     let _ = make_ref(rt, alloc, shared);
     let _ = make_atom(rt, alloc, shared);
 }
 
 // Makes an entry while the other waits. It returns the share, and whether the other was woken in time.
-fn enter_and_wake<R: AllocGlobal + Wait + Clock, C: Ledger, A: Ledger, K: Ledger>(
+fn enter_and_wake<R: AllocGlobal + Wait + Clock, L: Books>(
     rt: &R,
-    shared: &Shared<Core, C, A, K>,
-    mut share: Share<C, A, K>,
+    shared: &Shared<Core, L>,
+    mut share: Share<L>,
     kind: Kind,
     flags: &Flags,
-) -> (Share<C, A, K>, bool) {
+) -> (Share<L>, bool) {
     let was_there = wait_past(rt, &flags.first);
     let entered = enter(rt, rt.alloc(), shared, &mut share, kind);
     let woke = wait_for(rt, &flags.second);
@@ -160,17 +160,15 @@ fn enter_and_wake<R: AllocGlobal + Wait + Clock, C: Ledger, A: Ledger, K: Ledger
 }
 
 fn add_and_enter<
-    C: Ledger + Send + Sync,
-    A: Ledger + Send + Sync,
-    K: Ledger + Send + Sync,
+    L: Books + Send + Sync,
     R: AllocGlobal + Threads + Wait + Clock + Sync,
 >(
     rt: &R,
-    shared: &Shared<Core, C, A, K>,
-    share: Share<C, A, K>,
-    other: Share<C, A, K>,
+    shared: &Shared<Core, L>,
+    share: Share<L>,
+    other: Share<L>,
     kind: Kind,
-) -> ((Share<C, A, K>, Added), (Share<C, A, K>, bool)) {
+) -> ((Share<L>, Added), (Share<L>, bool)) {
     let flags = Flags::new();
     let lent = &flags;
     let (mine, theirs) = thread::join(
@@ -183,14 +181,12 @@ fn add_and_enter<
 
 // The body isn't ready at the first call, and its second one is committed behind the entry.
 pub(crate) fn see_entry<
-    C: Ledger + Send + Sync,
-    A: Ledger + Send + Sync,
-    K: Ledger + Send + Sync,
+    L: Books + Send + Sync,
     R: AllocGlobal + Threads + Wait + Clock + Abort + Sync,
 >(
     rt: &R,
-    shared: &Shared<Core, C, A, K>,
-    share: &mut Share<C, A, K>,
+    shared: &Shared<Core, L>,
+    share: &mut Share<L>,
     kind: Kind,
     value: i64,
 ) -> Result<(), Stop> {
@@ -243,10 +239,10 @@ fn each_entry_wakes_a_transaction_that_waits(rt: HostRuntime) -> Result<(), Fail
 
 // Waits in a transaction that is never ready, once the other is there. It says before that it comes, and when it has returned; and
 // returns how many times the body was called, if it ended since the shared world was closed.
-pub(crate) fn wait_in_vain<R: AllocGlobal + Wait + Clock, C: Ledger, A: Ledger, K: Ledger>(
+pub(crate) fn wait_in_vain<R: AllocGlobal + Wait + Clock, L: Books>(
     rt: &R,
-    shared: &Shared<Core, C, A, K>,
-    mut share: Share<C, A, K>,
+    shared: &Shared<Core, L>,
+    mut share: Share<L>,
     flags: &Flags,
 ) -> Option<u32> {
     let _ = wait_for(rt, &flags.first);
@@ -274,9 +270,9 @@ pub(crate) fn wait_in_vain<R: AllocGlobal + Wait + Clock, C: Ledger, A: Ledger, 
 }
 
 // Closes while the other waits, and returns whether that one returned then, and not before.
-fn close_on<R: AllocGlobal + Wait + Clock, C: Ledger, A: Ledger, K: Ledger>(
+fn close_on<R: AllocGlobal + Wait + Clock, L: Books>(
     rt: &R,
-    shared: &Shared<Core, C, A, K>,
+    shared: &Shared<Core, L>,
     flags: &Flags,
 ) -> bool {
     flags.first.store(true, Ordering::SeqCst);
@@ -291,11 +287,9 @@ fn close_on<R: AllocGlobal + Wait + Clock, C: Ledger, A: Ledger, K: Ledger>(
 }
 
 fn wait_and_close<
-    C: Ledger + Send + Sync,
-    A: Ledger + Send + Sync,
-    K: Ledger + Send + Sync,
+    L: Books + Send + Sync,
     R: AllocGlobal + Threads + Wait + Clock + Sync,
->(rt: &R, shared: &Shared<Core, C, A, K>, share: Share<C, A, K>) -> (Option<u32>, bool) {
+>(rt: &R, shared: &Shared<Core, L>, share: Share<L>) -> (Option<u32>, bool) {
     let flags = Flags::new();
     let lent = &flags;
     let (bodies, woke) = thread::join(
@@ -307,11 +301,9 @@ fn wait_and_close<
 }
 
 pub(crate) fn see_end<
-    C: Ledger + Send + Sync,
-    A: Ledger + Send + Sync,
-    K: Ledger + Send + Sync,
+    L: Books + Send + Sync,
     R: AllocGlobal + Threads + Wait + Clock + Abort + Sync,
->(rt: &R, shared: &Shared<Core, C, A, K>, share: &mut Share<C, A, K>) -> Result<(), Stop> {
+>(rt: &R, shared: &Shared<Core, L>, share: &mut Share<L>) -> Result<(), Stop> {
     let part = share.split(1).ok_or(Stop::Refused)?;
     same(rt, wait_and_close(rt, shared, part), (Some(1), true));
     Ok(())

@@ -1,6 +1,6 @@
 //! Dumps of worlds that no workload and no list of events makes: with actions that have no name, and nested too deep.
 ghost use Rattle.std.specs.Prelude.{◌≡◌};
-ghost use Rattle.ref_world.specs.Shares.{IsBlank};
+ghost use Rattle.ref_world.specs.Shares.{AreBlanks};
 
 use crate::same::same;
 use ref_agents::{ErrorMode, Start};
@@ -12,7 +12,7 @@ use ref_play::{Act, Event, Sim};
 use ref_world::{ALL_PARTS, World};
 use std::alloc::Global;
 use std::marker::Brand;
-use std::sync::ledger::{Blank, Ledger};
+use ref_world::{Blanks, Books};
 use std::test::Fail;
 
 /// Why a world that begins with nothing isn't dumped after these acts of one actor, if it isn't.
@@ -22,27 +22,21 @@ fn refusal(alloc: Global, events: &[Event]) -> Result<Option<DumpMakeFault>, Fai
         atoms: Vec::new(alloc),
         agents: Vec::new(alloc),
     };
-    let (commits, added, taken) = (
-        Blank::new(ALL_PARTS),
-        Blank::new(ALL_PARTS),
-        Blank::new(ALL_PARTS),
+    let (blanks) = (
+        Blanks::new(),
     );
-    refusal_in::<Brand, Brand, Brand>(alloc, &start, events, commits, added, taken)
+    refusal_in::<Brand>(alloc, &start, events, blanks)
 }
 
-fn refusal_in<C: Ledger, A: Ledger, K: Ledger>(
+fn refusal_in<L: Books>(
     alloc: Global,
     start: &Start,
     events: &[Event],
-    commits: Blank,
-    added: Blank,
-    taken: Blank,
+    blanks: Blanks,
 ) -> Result<Option<DumpMakeFault>, Fail>
-    requires commits { IsBlank commits C.name C.parts }
-    requires added { IsBlank added A.name A.parts }
-    requires taken { IsBlank taken K.name K.parts }
+    requires { AreBlanks blanks L.commits L.added L.taken }
 {
-    match Sim::<Core, C, A, K>::new(alloc, &CoreFunctions, start, commits, added, taken) {
+    match Sim::<Core, L>::new(alloc, &CoreFunctions, start, blanks) {
         Ok(mut sim) => {
             let refused = after(alloc, &mut sim, events);
             drop(sim.end());
@@ -52,9 +46,9 @@ fn refusal_in<C: Ledger, A: Ledger, K: Ledger>(
     }
 }
 
-fn after<C: Ledger, A: Ledger, K: Ledger>(
+fn after<L: Books>(
     alloc: Global,
-    sim: &mut Sim<Core, C, A, K>,
+    sim: &mut Sim<Core, L>,
     events: &[Event],
 ) -> Result<Option<DumpMakeFault>, Fail> {
     if !sim.served_by(&CoreFunctions) {
@@ -65,9 +59,9 @@ fn after<C: Ledger, A: Ledger, K: Ledger>(
 }
 
 // Why no dump is made, if none is. The verdict on a dump is ok, and so is that without one, which is refused for names alone.
-fn dumped<C: Ledger, A: Ledger, K: Ledger>(
+fn dumped<L: Books>(
     alloc: Global,
-    world: &World<Core, C, A, K>,
+    world: &World<Core, L>,
 ) -> Result<Option<DumpMakeFault>, Fail> {
     let undumped = audit_world(alloc, &CoreFunctions::new(), world);
     let (fault, verdict) = match dump(alloc, world) {

@@ -1,6 +1,6 @@
 //! Running the plan of a text, with gates, and what is seen of it.
 ghost use Rattle.std.specs.Prelude.{◌≡◌};
-ghost use Rattle.ref_world.specs.Shares.{IsBlank};
+ghost use Rattle.ref_world.specs.Shares.{AreBlanks};
 
 use crate::gates::{Board, Role, Turn};
 use crate::tables::CoreWithout;
@@ -14,7 +14,7 @@ use std::alloc::{AllocError, Global};
 use std::marker::Brand;
 use std::sync::Wait;
 use std::sync::atomic::Ordering;
-use std::sync::ledger::{Blank, Ledger};
+use ref_world::{Blanks, Books};
 use std::test::Fail;
 use std::thread::Threads;
 use std::time::Clock;
@@ -38,13 +38,11 @@ pub(crate) fn run<R: Threads + Wait + Clock + Sync>(
 ) -> Result<Result<Vec<u8>, RunFault>, Fail> {
     let plan = plan(alloc, &read_one(alloc, text.as_bytes())?)?;
     let board = Board::new();
-    let (commits, added, taken) = (
-        Blank::new(ALL_PARTS),
-        Blank::new(ALL_PARTS),
-        Blank::new(ALL_PARTS),
+    let (blanks) = (
+        Blanks::new(),
     );
-    let ran = run_in::<Brand, Brand, Brand, R>(
-        rt, alloc, &plan, how, progress, &board, commits, added, taken,
+    let ran = run_in::<Brand, R>(
+        rt, alloc, &plan, how, progress, &board, blanks,
     )?;
     if board.late.load(Ordering::SeqCst) {
         return Err(Fail::new("a thread waited in vain"));
@@ -52,25 +50,19 @@ pub(crate) fn run<R: Threads + Wait + Clock + Sync>(
     Ok(ran)
 }
 
-fn run_in<C, A, K, R>(
+fn run_in<L, R>(
     rt: &R,
     alloc: Global,
     plan: &Plan,
     how: How,
     progress: &Progress,
     board: &Board,
-    commits: Blank,
-    added: Blank,
-    taken: Blank,
+    blanks: Blanks,
 ) -> Result<Result<Vec<u8>, RunFault>, Fail>
 where
-    C: Ledger + Send + Sync,
-    A: Ledger + Send + Sync,
-    K: Ledger + Send + Sync,
+    L: Books + Send + Sync,
     R: Threads + Wait + Clock + Sync,
-    requires commits { IsBlank commits C.name C.parts }
-    requires added { IsBlank added A.name A.parts }
-    requires taken { IsBlank taken K.name K.parts }
+    requires { AreBlanks blanks L.commits L.added L.taken }
 {
     let Some(count) = plan.workers().len().checked_add(plan.pool() as usize) else {
         return Err(Fail::new("too many threads"));
@@ -79,8 +71,8 @@ where
     if gates.len() != count {
         return Err(Fail::new("each thread has a gate"));
     }
-    let ran = run_plan_with::<CoreWithout, C, A, K, R, Turn<'_, '_, R>>(
-        rt, alloc, &how.funs, plan, how.tries, gates, progress, commits, added, taken,
+    let ran = run_plan_with::<CoreWithout, L, R, Turn<'_, '_, R>>(
+        rt, alloc, &how.funs, plan, how.tries, gates, progress, blanks,
     );
     match ran {
         Ok(out) => Ok(Ok(report_of(alloc, &how.funs, plan, &out)?)),
@@ -112,11 +104,11 @@ fn make_gates<'a, 'b, R: Clock>(
 }
 
 // The report of the world that a run ended with, and of the verdict on its dump.
-fn report_of<C: Ledger, A: Ledger, K: Ledger>(
+fn report_of<L: Books>(
     alloc: Global,
     funs: &CoreWithout,
     plan: &Plan,
-    out: &RunOut<C, A, K>,
+    out: &RunOut<L>,
 ) -> Result<Vec<u8>, Fail> {
     if !has_core(funs) {
         return Err(Fail::new("the table has all of Core"));

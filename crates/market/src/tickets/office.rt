@@ -10,7 +10,7 @@ use ref_tx::{Tx, TxFault};
 use ref_world::{RefStart, Share, Start, World};
 use std::alloc::{AllocError, Global};
 use std::sync::Wait;
-use std::sync::ledger::Ledger;
+use ref_world::Books;
 
 // The refs: how many tickets are left for the first evening, and for the second, and how many are sold.
 pub(crate) const FIRST: u32 = 0;
@@ -32,9 +32,9 @@ pub(crate) enum Sale {
 
 /// What all clerks share. Its functions are those of [`Acts`].
 #[derive(Drop)]
-pub(crate) struct Office<C: Ledger, A: Ledger, K: Ledger> {
+pub(crate) struct Office<L: Books> {
     pub(crate) alloc: Global,
-    pub(crate) shared: Shared<BoxOffice, C, A, K>,
+    pub(crate) shared: Shared<BoxOffice, L>,
 }
 
 fn evening(alloc: Global, tickets: &str) -> Result<RefStart, AllocError> {
@@ -74,8 +74,8 @@ fn sold(alloc: Global) -> Result<RefStart, AllocError> {
     })
 }
 
-impl<C: Ledger, A: Ledger, K: Ledger> Office<C, A, K> {
-    pub(crate) fn open(alloc: Global, world: World<BoxOffice, C, A, K>) -> Office<C, A, K> {
+impl<L: Books> Office<L> {
+    pub(crate) fn open(alloc: Global, world: World<BoxOffice, L>) -> Office<L> {
         Office {
             alloc,
             shared: Shared::new(world),
@@ -86,7 +86,7 @@ impl<C: Ledger, A: Ledger, K: Ledger> Office<C, A, K> {
     pub(crate) fn sell<R: Wait>(
         &self,
         rt: &R,
-        share: &mut Share<C, A, K>,
+        share: &mut Share<L>,
         stamp: Stamp,
         evening: u32,
         group: &str,
@@ -115,7 +115,7 @@ impl<C: Ledger, A: Ledger, K: Ledger> Office<C, A, K> {
     fn commit<R: Wait>(
         &self,
         rt: &R,
-        share: &mut Share<C, A, K>,
+        share: &mut Share<L>,
         stamp: Stamp,
         tx: Tx<BoxOffice>,
     ) -> Result<Option<Sale>, Trouble> {
@@ -147,7 +147,7 @@ impl<C: Ledger, A: Ledger, K: Ledger> Office<C, A, K> {
     pub(crate) fn close<R: Wait>(
         &self,
         rt: &R,
-        share: &mut Share<C, A, K>,
+        share: &mut Share<L>,
         stamp: Stamp,
         evening: u32,
     ) -> Result<(), Trouble> {

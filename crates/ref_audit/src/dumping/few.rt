@@ -3,10 +3,9 @@ ghost use Rattle.ref_audit.specs.Made.{AreFew};
 
 use ref_fun::Core;
 use ref_world::World;
-use std::sync::ledger::Ledger;
 
 // A world has at most 2^20 references of each kind. It changes nothing, and costs three looks.
-pub(crate) fn tell_few<C: Ledger, A: Ledger, K: Ledger>(world: &World<Core, C, A, K>)
+pub(crate) fn tell_few(world: &World<Core>)
     ensures { AreFew world.now }
 {
     let _refs = world.ref_count();

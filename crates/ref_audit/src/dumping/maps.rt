@@ -18,7 +18,6 @@ use ref_fun::Core;
 use ref_value::{Entries, Node, Value};
 use ref_world::World;
 use std::alloc::{AllocError, Global};
-use std::sync::ledger::Ledger;
 
 // The values of a dump that are collections.
 #[derive(Drop)]
@@ -33,9 +32,9 @@ pub(crate) struct Parts {
 }
 
 #[tactic(auto, using(crate::proofs::Depths::make_faults))]
-pub(crate) fn parts_of<C: Ledger, A: Ledger, K: Ledger>(
+pub(crate) fn parts_of(
     alloc: Global,
-    world: &World<Core, C, A, K>,
+    world: &World<Core>,
 ) -> Result<Parts, DumpMakeFault>
     requires { AreFew world.now }
     ensures made { IfOk result (AreParts world.now) }
@@ -60,9 +59,9 @@ fn pair(alloc: Global, key: Word, value: Value) -> Result<(Value, Value), AllocE
 }
 
 // The entries of the map, from the first key on.
-pub(crate) fn entries_of<C: Ledger, A: Ledger, K: Ledger>(
+pub(crate) fn entries_of(
     alloc: Global,
-    world: &World<Core, C, A, K>,
+    world: &World<Core>,
     parts: Parts,
 ) -> Result<Vec<(Value, Value)>, AllocError>
     requires { AreParts world.now parts }

@@ -17,13 +17,12 @@ use ref_log::{MOST_REFERENCES, Who};
 use ref_value::Value;
 use ref_world::World;
 use std::alloc::Global;
-use std::sync::ledger::Ledger;
 
 // The refs or the atoms now, with their rules.
 #[tactic(auto, using(crate::proofs::Depths::make_faults))]
-pub(crate) fn values_now<C: Ledger, A: Ledger, K: Ledger>(
+pub(crate) fn values_now(
     alloc: Global,
-    world: &World<Core, C, A, K>,
+    world: &World<Core>,
     kind: RefOrAtom,
 ) -> Result<Value, DumpMakeFault>
     requires { length (values_of world.now (who_of kind 0)) ≤ most_references }
@@ -45,9 +44,9 @@ pub(crate) fn values_now<C: Ledger, A: Ledger, K: Ledger>(
 
 // The agents now, with their accounts.
 #[tactic(auto, using(crate::proofs::Depths::make_faults))]
-pub(crate) fn agents_now<C: Ledger, A: Ledger, K: Ledger>(
+pub(crate) fn agents_now(
     alloc: Global,
-    world: &World<Core, C, A, K>,
+    world: &World<Core>,
 ) -> Result<Value, DumpMakeFault>
     requires { AreFew world.now }
     ensures made { IfOk result (λ v. v ≡ agents_form world.now.agents.guards world.now.agents.agents) }
@@ -69,8 +68,8 @@ pub(crate) fn agents_now<C: Ledger, A: Ledger, K: Ledger>(
 }
 
 // The least code of the log's sends and the agents' accounts that no function of Core has.
-pub(crate) fn unnamed_in<C: Ledger, A: Ledger, K: Ledger>(
-    world: &World<Core, C, A, K>,
+pub(crate) fn unnamed_in(
+    world: &World<Core>,
 ) -> Option<u32>
     requires { AreFew world.now }
     ensures { result ≡ unnamed world.now }

@@ -10,7 +10,6 @@ use crate::own_audit::parts::{tell_account, tell_args};
 use ref_fun::{Core, Rule};
 use ref_log::{MOST_REFERENCES, Who};
 use ref_world::World;
-use std::sync::ledger::Ledger;
 
 fn tell_rule(rule: Option<&Rule>)
     ensures { is_small_rule (option_copied rule.entry) ≡ true }
@@ -23,7 +22,7 @@ fn tell_rule(rule: Option<&Rule>)
 
 // Whether a reference is here. Its rule accepts its value.
 #[tactic(auto, using(crate::proofs::OwnFacts::fact_of))]
-fn tell_reference<C: Ledger, A: Ledger, K: Ledger>(world: &World<Core, C, A, K>, who: Who) -> bool
+fn tell_reference(world: &World<Core>, who: Who) -> bool
     ensures here { result ≡ is_some (value_at world.now who) }
     ensures fact { rule_fact (value_at world.now who) (rule_at world.now who) ≡ true }
 {
@@ -31,7 +30,7 @@ fn tell_reference<C: Ledger, A: Ledger, K: Ledger>(world: &World<Core, C, A, K>,
     world.value_of(who).is_some()
 }
 
-pub(crate) fn tell_refs<C: Ledger, A: Ledger, K: Ledger>(world: &World<Core, C, A, K>)
+pub(crate) fn tell_refs(world: &World<Core>)
     requires { length world.now.refs.values ≤ most_references }
     ensures { (n : ℕ) → rule_fact (slice_get world.now.refs.values n) (guards.rule_at world.now.refs.guards n) ≡ true }
 {
@@ -42,7 +41,7 @@ pub(crate) fn tell_refs<C: Ledger, A: Ledger, K: Ledger>(world: &World<Core, C, 
     }
 }
 
-pub(crate) fn tell_atoms<C: Ledger, A: Ledger, K: Ledger>(world: &World<Core, C, A, K>)
+pub(crate) fn tell_atoms(world: &World<Core>)
     requires { length world.now.atoms.values ≤ most_references }
     ensures { (n : ℕ) → rule_fact (slice_get world.now.atoms.values n) (guards.rule_at world.now.atoms.guards n)
         ≡ true }
@@ -54,7 +53,7 @@ pub(crate) fn tell_atoms<C: Ledger, A: Ledger, K: Ledger>(world: &World<Core, C,
     }
 }
 
-pub(crate) fn tell_agents<C: Ledger, A: Ledger, K: Ledger>(world: &World<Core, C, A, K>)
+pub(crate) fn tell_agents(world: &World<Core>)
     requires { length world.now.agents.agents ≤ most_references }
     ensures { (n : ℕ) → rule_fact (slice_get (values_of world.now.agents.agents) n)
         (guards.rule_at world.now.agents.guards n) ≡ true }
@@ -67,7 +66,7 @@ pub(crate) fn tell_agents<C: Ledger, A: Ledger, K: Ledger>(world: &World<Core, C
 }
 
 // Whether an agent is here.
-fn tell_account_of<C: Ledger, A: Ledger, K: Ledger>(world: &World<Core, C, A, K>, g: u32) -> bool
+fn tell_account_of(world: &World<Core>, g: u32) -> bool
     ensures here { result ≡ is_some (account_at world.now.agents.agents g) }
     ensures fact { account_fact (account_at world.now.agents.agents g) ≡ true }
 {
@@ -80,7 +79,7 @@ fn tell_account_of<C: Ledger, A: Ledger, K: Ledger>(world: &World<Core, C, A, K>
     }
 }
 
-pub(crate) fn tell_accounts<C: Ledger, A: Ledger, K: Ledger>(world: &World<Core, C, A, K>)
+pub(crate) fn tell_accounts(world: &World<Core>)
     requires { length world.now.agents.agents ≤ most_references }
     ensures { (g : ℕ) → account_fact (account_at world.now.agents.agents g) ≡ true }
 {

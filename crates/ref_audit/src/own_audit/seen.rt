@@ -12,13 +12,12 @@ use ref_log::{Base, MOST_REFERENCES, SharedVec, Who};
 use ref_verdict::reading::dumps::{Dump, Kept, KeptAgent, Version};
 use ref_world::World;
 use std::alloc::{AllocError, Global};
-use std::sync::ledger::Ledger;
 
 /// What the dump of a world says. Values, entries and actions are shared: it is linear in the numbers of references and of actions,
 /// whatever the length of the log.
-pub(crate) fn dump_seen<C: Ledger, A: Ledger, K: Ledger>(
+pub(crate) fn dump_seen(
     alloc: Global,
-    world: &World<Core, C, A, K>,
+    world: &World<Core>,
 ) -> Result<Dump, AllocError>
     requires { AreFew world.now }
     ensures { IfOk result (λ dump. dump ≡ dump_seen world.now) }
@@ -61,9 +60,9 @@ fn share_lent_rule(rule: Option<&Rule>) -> Result<Option<Rule>, AllocError>
 }
 
 // The refs or the atoms now, with their rules.
-fn kepts_seen<C: Ledger, A: Ledger, K: Ledger>(
+fn kepts_seen(
     alloc: Global,
-    world: &World<Core, C, A, K>,
+    world: &World<Core>,
     kind: RefOrAtom,
 ) -> Result<SharedVec<Kept>, AllocError>
     requires { length (values_of world.now (who_of kind 0)) ≤ most_references }
@@ -85,9 +84,9 @@ fn kepts_seen<C: Ledger, A: Ledger, K: Ledger>(
 }
 
 // The agents now, with what they did and what waits.
-fn agents_seen<C: Ledger, A: Ledger, K: Ledger>(
+fn agents_seen(
     alloc: Global,
-    world: &World<Core, C, A, K>,
+    world: &World<Core>,
 ) -> Result<SharedVec<KeptAgent>, AllocError>
     requires { AreFew world.now }
     ensures { IfOk result (λ all. all ≡ agents_seen world.now.agents.guards world.now.agents.agents) }

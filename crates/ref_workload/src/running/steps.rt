@@ -9,17 +9,16 @@ use ref_log::{Op, Shareable as _, Stamp};
 use ref_plan::{PlannedOp, Step};
 use ref_shared::{Gate, Quiet};
 use ref_tx::{Tx, TxFault};
-use ref_world::Share;
+use ref_world::{Books, Share};
 use std::alloc::Global;
 use std::sync::Wait;
-use std::sync::ledger::Ledger;
 
 /// Runs a step, and returns why it was refused, if it was. The notices of atoms are dropped: a workload
 /// has none. A compare that finds another value isn't refused.
-pub(crate) fn run_step<F: Functions<Core>, C: Ledger, A: Ledger, K: Ledger, R: Wait, G: Gate>(
+pub(crate) fn run_step<F: Functions<Core>, L: Books, R: Wait, G: Gate>(
     rt: &R,
-    run: &Run<'_, F, C, A, K>,
-    share: &mut Share<C, A, K>,
+    run: &Run<'_, F, L>,
+    share: &mut Share<L>,
     gate: &mut G,
     stamp: Stamp,
     step: &Step,
@@ -48,10 +47,10 @@ pub(crate) fn run_step<F: Functions<Core>, C: Ledger, A: Ledger, K: Ledger, R: W
     }
 }
 
-fn run_transaction<F: Functions<Core>, C: Ledger, A: Ledger, K: Ledger, R: Wait, G: Gate>(
+fn run_transaction<F: Functions<Core>, L: Books, R: Wait, G: Gate>(
     rt: &R,
-    run: &Run<'_, F, C, A, K>,
-    share: &mut Share<C, A, K>,
+    run: &Run<'_, F, L>,
+    share: &mut Share<L>,
     gate: &mut G,
     stamp: Stamp,
     ops: &[PlannedOp],

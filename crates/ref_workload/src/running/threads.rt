@@ -6,10 +6,9 @@ use crate::running::workers::{Ended, Run, WorkerStart, serve, work};
 use ref_audit::Refusal;
 use ref_fun::{Core, Functions};
 use ref_shared::Gate;
-use ref_world::Share;
+use ref_world::{Books, Share};
 use std::alloc::Global;
 use std::sync::Wait;
-use std::sync::ledger::Ledger;
 use std::thread;
 use std::thread::{JoinHandle, Scope, Threads};
 
@@ -19,17 +18,15 @@ const WORKER_PARTS: u64 = 16_777_216;
 /// Starts a thread for each worker and the pool, joins the workers, closes the shared world, and joins the pool. It answers the
 /// refused steps, by worker, then step. Where a thread can't be made, those that were started run to their end. What the
 /// workers had of the share comes back.
-pub(crate) fn run_threads<F, C, A, K, R, G>(
+pub(crate) fn run_threads<F, L, R, G>(
     rt: &R,
-    run: &Run<'_, F, C, A, K>,
-    share: &mut Share<C, A, K>,
+    run: &Run<'_, F, L>,
+    share: &mut Share<L>,
     gates: Vec<G>,
 ) -> Result<Vec<Refusal>, Stop>
 where
     F: Functions<Core> + Sync,
-    C: Ledger + Send + Sync,
-    A: Ledger + Send + Sync,
-    K: Ledger + Send + Sync,
+    L: Books + Send + Sync,
     R: Threads + Wait + Sync,
     G: Gate + Send + Drop,
 {
@@ -60,12 +57,12 @@ where
 }
 
 // What the workers are started with, a gate each, and the gates that are left, which are the pool's.
-fn make_starts<C: Ledger, A: Ledger, K: Ledger, G: Drop>(
+fn make_starts<L: Books, G: Drop>(
     alloc: Global,
     workers: usize,
-    share: &mut Share<C, A, K>,
+    share: &mut Share<L>,
     gates: Vec<G>,
-) -> Result<(Vec<WorkerStart<C, A, K, G>>, Vec<G>), Stop> {
+) -> Result<(Vec<WorkerStart<L, G>>, Vec<G>), Stop> {
     let mut starts = Vec::with_capacity(alloc, workers)?;
     let mut rest = Vec::with_capacity(alloc, gates.len())?;
     let mut worker = 0u32;
@@ -80,9 +77,9 @@ fn make_starts<C: Ledger, A: Ledger, K: Ledger, G: Drop>(
     Ok((starts, rest))
 }
 
-fn add_start<C: Ledger, A: Ledger, K: Ledger, G: Drop>(
-    starts: &mut Vec<WorkerStart<C, A, K, G>>,
-    share: &mut Share<C, A, K>,
+fn add_start<L: Books, G: Drop>(
+    starts: &mut Vec<WorkerStart<L, G>>,
+    share: &mut Share<L>,
     worker: u32,
     gate: G,
 ) -> Result<(), Stop> {
@@ -101,18 +98,16 @@ fn add_start<C: Ledger, A: Ledger, K: Ledger, G: Drop>(
 }
 
 // Starts the pool's threads. One that can't be made ends it, and leaves those that were started.
-fn start_pool<'s, E, F, C, A, K, R, G>(
+fn start_pool<'s, E, F, L, R, G>(
     scope: &Scope<'s, E>,
     rt: &'s R,
-    run: &'s Run<'s, F, C, A, K>,
+    run: &'s Run<'s, F, L>,
     gates: Vec<G>,
     pool: &mut Vec<JoinHandle<Result<(), Stop>>>,
 ) -> Result<(), Stop>
 where
     F: Functions<Core> + Sync + 's,
-    C: Ledger + Send + Sync + 's,
-    A: Ledger + Send + Sync + 's,
-    K: Ledger + Send + Sync + 's,
+    L: Books + Send + Sync + 's,
     R: Wait + Sync + 's,
     G: Gate + Send + Drop + 's,
 {
@@ -128,18 +123,16 @@ where
 }
 
 // Starts a thread for each. One that can't be made ends it, and leaves those that were started.
-fn start_workers<'s, E, F, C, A, K, R, G>(
+fn start_workers<'s, E, F, L, R, G>(
     scope: &Scope<'s, E>,
     rt: &'s R,
-    run: &'s Run<'s, F, C, A, K>,
-    starts: Vec<WorkerStart<C, A, K, G>>,
-    workers: &mut Vec<JoinHandle<Ended<C, A, K>>>,
+    run: &'s Run<'s, F, L>,
+    starts: Vec<WorkerStart<L, G>>,
+    workers: &mut Vec<JoinHandle<Ended<L>>>,
 ) -> Result<(), Stop>
 where
     F: Functions<Core> + Sync + 's,
-    C: Ledger + Send + Sync + 's,
-    A: Ledger + Send + Sync + 's,
-    K: Ledger + Send + Sync + 's,
+    L: Books + Send + Sync + 's,
     R: Wait + Sync + 's,
     G: Gate + Send + Drop + 's,
 {
@@ -155,11 +148,11 @@ where
 }
 
 // Waits for each worker, by number, and returns the first that ended early.
-fn join_workers<C: Ledger, A: Ledger, K: Ledger, R: Threads>(
+fn join_workers<L: Books, R: Threads>(
     rt: &R,
-    share: &mut Share<C, A, K>,
+    share: &mut Share<L>,
     refused: &mut Vec<Refusal>,
-    workers: Vec<JoinHandle<Ended<C, A, K>>>,
+    workers: Vec<JoinHandle<Ended<L>>>,
 ) -> Result<(), Stop> {
     let mut ended = Ok(());
     for handle in workers {
@@ -169,10 +162,10 @@ fn join_workers<C: Ledger, A: Ledger, K: Ledger, R: Threads>(
 }
 
 // Takes in what a worker returns.
-fn gather<C: Ledger, A: Ledger, K: Ledger>(
-    share: &mut Share<C, A, K>,
+fn gather<L: Books>(
+    share: &mut Share<L>,
     refused: &mut Vec<Refusal>,
-    worker: Ended<C, A, K>,
+    worker: Ended<L>,
 ) -> Result<(), Stop> {
     let Ended {
         share: part,

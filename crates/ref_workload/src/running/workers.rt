@@ -7,18 +7,17 @@ use ref_fun::{Core, Functions};
 use ref_log::{SharedVec, Stamp};
 use ref_plan::Step;
 use ref_shared::{Gate, Quiet, Shared, WorkFault, Worked};
-use ref_world::Share;
+use ref_world::{Books, Share};
 use std::alloc::Global;
 use std::sync::Wait;
-use std::sync::ledger::Ledger;
 
 /// What all threads of a run are lent: the shared world, a table, the steps of each worker, how often a transaction is tried, and
 /// where they count how far they are.
 #[derive(Drop)]
-pub(crate) struct Run<'a, F: Functions<Core>, C: Ledger, A: Ledger, K: Ledger> {
+pub(crate) struct Run<'a, F: Functions<Core>, L: Books> {
     pub(crate) alloc: Global,
     pub(crate) funs: &'a F,
-    pub(crate) shared: Shared<Core, C, A, K>,
+    pub(crate) shared: Shared<Core, L>,
     pub(crate) workers: &'a [SharedVec<Step>],
     pub(crate) tries: u32,
     pub(crate) progress: &'a Progress,
@@ -26,26 +25,26 @@ pub(crate) struct Run<'a, F: Functions<Core>, C: Ledger, A: Ledger, K: Ledger> {
 
 /// What a worker is started with.
 #[derive(Drop)]
-pub(crate) struct WorkerStart<C: Ledger, A: Ledger, K: Ledger, G> {
+pub(crate) struct WorkerStart<L: Books, G> {
     pub(crate) worker: u32,
-    pub(crate) share: Share<C, A, K>,
+    pub(crate) share: Share<L>,
     pub(crate) gate: G,
 }
 
 /// What a worker returns: its share, its refused steps in order, and what ended it early.
 #[derive(Drop)]
-pub(crate) struct Ended<C: Ledger, A: Ledger, K: Ledger> {
-    pub(crate) share: Share<C, A, K>,
+pub(crate) struct Ended<L: Books> {
+    pub(crate) share: Share<L>,
     pub(crate) refused: Vec<Refusal>,
     pub(crate) stop: Option<Stop>,
 }
 
 /// Runs a worker's steps in order, up to the first that ends the run.
-pub(crate) fn work<F: Functions<Core>, C: Ledger, A: Ledger, K: Ledger, R: Wait, G: Gate + Drop>(
+pub(crate) fn work<F: Functions<Core>, L: Books, R: Wait, G: Gate + Drop>(
     rt: &R,
-    run: &Run<'_, F, C, A, K>,
-    start: WorkerStart<C, A, K, G>,
-) -> Ended<C, A, K> {
+    run: &Run<'_, F, L>,
+    start: WorkerStart<L, G>,
+) -> Ended<L> {
     let WorkerStart {
         worker,
         mut share,
@@ -60,11 +59,11 @@ pub(crate) fn work<F: Functions<Core>, C: Ledger, A: Ledger, K: Ledger, R: Wait,
     }
 }
 
-fn run_steps<F: Functions<Core>, C: Ledger, A: Ledger, K: Ledger, R: Wait, G: Gate>(
+fn run_steps<F: Functions<Core>, L: Books, R: Wait, G: Gate>(
     rt: &R,
-    run: &Run<'_, F, C, A, K>,
+    run: &Run<'_, F, L>,
     worker: u32,
-    share: &mut Share<C, A, K>,
+    share: &mut Share<L>,
     gate: &mut G,
     refused: &mut Vec<Refusal>,
 ) -> Result<(), Stop> {
@@ -89,9 +88,9 @@ fn run_steps<F: Functions<Core>, C: Ledger, A: Ledger, K: Ledger, R: Wait, G: Ga
 }
 
 /// Runs the actions of agents until the shared world is closed and none is ready.
-pub(crate) fn serve<F: Functions<Core>, C: Ledger, A: Ledger, K: Ledger, R: Wait, G: Gate + Drop>(
+pub(crate) fn serve<F: Functions<Core>, L: Books, R: Wait, G: Gate + Drop>(
     rt: &R,
-    run: &Run<'_, F, C, A, K>,
+    run: &Run<'_, F, L>,
     mut gate: G,
 ) -> Result<(), Stop> {
     for _ in rt.forever() {

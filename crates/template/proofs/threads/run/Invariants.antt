@@ -1,10 +1,4 @@
 use Rattle.template.proofs.threads.run.Given as goal
 
-abbrev pub ghosts-run_world-C-Ledger : goal.ghosts-run_world-C-Ledger
-ghosts-run_world-C-Ledger g a = record { name = a.commits.name; parts = a.commits.parts }
-
-abbrev pub ghosts-run_world-A-Ledger : goal.ghosts-run_world-A-Ledger
-ghosts-run_world-A-Ledger g a = record { name = a.added.name; parts = a.added.parts }
-
-abbrev pub ghosts-run_world-K-Ledger : goal.ghosts-run_world-K-Ledger
-ghosts-run_world-K-Ledger g a = record { name = a.taken.name; parts = a.taken.parts }
+abbrev pub ghosts-run_world : goal.ghosts-run_world
+ghosts-run_world g a = record { commits = a.blanks.commits.name; added = a.blanks.added.name; taken = a.blanks.taken.name }

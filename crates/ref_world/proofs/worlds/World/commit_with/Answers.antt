@@ -10,7 +10,7 @@ use Rattle.ref_refs.specs.Seen.{are_unchanged_since, changed_at}
 use Rattle.ref_world.specs.Seen.{WorldSeen}
 use Rattle.ref_world.specs.World.{AreBooks, IsWorld, are_past, most_booked, point_of, room, values_now}
 use Rattle.ref_agents.specs.Agents.{with_commit, with_unreleased}
-use Rattle.ref_world.proofs.Booked.{books_committed}
+use Rattle.ref_world.proofs.Counted.{books_committed}
 use Rattle.ref_world.specs.Entered.{entered_same, held_commit, held_still}
 use Rattle.ref_world.proofs.worlds.World.commit_with.Goals as goal
 

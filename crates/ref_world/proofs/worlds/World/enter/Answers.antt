@@ -1,6 +1,6 @@
 use Rattle.std.proofs.Common.{rules, ◌≡◌, ◌∙◌, ◌++◌, ◌∷◌, [], Ok, ap, subst, sym}
 use Rattle.ref_world.specs.World.{AreBooks, IsWorld}
-use Rattle.ref_world.proofs.Booked.{books_same}
+use Rattle.ref_world.proofs.Counted.{books_same}
 use Rattle.ref_world.specs.Entered.{atom_entered}
 use Rattle.ref_world.proofs.worlds.World.enter.Goals as goal
 

@@ -2,7 +2,7 @@ use Rattle.std.proofs.Common.{rules, ◌≡◌, ◌∙◌, ◌≤◌, ◌^◌, �
 use Rattle.ref_log.specs.Replay.{point_after}
 use Rattle.ref_log.specs.declared.entries.Entry.TheVariants.{MadeAtom}
 use Rattle.ref_world.specs.World.{AreBooks, IsWorld, point_of}
-use Rattle.ref_world.proofs.Booked.{books_same}
+use Rattle.ref_world.proofs.Counted.{books_same}
 use Rattle.ref_world.specs.Entered.{entered_same, held_still, since_later}
 use Rattle.ref_world.proofs.worlds.World.make_atom.Goals as goal
 

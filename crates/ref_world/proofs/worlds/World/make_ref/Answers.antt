@@ -6,7 +6,7 @@ use Rattle.ref_log.specs.declared.states.Base.{Base}
 use Rattle.ref_refs.specs.Make.{made_at}
 use Rattle.ref_refs.specs.Seen.{RefsSeen, are_unchanged_since, changed_at}
 use Rattle.ref_world.specs.World.{AreBooks, IsWorld, point_of, with_tally}
-use Rattle.ref_world.proofs.Booked.{books_made}
+use Rattle.ref_world.proofs.Counted.{books_made}
 use Rattle.ref_world.specs.Entered.{entered, held_still, since_later}
 use Rattle.ref_world.proofs.worlds.World.make_ref.Goals as goal
 

@@ -3,7 +3,7 @@ use Rattle.std.specs.Prelude.{is_some}
 use Rattle.ref_shared.specs.Waits.{IsCalledAgain}
 use Rattle.ref_shared.proofs.Again.{again_earlier, not_ready, one_more, tried_more, tried_same}
 use Rattle.ref_shared.proofs.Chains.{all_more, final}
-use Rattle.ref_shared.proofs.waiting.Shared+Core+C+A+K.transact_when.Goals as goal
+use Rattle.ref_shared.proofs.waiting.Shared+Core+L.transact_when.Goals as goal
 
 pub returns-in_default-clause-fault : goal.returns-in_default-clause-fault
 returns-in_default-clause-fault g c =

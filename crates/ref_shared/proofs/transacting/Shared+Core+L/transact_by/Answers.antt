@@ -1,7 +1,7 @@
 use Rattle.std.proofs.Common.{rules, of_calls, refl, arith, ◌∷◌, Ok, Err}
 use Rattle.ref_shared.specs.Bodies.{IsRetried}
 use Rattle.ref_shared.proofs.Chains.{all_earlier, all_more, final, one_more}
-use Rattle.ref_shared.proofs.transacting.Shared+Core+C+A+K.transact_by.Goals as goal
+use Rattle.ref_shared.proofs.transacting.Shared+Core+L.transact_by.Goals as goal
 
 pub returns-in-Err-clause-fault : goal.returns-in-Err-clause-fault
 returns-in-Err-clause-fault g c =

@@ -1,0 +1,332 @@
+//! A world with its books: what changes refs and atoms counts in a share.
+ghost use Rattle.ref_log.specs.Told.{TellsBack, TellsOrMemory, TellsThenMemory};
+ghost use Rattle.std.specs.Prelude.{◌≡◌, ◌≢◌, ◌+◌, ℕ, true, false, [], None, Some, Ok, IfOk, IfErr, OnErr, OnOk, slice_get};
+ghost use Rattle.ref_log.specs.Guards.{keys_at};
+ghost use Rattle.ref_log.specs.Replay.{is_protected, place, step};
+ghost use Rattle.ref_log.specs.Tally.{moved_by_dones};
+ghost use Rattle.ref_log.specs.Watches.{notices_of};
+ghost use Rattle.ref_log.specs.declared.counting.Side.TheVariants.{Added, Taken};
+ghost use Rattle.ref_log.specs.declared.entries.Entry.TheVariants as entries;
+ghost use Rattle.ref_log.specs.declared.faults.MakeFault.TheVariants as makes;
+ghost use Rattle.ref_log.specs.declared.notices.Who.TheVariants as who;
+ghost use Rattle.ref_log.specs.declared.operations.Op.TheVariants.{Alter, Set};
+ghost use Rattle.ref_atoms.specs.Atoms.{with_value};
+ghost use Rattle.ref_atoms.specs.Change as changes;
+ghost use Rattle.ref_atoms.specs.Change.{change_refusal, compare_refusal, is_same_at};
+ghost use Rattle.ref_atoms.specs.declared.faults.AtomFault.TheVariants as faults;
+ghost use Rattle.ref_refs.specs.Commit.{changed_by, entry_of};
+ghost use Rattle.ref_refs.specs.Conflicts.{ConflictFits};
+ghost use Rattle.ref_refs.specs.Seen.{changed_at};
+ghost use Rattle.ref_refs.specs.Watches.{notices, touched_refs};
+ghost use Rattle.ref_refs.specs.declared.faults.CommitFault.TheVariants as commits;
+ghost use Rattle.ref_tx.specs.Inner.{inner_value};
+ghost use Rattle.ref_world.specs.Shares as shares;
+ghost use Rattle.ref_world.specs.Shares.{AreBlanks, all_parts, forgotten, whole, with_receipt};
+ghost use Rattle.ref_world.specs.Starts as starts;
+ghost use Rattle.ref_world.specs.Starts.{first_refusal, start_refusal};
+ghost use Rattle.ref_world.specs.World.{CanEnter, commit_refusal, early_refusal, point_of, values_now, with_commit, with_entry};
+
+use crate::commits::Receipt;
+use crate::ledgers::Ledgers;
+use crate::names::{Blanks, Books};
+use crate::shares::{LogReceipt, Share};
+use crate::worlds::{Totals, World};
+use ref_agents::Start;
+use ref_atoms::{AtomFault, Cas, Change, Swapped};
+use ref_fun::{Args, Functions, Meaning};
+use ref_log::{MakeFault, Op, Shareable as _, Stamp, Who};
+use ref_refs::CommitFault;
+use ref_tx::Tx;
+use ref_value::Value;
+use std::alloc::{AllocError, Global};
+
+/// A world whose commits are counted in shares, by books that L names: what stands in the books is what all of its shares have together,
+/// and so are the world's own numbers.
+///
+/// The calls here are those that count in a share. All others are calls of the world, `booked.world.send(..)`. A program that changed the
+/// world's numbers past the books would have no proof.
+#[derive(Drop)]
+pub struct Booked<M: Meaning, L: Books> {
+    pub world: World<M>,
+    pub books: Ledgers<L>,
+    ghost commits: { world.books.commits ≡ books.commits },
+    ghost added: { world.books.added ≡ books.added },
+    ghost taken: { world.books.taken ≡ books.taken },
+}
+
+impl<M: Meaning, L: Books> Booked<M, L> {
+    /// A world as [`World::new`] makes it, with its books, and its whole share. The blanks become the books, and are spent where the world
+    /// is refused, too.
+    pub fn new<F: Functions<M>>(
+        alloc: Global,
+        funs: &F,
+        start: &Start,
+        blanks: Blanks,
+    ) -> Result<(Booked<M, L>, Share<L>), (Who, MakeFault)>
+        requires { AreBlanks blanks L.commits L.added L.taken }
+        ensures ok { OnOk result (start_refusal M.accepts (F.knows funs.now).preds start.now ≡ None) }
+        ensures refs { IfOk result (λ r. starts.declared_refs M.accepts (F.knows funs.now).preds start.now.refs.items
+            ≡ Ok r.0.world.refs) }
+        ensures atoms { IfOk result (λ r. starts.declared_atoms M.accepts (F.knows funs.now).preds start.now.atoms.items
+            ≡ Ok r.0.world.atoms) }
+        ensures agents { IfOk result (λ r. starts.declared_agents M.accepts
+            (F.knows funs.now).preds start.now.agents.items ≡ Ok r.0.world.agents) }
+        ensures base { IfOk result (λ r. r.0.world.base ≡ starts.base_of r.0.world.refs r.0.world.atoms) }
+        ensures log { IfOk result (λ r. r.0.world.log ≡ []) }
+        ensures books { IfOk result (λ r. r.0.world.books ≡ starts.books_of r.0.world.refs) }
+        ensures share { IfOk result (λ r. r.1 ≡ whole) }
+        ensures fault { IfErr result (λ e. e.1 ≢ makes.Memory
+            → start_refusal M.accepts (F.knows funs.now).preds start.now ≡ Some e) }
+        ensures memory { IfErr result (λ e. e.1 ≡ makes.Memory
+            → first_refusal M.accepts (F.knows funs.now).preds start.now ≡ None) }
+    {
+        let (books, share) = Ledgers::<L>::open(alloc, blanks);
+        match World::new(alloc, funs, start) {
+            Ok(world) => Ok((Booked { world, books }, share)),
+            Err(refused) => {
+                drop((books, share));
+                Err(refused)
+            }
+        }
+    }
+
+    /// Commits a transaction as [`World::commit`] does. The share gets the commit, what it adds to the tally and takes from it, and its
+    /// receipt: the entry and its point.
+    ///
+    /// A refused commit changes neither world nor share, and returns the transaction.
+    pub fn commit_with<F: Functions<M>>(
+        &mut self,
+        alloc: Global,
+        funs: &F,
+        share: &mut Share<L>,
+        stamp: Stamp,
+        tx: Tx<M>,
+    ) -> Result<Receipt, (Tx<M>, CommitFault)>
+        ensures refused { TellsBack commits.Memory (early_refusal (F.knows funs.now) self.old.world tx)
+            (commit_refusal M.means M.accepts (F.knows funs.now) self.old.world tx) result }
+        // The base stays, the log has one entry more, no atom is changed, and the sends stand in their queues.
+        ensures entry { OnOk result (self.new.world
+            ≡ with_commit self.old.world (entry_of stamp tx) self.new.world.refs tx.sends) }
+        ensures values { OnOk result (step M.means (point_of self.old.world + 1) (entry_of stamp tx)
+            (values_now self.old.world.refs self.old.world.atoms) ≡ Ok (values_now self.new.world.refs self.new.world.atoms)) }
+        ensures inner { OnOk result ((r : ℕ) → is_protected tx.dones r ≡ true
+            → slice_get self.new.world.refs.values r ≡ inner_value M.means tx r) }
+        ensures lasts { OnOk result ((r : ℕ)
+            → changed_at self.new.world.refs.lasts r ≡ changed_by self.old.world.refs.lasts (point_of self.old.world + 1) tx.dones r) }
+        ensures rest { OnOk result ((self.new.world.refs.tally ≡ self.old.world.refs.tally)
+            × (self.new.world.refs.guards ≡ self.old.world.refs.guards)) }
+        ensures receipt { IfOk result (λ receipt. (receipt.point ≡ point_of self.old.world + 1) × (receipt.stamp ≡ stamp)) }
+        ensures notices { IfOk result (λ receipt. receipt.notices.items
+            ≡ notices self.old.world.refs.guards self.old.world.refs.values self.new.world.refs.values (touched_refs tx.dones)) }
+        ensures share { OnOk result (share.new
+            ≡ shares.with_commit share.old (point_of self.old.world + 1) (entry_of stamp tx)
+            (moved_by_dones Added self.old.world.refs.tally tx.dones) (moved_by_dones Taken self.old.world.refs.tally tx.dones)) }
+        // A conflict is returned with a ref that the transaction protects, its read point and a later point.
+        ensures conflict { IfErr result (λ e. ConflictFits tx e.1) }
+        ensures back { IfErr result (λ e. e.0 ≡ tx) }
+        ensures err { OnErr result (self.new.world ≡ self.old.world) }
+        ensures same { OnErr result (share.new ≡ share.old) }
+    {
+        let prepared = match self.world.prepare(alloc, funs, stamp, &tx) {
+            Ok(prepared) => prepared,
+            Err(fault) => return Err((tx, fault)),
+        };
+        let Ok(entry) = prepared.landed.entry.share() else {
+            return Err((tx, CommitFault::Memory));
+        };
+        if share.receipts.reserve(1).is_err() {
+            return Err((tx, CommitFault::Memory));
+        }
+        let (added, taken) = (prepared.added, prepared.taken);
+        match self.world.install(alloc, stamp, prepared, tx) {
+            Ok(receipt) => {
+                let point = receipt.point;
+                share.receipts.push_reserved(LogReceipt { point, entry });
+                self.books.book(share, added, taken);
+                Ok(receipt)
+            }
+            Err(tx) => Err((tx, CommitFault::Memory)),
+        }
+    }
+
+    /// Changes an atom as [`World::swap`] does. The share gets the entry's receipt. A refused call changes nothing.
+    pub fn swap<F: Functions<M>>(
+        &mut self,
+        alloc: Global,
+        funs: &F,
+        share: &mut Share<L>,
+        a: u32,
+        code: u32,
+        args: Args,
+    ) -> Result<Swapped, AtomFault>
+        ensures refused { TellsOrMemory faults.Memory
+            (changes.early_refusal M.accepts (F.knows funs.now) self.old.world.atoms (point_of self.old.world + 1) a (Alter code args))
+            (change_refusal M.means M.accepts (F.knows funs.now) self.old.world.atoms (point_of self.old.world + 1) a
+            (Alter code args)) result }
+        ensures old { IfOk result (λ s. slice_get self.old.world.atoms.values a ≡ Some s.old) }
+        ensures new { IfOk result (λ s. place M.means (Alter code args) s.old ≡ Ok s.new) }
+        ensures entry { IfOk result (λ s. self.new.world
+            ≡ with_entry self.old.world (entries.Atom a (Alter code args) s.new) self.old.world.refs
+            (with_value self.old.world.atoms a s.new)) }
+        ensures values { IfOk result (λ s. step M.means (point_of self.old.world + 1)
+            (entries.Atom a (Alter code args) s.new) (values_now self.old.world.refs self.old.world.atoms)
+            ≡ Ok (values_now self.new.world.refs self.new.world.atoms)) }
+        ensures notices { IfOk result (λ s. s.notices.items
+            ≡ notices_of (who.Atom a) (keys_at self.old.world.atoms.guards a) s.old s.new) }
+        ensures share { IfOk result (λ s. share.new
+            ≡ with_receipt share.old (point_of self.old.world + 1) (entries.Atom a (Alter code args) s.new)) }
+        ensures err { OnErr result (self.new.world ≡ self.old.world) }
+        ensures same { OnErr result (share.new ≡ share.old) }
+    {
+        let at = self.world.point() + 1;
+        let change = self
+            .world
+            .atoms
+            .prepare(alloc, funs, at, a, Op::Alter(code, args))?;
+        Ok(self.enter(alloc, share, a, change)?)
+    }
+
+    /// Sets an atom as [`World::reset`] does. The share gets the entry's receipt. A refused call changes nothing.
+    pub fn reset<F: Functions<M>>(
+        &mut self,
+        alloc: Global,
+        funs: &F,
+        share: &mut Share<L>,
+        a: u32,
+        value: Value,
+    ) -> Result<Swapped, AtomFault>
+        ensures refused { TellsThenMemory faults.Memory
+            (change_refusal M.means M.accepts (F.knows funs.now) self.old.world.atoms (point_of self.old.world + 1) a
+            (Set value)) result }
+        ensures old { IfOk result (λ s. slice_get self.old.world.atoms.values a ≡ Some s.old) }
+        ensures new { IfOk result (λ s. s.new ≡ value) }
+        ensures entry { OnOk result (self.new.world
+            ≡ with_entry self.old.world (entries.Atom a (Set value) value) self.old.world.refs
+            (with_value self.old.world.atoms a value)) }
+        ensures values { OnOk result (step M.means (point_of self.old.world + 1) (entries.Atom a (Set value) value)
+            (values_now self.old.world.refs self.old.world.atoms) ≡ Ok (values_now self.new.world.refs self.new.world.atoms)) }
+        ensures notices { IfOk result (λ s. s.notices.items
+            ≡ notices_of (who.Atom a) (keys_at self.old.world.atoms.guards a) s.old value) }
+        ensures share { OnOk result (share.new
+            ≡ with_receipt share.old (point_of self.old.world + 1) (entries.Atom a (Set value) value)) }
+        ensures err { OnErr result (self.new.world ≡ self.old.world) }
+        ensures same { OnErr result (share.new ≡ share.old) }
+    {
+        let at = self.world.point() + 1;
+        let change = self
+            .world
+            .atoms
+            .prepare(alloc, funs, at, a, Op::Set(value))?;
+        Ok(self.enter(alloc, share, a, change)?)
+    }
+
+    /// Sets an atom as [`World::compare_and_set`] does. Where it did the share gets the entry's receipt; where it answers false, and where
+    /// it is refused, nothing is changed.
+    pub fn compare_and_set<F: Functions<M>>(
+        &mut self,
+        alloc: Global,
+        funs: &F,
+        share: &mut Share<L>,
+        a: u32,
+        old: &Value,
+        new: Value,
+    ) -> Result<Cas, AtomFault>
+        ensures refused { TellsThenMemory faults.Memory
+            (compare_refusal M.accepts (F.knows funs.now).preds self.old.world.atoms
+            (point_of self.old.world + 1) a old.now new) result }
+        ensures done { IfOk result (λ c. c.done ≡ is_same_at self.old.world.atoms a old.now) }
+        ensures entry { IfOk result (λ c. c.done ≡ true
+            → self.new.world ≡ with_entry self.old.world (entries.Atom a (Set new) new) self.old.world.refs
+            (with_value self.old.world.atoms a new)) }
+        ensures values { IfOk result (λ c. c.done ≡ true
+            → step M.means (point_of self.old.world + 1) (entries.Atom a (Set new) new)
+            (values_now self.old.world.refs self.old.world.atoms) ≡ Ok (values_now self.new.world.refs self.new.world.atoms)) }
+        ensures notices { IfOk result (λ c. c.done ≡ true
+            → c.notices.items ≡ notices_of (who.Atom a) (keys_at self.old.world.atoms.guards a) old.now new) }
+        ensures share { IfOk result (λ c. c.done ≡ true
+            → share.new ≡ with_receipt share.old (point_of self.old.world + 1) (entries.Atom a (Set new) new)) }
+        ensures unset { IfOk result (λ c. c.done ≡ false → self.new.world ≡ self.old.world) }
+        ensures unshared { IfOk result (λ c. c.done ≡ false → share.new ≡ share.old) }
+        ensures untold { IfOk result (λ c. c.done ≡ false → c.notices.items ≡ []) }
+        ensures grows { IfErr result (λ f. f ≡ faults.Memory → is_same_at self.old.world.atoms a old.now ≡ true) }
+        ensures err { OnErr result (self.new.world ≡ self.old.world) }
+        ensures same { OnErr result (share.new ≡ share.old) }
+    {
+        let at = self.world.point() + 1;
+        let prepared = self
+            .world
+            .atoms
+            .prepare_compare(alloc, funs, at, a, old, new)?;
+        let Some(change) = prepared else {
+            return Ok(Cas {
+                done: false,
+                notices: Vec::new(alloc),
+            });
+        };
+        let swapped = self.enter(alloc, share, a, change)?;
+        Ok(Cas {
+            done: true,
+            notices: swapped.notices,
+        })
+    }
+
+    // Puts a change of an atom in its place, with its entry and its receipt, and answers what it answers. The growths come first.
+    fn enter(
+        &mut self,
+        alloc: Global,
+        share: &mut Share<L>,
+        a: u32,
+        change: Change,
+    ) -> Result<Swapped, AllocError>
+        requires { CanEnter M.means M.accepts self.old.world a change }
+        ensures entry { OnOk result (self.new.world
+            ≡ with_entry self.old.world change.entry self.old.world.refs (with_value self.old.world.atoms a change.value)) }
+        ensures values { OnOk result (step M.means (point_of self.old.world + 1) change.entry
+            (values_now self.old.world.refs self.old.world.atoms) ≡ Ok (values_now self.new.world.refs self.new.world.atoms)) }
+        ensures swapped { IfOk result (λ s. s ≡ change.swapped) }
+        ensures share { OnOk result (share.new ≡ with_receipt share.old (point_of self.old.world + 1) change.entry) }
+        ensures err { OnErr result (self.new.world ≡ self.old.world) }
+        ensures same { OnErr result (share.new ≡ share.old) }
+    {
+        let point = self.world.point() + 1;
+        let entry = change.entry.share()?;
+        share.receipts.reserve(1)?;
+        let swapped = self.world.enter(alloc, a, change)?;
+        share.receipts.push_reserved(LogReceipt { point, entry });
+        Ok(swapped)
+    }
+
+    /// Drops the receipts of a share whose entries are folded into the base. The others stay, and so do commits, additions, takings and
+    /// parts. It takes no memory. Linear in the number of the share's receipts.
+    pub fn forget(&self, share: &mut Share<L>)
+        ensures { share.new ≡ forgotten share.old self.now.world.base.point }
+    {
+        share.forget(self.world.base().point);
+    }
+
+    /// What a share has of the books, where it is whole: all commits, and all that was added to the tally and taken from it. It
+    /// changes nothing.
+    pub fn totals(&mut self, share: &mut Share<L>) -> Totals
+        ensures value { result ≡ record {
+          commits = self.old.world.books.commits;
+          added = self.old.world.books.added;
+          taken = self.old.world.books.taken;
+        } }
+        ensures whole { share.old.parts ≡ all_parts
+            → (result.commits ≡ share.old.commits) × (result.added ≡ share.old.added)
+            × (result.taken ≡ share.old.taken) }
+        ensures world { self.new.world ≡ self.old.world }
+        ensures share { share.new ≡ share.old }
+    {
+        self.books.audit(share);
+        self.world.totals()
+    }
+
+    /// The world without its books.
+    pub fn into_world(self) -> World<M>
+        ensures { result ≡ self.world }
+    {
+        let Booked { world, books: _ } = self;
+        world
+    }
+}
