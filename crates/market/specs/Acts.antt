@@ -8,14 +8,14 @@
 --
 -- Predicate 1 accepts an integer of 0 or more, without an argument. Other codes have no function, and accept nothing.
 use Rattle.std.specs.Prelude.{◌≡◌, ℕ, ℤ, pos, int_le, ◌==◌, ◌&&◌, Bool, false, is_some, if◌then◌else◌, List, [], ◌∷◌, Option, None, Some, Result, Ok, Err}
-use Rattle.ref_edn.specs.Edn.{Edn, int}
+use Rattle.ref_value.specs.Edn.{Edn, int}
 use Rattle.ref_fun.specs.Calls.{Known}
 use Rattle.ref_fun.specs.Core.{core_adds, core_means, core_takes}
 use Rattle.ref_fun.specs.Integers.{minus, plus}
 use Rattle.ref_fun.specs.declared.faults.Cause.{Cause}
 use Rattle.ref_fun.specs.declared.faults.Cause.TheVariants.{WrongKind, WrongArity}
-use Rattle.market.specs.declared.tickets.acts.Act.{Act}
-use Rattle.market.specs.declared.tickets.acts.Act.TheVariants.{Add, Take, Sell, Close}
+use Rattle.market.specs.declared.acts.Act.{Act}
+use Rattle.market.specs.declared.acts.Act.TheVariants.{Add, Take, Sell, Close}
 
 abbrev pub act_of : ℕ → Option Act
 act_of code = if code == 1 then Some Add else if code == 2 then Some Take else if code == 3 then Some Sell else if code == 4 then Some Close else None

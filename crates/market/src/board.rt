@@ -22,8 +22,16 @@ impl WatchSink for Board {
 }
 
 impl Board {
-    /// The notices of two boards, added up.
-    pub(crate) fn with(self, other: Board) -> Board {
+    /// The notices of several boards, added up.
+    pub(crate) fn sum(boards: &[Board]) -> Board {
+        let mut all = Board::default();
+        for board in boards {
+            all = all.with(*board);
+        }
+        all
+    }
+
+    fn with(self, other: Board) -> Board {
         Board {
             refs: self.refs.saturating_add(other.refs),
             atoms: self.atoms.saturating_add(other.atoms),

@@ -1,250 +1,175 @@
-//! The market: its world, and what one customer does.
-use crate::Trouble;
+//! The stalls: their world, and what their customers do.
+ghost use Rattle.std.specs.Prelude.{◌≡◌, IfOk};
+
 use crate::board::Board;
-use crate::values::{args, no_args, value};
-use ref_agents::ErrorMode;
-use ref_fun::codes::{AT_LEAST, CONJ, INC, MINUS, PLUS};
-use ref_fun::{Action, Core, Functions, Rule};
-use ref_log::{Stamp, Who};
-use ref_refs::CommitFault;
-use ref_shared::{Open, Shared, TransactFault, WatchSink};
-use ref_tx::{Tx, TxFault};
-use ref_world::{AgentStart, AtomStart, RefStart, Share, Start, World};
-use std::alloc::{AllocError, Global};
-use std::sync::Wait;
-use ref_world::Books;
+use ref_fun::{Core, CoreFunctions};
+use ref_program::prelude::*;
 
-// References are numbered from 0 by kind, in the order in which they are declared. Refs 0, 1 and 2 are the stocks.
-pub(crate) const TAKINGS: u32 = 3;
+// References are numbered from 0 by kind, in the order in which `start` makes them. Refs 0, 1 and 2 are the stocks.
+const TAKINGS: u32 = 3;
 
-pub(crate) const CAME: u32 = 0;
+const CAME: u32 = 0;
 
-pub(crate) const JOURNAL: u32 = 0;
+const SOLD_OUT: u32 = 1;
 
-pub(crate) const TILL: u32 = 1;
+const WITHOUT_BREAD: u32 = 2;
 
-// How often a sale is tried. Each conflict means that another sale was made, and there are fewer of them than this.
-const TRIES: u32 = 1_000;
+const JOURNAL: u32 = 0;
 
-#[derive(Clone, Copy, Debug, PartialEq, Eq)]
-pub(crate) enum Good {
-    Apple,
-    Bread,
-    Cheese,
+const TILL: u32 = 1;
+
+// How many customers come in each thread. Each of them wants one piece of a good.
+const CUSTOMERS: u32 = 60;
+
+#[derive(Clone, Copy)]
+struct Good {
+    stock: u32,
+    price: i64,
+    name: &'static str,
 }
 
-impl Good {
-    /// The ref of its stock.
-    pub(crate) fn stock(self) -> u32 {
-        match self {
-            Good::Apple => 0,
-            Good::Bread => 1,
-            Good::Cheese => 2,
+const APPLE: Good = Good {
+    stock: 0,
+    price: 2,
+    name: "apple",
+};
+
+const BREAD: Good = Good {
+    stock: 1,
+    price: 3,
+    name: "bread",
+};
+
+const CHEESE: Good = Good {
+    stock: 2,
+    price: 7,
+    name: "cheese",
+};
+
+struct Market;
+
+impl CustomProgram for Market {
+    type Meaning = Core;
+
+    type Functions = CoreFunctions;
+
+    type Sink = Board;
+
+    fn functions(&self) -> CoreFunctions {
+        CoreFunctions
+    }
+
+    // The board at the gate gets the notices of all watches.
+    fn sink(&self) -> Board {
+        Board::default()
+    }
+
+    fn start(&self, world: &mut Declared) -> Result<(), Fault> {
+        for pieces in ["50", "100", "70"] {
+            world.make_ref_with(pieces, AT_LEAST, 0)?;
         }
-    }
-
-    pub(crate) fn price(self) -> &'static str {
-        match self {
-            Good::Apple => "2",
-            Good::Bread => "3",
-            Good::Cheese => "7",
+        world.make_tally("0")?;
+        for _ in [CAME, SOLD_OUT, WITHOUT_BREAD] {
+            world.make_atom("0")?;
         }
+        world.make_agent("[]", ErrorMode::Fail)?;
+        world.make_agent("0", ErrorMode::Fail)?;
+        watch_all(world, keyword("board")?)
     }
 
-    pub(crate) fn name(self) -> &'static str {
-        match self {
-            Good::Apple => ":apple",
-            Good::Bread => ":bread",
-            Good::Cheese => ":cheese",
-        }
-    }
-}
-
-/// What came of a customer's wish.
-#[derive(Clone, Copy, Debug, PartialEq, Eq)]
-pub(crate) enum Outcome {
-    Sold,
-    SoldOut,
-    WithoutBread,
-}
-
-/// What all threads share: the world, and the table of the functions that it names. C, A and K name the world's books.
-#[derive(Drop)]
-pub(crate) struct Market<'a, F: Functions<Core>, L: Books> {
-    pub(crate) alloc: Global,
-    pub(crate) funs: &'a F,
-    pub(crate) shared: Shared<Core, L>,
-}
-
-// A rule that a value is at least so much.
-fn at_least(alloc: Global, least: &str) -> Result<Rule, AllocError> {
-    Ok(Rule {
-        code: AT_LEAST,
-        args: args(alloc, least)?,
-    })
-}
-
-// A stock, whose rule `[>= 0]` refuses less than 0.
-fn stock(alloc: Global, pieces: &str) -> Result<RefStart, AllocError> {
-    Ok(RefStart {
-        value: value(alloc, pieces)?,
-        rule: Some(at_least(alloc, "0")?),
-        tally: false,
-    })
-}
-
-// The takings are the tally: they are only added to.
-fn takings(alloc: Global) -> Result<RefStart, AllocError> {
-    Ok(RefStart {
-        value: value(alloc, "0")?,
-        rule: None,
-        tally: true,
-    })
-}
-
-fn agent(alloc: Global, state: &str) -> Result<AgentStart, AllocError> {
-    Ok(AgentStart {
-        value: value(alloc, state)?,
-        rule: None,
-        mode: ErrorMode::Fail,
-    })
-}
-
-// Stocks of apples, bread and cheese, and the takings.
-fn refs(alloc: Global) -> Result<Vec<RefStart>, AllocError> {
-    let mut refs = Vec::new(alloc);
-    for pieces in ["50", "100", "70"] {
-        refs.push(stock(alloc, pieces)?)?;
-    }
-    refs.push(takings(alloc)?)?;
-    Ok(refs)
-}
-
-// How many customers came.
-fn came(alloc: Global) -> Result<AtomStart, AllocError> {
-    Ok(AtomStart {
-        value: value(alloc, "0")?,
-        rule: None,
-    })
-}
-
-// The journal, and the till.
-fn agents(alloc: Global) -> Result<Vec<AgentStart>, AllocError> {
-    Ok(vec![in alloc; agent(alloc, "[]")?, agent(alloc, "0")?]?)
-}
-
-/// What the world begins with.
-pub(crate) fn start(alloc: Global) -> Result<Start, AllocError> {
-    Ok(Start {
-        refs: refs(alloc)?,
-        atoms: vec![in alloc; came(alloc)?]?,
-        agents: agents(alloc)?,
-    })
-}
-
-impl<'a, F: Functions<Core>, L: Books> Market<'a, F, L> {
-    /// Shares a world.
-    pub(crate) fn of(
-        alloc: Global,
-        funs: &'a F,
-        world: World<Core, L>,
-    ) -> Market<'a, F, L> {
-        Market {
-            alloc,
-            funs,
-            shared: Shared::new(world),
-        }
-    }
-
-    /// Has the board watch the stocks, the count of customers and both agents.
-    pub(crate) fn watch_all<R: Wait>(&self, rt: &R) -> Result<(), Trouble> {
-        for r in 0..TAKINGS {
-            self.watch(rt, Who::Ref(r))?;
-        }
-        self.watch(rt, Who::Atom(CAME))?;
-        self.watch(rt, Who::Agent(JOURNAL))?;
-        self.watch(rt, Who::Agent(TILL))
-    }
-
-    fn watch<R: Wait>(&self, rt: &R, who: Who) -> Result<(), Trouble> {
-        let key = value(self.alloc, ":board")?;
-        match self.shared.add_watch(rt, who, key) {
-            Ok(_) => Ok(()),
-            Err(_) => Err(Trouble),
-        }
-    }
-
-    /// Counts a customer. A call on an atom returns the notices, and its caller delivers them.
-    pub(crate) fn come<R: Wait>(
+    fn work<L: Books, R: Wait>(
         &self,
-        rt: &R,
-        share: &mut Share<L>,
-        board: &mut Board,
-    ) -> Result<(), Trouble> {
-        let (alloc, funs) = (self.alloc, self.funs);
-        let none = no_args(alloc)?;
-        let Ok(swapped) = self.shared.swap(rt, alloc, funs, share, CAME, INC, none) else {
-            return Err(Trouble);
-        };
-        for notice in &swapped.notices {
-            board.told(notice);
+        worker: &mut Worker<'_, L, R, Core, CoreFunctions, Board>,
+    ) -> Result<(), Fault> {
+        for customer in 0..CUSTOMERS {
+            let good = match customer % 3 {
+                0 => APPLE,
+                1 => BREAD,
+                _ => CHEESE,
+            };
+            serve(worker, good)?;
         }
-        drop(swapped);
         Ok(())
     }
+}
 
-    /// Sells a piece of a good, or changes nothing.
-    pub(crate) fn sell<R: Wait>(
-        &self,
-        rt: &R,
-        share: &mut Share<L>,
-        stamp: Stamp,
-        good: Good,
-        board: &mut Board,
-    ) -> Result<Outcome, Trouble> {
-        let (alloc, funs) = (self.alloc, self.funs);
-        let body = |tx: &mut Tx<Core>| self.body(tx, good);
-        let sale = self.shared.transact(
-            rt, alloc, funs, share, stamp, TRIES, &mut Open, board, body,
-        );
-        match sale {
-            Ok(sold) => {
-                drop(sold);
-                Ok(Outcome::Sold)
-            }
-            Err(TransactFault::Commit(CommitFault::Invalid(_))) => Ok(Outcome::SoldOut),
-            Err(TransactFault::Body(TxFault::NotMet)) => Ok(Outcome::WithoutBread),
-            Err(_) => Err(Trouble),
-        }
+// Has the board watch the stocks, the count of customers and both agents.
+fn watch_all(world: &mut Declared, board: Keyword) -> Result<(), Fault> {
+    for good in [APPLE, BREAD, CHEESE] {
+        world.watch(Who::Ref(good.stock), board)?;
     }
+    world.watch(Who::Atom(CAME), board)?;
+    world.watch(Who::Agent(JOURNAL), board)?;
+    world.watch(Who::Agent(TILL), board)
+}
 
-    // The body of a sale, which may be run more than once. It sees the refs as they were when it began.
-    fn body(&self, tx: &mut Tx<Core>, good: Good) -> Result<(), TxFault> {
-        let (alloc, funs) = (self.alloc, self.funs);
-        if good == Good::Cheese {
-            self.require_bread(tx)?;
-        }
-        tx.alter(alloc, funs, good.stock(), MINUS, args(alloc, "1")?)?;
-        tx.commute(alloc, funs, TAKINGS, PLUS, args(alloc, good.price())?)?;
-        tx.send(
-            alloc,
-            funs,
-            JOURNAL,
-            Action::new(CONJ, args(alloc, good.name())?),
-        )?;
-        tx.send(
-            alloc,
-            funs,
-            TILL,
-            Action::new(PLUS, args(alloc, good.price())?),
-        )?;
-        Ok(())
-    }
+// A customer comes, and gets a piece of a good, or goes without.
+fn serve<L: Books, R: Wait>(
+    worker: &mut Worker<'_, L, R, Core, CoreFunctions, Board>,
+    good: Good,
+) -> Result<(), Fault> {
+    let _ = worker.swap(CAME, INC, ())?;
+    let missed = match worker.transact(|tx| sell(tx, good)).map_err(Fault::from) {
+        Ok(()) => return Ok(()),
+        Err(Fault::Commit(CommitFault::Invalid(_))) => SOLD_OUT,
+        Err(Fault::Tx(TxFault::NotMet)) => WITHOUT_BREAD,
+        Err(fault) => return Err(fault),
+    };
+    let _ = worker.swap(missed, INC, ())?;
+    Ok(())
+}
 
-    // Cheese is bought only as long as there is bread, also at the moment of the commit.
-    fn require_bread(&self, tx: &mut Tx<Core>) -> Result<(), TxFault> {
-        tx.ensure(self.alloc, Good::Bread.stock())?;
-        let some = at_least(self.alloc, "1")?;
-        tx.require(self.funs, Good::Bread.stock(), &some)
+// Sells a piece of a good. Cheese is sold only as long as there is bread, also at the moment of the commit.
+fn sell(tx: &mut Dosync, good: Good) -> Result<(), Fault> {
+    if good.stock == CHEESE.stock {
+        tx.ensure(BREAD.stock)?;
+        tx.require(BREAD.stock, AT_LEAST, 1)?;
     }
+    tx.alter(good.stock, MINUS, 1)?;
+    tx.commute(TAKINGS, PLUS, good.price)?;
+    tx.send(JOURNAL, CONJ, keyword(good.name)?)?;
+    tx.send(TILL, PLUS, good.price)?;
+    Ok(())
+}
+
+/// A day at the market, and what is in its world at the end.
+pub(crate) fn run_day<R: AllocGlobal + Print + Threads + Wait + Sync>(rt: &R) -> Result<(), Fault> {
+    let end = run_custom(rt, &Market, Crew::of(4, 2))?;
+    say(rt, &end, "customers", Who::Atom(CAME))?;
+    say(rt, &end, ":apple", Who::Ref(APPLE.stock))?;
+    say(rt, &end, ":bread", Who::Ref(BREAD.stock))?;
+    say(rt, &end, ":cheese", Who::Ref(CHEESE.stock))?;
+    say(rt, &end, "takings", Who::Ref(TAKINGS))?;
+    say(rt, &end, "till", Who::Agent(TILL))?;
+    say(rt, &end, "sold out", Who::Atom(SOLD_OUT))?;
+    say(rt, &end, "without bread", Who::Atom(WITHOUT_BREAD))?;
+    say_journal(rt, end.value_of(Who::Agent(JOURNAL))?)?;
+    say_notices(rt, Board::sum(end.sinks.as_slice()))?;
+    let totals = end.totals;
+    println!(rt; "commits {}, which added {}", totals.commits, totals.added)?;
+    Ok(())
+}
+
+fn say<R: AllocGlobal + Print>(
+    rt: &R,
+    end: &Ended<Core, Board>,
+    words: &str,
+    who: Who,
+) -> Result<(), Fault> {
+    let value = text(rt.alloc(), end.value_of(who)?)?;
+    println!(rt; "{words} {value}")?;
+    Ok(())
+}
+
+fn say_journal<R: AllocGlobal + Print>(rt: &R, journal: &Value) -> Result<(), Fault> {
+    println!(rt; "lines of the journal {}", count(journal))?;
+    Ok(())
+}
+
+fn say_notices<R: AllocGlobal + Print>(rt: &R, notices: Board) -> Result<(), Fault> {
+    println!(rt;
+        "notices of refs {}, of atoms {}, of agents {}",
+        notices.refs, notices.atoms, notices.agents
+    )?;
+    Ok(())
 }

@@ -1,253 +1,153 @@
 //! A box office, whose functions are its own: two clerks sell tickets for two evenings.
-ghost use Rattle.std.specs.Prelude.{◌≡◌};
-ghost use Rattle.ref_world.specs.Shares.{AreBlanks};
+use crate::acts::{ADD, Acts, BoxOffice, CLOSE, IS_LEFT, SELL};
+use ref_log::Stamp;
+use ref_program::prelude::*;
+use ref_shared::{Body, Quiet, TransactFault};
+use ref_world::World;
 
-mod acts;
-mod office;
+// The refs: how many tickets are left for the first evening, and for the second, and how many are sold, the tally.
+const FIRST: u32 = 0;
 
-use crate::{Trouble, say, say_totals};
-use acts::{Acts, BoxOffice};
-use office::{FIRST, Office, SECOND, SOLD, Sale, start};
-use ref_log::{Stamp, Who};
-use ref_world::{ALL_PARTS, Share, Totals, World};
-use std::alloc::Global;
-use std::marker::Brand;
-use std::sync::Wait;
-use ref_world::{Blanks, Books};
-use std::thread;
-use std::thread::Threads;
+const SECOND: u32 = 1;
 
-/// Sells tickets in two threads, and says what came of it.
-pub(crate) fn sell_tickets<R: AllocGlobal + Print + Threads + Wait + Sync>(
-    rt: &R,
-) -> Result<(), Trouble> {
-    // The books of a world begin as blanks, each of which is named as it is made.
-    open_office::<Brand, R>(
-        rt,
-        Blanks::new(),
-    )
-}
+const SOLD: u32 = 2;
 
-fn open_office<
-    L: Books + Send + Sync,
-    R: AllocGlobal + Print + Threads + Wait + Sync,
->(rt: &R, blanks: Blanks) -> Result<(), Trouble>
-    requires { AreBlanks blanks L.commits L.added L.taken }
-{
-    let (world, share) = begin::<L>(rt.alloc(), blanks)?;
-    let office = Office::open(rt.alloc(), world);
-    match sell_and_say(rt, &office, share) {
-        Ok(sold) => close_up(rt, office, sold),
-        Err(Trouble) => {
-            drop(office);
-            Err(Trouble)
+// The atoms: how many groups came too late, and how many were too large.
+const TOO_LATE: u32 = 0;
+
+const TOO_LARGE: u32 = 1;
+
+const CLERKS: u32 = 2;
+
+struct Office;
+
+impl CustomProgram for Office {
+    type Meaning = BoxOffice;
+
+    type Functions = Acts;
+
+    type Sink = Quiet;
+
+    fn functions(&self) -> Acts {
+        Acts
+    }
+
+    fn sink(&self) -> Quiet {
+        Quiet
+    }
+
+    fn start(&self, world: &mut Declared) -> Result<(), Fault> {
+        world.make_ref_with("30", IS_LEFT, ())?;
+        world.make_ref_with("50", IS_LEFT, ())?;
+        world.make_tally("0")?;
+        world.make_atom("0")?;
+        world.make_atom("0")?;
+        Ok(())
+    }
+
+    // Twenty groups of two come to a clerk, half of them for each evening, and then one of five.
+    fn work<L: Books, R: Wait>(
+        &self,
+        worker: &mut Worker<'_, L, R, BoxOffice, Acts>,
+    ) -> Result<(), Fault> {
+        for n in 0..21u32 {
+            let evening = if n % 2 == 0 { FIRST } else { SECOND };
+            let group = if n < 20 { 2 } else { 5 };
+            serve(worker, Sale { evening, group })?;
         }
-    }
-}
-
-// The world of the box office, and the share with all its parts.
-fn begin<L: Books>(
-    alloc: Global,
-    blanks: Blanks,
-) -> Result<(World<BoxOffice, L>, Share<L>), Trouble>
-    requires { AreBlanks blanks L.commits L.added L.taken }
-{
-    match World::<BoxOffice, L>::new(alloc, &Acts, &start(alloc)?, blanks) {
-        Ok(begun) => Ok(begun),
-        Err(_) => Err(Trouble),
-    }
-}
-
-fn sell_and_say<
-    L: Books + Send + Sync,
-    R: AllocGlobal + Print + Threads + Wait + Sync,
->(rt: &R, office: &Office<L>, share: Share<L>) -> Result<Sold<L>, Trouble> {
-    let sold = sell_both(rt, office, share)?;
-    match say_left(rt, office) {
-        Ok(()) => Ok(sold),
-        Err(Trouble) => {
-            drop(sold);
-            Err(Trouble)
-        }
-    }
-}
-
-// How many groups were served, and how many weren't.
-#[derive(Clone, Copy, Debug, Default, Drop)]
-struct Groups {
-    made: u64,
-    too_late: u64,
-    too_large: u64,
-}
-
-impl Groups {
-    fn count(&mut self, sale: Sale) {
-        let count = match sale {
-            Sale::Made => &mut self.made,
-            Sale::TooLate => &mut self.too_late,
-            Sale::TooLarge => &mut self.too_large,
-        };
-        *count = count.saturating_add(1);
-    }
-
-    // These and others.
-    fn with(self, other: Groups) -> Groups {
-        Groups {
-            made: self.made.saturating_add(other.made),
-            too_late: self.too_late.saturating_add(other.too_late),
-            too_large: self.too_large.saturating_add(other.too_large),
-        }
-    }
-}
-
-// What a clerk did, and the share that it was done with.
-#[derive(Drop)]
-struct Sold<L: Books> {
-    share: Share<L>,
-    groups: Groups,
-}
-
-impl<L: Books> Sold<L> {
-    fn join(&mut self, other: Result<Sold<L>, Trouble>) -> Result<(), Trouble> {
-        let Sold { share, groups } = other?;
-        if let Err(share) = self.share.join(share) {
-            drop(share);
-            return Err(Trouble);
-        }
-        self.groups = self.groups.with(groups);
         Ok(())
     }
 }
 
-fn sell_both<
-    L: Books + Send + Sync,
-    R: Threads + Wait + Sync,
->(rt: &R, office: &Office<L>, share: Share<L>) -> Result<Sold<L>, Trouble> {
-    let mut first = share;
-    let Some(second) = first.split(ALL_PARTS / 2) else {
-        drop(first);
-        return Err(Trouble);
+// Sells a group its tickets, or counts why it goes without.
+fn serve<L: Books, R: Wait>(
+    worker: &mut Worker<'_, L, R, BoxOffice, Acts>,
+    sale: Sale,
+) -> Result<(), Fault> {
+    let mut sale = sale;
+    let missed = match worker.transact_body(&mut sale) {
+        Ok(()) => return Ok(()),
+        Err(TransactFault::Commit(CommitFault::Invalid(_))) => TOO_LATE,
+        Err(TransactFault::Body(TxFault::Refused(_))) => TOO_LARGE,
+        Err(_) => return Err(Fault::Own("a sale went wrong")),
     };
-    let (one, other) = thread::join(
-        rt,
-        move || sell_all(rt, office, 0, first),
-        move || sell_all(rt, office, 1, second),
-    );
-    both(one, other)
-}
-
-// What two clerks did, as one.
-fn both<L: Books>(
-    one: Result<Sold<L>, Trouble>,
-    other: Result<Sold<L>, Trouble>,
-) -> Result<Sold<L>, Trouble> {
-    match one {
-        Ok(mut sold) => match sold.join(other) {
-            Ok(()) => Ok(sold),
-            Err(Trouble) => {
-                drop(sold);
-                Err(Trouble)
-            }
-        },
-        Err(Trouble) => {
-            drop(other);
-            Err(Trouble)
-        }
-    }
-}
-
-// What a clerk does.
-fn sell_all<L: Books, R: Wait>(
-    rt: &R,
-    office: &Office<L>,
-    worker: u32,
-    share: Share<L>,
-) -> Result<Sold<L>, Trouble> {
-    let mut sold = Sold {
-        share,
-        groups: Groups::default(),
-    };
-    match sell_each(rt, office, worker, &mut sold) {
-        Ok(()) => Ok(sold),
-        Err(Trouble) => {
-            drop(sold);
-            Err(Trouble)
-        }
-    }
-}
-
-// Twenty groups of two come to a clerk, half of them for each evening, and then one of five.
-fn sell_each<L: Books, R: Wait>(
-    rt: &R,
-    office: &Office<L>,
-    worker: u32,
-    sold: &mut Sold<L>,
-) -> Result<(), Trouble> {
-    for step in 0..21u32 {
-        let evening = if step % 2 == 0 { FIRST } else { SECOND };
-        let group = if step < 20 { "2" } else { "5" };
-        let stamp = Stamp { worker, step };
-        let sale = office.sell(rt, &mut sold.share, stamp, evening, group)?;
-        sold.groups.count(sale);
-    }
+    let _ = worker.swap(missed, ADD, 1)?;
     Ok(())
 }
 
-fn say_left<L: Books, R: AllocGlobal + Print + Wait>(
-    rt: &R,
-    office: &Office<L>,
-) -> Result<(), Trouble> {
-    for (words, evening) in [("first evening", FIRST), ("second evening", SECOND)] {
-        let left = office.shared.value_of(rt, Who::Ref(evening))?;
-        say(rt, words, left.as_ref())?;
+// A sale of tickets to a group, which is the body of a transaction by the functions of the box office.
+#[derive(Clone, Copy, Debug, Drop)]
+struct Sale {
+    evening: u32,
+    group: i64,
+}
+
+impl Body for Sale {
+    type Meaning = BoxOffice;
+
+    type Functions = Acts;
+
+    type Answer = ();
+
+    type Fault = TxFault;
+
+    ghost may = { λ _. Unit {0} };
+
+    ghost does = { λ _ _ _ _ _. Unit {0} };
+
+    fn functions(&self) -> Acts {
+        Acts
     }
+
+    fn run(&mut self, tx: &mut Dosync<BoxOffice, Acts>) -> Result<(), TxFault> {
+        tx.alter(self.evening, SELL, self.group)?;
+        tx.commute(SOLD, ADD, self.group)?;
+        Ok(())
+    }
+}
+
+/// Sells tickets in two threads, and says what came of it.
+pub(crate) fn sell_tickets<R: AllocGlobal + Print + Threads + Wait + Sync>(
+    rt: &R,
+) -> Result<(), Fault> {
+    let mut end = run_custom(rt, &Office, Crew::of(CLERKS, 0))?;
+    say(rt, &end.world, "first evening", Who::Ref(FIRST))?;
+    say(rt, &end.world, "second evening", Who::Ref(SECOND))?;
+    close(rt.alloc(), &mut end.world, SECOND)?;
+    say(rt, &end.world, "closed, it has", Who::Ref(SECOND))?;
+    say(rt, &end.world, "tickets sold", Who::Ref(SOLD))?;
+    say(rt, &end.world, "groups too late", Who::Atom(TOO_LATE))?;
+    say(rt, &end.world, "groups too large", Who::Atom(TOO_LARGE))?;
+    println!(rt; "commits {}, which added {}", end.world.commits(), end.world.added())?;
     Ok(())
 }
 
-// Closes the second evening, takes the world out, and says what is in it.
-fn close_up<L: Books, R: AllocGlobal + Print + Wait>(
-    rt: &R,
-    office: Office<L>,
-    sold: Sold<L>,
-) -> Result<(), Trouble> {
-    let Sold { mut share, groups } = sold;
-    let closed = office.close(rt, &mut share, Stamp { worker: 2, step: 0 }, SECOND);
-    let (world, totals) = take_out(office, share)?;
-    let said = say_world(rt, &world);
-    drop(world);
-    closed.and(said)?;
-    say_counts(rt, groups)?;
-    say_totals(rt, totals)
-}
-
-fn say_world<L: Books, R: AllocGlobal + Print>(
-    rt: &R,
-    world: &World<BoxOffice, L>,
-) -> Result<(), Trouble> {
-    say(rt, "closed, it has", world.value_of(Who::Ref(SECOND)))?;
-    say(rt, "tickets sold", world.value_of(Who::Ref(SOLD)))
-}
-
-fn take_out<L: Books>(
-    office: Office<L>,
-    share: Share<L>,
-) -> Result<(World<BoxOffice, L>, Totals), Trouble> {
-    let Office { alloc, shared } = office;
-    if share.is_whole() {
-        shared.finish(alloc, share).ok().ok_or(Trouble)
-    } else {
-        drop((shared, share));
-        Err(Trouble)
+// Closes an evening, now that the clerks have gone: no ticket is left for it.
+fn close(alloc: Global, world: &mut World<BoxOffice>, evening: u32) -> Result<(), Fault> {
+    let mut tx = Dosync {
+        tx: world.begin(alloc)?,
+        alloc,
+        funs: Acts,
+    };
+    tx.alter(evening, CLOSE, ())?;
+    let stamp = Stamp {
+        worker: CLERKS,
+        step: 0,
+    };
+    match world.commit(alloc, &Acts, stamp, tx.tx) {
+        Ok(_receipt) => Ok(()),
+        Err((_tx, fault)) => Err(Fault::from(fault)),
     }
 }
 
-fn say_counts<R: AllocGlobal + Print>(rt: &R, groups: Groups) -> Result<(), Trouble> {
-    let Groups {
-        made,
-        too_late,
-        too_large,
-    } = groups;
-    println!(rt; "groups served {made}, too late {too_late}, too large {too_large}")
-        .ok()
-        .ok_or(Trouble)
+fn say<R: AllocGlobal + Print>(
+    rt: &R,
+    world: &World<BoxOffice>,
+    words: &str,
+    who: Who,
+) -> Result<(), Fault> {
+    let value = world.value_of(who).ok_or(Fault::NoSuch(who))?;
+    let value = text(rt.alloc(), value)?;
+    println!(rt; "{words} {value}")?;
+    Ok(())
 }

@@ -81,8 +81,8 @@ fn tell_changed<S: WatchSink>(sink: &mut S, finished: &Finished)
     }
 }
 
-// Delivers each notice, in order.
-pub(crate) fn tell<S: WatchSink>(sink: &mut S, notices: &[Notice])
+/// Gives a sink each of these notices, in order.
+pub fn tell<S: WatchSink>(sink: &mut S, notices: &[Notice])
     ensures { TakesAll S.takes sink.old notices.now sink.new }
 {
     for notice in notices {

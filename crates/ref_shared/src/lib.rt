@@ -56,7 +56,7 @@ mod working;
 
 pub use bodies::{Body, OnDosync, OnTx};
 pub use faults::{AwaitFault, GatherFault, TransactFault, WaitFault, WorkFault};
-pub use gates::{Gate, Open, Quiet, Spot, WatchSink};
+pub use gates::{Gate, Open, Quiet, Spot, WatchSink, tell};
 pub use gathering::{folded_receipts_say_nothing, match_receipts};
 pub use shared::Shared;
 pub use working::Worked;

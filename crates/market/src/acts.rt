@@ -1,11 +1,11 @@
 //! Functions of this program's own: what they mean, and the table that runs them.
 ghost use Rattle.std.specs.Prelude.{◌≡◌, ◌≤◌, length, pos};
 ghost use Rattle.market.specs.Acts.{act_accepts, act_adds, act_means, act_of, act_takes, all_acts, closed, done, is_group, is_left};
-ghost use Rattle.ref_edn.specs.Edn.{int};
+ghost use Rattle.ref_value.specs.Edn.{int};
 ghost use Rattle.ref_fun.specs.Meaning.{Answers};
 ghost use Rattle.ref_fun.specs.Limits.{most_arguments};
 
-use ref_edn::{Node, Value};
+use ref_value::{Node, Value};
 use ref_fun::{CallFault, Cause, FunFault, Functions, Meaning, core_fun};
 use std::alloc::Global;
 

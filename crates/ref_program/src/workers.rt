@@ -1,0 +1,334 @@
+//! What a thread has.
+ghost use Rattle.std.specs.Prelude.{◌≡◌, ◌⊎◌, ◌+◌, true, false, List, Ok, IfOk, IfErr, OnErr, OnOk};
+ghost use Rattle.ref_fun.specs.declared.actions.Action.{Action};
+ghost use Rattle.ref_log.specs.Replay.{place};
+ghost use Rattle.ref_log.specs.declared.entries.Entry.TheVariants as entries;
+ghost use Rattle.ref_log.specs.declared.operations.Op.TheVariants.{Alter, Set};
+ghost use Rattle.ref_program.specs.Seen.{IsSameWorker};
+ghost use Rattle.ref_program.specs.Stamps.{HasNoStamp};
+ghost use Rattle.ref_shared.specs.Bodies.{Committed, FaultComes, calls_of};
+ghost use Rattle.ref_shared.specs.Commits.{HasReceipt};
+ghost use Rattle.ref_shared.specs.Waits.{Landed, WaitFails};
+ghost use Rattle.ref_value.specs.Edn.{Edn};
+
+use crate::faults::Fault;
+use crate::stamps::Stamps;
+use ref_agents::SendFault;
+use ref_atoms::{AtomFault, Cas, Swapped};
+use ref_fun::{Action, Core, CoreFunctions, Functions, IntoArgs, IntoValue, Meaning};
+use ref_log::Who;
+use ref_refs::CommitFault;
+use ref_shared::{
+    AwaitFault, Body, OnDosync, Open, Quiet, Shared, TransactFault, WaitFault, WatchSink, tell,
+};
+use ref_tx::Dosync;
+use ref_value::Value;
+use ref_world::{Books, CheckpointFault, Receipt, Share};
+use std::alloc::{AllocError, Global};
+use std::marker::Model;
+use std::sync::Wait;
+
+/// What a thread has: a number, a part of the share, a sink, the stamps of its commits, and the shared world, which it is lent.
+///
+/// L names the world's books and R is the right to wait. A program whose functions are Core's writes `Worker<'_, L, R>`; the others are the
+/// meaning of functions, what functions are called by, and the sink that gets the notices of watches.
+#[derive(Drop)]
+pub struct Worker<
+    'a,
+    L: Books,
+    R: Wait,
+    M: Meaning = Core,
+    F: Functions<M> = CoreFunctions,
+    S: WatchSink = Quiet,
+> {
+    pub(crate) rt: &'a R,
+    pub(crate) alloc: Global,
+    pub(crate) shared: &'a Shared<M, L>,
+    pub(crate) funs: F,
+    pub(crate) number: u32,
+    pub(crate) stamps: Stamps,
+    pub(crate) tries: u32,
+    pub(crate) point: u64,
+    pub(crate) share: Share<L>,
+    pub(crate) sink: S,
+}
+
+impl<'a, L: Books, R: Wait, M: Meaning, F: Functions<M>, S: WatchSink> Model for Worker<'a, L, R, M, F, S> {
+    ghost use Rattle.std.specs.Prelude.{◌<◌};
+    ghost use Rattle.ref_program.specs.Seen.{WorkerSeen};
+
+    ghost Value = { WorkerSeen S };
+
+    ghost view = { λ w. record {
+      number = w.number;
+      next = w.stamps.next;
+      workers = w.stamps.workers;
+      tries = w.tries;
+      share = w.share;
+      sink = w.sink;
+    } };
+
+    ghost invariant = { λ w. 0 < w.tries };
+}
+
+impl<'a, L: Books, R: Wait, M: Meaning, F: Functions<M>, S: WatchSink> Worker<'a, L, R, M, F, S> {
+    /// Its number: from 0 on, below the number of workers.
+    pub fn number(&self) -> u32
+        ensures { result ≡ self.now.number }
+    {
+        self.number
+    }
+
+    pub fn alloc(&self) -> Global {
+        self.alloc
+    }
+
+    /// The shared world, for calls that a worker doesn't have.
+    pub fn shared(&self) -> &'a Shared<M, L> {
+        self.shared
+    }
+
+    /// The sink, which has got the notices of this worker's changes.
+    pub fn sink(&self) -> &S
+        ensures { result.now ≡ self.now.sink }
+    {
+        &self.sink
+    }
+
+    /// The point of the latest transaction that this worker committed; 0 before the first.
+    pub fn point(&self) -> u64 {
+        self.point
+    }
+
+    /// Runs a body on a transaction and commits it, as [`Worker::transact`]: a [`Body`] may be of a meaning of the program's own.
+    pub fn transact_body<B: Body<Meaning = M>>(
+        &mut self,
+        body: &mut B,
+    ) -> Result<B::Answer, TransactFault<B::Fault>>
+        requires { B.may body.old }
+        ensures ok { IfOk result (λ t. (point : _) × Committed B.does body.old body.new self.old.tries (Ok t)
+            self.old.next point self.old.share self.new.share) }
+        ensures fault { IfErr result (λ f. HasNoStamp self.old.next self.old.workers
+            ⊎ FaultComes B.does body.old body.new self.old.tries f) }
+        ensures same { OnErr result ((self.new.share ≡ self.old.share) × (self.new.sink ≡ self.old.sink)) }
+        ensures worker { IsSameWorker self.old self.new }
+    {
+        let Some(stamp) = self.stamps.next() else {
+            return Err(TransactFault::Commit(CommitFault::PointLimit));
+        };
+        let (answer, receipt) = self.shared.transact_body(
+            self.rt,
+            self.alloc,
+            &self.funs,
+            &mut self.share,
+            stamp,
+            self.tries,
+            &mut Open,
+            &mut self.sink,
+            body,
+        )?;
+        self.point = receipt.point;
+        Ok(answer)
+    }
+
+    /// As [`Worker::transact_when`], for a [`Body`].
+    pub fn transact_body_when<T: Drop, B: Body<Meaning = M, Answer = Option<T>>>(
+        &mut self,
+        body: &mut B,
+    ) -> Result<T, WaitFault<B::Fault>>
+        requires { B.may body.old }
+        ensures ok { IfOk result (λ t. (point : _) × Landed B.does body.old body.new self.old.tries t
+            self.old.next point self.old.share self.new.share) }
+        ensures fault { IfErr result (λ f. HasNoStamp self.old.next self.old.workers
+            ⊎ WaitFails B.does body.old body.new self.old.tries f) }
+        ensures same { OnErr result ((self.new.share ≡ self.old.share) × (self.new.sink ≡ self.old.sink)) }
+        ensures worker { IsSameWorker self.old self.new }
+    {
+        let Some(stamp) = self.stamps.next() else {
+            return Err(WaitFault::Transact(TransactFault::Commit(
+                CommitFault::PointLimit,
+            )));
+        };
+        let (answer, receipt) = self.shared.transact_body_when(
+            self.rt,
+            self.alloc,
+            &self.funs,
+            &mut self.share,
+            stamp,
+            self.tries,
+            &mut Open,
+            &mut self.sink,
+            body,
+        )?;
+        self.point = receipt.point;
+        Ok(answer)
+    }
+
+    /// Sets an atom to the function of its value and the arguments: Clojure's `swap!`. The sink gets the notices.
+    pub fn swap<A: IntoArgs>(&mut self, a: u32, code: u32, args: A) -> Result<Swapped, AtomFault>
+        ensures share { IfOk result (λ s. (given : List Edn) × A.are args given
+            × (place M.means (Alter code given) s.old ≡ Ok s.new)
+            × HasReceipt (entries.Atom a (Alter code given) s.new) self.old.share self.new.share) }
+        ensures same { OnErr result (self.new ≡ self.old) }
+        ensures worker { IsSameWorker self.old self.new × (self.new.next ≡ self.old.next) }
+    {
+        let args = args.into_args(self.alloc)?;
+        let swapped = self.shared.swap(
+            self.rt,
+            self.alloc,
+            &self.funs,
+            &mut self.share,
+            a,
+            code,
+            args,
+        )?;
+        tell(&mut self.sink, swapped.notices.as_slice());
+        Ok(swapped)
+    }
+
+    /// Sets an atom to a value: Clojure's `reset!`. The sink gets the notices.
+    pub fn reset<V: IntoValue>(&mut self, a: u32, value: V) -> Result<Swapped, AtomFault>
+        ensures share { IfOk result (λ s. V.is value s.new
+            × HasReceipt (entries.Atom a (Set s.new) s.new) self.old.share self.new.share) }
+        ensures same { OnErr result (self.new ≡ self.old) }
+        ensures worker { IsSameWorker self.old self.new × (self.new.next ≡ self.old.next) }
+    {
+        let value = value.into_value(self.alloc)?;
+        let swapped = self.shared.reset(
+            self.rt,
+            self.alloc,
+            &self.funs,
+            &mut self.share,
+            a,
+            value,
+        )?;
+        tell(&mut self.sink, swapped.notices.as_slice());
+        Ok(swapped)
+    }
+
+    /// Sets an atom to a new value if it has the old one, and answers whether it did: Clojure's `compare-and-set!`. The sink gets the notices.
+    pub fn compare_and_set<V: IntoValue>(
+        &mut self,
+        a: u32,
+        old: &Value,
+        new: V,
+    ) -> Result<bool, AtomFault>
+        ensures done { IfOk result (λ done. done ≡ true → (v : Edn) × V.is new v
+            × HasReceipt (entries.Atom a (Set v) v) self.old.share self.new.share) }
+        ensures undone { IfOk result (λ done. done ≡ false → self.new ≡ self.old) }
+        ensures same { OnErr result (self.new ≡ self.old) }
+        ensures worker { IsSameWorker self.old self.new × (self.new.next ≡ self.old.next) }
+    {
+        let new = new.into_value(self.alloc)?;
+        let compared = self.shared.compare_and_set(
+            self.rt,
+            self.alloc,
+            &self.funs,
+            &mut self.share,
+            a,
+            old,
+            new,
+        )?;
+        tell(&mut self.sink, compared.notices.as_slice());
+        Ok(compared.done)
+    }
+
+    /// Sends an action to an agent: Clojure's `send` outside of a transaction.
+    pub fn send<A: IntoArgs>(&self, g: u32, code: u32, args: A) -> Result<(), SendFault> {
+        let args = args.into_args(self.alloc)?;
+        self.send_action(g, Action::new(code, args))
+    }
+
+    /// Sends an action that may carry sends of its own.
+    pub fn send_action(&self, g: u32, action: Action) -> Result<(), SendFault> {
+        self.shared.send(self.rt, g, action)
+    }
+
+    /// The value of a reference now: Clojure's `deref` outside of a transaction.
+    pub fn value_of(&self, who: Who) -> Result<Option<Value>, AllocError> {
+        self.shared.value_of(self.rt, who)
+    }
+
+    /// Waits until these agents have done what was sent to them by now: Clojure's `await`. Somebody has to help, or it waits until the run
+    /// ends.
+    pub fn await_agents(&self, agents: &[u32]) -> Result<(), AwaitFault> {
+        self.shared.await_agents(self.rt, self.alloc, agents)
+    }
+
+    /// Drops the receipts of entries that a checkpoint has folded.
+    pub fn forget(&mut self)
+        ensures worker { IsSameWorker self.old self.new × (self.new.next ≡ self.old.next) }
+        ensures books { (self.new.share.commits ≡ self.old.share.commits) × (self.new.share.added ≡ self.old.share.added)
+            × (self.new.share.taken ≡ self.old.share.taken) }
+    {
+        self.shared.forget(self.rt, &mut self.share);
+    }
+
+    /// Folds the entries up to a point into the base, in bites of so many, between which the lock is free; it answers how many there were.
+    pub fn checkpoint(&self, point: u64, bite: u32) -> Result<u64, CheckpointFault> {
+        self.shared
+            .checkpoint_in_bites(self.rt, self.alloc, &self.funs, point, bite)
+    }
+
+    /// Folds the actions that an agent has handled into its start; it answers whether the agent is there and not failed.
+    pub fn fold_agent(&self, g: u32) -> Result<bool, AllocError> {
+        self.shared.fold_agent(self.rt, g)
+    }
+}
+
+impl<'a, L: Books, R: Wait, S: WatchSink> Worker<'a, L, R, Core, CoreFunctions, S> {
+    /// Runs a body on a transaction and commits it: Clojure's `dosync`. Where the commit is in conflict all begins anew, with the values
+    /// then, as often as the crew's tries say. The answer is what the body's last call returned.
+    ///
+    /// What the body did outside the transaction in an earlier call stays done. On a fault nothing is committed, and nothing is sent.
+    pub fn transact<T: Drop, D: FnMut(&mut Dosync) -> Result<T, Fault>>(
+        &mut self,
+        body: D,
+    ) -> Result<T, TransactFault<Fault>>
+        requires { D.IsAlwaysCallable body }
+        ensures ok { IfOk result (λ t. (last : D) × (point : _) × Committed (calls_of D.FnMut) body last self.old.tries (Ok t)
+            self.old.next point self.old.share self.new.share) }
+        ensures fault { IfErr result (λ f. HasNoStamp self.old.next self.old.workers
+            ⊎ (last : D) × FaultComes (calls_of D.FnMut) body last self.old.tries f) }
+        ensures same { OnErr result ((self.new.share ≡ self.old.share) × (self.new.sink ≡ self.old.sink)) }
+        ensures worker { IsSameWorker self.old self.new }
+    {
+        let mut body = OnDosync::of(body);
+        self.transact_body(&mut body)
+    }
+
+    /// As [`Worker::transact`], but the body may return None, which says that it isn't ready. Then the thread sleeps until something has
+    /// changed, and all begins anew. It fails with [`WaitFault::Closed`] if the run ends before it is ready.
+    pub fn transact_when<T: Drop, D: FnMut(&mut Dosync) -> Result<Option<T>, Fault>>(
+        &mut self,
+        body: D,
+    ) -> Result<T, WaitFault<Fault>>
+        requires { D.IsAlwaysCallable body }
+        ensures ok { IfOk result (λ t. (last : D) × (point : _) × Landed (calls_of D.FnMut) body last self.old.tries t
+            self.old.next point self.old.share self.new.share) }
+        ensures fault { IfErr result (λ f. HasNoStamp self.old.next self.old.workers
+            ⊎ (last : D) × WaitFails (calls_of D.FnMut) body last self.old.tries f) }
+        ensures same { OnErr result ((self.new.share ≡ self.old.share) × (self.new.sink ≡ self.old.sink)) }
+        ensures worker { IsSameWorker self.old self.new }
+    {
+        let mut body = OnDosync::of(body);
+        self.transact_body_when(&mut body)
+    }
+
+    /// Runs a body as so many transactions, one after the other: Clojure's `(dotimes [_ times] (dosync ..))`. The first fault ends it.
+    pub fn dotimes<T: Drop, D: FnMut(&mut Dosync) -> Result<T, Fault>>(
+        &mut self,
+        times: u32,
+        body: D,
+    ) -> Result<(), TransactFault<Fault>>
+        requires { D.IsAlwaysCallable body }
+        ensures commits { OnOk result (self.new.share.commits ≡ self.old.share.commits + times) }
+        ensures worker { IsSameWorker self.old self.new }
+    {
+        let mut body = OnDosync::of(body);
+        for _ in 0..times {
+            let _ = self.transact_body(&mut body)?;
+        }
+        Ok(())
+    }
+}
