@@ -1,8 +1,5 @@
 //! The stalls: their world, and what their customers do.
-ghost use Rattle.std.specs.Prelude.{◌≡◌, IfOk};
-
 use crate::board::Board;
-use ref_fun::{Core, CoreFunctions};
 use ref_program::prelude::*;
 
 // References are numbered from 0 by kind, in the order in which `start` makes them. Refs 0, 1 and 2 are the stocks.

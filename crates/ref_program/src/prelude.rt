@@ -9,7 +9,7 @@ pub use ref_agents::ErrorMode;
 pub use ref_fun::codes::{
     ASSOC, AT_LEAST, AT_MOST, CONJ, DEC, DISJ, DISSOC, EQUALS, INC, IS_INT, MAX, MIN, MINUS, PLUS,
 };
-pub use ref_fun::{IntoArgs, IntoValue, Keyword};
+pub use ref_fun::{Core, CoreFunctions, IntoArgs, IntoValue, Keyword};
 pub use ref_log::Who;
 pub use ref_refs::CommitFault;
 pub use ref_tx::{Dosync, TxFault};

@@ -1,2 +1,2 @@
+-- To be read and believed: Errors.
 pub mod Errors
-pub mod Stamps

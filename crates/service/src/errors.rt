@@ -37,8 +37,16 @@ impl Errors {
         self.count = self.count.saturating_add(errors);
     }
 
-    /// The errors of two sinks, added up.
-    pub(crate) fn with(self, other: Errors) -> Errors {
+    /// The errors of several sinks, added up.
+    pub(crate) fn sum(sinks: &[Errors]) -> Errors {
+        let mut all = Errors::default();
+        for errors in sinks {
+            all = all.with(*errors);
+        }
+        all
+    }
+
+    fn with(self, other: Errors) -> Errors {
         Errors {
             count: self.count.saturating_add(other.count),
         }

@@ -1,7 +1,0 @@
-use denote.Param.Send.{sendable}
-use Rattle.std.proofs.Crossing as std
-use Rattle.service.proofs.Crossing.{shop_sync}
-use Rattle.service.proofs.helpers.help_both.Goals as goal
-
-pub join-one-requires-send-F : goal.join-one-requires-send-F
-join-one-requires-send-F g c κs within = search (shop_sync, std.crosses, sendable) depth 60
