@@ -42,9 +42,12 @@ done
 rm -rf "$tree/crates/$name/src" "$tree/crates/$name/specs" "$tree/crates/$name/proofs"
 if [ -n "${over:-}" ]; then
   mkdir -p "$tree/crates/$name"
-  cp -a "$top/crates/$over/src" "$top/crates/$over/specs" "$top/crates/$over/proofs" "$tree/crates/$name/"
-  find "$tree/crates/$name/src" "$tree/crates/$name/specs" "$tree/crates/$name/proofs" -type f \
-    -exec sed -i "s/Rattle\.$over\./Rattle.$name./" {} +
+  for part in src specs proofs; do
+    if [ -d "$top/crates/$over/$part" ]; then
+      cp -a "$top/crates/$over/$part" "$tree/crates/$name/"
+      find "$tree/crates/$name/$part" -type f -exec sed -i "s/Rattle\.$over\./Rattle.$name./" {} +
+    fi
+  done
 fi
 for file in $(cd "$here/$name" && find src proofs -name '*.txt'); do
   mkdir -p "$tree/crates/$name/$(dirname "$file")"

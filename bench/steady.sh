@@ -8,6 +8,6 @@
 # ref-bench among the temporary files, over copies of crates/service and of the libraries.
 set -eu
 here=$(cd "$(dirname "$0")" && pwd)
-name=steady library="ref_shared ref_edn" over=service try="run 1"
+name=steady library=ref_program over=service try="run 1"
 . "$here/build.sh"
 exec python3 -B "$here/steady.py" "$program" "$@"

@@ -32,7 +32,7 @@ pub(crate) fn commit<M: Meaning, L: Books, F: Functions<M>>(
     match booked.commit_with(alloc, funs, share, stamp, tx) {
         Ok(receipt) => {
             // each ref has a last change
-            let _ = world.ref_count();
+            let _ = booked.world.ref_count();
             Reply::Commit(Ok(receipt))
         }
         Err((tx, fault)) => {

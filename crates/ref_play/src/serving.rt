@@ -15,7 +15,7 @@ use crate::transacting::{
 };
 use crate::working::{finish, put_back, run, take};
 use ref_fun::{Functions, Meaning};
-use ref_world::{Books, Share, World};
+use ref_world::{Booked, Books, Share};
 use std::alloc::Global;
 
 // One event.

@@ -3,11 +3,11 @@ use crate::errors::Errors;
 use crate::shop::{COUNTERS, FOLDED, GONE, LOGS, TAKINGS};
 use ref_program::prelude::*;
 
-// How much is taken between two folds: what some thousand sales bring.
-const TAKINGS_TO_A_FOLD: i64 = 2_500;
+/// How much is taken between two folds: what some thousand sales bring.
+pub(crate) const TAKINGS_TO_A_FOLD: i64 = 2_500;
 
-// How many entries are folded while the lock is held.
-const BITE: u32 = 1_000;
+/// How many entries are folded while the lock is held.
+pub(crate) const BITE: u32 = 1_000;
 
 /// Folds whenever so much more was taken, until all who sell have gone.
 pub(crate) fn keep_folding<L: Books, R: Wait>(
@@ -25,8 +25,8 @@ pub(crate) fn keep_folding<L: Books, R: Wait>(
     Ok(())
 }
 
-// Notes in the world that so much was taken, once it was, and answers whether all who sell have gone before that.
-fn note_if_taken(tx: &mut Dosync, takings: i64) -> Result<Option<bool>, Fault> {
+/// Notes in the world that so much was taken, once it was, and answers whether all who sell have gone before that.
+pub(crate) fn note_if_taken(tx: &mut Dosync, takings: i64) -> Result<Option<bool>, Fault> {
     if int_of(tx.deref(TAKINGS)?).is_some_and(|taken| taken >= takings) {
         tx.ref_set(FOLDED, takings)?;
         return Ok(Some(false));

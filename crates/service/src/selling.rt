@@ -34,17 +34,32 @@ pub(crate) fn sell_all<L: Books, R: Wait>(
     worker: &mut Worker<'_, L, R, Core, CoreFunctions, Errors>,
     sales: u64,
 ) -> Result<(), Fault> {
-    let number = worker.number();
     for n in 0..sales {
-        let sale = sale(number, n);
-        worker.transact_when(|tx| sell(tx, sale))?;
-        if n % SALES_TO_A_REST == SALES_TO_A_REST - 1 {
-            // So neither the receipts nor a queue grow for long.
-            worker.forget();
-            worker.await_agents(&[sale.log])?;
-        }
+        sell_next(worker, n)?;
     }
-    let _ = worker.transact(|tx| leave(tx))?;
+    leave(worker)
+}
+
+/// Makes the sale of this number of a thread, and rests after it now and then.
+pub(crate) fn sell_next<L: Books, R: Wait>(
+    worker: &mut Worker<'_, L, R, Core, CoreFunctions, Errors>,
+    n: u64,
+) -> Result<(), Fault> {
+    let sale = sale(worker.number(), n);
+    worker.transact_when(|tx| sell(tx, sale))?;
+    if n % SALES_TO_A_REST == SALES_TO_A_REST - 1 {
+        // So neither the receipts nor a queue grow for long.
+        worker.forget();
+        worker.await_agents(&[sale.log])?;
+    }
+    Ok(())
+}
+
+/// Notes that a thread has made all its sales.
+pub(crate) fn leave<L: Books, R: Wait>(
+    worker: &mut Worker<'_, L, R, Core, CoreFunctions, Errors>,
+) -> Result<(), Fault> {
+    worker.transact(|tx| note_leaving(tx))?;
     Ok(())
 }
 
@@ -63,7 +78,7 @@ fn sell(tx: &mut Dosync, sale: Sale) -> Result<Option<()>, Fault> {
     Ok(Some(()))
 }
 
-fn leave(tx: &mut Dosync) -> Result<(), Fault> {
+fn note_leaving(tx: &mut Dosync) -> Result<(), Fault> {
     tx.alter(GONE, INC, ())?;
     Ok(())
 }

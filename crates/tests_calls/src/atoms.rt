@@ -4,11 +4,12 @@ use crate::tables::{FEWER, FULL, Table};
 use crate::worlds::parts_of;
 use ref_agents::{AtomStart, Start};
 use ref_atoms::{AtomFault, AtomStore};
-use ref_edn::{Node, Value};
+use ref_edn::{Node, Value, print};
 use ref_events::ScriptParts;
 use ref_fun::{Args, Core, Rule};
-use ref_log::check_make;
-use ref_play::Act;
+use ref_log::{Who, check_make};
+use ref_play::{Act, Event};
+use ref_world::World;
 use std::alloc::{AllocError, Global};
 use std::test::Fail;
 
@@ -115,11 +116,79 @@ pub(crate) fn changed(
     let Some(event) = events.first() else {
         return Err(AllocError);
     };
-    match changes(alloc, &mut store, table, at, &event.act) {
+    said(alloc, changes(alloc, &mut store, table, at, &event.act))
+}
+
+// What is said: what comes of each change, what the atom holds then, and the point.
+#[test]
+fn changes_of_atoms_of_a_world_without_books(rt: HostRuntime) -> Result<(), Fail> {
+    check(
+        &rt,
+        Way::Changes,
+        r##"
+            changed, changed, changed; 8 at 3 | :atoms [[x 1]] :events [[9 :swap x + 1] [9 :reset x 7] [9 :cas x 7 8]]
+            // Where the values are equal there is an entry too, and where a comparison answers false there is none.
+            changed, as before; 1 at 1 | :atoms [[x 1]] :events [[9 :reset x 1] [9 :cas x 2 3]]
+            // What is refused changes nothing.
+            there is no such atom, there is no such atom, there is no such atom; 1 at 0 | :atoms [[x 1]] :events [[9 :swap [:atom 1] + 1] [9 :reset [:atom 1] 2] [9 :cas [:atom 1] 1 2]]
+            the rule doesn't accept the value, the rule doesn't accept the value, the rule doesn't accept the value; 1 at 0 | :atoms [[x 1 [<= 5]]] :events [[9 :swap x + 5] [9 :reset x 6] [9 :cas x 1 6]]
+            refused: wrong kind of value, changed; :l at 1 | :atoms [[x :k]] :events [[9 :swap x + 1] [9 :reset x :l]]
+        "##,
+    )
+}
+
+// Whether an act changes an atom of a world.
+fn changes_in(alloc: Global, world: &mut World<Core>, act: &Act) -> Result<bool, AtomFault> {
+    match act {
+        Act::Swap(x, code, args) => {
+            let args = args.share()?;
+            world.swap(alloc, &FULL, *x, *code, args).map(|_| true)
+        }
+        Act::Reset(x, value) => {
+            let value = value.share()?;
+            world.reset(alloc, &FULL, *x, value).map(|_| true)
+        }
+        Act::CompareAndSet(x, old, new) => {
+            let new = new.share()?;
+            let cas = world.compare_and_set(alloc, &FULL, *x, old, new)?;
+            Ok(cas.done)
+        }
+        _ => Err(AtomFault::Memory),
+    }
+}
+
+fn said(alloc: Global, changes: Result<bool, AtomFault>) -> Result<String, AllocError> {
+    match changes {
         Ok(true) => String::from_str(alloc, "changed"),
         Ok(false) => String::from_str(alloc, "as before"),
         Err(fault) => fault.to_string(alloc),
     }
+}
+
+// The text of the value of the first atom.
+fn first_of(alloc: Global, world: &World<Core>) -> Result<String, AllocError> {
+    let mut bytes = Vec::new(alloc);
+    if let Some(value) = world.value_of(Who::Atom(0)) {
+        print(alloc, value, &mut bytes)?;
+    }
+    String::from_utf8(bytes).map_err(|_| AllocError)
+}
+
+/// What comes of these changes of atoms of a world, what the first atom holds then, and the point.
+pub(crate) fn changed_in(
+    alloc: Global,
+    world: &mut World<Core>,
+    events: &[Event],
+) -> Result<String, AllocError> {
+    let mut all = String::new(alloc);
+    for event in events {
+        if !all.is_empty() {
+            all.push_str(", ")?;
+        }
+        all.push_str(&said(alloc, changes_in(alloc, world, &event.act))?)?;
+    }
+    let first = first_of(alloc, world)?;
+    format!(in alloc; "{all}; {first} at {}", world.point())
 }
 
 // How many references there are, whether one more would be a tally that can't be one, a point, the predicate of its rule, if it has one, and what

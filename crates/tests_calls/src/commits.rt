@@ -11,57 +11,56 @@ use ref_tx::Tx;
 use std::alloc::{AllocError, Global};
 use std::test::Fail;
 
+// Each row is asked of a world without books, and of one whose share counts.
+const FOREIGN: &str = r##"
+    // What of a transaction isn't so in another place.
+    a transaction of another store: there is no ref 0 here | :refs [[a 0]] :events [[9 :ref-set a 5]] | :refs []
+    a transaction of another store: ref 0 had another value here | :refs [[a 0]] :events [[9 :ref-set a 7]] | :refs [[a 5]]
+    a transaction of another store: point 1 is still to come | :refs [[a 0]] :events [[0 :begin] [0 :commit] [9 :ref-set a 5]] | :refs [[a 0]]
+    a transaction of another store: the tally here can only be added to and taken from | :refs [[a 0]] :events [[9 :ref-set a 5]] | :refs [[t 0 :tally]]
+    a transaction of another store: the tally here can only be added to and taken from | :refs [[a 0]] :events [[9 :commute a - -1]] | :refs [[t 5 :tally]]
+    a transaction of another store: there is no agent 1 here | :agents [[g 0] [h 0]] :events [[9 :send-in-tx h + 1]] | :agents [[g 0]]
+    // Of what it sends the first agent that isn't here.
+    a transaction of another store: there is no agent 2 here | :agents [[g 0] [h 0] [i 0]] :events [[9 :send-carry-in-tx g [+ 1] [i + 5] [h + 5]] [9 :send-in-tx h + 1]] | :agents [[g 0]]
+    // What is so is committed there.
+    point 2 | :refs [[a 0]] :events [[0 :begin] [0 :commit] [9 :ref-set a 5]] | :refs [[a 0]] :events [[0 :begin] [0 :commit]]
+    point 1 | :refs [[a 0]] :events [[9 :commute a - 1]] | :refs [[t 5 :tally]]
+    point 1 | :refs [[a 0]] :events [[9 :commute a + 1]] | :refs [[a 5]]
+    point 1 | :agents [[g 0] [h 0]] :events [[9 :send-in-tx h + 1]] | :agents [[g 0]] :events [[0 :make-agent 0]]
+    // Of two faults the first in order: refs, agents, the tally, the point, a conflict, a value, a function that refuses.
+    a transaction of another store: there is no ref 1 here | :refs [[a 0] [b 0]] :agents [[g 0] [h 0]] :events [[9 :send-in-tx h + 1] [9 :ref-set b 1]] | :refs [[t 0 :tally]] :agents [[g 0]]
+    a transaction of another store: there is no agent 1 here | :refs [[a 0]] :agents [[g 0] [h 0]] :events [[9 :ref-set a 1] [9 :send-in-tx g + 1] [9 :send-in-tx h + 1]] | :refs [[t 0 :tally]] :agents [[g 0]]
+    a transaction of another store: there is no ref 1 here | :refs [[a 0] [b 0]] :events [[0 :begin] [0 :commit] [9 :ref-set b 1]] | :refs [[a 0]]
+    a transaction of another store: there is no ref 1 here | :refs [[a 0] [b 0]] :events [[9 :ref-set a 1] [9 :ref-set b 1]] | :refs [[t 0 :tally]]
+    a transaction of another store: the tally here can only be added to and taken from | :refs [[a 0]] :events [[0 :begin] [0 :commit] [9 :ref-set a 1]] | :refs [[t 0 :tally]]
+    ref 0 has changed | :refs [[a 0]] :events [[9 :ensure a]] | :refs [[a 5]] :events [[0 :begin] [0 :ref-set a 6] [0 :commit]]
+    a transaction of another store: ref 0 had another value here | :refs [[a 0] [b 0]] :events [[9 :commute b + 1] [9 :ensure a]] | :refs [[a 5] [b 9223372036854775807]]
+"##;
+
 #[test]
 fn transactions_of_another_world(rt: HostRuntime) -> Result<(), Fail> {
-    check(
-        &rt,
-        Way::Commit(FULL),
-        r##"
-            // What of a transaction isn't so in another place.
-            a transaction of another store: there is no ref 0 here | :refs [[a 0]] :events [[9 :ref-set a 5]] | :refs []
-            a transaction of another store: ref 0 had another value here | :refs [[a 0]] :events [[9 :ref-set a 7]] | :refs [[a 5]]
-            a transaction of another store: point 1 is still to come | :refs [[a 0]] :events [[0 :begin] [0 :commit] [9 :ref-set a 5]] | :refs [[a 0]]
-            a transaction of another store: the tally here can only be added to and taken from | :refs [[a 0]] :events [[9 :ref-set a 5]] | :refs [[t 0 :tally]]
-            a transaction of another store: the tally here can only be added to and taken from | :refs [[a 0]] :events [[9 :commute a - -1]] | :refs [[t 5 :tally]]
-            a transaction of another store: there is no agent 1 here | :agents [[g 0] [h 0]] :events [[9 :send-in-tx h + 1]] | :agents [[g 0]]
-            // Of what it sends the first agent that isn't here.
-            a transaction of another store: there is no agent 2 here | :agents [[g 0] [h 0] [i 0]] :events [[9 :send-carry-in-tx g [+ 1] [i + 5] [h + 5]] [9 :send-in-tx h + 1]] | :agents [[g 0]]
-            // What is so is committed there.
-            point 2 | :refs [[a 0]] :events [[0 :begin] [0 :commit] [9 :ref-set a 5]] | :refs [[a 0]] :events [[0 :begin] [0 :commit]]
-            point 1 | :refs [[a 0]] :events [[9 :commute a - 1]] | :refs [[t 5 :tally]]
-            point 1 | :refs [[a 0]] :events [[9 :commute a + 1]] | :refs [[a 5]]
-            point 1 | :agents [[g 0] [h 0]] :events [[9 :send-in-tx h + 1]] | :agents [[g 0]] :events [[0 :make-agent 0]]
-            // Of two faults the first in order: refs, agents, the tally, the point, a conflict, a value, a function that refuses.
-            a transaction of another store: there is no ref 1 here | :refs [[a 0] [b 0]] :agents [[g 0] [h 0]] :events [[9 :send-in-tx h + 1] [9 :ref-set b 1]] | :refs [[t 0 :tally]] :agents [[g 0]]
-            a transaction of another store: there is no agent 1 here | :refs [[a 0]] :agents [[g 0] [h 0]] :events [[9 :ref-set a 1] [9 :send-in-tx g + 1] [9 :send-in-tx h + 1]] | :refs [[t 0 :tally]] :agents [[g 0]]
-            a transaction of another store: there is no ref 1 here | :refs [[a 0] [b 0]] :events [[0 :begin] [0 :commit] [9 :ref-set b 1]] | :refs [[a 0]]
-            a transaction of another store: there is no ref 1 here | :refs [[a 0] [b 0]] :events [[9 :ref-set a 1] [9 :ref-set b 1]] | :refs [[t 0 :tally]]
-            a transaction of another store: the tally here can only be added to and taken from | :refs [[a 0]] :events [[0 :begin] [0 :commit] [9 :ref-set a 1]] | :refs [[t 0 :tally]]
-            ref 0 has changed | :refs [[a 0]] :events [[9 :ensure a]] | :refs [[a 5]] :events [[0 :begin] [0 :ref-set a 6] [0 :commit]]
-            a transaction of another store: ref 0 had another value here | :refs [[a 0] [b 0]] :events [[9 :commute b + 1] [9 :ensure a]] | :refs [[a 5] [b 9223372036854775807]]
-        "##,
-    )
+    check(&rt, Way::Commit(FULL), FOREIGN)?;
+    check(&rt, Way::Counted(FULL), FOREIGN)
 }
+
+const LACKING: &str = r##"
+    // An alter isn't made again, and a rule is asked of refs that are set, altered or commuted, and of no others.
+    point 1 | :refs [[a 0]] :events [[9 :alter a - 1]] | :refs [[a 0]]
+    point 1 | :refs [[a 0] [b 0]] :events [[9 :ensure a] [9 :ref-set b -1]] | :refs [[a 0 [<= 0]] [b 0]]
+    the table lacks code 102 | :refs [[a 0]] :events [[9 :ref-set a 0]] | :refs [[a 0 [<= 0]]]
+    the table lacks code 104 | :refs [[a 0]] :events [[9 :commute a + 0]] | :refs [[a 0 [int?]]]
+    // Functions of commutes come before predicates, and these in the order of the operations; behind what is foreign, before conflicts and rules.
+    the table lacks code 2 | :refs [[a 0]] :events [[9 :commute a - 0]] | :refs [[a 0 [<= 0]]]
+    the table lacks code 102 | :refs [[a 0] [b 0]] :events [[9 :ref-set b 1] [9 :ref-set a 1]] | :refs [[a 0 [int?]] [b 0 [<= 0]]]
+    a transaction of another store: point 1 is still to come | :refs [[a 0]] :events [[0 :begin] [0 :commit] [9 :commute a - 1]] | :refs [[a 0]]
+    the table lacks code 2 | :refs [[a 0] [b 0]] :events [[9 :ref-set a 1] [9 :commute b - 1]] | :refs [[a 0] [b 0]] :events [[0 :begin] [0 :ref-set a 5] [0 :commit]]
+    the table lacks code 102 | :refs [[a 0]] :events [[9 :ref-set a 1]] | :refs [[a 0 [<= 0]]] :events [[0 :begin] [0 :ref-set a -1] [0 :commit]]
+"##;
 
 #[test]
 fn commits_lack(rt: HostRuntime) -> Result<(), Fail> {
-    check(
-        &rt,
-        Way::Commit(FEWER),
-        r##"
-            // An alter isn't made again, and a rule is asked of refs that are set, altered or commuted, and of no others.
-            point 1 | :refs [[a 0]] :events [[9 :alter a - 1]] | :refs [[a 0]]
-            point 1 | :refs [[a 0] [b 0]] :events [[9 :ensure a] [9 :ref-set b -1]] | :refs [[a 0 [<= 0]] [b 0]]
-            the table lacks code 102 | :refs [[a 0]] :events [[9 :ref-set a 0]] | :refs [[a 0 [<= 0]]]
-            the table lacks code 104 | :refs [[a 0]] :events [[9 :commute a + 0]] | :refs [[a 0 [int?]]]
-            // Functions of commutes come before predicates, and these in the order of the operations; behind what is foreign, before conflicts and rules.
-            the table lacks code 2 | :refs [[a 0]] :events [[9 :commute a - 0]] | :refs [[a 0 [<= 0]]]
-            the table lacks code 102 | :refs [[a 0] [b 0]] :events [[9 :ref-set b 1] [9 :ref-set a 1]] | :refs [[a 0 [int?]] [b 0 [<= 0]]]
-            a transaction of another store: point 1 is still to come | :refs [[a 0]] :events [[0 :begin] [0 :commit] [9 :commute a - 1]] | :refs [[a 0]]
-            the table lacks code 2 | :refs [[a 0] [b 0]] :events [[9 :ref-set a 1] [9 :commute b - 1]] | :refs [[a 0] [b 0]] :events [[0 :begin] [0 :ref-set a 5] [0 :commit]]
-            the table lacks code 102 | :refs [[a 0]] :events [[9 :ref-set a 1]] | :refs [[a 0 [<= 0]]] :events [[0 :begin] [0 :ref-set a -1] [0 :commit]]
-        "##,
-    )
+    check(&rt, Way::Commit(FEWER), LACKING)?;
+    check(&rt, Way::Counted(FEWER), LACKING)
 }
 
 // The end of points and a full book come last, in this order.

@@ -9,8 +9,8 @@
 //! | `rows` | the rows, and how they are asked |
 //! | `served` | which tables serve a world and its actors, and what a table lacks for an act |
 //! | `commits`, `agents`, `atoms`, `replays` | calls with a transaction or a job of another world, by a table that lacks something, and at the last point |
-//! | `shares` | shares, views, and what is left at the end of a list |
-//! | `tables`, `worlds`, `looks` | a table that lacks functions; worlds that a list came to; what is done with them |
+//! | `shares` | worlds with books: shares, views, commits that a share counts, and what is left at the end of a list |
+//! | `tables`, `worlds`, `looks` | a table that lacks functions; worlds without books that a list came to; what is done with them |
 //! | `words` | what faults say |
 #![tactic(auto)]
 

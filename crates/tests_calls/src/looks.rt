@@ -1,6 +1,6 @@
 //! What is done with worlds.
+use crate::atoms::changed_in;
 use crate::served::said;
-use crate::shares::{forgotten, left, split};
 use crate::tables::{FULL, Table};
 use crate::worlds::Scenario;
 use ref_fun::Core;
@@ -8,9 +8,8 @@ use ref_log::{MakeFault, Stamp, Who};
 use ref_play::{Act, Event, Reply};
 use ref_refs::CommitFault;
 use ref_tx::{Tx, TxFault};
-use ref_world::{Share, World};
+use ref_world::World;
 use std::alloc::{AllocError, Global};
-use ref_world::Books;
 
 /// The stamp of each commit that is made here.
 pub(crate) const STAMP: Stamp = Stamp { worker: 1, step: 2 };
@@ -22,12 +21,8 @@ pub(crate) enum What {
     Nothing,
     /// A transaction of another world is committed by a table.
     Commit(Tx<Core>, Table),
-    /// What is left is looked at.
-    Left,
-    /// The share is split and joined again.
-    Split,
-    /// The share forgets what was folded.
-    Forget,
+    /// Atoms are changed by hand.
+    Change,
 }
 
 /// What is done with a world, and what was heard until then: whether the table with fewer functions serves it, and what it lacks. That table
@@ -70,11 +65,10 @@ impl<'a> Scenario for Look<'a> {
         format!(in alloc; "{who:?} {fault}")
     }
 
-    fn look<L: Books>(
+    fn look(
         self,
         alloc: Global,
-        world: &mut World<Core, L>,
-        share: &mut Share<L>,
+        world: &mut World<Core>,
         rest: &[Event],
     ) -> Result<String, AllocError> {
         let Look {
@@ -85,42 +79,38 @@ impl<'a> Scenario for Look<'a> {
         } = self;
         match what {
             What::Nothing => format!(in alloc; "{bits} {codes:?}"),
-            What::Commit(tx, table) => committed(alloc, world, share, &table, tx),
-            What::Left => left(alloc, world, share),
-            What::Split => split(alloc, world, share, rest),
-            What::Forget => forgotten(alloc, world, share, rest),
+            What::Commit(tx, table) => committed(alloc, world, &table, tx),
+            What::Change => changed_in(alloc, world, rest),
         }
     }
 }
 
 // Whether a transaction is refused for this fault.
-fn is_refused<L: Books>(
+fn is_refused(
     alloc: Global,
-    world: &mut World<Core, L>,
-    share: &mut Share<L>,
+    world: &mut World<Core>,
     table: &Table,
     tx: Tx<Core>,
     fault: CommitFault,
 ) -> bool {
-    match world.commit_with(alloc, table, share, STAMP, tx) {
+    match world.commit(alloc, table, STAMP, tx) {
         Ok(_receipt) => false,
         Err((_tx, again)) => again == fault,
     }
 }
 
-/// What comes of a commit. A refused one is refused again, for the same fault.
-pub(crate) fn committed<L: Books>(
+// What comes of a commit. A refused one is refused again, for the same fault.
+fn committed(
     alloc: Global,
-    world: &mut World<Core, L>,
-    share: &mut Share<L>,
+    world: &mut World<Core>,
     table: &Table,
     tx: Tx<Core>,
 ) -> Result<String, AllocError> {
     let before = world.point();
-    match world.commit_with(alloc, table, share, STAMP, tx) {
+    match world.commit(alloc, table, STAMP, tx) {
         Ok(receipt) => format!(in alloc; "point {}", receipt.point),
         Err((tx, fault)) => {
-            let again = is_refused(alloc, world, share, table, tx, fault);
+            let again = is_refused(alloc, world, table, tx, fault);
             if again && world.point() == before {
                 fault.to_string(alloc)
             } else {
@@ -149,11 +139,10 @@ impl Scenario for Beginning {
         Err(AllocError)
     }
 
-    fn look<L: Books>(
+    fn look(
         self,
         alloc: Global,
-        world: &mut World<Core, L>,
-        _share: &mut Share<L>,
+        world: &mut World<Core>,
         rest: &[Event],
     ) -> Result<Tx<Core>, AllocError> {
         transaction(alloc, world, rest)
@@ -161,9 +150,9 @@ impl Scenario for Beginning {
 }
 
 /// A transaction with these operations.
-pub(crate) fn transaction<L: Books>(
+pub(crate) fn transaction(
     alloc: Global,
-    world: &World<Core, L>,
+    world: &World<Core>,
     events: &[Event],
 ) -> Result<Tx<Core>, AllocError> {
     let mut tx = world.begin(alloc)?;

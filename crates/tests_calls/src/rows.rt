@@ -4,6 +4,7 @@ use crate::atoms::changed;
 use crate::commits::landed;
 use crate::looks::{Beginning, Look, What};
 use crate::replays::replayed;
+use crate::shares::{Counting, counted};
 use crate::tables::Table;
 use crate::worlds::run;
 use std::alloc::{AllocError, Global};
@@ -20,6 +21,8 @@ pub(crate) enum Way {
     Served,
     /// Where a transaction begins, with its acts by hand, and where it is committed, by this table.
     Commit(Table),
+    /// The same, where a share counts the commit.
+    Counted(Table),
     /// Agents that give a job, and agents where it is ended.
     Job,
     /// Agents, whose last act is by the table with fewer functions.
@@ -28,6 +31,8 @@ pub(crate) enum Way {
     Land(u64, (u64, u64)),
     /// An atom, and a change of it at a point by a table.
     Change(u64, Table),
+    /// A list, and changes of its first atom by hand.
+    Changes,
     /// Entries, which are replayed by the table with fewer functions.
     Replay,
     /// A list, what is left of which is looked at.
@@ -54,6 +59,11 @@ fn outcome(alloc: Global, way: Way, row: &str) -> Result<String, AllocError> {
             let tx = run(alloc, there, Beginning)?;
             run(alloc, here, Look::of(alloc, What::Commit(tx, table), ""))
         }
+        Way::Counted(table) => {
+            let (there, here) = parted(row)?;
+            let tx = run(alloc, there, Beginning)?;
+            counted(alloc, here, Counting::Commit(tx, table))
+        }
         Way::Job => {
             let (there, here) = parted(row)?;
             ended(alloc, there, here)
@@ -64,10 +74,11 @@ fn outcome(alloc: Global, way: Way, row: &str) -> Result<String, AllocError> {
             landed(alloc, run(alloc, there, Beginning)?, here, at, room)
         }
         Way::Change(at, table) => changed(alloc, row, at, &table),
+        Way::Changes => run(alloc, row, Look::of(alloc, What::Change, "")),
         Way::Replay => replayed(alloc, row),
-        Way::Left => run(alloc, row, Look::of(alloc, What::Left, "")),
-        Way::Split => run(alloc, row, Look::of(alloc, What::Split, "")),
-        Way::Forget => run(alloc, row, Look::of(alloc, What::Forget, "")),
+        Way::Left => counted(alloc, row, Counting::Left),
+        Way::Split => counted(alloc, row, Counting::Split),
+        Way::Forget => counted(alloc, row, Counting::Forget),
     }
 }
 

@@ -1,13 +1,35 @@
-//! Shares and views, and what is left at the end of a list of events.
-use crate::looks::{committed, transaction};
+//! Shares and views, and what is left at the end of a list of events; and commits that a share counts, which are refused as those of a world
+//! without books.
+ghost use Rattle.std.specs.Prelude.{◌≡◌};
+ghost use Rattle.ref_world.specs.Shares.{AreBlanks};
+
+use crate::looks::{STAMP, transaction};
 use crate::rows::{Way, check};
-use crate::tables::FULL;
+use crate::tables::{FULL, Table};
+use crate::worlds::parts_of;
+use ref_agents::Start;
+use ref_events::ScriptParts;
 use ref_fun::Core;
-use ref_play::Event;
-use ref_world::{ALL_PARTS, Share, World};
+use ref_play::{Event, Sim};
+use ref_refs::CommitFault;
+use ref_tx::Tx;
+use ref_world::{ALL_PARTS, Blanks, Booked, Books, Share, World};
 use std::alloc::{AllocError, Global};
-use ref_world::Books;
+use std::marker::Brand;
 use std::test::Fail;
+
+/// What is done with a world that has books, and its whole share.
+#[derive(Drop)]
+pub(crate) enum Counting {
+    /// A transaction of another world is committed by a table.
+    Commit(Tx<Core>, Table),
+    /// What is left is looked at.
+    Left,
+    /// The share is split and joined again.
+    Split,
+    /// The share forgets what was folded.
+    Forget,
+}
 
 // What is left: the totals of the whole share, how many receipts it has, and the jobs that can be taken, by agent and number.
 #[test]
@@ -29,10 +51,9 @@ fn ends_leave_a_whole_share(rt: HostRuntime) -> Result<(), Fail> {
     )
 }
 
-fn jobs<L: Books>(
-    alloc: Global,
-    world: &mut World<Core, L>,
-) -> Result<Vec<(u32, u64)>, AllocError> {
+fn jobs(alloc: Global, world: &mut World<Core>) -> Result<Vec<(u32, u64)>, AllocError>
+    ensures books { world.new.books ≡ world.old.books }
+{
     let mut all = Vec::new(alloc);
     // A job that came back would come without end.
     for _ in 0..10u32 {
@@ -46,18 +67,15 @@ fn jobs<L: Books>(
     Ok(all)
 }
 
-/// What is left of a world and its share.
-pub(crate) fn left<L: Books>(
+// What is left of a world and its share.
+fn left<L: Books>(
     alloc: Global,
-    world: &mut World<Core, L>,
+    booked: &mut Booked<Core, L>,
     share: &mut Share<L>,
 ) -> Result<String, AllocError> {
-    let (totals, receipts, jobs) = (
-        world.totals(share),
-        share.receipts().len(),
-        jobs(alloc, world)?,
-    );
-    let (blanks) = (totals.commits, totals.added, totals.taken);
+    let (totals, receipts) = (booked.totals(share), share.receipts().len());
+    let jobs = jobs(alloc, &mut booked.world)?;
+    let (commits, added, taken) = (totals.commits, totals.added, totals.taken);
     format!(in alloc; "{commits} {added} {taken}, {receipts}, {jobs:?}")
 }
 
@@ -81,19 +99,19 @@ fn shares_are_split_joined_and_forget(rt: HostRuntime) -> Result<(), Fail> {
 // Commits a transaction, of which a share gets the receipt, at a point.
 fn is_committed<L: Books>(
     alloc: Global,
-    world: &mut World<Core, L>,
+    booked: &mut Booked<Core, L>,
     share: &mut Share<L>,
     events: &[Event],
     point: u64,
 ) -> Result<bool, AllocError> {
-    let tx = transaction(alloc, world, events)?;
-    let said = committed(alloc, world, share, &FULL, tx)?;
-    Ok(said == format!(in alloc; "point {point}")?)
+    let tx = transaction(alloc, &booked.world, events)?;
+    let committed = booked.commit_with(alloc, &FULL, share, STAMP, tx);
+    Ok(committed.is_ok_and(|receipt| receipt.point == point))
 }
 
 fn told<L: Books>(
     alloc: Global,
-    world: &mut World<Core, L>,
+    booked: &mut Booked<Core, L>,
     share: &mut Share<L>,
     is_right: bool,
 ) -> Result<String, AllocError> {
@@ -101,15 +119,15 @@ fn told<L: Books>(
     for receipt in share.receipts() {
         points.push(receipt.point)?;
     }
-    let totals = world.totals(share);
-    let (blanks) = (totals.commits, totals.added, totals.taken);
+    let totals = booked.totals(share);
+    let (commits, added, taken) = (totals.commits, totals.added, totals.taken);
     format!(in alloc; "{is_right} {points:?} {commits} {added} {taken}")
 }
 
-/// What comes of three commits, the first of which is counted in one half of a share, and the others in the other.
-pub(crate) fn split<L: Books>(
+// What comes of three commits, the first of which is counted in one half of a share, and the others in the other.
+fn split<L: Books>(
     alloc: Global,
-    world: &mut World<Core, L>,
+    booked: &mut Booked<Core, L>,
     share: &mut Share<L>,
     events: &[Event],
 ) -> Result<String, AllocError> {
@@ -118,27 +136,114 @@ pub(crate) fn split<L: Books>(
         return Err(AllocError);
     };
     let halves = !share.is_whole() && !half.is_whole();
-    let done = is_committed(alloc, world, &mut half, events, 1)?
-        && is_committed(alloc, world, share, events, 2)?
-        && is_committed(alloc, world, share, events, 3)?;
+    let done = is_committed(alloc, booked, &mut half, events, 1)?
+        && is_committed(alloc, booked, share, events, 2)?
+        && is_committed(alloc, booked, share, events, 3)?;
     let joined = share.join(half).is_ok() && share.is_whole();
-    told(alloc, world, share, none && halves && done && joined)
+    told(alloc, booked, share, none && halves && done && joined)
 }
 
-/// What comes of three commits, the first two of which are folded and forgotten.
-pub(crate) fn forgotten<L: Books>(
+// What comes of three commits, the first two of which are folded and forgotten.
+fn forgotten<L: Books>(
     alloc: Global,
-    world: &mut World<Core, L>,
+    booked: &mut Booked<Core, L>,
     share: &mut Share<L>,
     events: &[Event],
 ) -> Result<String, AllocError> {
-    let done = is_committed(alloc, world, share, events, 1)?
-        && is_committed(alloc, world, share, events, 2)?
-        && is_committed(alloc, world, share, events, 3)?;
-    let view = world.view()?;
-    let folded = world.checkpoint(alloc, &FULL, 2) == Ok(2);
-    world.forget(share);
+    let done = is_committed(alloc, booked, share, events, 1)?
+        && is_committed(alloc, booked, share, events, 2)?
+        && is_committed(alloc, booked, share, events, 3)?;
+    let view = booked.world.view()?;
+    let folded = booked.world.checkpoint(alloc, &FULL, 2) == Ok(2);
+    booked.forget(share);
     let stays = (view.base().point, view.log().len(), view.point()) == (0, 3, 3);
+    let world = &booked.world;
     let moves = (world.base().point, world.log().len(), world.point()) == (2, 1, 3);
-    told(alloc, world, share, done && folded && stays && moves)
+    told(alloc, booked, share, done && folded && stays && moves)
+}
+
+// Whether a transaction is refused for this fault.
+fn is_refused<L: Books>(
+    alloc: Global,
+    booked: &mut Booked<Core, L>,
+    share: &mut Share<L>,
+    table: &Table,
+    tx: Tx<Core>,
+    fault: CommitFault,
+) -> bool {
+    match booked.commit_with(alloc, table, share, STAMP, tx) {
+        Ok(_receipt) => false,
+        Err((_tx, again)) => again == fault,
+    }
+}
+
+// What comes of a commit. A refused one is refused again, for the same fault, and the share counts nothing.
+fn committed<L: Books>(
+    alloc: Global,
+    booked: &mut Booked<Core, L>,
+    share: &mut Share<L>,
+    table: &Table,
+    tx: Tx<Core>,
+) -> Result<String, AllocError> {
+    let before = (booked.world.point(), share.receipts().len());
+    match booked.commit_with(alloc, table, share, STAMP, tx) {
+        Ok(receipt) => format!(in alloc; "point {}", receipt.point),
+        Err((tx, fault)) => {
+            let again = is_refused(alloc, booked, share, table, tx, fault);
+            if again && (booked.world.point(), share.receipts().len()) == before {
+                fault.to_string(alloc)
+            } else {
+                String::from_str(alloc, "another outcome")
+            }
+        }
+    }
+}
+
+impl Counting {
+    // Makes calls on the world and the whole share that are left, and returns what is seen.
+    fn look<L: Books>(
+        self,
+        alloc: Global,
+        booked: &mut Booked<Core, L>,
+        share: &mut Share<L>,
+        rest: &[Event],
+    ) -> Result<String, AllocError> {
+        match self {
+            Counting::Commit(tx, table) => committed(alloc, booked, share, &table, tx),
+            Counting::Left => left(alloc, booked, share),
+            Counting::Split => split(alloc, booked, share, rest),
+            Counting::Forget => forgotten(alloc, booked, share, rest),
+        }
+    }
+}
+
+/// What comes of a list, and of what is done then with its world and its share.
+pub(crate) fn counted(alloc: Global, row: &str, what: Counting) -> Result<String, AllocError> {
+    let ScriptParts { start, events, .. } = parts_of(alloc, row)?;
+    counted_in::<Brand>(alloc, &start, &events, what, Blanks::new())
+}
+
+// It plays the events before the first of actor 9.
+fn counted_in<L: Books>(
+    alloc: Global,
+    start: &Start,
+    events: &[Event],
+    what: Counting,
+    blanks: Blanks,
+) -> Result<String, AllocError>
+    requires { AreBlanks blanks L.commits L.added L.taken }
+{
+    let Ok(mut sim) = Sim::<Core, L>::new(alloc, &FULL, start, blanks) else {
+        return Err(AllocError);
+    };
+    let count = events.iter().position(|event| event.actor == 9);
+    let count = count.unwrap_or(events.len());
+    let front = events.get(..count).unwrap_or(&[]);
+    let played = sim.served_by(&FULL) && sim.play(alloc, &FULL, front).is_ok();
+    let (mut booked, mut share) = sim.end();
+    if !played {
+        return Err(AllocError);
+    }
+    let rest = events.get(count..).unwrap_or(&[]);
+    what.look(alloc, &mut booked, &mut share, rest)
 }

@@ -1,4 +1,5 @@
-//! Worlds that a list of events came to. They are owned and dropped in this module alone: a test is lent them.
+//! Worlds that a list of events came to, without their books; `shares` has some with books. They are owned and dropped in this module alone:
+//! a test is lent them.
 ghost use Rattle.std.specs.Prelude.{◌≡◌};
 ghost use Rattle.ref_world.specs.Shares.{AreBlanks};
 
@@ -8,10 +9,9 @@ use ref_events::{ScriptParts, script_of};
 use ref_fun::Core;
 use ref_log::{MakeFault, Who};
 use ref_play::{Event, Reply, Sim};
-use ref_world::{ALL_PARTS, Share, World};
+use ref_world::{Blanks, Books, World};
 use std::alloc::{AllocError, Global};
 use std::marker::Brand;
-use ref_world::{Blanks, Books};
 
 /// What a test does with a world.
 pub trait Scenario: Drop + Sized {
@@ -26,12 +26,11 @@ pub trait Scenario: Drop + Sized {
     /// Returns what is seen where there is no world.
     fn refuse(self, alloc: Global, who: Who, fault: MakeFault) -> Result<Self::Seen, AllocError>;
 
-    /// Makes calls on the world and the whole share that are left, and returns what is seen.
-    fn look<L: Books>(
+    /// Makes calls on the world that is left, and returns what is seen.
+    fn look(
         self,
         alloc: Global,
-        world: &mut World<Core, L>,
-        share: &mut Share<L>,
+        world: &mut World<Core>,
         rest: &[Event],
     ) -> Result<Self::Seen, AllocError>;
 }
@@ -73,11 +72,8 @@ fn play_front<L: Books, S: Scenario>(
 
 /// Does what a test does with the world of a row.
 pub fn run<S: Scenario>(alloc: Global, row: &str, scenario: S) -> Result<S::Seen, AllocError> {
-    let (blanks) = (
-        Blanks::new(),
-    );
     let parts = parts_of(alloc, row)?;
-    run_in::<Brand, S>(alloc, parts, scenario, blanks)
+    run_in::<Brand, S>(alloc, parts, scenario, Blanks::new())
 }
 
 // It takes no `&str`: no names are picked for the books at a call that passes one.
@@ -104,11 +100,12 @@ fn run_sim<L: Books, S: Scenario>(
     mut scenario: S,
 ) -> Result<S::Seen, AllocError> {
     let played = play_front(alloc, &mut sim, events, &mut scenario);
-    let (mut world, mut share) = sim.end();
+    let (booked, _share) = sim.end();
+    let mut world = booked.into_world();
     match played {
         Ok(front) => {
             let rest = events.get(front..).unwrap_or(&[]);
-            scenario.look(alloc, &mut world, &mut share, rest)
+            scenario.look(alloc, &mut world, rest)
         }
         Err(e) => Err(e),
     }

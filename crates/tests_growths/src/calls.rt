@@ -6,10 +6,9 @@ use ref_log::Stamp;
 use ref_refs::CommitFault;
 use ref_shared::{AwaitFault, Open, Quiet, Shared, TransactFault, WaitFault, WorkFault, Worked};
 use ref_tx::Tx;
-use ref_world::{Receipt, Share};
+use ref_world::{Books, Receipt, Share};
 use std::alloc::Global;
 use std::sync::Wait;
-use ref_world::Books;
 use tests_shared::jobs::work;
 use tests_shared::worlds::{STAMP, Stop};
 
@@ -117,9 +116,9 @@ impl<'a, R: Input + Wait, L: Books> Lent<'a, R, L> {
     // With a body that is ready at once.
     fn transact_when(&self, share: &mut Share<L>) -> Said {
         let (rt, alloc, funs, shared) = (self.rt, self.alloc, &CoreFunctions, self.shared);
-        let mut work = |tx: &mut Tx<Core>| body(alloc, tx, 0, SENT_TO).map(Some);
+        let work = |tx: &mut Tx<Core>| body(alloc, tx, 0, SENT_TO).map(Some);
         let (gate, sink) = (&mut Open, &mut Quiet);
-        match shared.transact_when(rt, alloc, funs, share, STAMP, 3, gate, sink, &mut work) {
+        match shared.transact_when(rt, alloc, funs, share, STAMP, 3, gate, sink, work) {
             Ok(landed) => transacted(Ok(landed)),
             Err(WaitFault::Transact(fault)) => transacted(Err(fault)),
             Err(WaitFault::Closed) => Err(Stop::Refused),

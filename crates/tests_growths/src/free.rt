@@ -17,10 +17,9 @@ use ref_pmap::PMap;
 use ref_pvec::PVec;
 use ref_shared::Shared;
 use ref_value::{Node, Value};
-use ref_world::{Share, World};
+use ref_world::{Books, Share, World};
 use std::alloc::Global;
 use std::sync::Wait;
-use ref_world::Books;
 use tests_shared::worlds::{Stop, at_least, done, one_arg, value};
 
 // Ends a group of calls, of which each was right or not, and prints how many there are.
@@ -83,11 +82,7 @@ fn call_on_data<R: Input + Print>(rt: &R, alloc: Global) -> Result<(), Stop> {
     end(rt, "data", &of_data(&funs, args.as_slice(), &map, &list))
 }
 
-fn of_world<L: Books>(
-    alloc: Global,
-    world: &World<Core, L>,
-    rule: &Rule,
-) -> [bool; 18] {
+fn of_world(alloc: Global, world: &World<Core>, rule: &Rule) -> [bool; 18] {
     let Ok(tx) = world.begin(alloc) else {
         return [false; 18];
     };
@@ -113,11 +108,9 @@ fn of_world<L: Books>(
     ]
 }
 
-fn of_reference<L: Books>(
-    world: &mut World<Core, L>,
-    who: Who,
-    key: &Value,
-) -> [bool; 3] {
+fn of_reference(world: &mut World<Core>, who: Who, key: &Value) -> [bool; 3]
+    ensures books { world.new.books ≡ world.old.books }
+{
     [
         world.value_of(who).is_some(),
         world.remove_watch(who, key),
@@ -126,11 +119,9 @@ fn of_reference<L: Books>(
 }
 
 // Takes a job, runs it and puts it back; takes it again and forsakes it. The sends of the commit at point 2 are held.
-fn of_agents<L: Books>(
-    alloc: Global,
-    world: &mut World<Core, L>,
-    zero: Value,
-) -> [bool; 6] {
+fn of_agents(alloc: Global, world: &mut World<Core>, zero: Value) -> [bool; 6]
+    ensures books { world.new.books ≡ world.old.books }
+{
     let Some(job) = world.take().ok().flatten() else {
         return [false; 6];
     };
@@ -165,11 +156,7 @@ fn of_share<L: Books>(share: &mut Share<L>) -> [bool; 3] {
     [is_split, is_joined, share.is_whole()]
 }
 
-fn of_shared<R: Wait, L: Books>(
-    rt: &R,
-    alloc: Global,
-    shared: &Shared<Core, L>,
-) -> [bool; 4] {
+fn of_shared<R: Wait, L: Books>(rt: &R, alloc: Global, shared: &Shared<Core, L>) -> [bool; 4] {
     shared.close(rt);
     [
         shared.begin(rt, alloc).is_ok(),
@@ -179,12 +166,13 @@ fn of_shared<R: Wait, L: Books>(
     ]
 }
 
-fn call_on_world<R: Input + Print, L: Books>(
+fn call_on_world<R: Input + Print>(
     rt: &R,
     alloc: Global,
-    world: &mut World<Core, L>,
-    share: &mut Share<L>,
-) -> Result<(), Stop> {
+    world: &mut World<Core>,
+) -> Result<(), Stop>
+    ensures books { world.new.books ≡ world.old.books }
+{
     let (key, rule) = (value(alloc, ":k")?, at_least(alloc, "0")?);
     let zero = value(alloc, "0")?;
     refuse(rt, EACH);
@@ -195,8 +183,7 @@ fn call_on_world<R: Input + Print, L: Books>(
         refuse(rt, EACH);
         end(rt, "references", &of_reference(world, *who, &key))?;
     }
-    refuse(rt, EACH);
-    end(rt, "shares", &of_share(share))
+    Ok(())
 }
 
 #[derive(Drop)]
@@ -208,13 +195,15 @@ impl<R: AllocGlobal + Input + Print + Wait> Use<R> for Calls {
     fn used<L: Books>(self, rt: &R, sim: Sim<Core, L>) -> Self::Out {
         let (alloc, Calls) = (rt.alloc(), self);
         refuse(rt, EACH);
-        let (mut world, mut share) = sim.end();
+        let (mut booked, mut share) = sim.end();
         let ended = end(rt, "end of a play", &[true]);
-        let called = call_on_world(rt, alloc, &mut world, &mut share);
+        let called = call_on_world(rt, alloc, &mut booked.world);
         refuse(rt, EACH);
-        let shared = Shared::new(world);
+        let joined = end(rt, "shares", &of_share(&mut share));
+        refuse(rt, EACH);
+        let shared = Shared::new(booked);
         let closed = end(rt, "shared", &of_shared(rt, alloc, &shared));
-        ended.and(called).and(closed)
+        ended.and(called).and(joined).and(closed)
     }
 }
 

@@ -7,10 +7,9 @@ use ref_fun::Core;
 use ref_play::Sim;
 use ref_shared::{GatherFault, Shared};
 use ref_value::Value;
-use ref_world::{Share, Totals, World};
+use ref_world::{Books, Share, Totals, World};
 use std::alloc::Global;
 use std::sync::Wait;
-use ref_world::Books;
 use tests_shared::worlds::{Stop, closed, done};
 
 /// What came of a call, and what the world shows then.
@@ -38,7 +37,7 @@ fn end<R: Input, L: Books>(
     share: Share<L>,
     trial: Trial,
     made: &mut Made,
-) -> Result<(World<Core, L>, Totals), Stop> {
+) -> Result<(World<Core>, Totals), Stop> {
     if !share.is_whole() {
         return Err(Stop::Refused);
     }
@@ -49,9 +48,9 @@ fn end<R: Input, L: Books>(
     made.was_hit = was_refused(rt) || made.was_hit;
     match ended {
         Ok(ended) => Ok(ended),
-        Err((world, share, GatherFault::Memory)) => {
+        Err((booked, share, GatherFault::Memory)) => {
             made.was_refused = true;
-            closed(alloc, Shared::new(world), share)
+            closed(alloc, Shared::new(booked), share)
         }
         Err(_) => Err(Stop::Refused),
     }
@@ -62,8 +61,8 @@ impl<R: AllocGlobal + Input + Wait> Use<R> for Trial {
 
     fn used<L: Books>(self, rt: &R, sim: Sim<Core, L>) -> Self::Out {
         let alloc = rt.alloc();
-        let (world, mut share) = sim.end();
-        let shared = Shared::new(world);
+        let (booked, mut share) = sim.end();
+        let shared = Shared::new(booked);
         let lent = Lent {
             rt,
             alloc,

@@ -8,10 +8,9 @@ use ref_fun::{Action, Carries, Carry, Core, CoreFunctions, MOST_CARRIES};
 use ref_log::{Stamp, Who};
 use ref_play::{Act, Event, Sim};
 use ref_tx::Tx;
-use ref_world::{ALL_PARTS, Start};
+use ref_world::{Blanks, Books, Start};
 use std::alloc::Global;
 use std::marker::Brand;
-use ref_world::{Blanks, Books};
 use tests_shared::worlds::{Stop, action, add, agent, at_least, done, one_arg, plain_start, value};
 
 const TALLY: u32 = 3;
@@ -193,9 +192,5 @@ pub(crate) fn opened<R: AllocGlobal, W: Use<R>>(
     what: W,
 ) -> Result<W::Out, Stop> {
     let (start, events) = (start(rt.alloc())?, events(rt.alloc(), state, call)?);
-    let (blanks) = (
-        Blanks::new(),
-    );
-    let events = events.as_slice();
-    open::<R, W, Brand>(rt, &start, events, what, blanks)
+    open::<R, W, Brand>(rt, &start, events.as_slice(), what, Blanks::new())
 }

@@ -10,10 +10,9 @@ use ref_atoms::{AtomFault, Cas, Swapped};
 use ref_fun::{Core, CoreFunctions};
 use ref_log::Who;
 use ref_shared::{Open, Shared, Worked};
-use ref_world::Share;
+use ref_world::{Books, Share};
 use std::alloc::Global;
 use std::sync::Wait;
-use ref_world::Books;
 
 // What calls are made on.
 #[derive(Drop)]

@@ -9,9 +9,8 @@ use ref_fun::Core;
 use ref_log::{Entry, Transaction};
 use ref_pvec::PVec;
 use ref_shared::GatherFault;
-use ref_world::{Share, Totals, World};
+use ref_world::{Booked, Books, Share, Totals, World};
 use std::alloc::Global;
-use ref_world::Books;
 
 // As `1/0 at 0`, by its read point; or as `1/0 10`, by the kept answer of its first operation.
 fn transaction_text(alloc: Global, transaction: &Transaction, by_answer: bool) -> Said {
@@ -47,9 +46,9 @@ fn account_text(alloc: Global, account: &Account, word: &str) -> Said {
     }
 }
 
-fn of_world<L: Books>(
+fn of_world(
     alloc: Global,
-    world: &World<Core, L>,
+    world: &World<Core>,
     totals: Totals,
     call: &[&str],
 ) -> Said {
@@ -79,10 +78,10 @@ pub(crate) struct Ends<'t>(pub(crate) &'t [&'t str]);
 impl<'t> Inspection for Ends<'t> {
     type Seen = Wrong<'t>;
 
-    fn inspect<L: Books>(
+    fn inspect(
         &self,
         alloc: Global,
-        world: &mut World<Core, L>,
+        world: &mut World<Core>,
         totals: Totals,
     ) -> Result<Wrong<'t>, Stop> {
         for row in self.0 {
@@ -101,12 +100,12 @@ impl<'t> Inspection for Ends<'t> {
     fn refused<L: Books>(
         &self,
         alloc: Global,
-        world: &World<Core, L>,
+        booked: &Booked<Core, L>,
         share: &Share<L>,
         fault: GatherFault,
     ) -> Result<Wrong<'t>, Stop> {
         let (whole, receipts) = (share.is_whole(), share.receipts().len());
-        let commits = world.commits();
+        let commits = booked.world.commits();
         let answer = format!(in alloc;
             "{fault}: whole {whole}, receipts {receipts}, commits {commits}"
         )?;

@@ -9,10 +9,9 @@ use crate::worlds::{Stop, done};
 use ref_fun::codes::PLUS;
 use ref_fun::{Core, CoreFunctions};
 use ref_shared::{Gate, Quiet, Shared, Spot, Worked};
-use ref_world::Share;
+use ref_world::{Books, Share};
 use std::alloc::Global;
 use std::sync::Wait;
-use ref_world::Books;
 use std::test::Fail;
 
 const FORGETTING: &str = "

@@ -5,21 +5,16 @@ use ref_fun::{Action, Core, CoreFunctions};
 use ref_log::Who;
 use ref_shared::{Open, Quiet, Shared, WorkFault, Worked};
 use ref_tx::Tx;
-use ref_world::Start;
+use ref_world::{Books, Start};
 use std::alloc::{AllocError, Global};
 use std::sync::Wait;
-use ref_world::Books;
 
 /// What a call of `work_once` answers.
 pub type Work = Result<Worked, WorkFault>;
 
 pub const CLOSED: Work = Ok(Worked::Closed);
 
-pub fn work<R: Wait, L: Books>(
-    rt: &R,
-    alloc: Global,
-    shared: &Shared<Core, L>,
-) -> Work {
+pub fn work<R: Wait, L: Books>(rt: &R, alloc: Global, shared: &Shared<Core, L>) -> Work {
     shared.work_once(rt, alloc, &CoreFunctions, &mut Open, &mut Quiet)
 }
 

@@ -8,15 +8,12 @@ use ref_fun::codes::PLUS;
 use ref_fun::{Cause, Core, CoreFunctions};
 use ref_log::Who;
 use ref_shared::Shared;
-use ref_world::{Share, Totals, World};
+use ref_world::{Booked, Books, Share, Totals, World};
 use std::alloc::{AllocError, Global};
-use ref_world::Books;
 use std::test::Fail;
 
 // The agent whose job is taken, which stays out.
-fn taken<L: Books>(
-    world: &mut World<Core, L>,
-) -> Result<Option<u32>, AllocError> {
+fn taken(world: &mut World<Core>) -> Result<Option<u32>, AllocError> {
     match world.take()? {
         Some(job) => {
             let agent = job.agent();
@@ -28,11 +25,7 @@ fn taken<L: Books>(
 }
 
 // How a job ends that is run.
-fn ended<L: Books>(
-    alloc: Global,
-    world: &mut World<Core, L>,
-    job: Job,
-) -> Result<Finished, Stop> {
+fn ended(alloc: Global, world: &mut World<Core>, job: Job) -> Result<Finished, Stop> {
     let ran = match job.run(alloc, &CoreFunctions) {
         Ok(ran) => ran,
         Err((job, _fault)) => {
@@ -50,9 +43,9 @@ fn ended<L: Books>(
 }
 
 // The agent whose job is taken and run, and the error with which it goes on.
-fn continued<L: Books>(
+fn continued(
     alloc: Global,
-    world: &mut World<Core, L>,
+    world: &mut World<Core>,
 ) -> Result<Option<(u32, AgentError)>, Stop> {
     let Some(job) = world.take()? else {
         return Ok(None);
@@ -67,12 +60,12 @@ fn continued<L: Books>(
 // Commits `send g + 1`, which is held, at point 1.
 fn commit_send<L: Books>(
     alloc: Global,
-    world: &mut World<Core, L>,
+    booked: &mut Booked<Core, L>,
     share: &mut Share<L>,
 ) -> Result<(), Stop> {
-    let mut tx = world.begin(alloc)?;
+    let mut tx = booked.world.begin(alloc)?;
     done(tx.send(alloc, &CoreFunctions, 0, action(alloc, PLUS, "1")?))?;
-    done(world.commit_with(alloc, &CoreFunctions, share, STAMP, tx)).map(drop)
+    done(booked.commit_with(alloc, &CoreFunctions, share, STAMP, tx)).map(drop)
 }
 
 // What the world has: the error with which h goes on, whose jobs are taken before and after the release, whether it had sends, and
@@ -96,14 +89,14 @@ impl<R> Scenario<R> for Keeping {
     fn prepare<L: Books>(
         &self,
         alloc: Global,
-        world: &mut World<Core, L>,
+        booked: &mut Booked<Core, L>,
         share: &mut Share<L>,
     ) -> Result<(), Stop> {
         let (key, action) = (value(alloc, ":w")?, action(alloc, PLUS, ":k")?);
-        done(world.add_watch(Who::Ref(0), key))?;
-        done(world.set_error_mode(1, ErrorMode::Continue))?;
-        done(world.send(1, action))?;
-        commit_send(alloc, world, share)
+        done(booked.world.add_watch(Who::Ref(0), key))?;
+        done(booked.world.set_error_mode(1, ErrorMode::Continue))?;
+        done(booked.world.send(1, action))?;
+        commit_send(alloc, booked, share)
     }
 
     fn run<L: Books>(
@@ -120,10 +113,10 @@ impl<R> Scenario<R> for Keeping {
 impl Inspection for Keeping {
     type Seen = Kept;
 
-    fn inspect<L: Books>(
+    fn inspect(
         &self,
         alloc: Global,
-        world: &mut World<Core, L>,
+        world: &mut World<Core>,
         _totals: Totals,
     ) -> Result<Kept, Stop> {
         let key = value(alloc, ":w")?;

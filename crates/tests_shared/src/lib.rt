@@ -12,7 +12,7 @@
 //! | `strangers` | transactions that were begun in another world |
 //! | `faults` | what faults say |
 //! | `same` | an assertion |
-//! | [`worlds`], [`blanks`], [`jobs`] | making worlds and values, and what is read of them; two agents, and what runs their actions |
+//! | [`worlds`], [`jobs`] | making worlds and values, and what is read of them; two agents, and what runs their actions |
 //! | [`scenarios`], [`steps`] | running a scenario on a new shared world; single steps on one |
 //! | [`numbers`], [`tables`] | the number that a value is; a table that may want memory or predicates |
 #![tactic(auto)]
@@ -21,7 +21,6 @@
 mod acting;
 #[cfg(test)]
 mod awaits;
-pub mod blanks;
 #[cfg(test)]
 mod calls;
 #[cfg(test)]

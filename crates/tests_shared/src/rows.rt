@@ -48,11 +48,10 @@ use crate::worlds::{Stop, agent, plain_start};
 use ref_edn::read_all;
 use ref_fun::Core;
 use ref_shared::Shared;
-use ref_world::{Share, Start};
+use ref_world::{Books, Share, Start};
 use std::alloc::{AllocError, Global};
 use std::process::Abort;
 use std::sync::Wait;
-use ref_world::Books;
 use std::test::Fail;
 
 // A row that is wrong, and what is said.

@@ -1,16 +1,14 @@
 //! Running a scenario on a new shared world. A shared world and its share are dropped in this module alone: a scenario is lent both.
-ghost use Rattle.tests_shared.specs.Ledgers.{AreBlank};
+ghost use Rattle.ref_world.specs.Shares.{AreBlanks};
 
-use crate::blanks::Blanks;
 use crate::worlds::{Stop, all_commits, made};
 use ref_fun::Core;
 use ref_log::Stamp;
 use ref_shared::{GatherFault, Shared};
-use ref_world::{Share, Start, Totals, World};
+use ref_world::{Blanks, Booked, Books, Share, Start, Totals, World};
 use std::alloc::Global;
 use std::marker::Brand;
 use std::sync::Wait;
-use ref_world::Books;
 
 /// What a test does with a shared world and its whole share.
 pub trait Scenario<R> {
@@ -20,7 +18,7 @@ pub trait Scenario<R> {
     fn prepare<L: Books>(
         &self,
         _alloc: Global,
-        _world: &mut World<Core, L>,
+        _booked: &mut Booked<Core, L>,
         _share: &mut Share<L>,
     ) -> Result<(), Stop> {
         Ok(())
@@ -39,10 +37,10 @@ pub trait Scenario<R> {
 pub trait Inspection {
     type Seen: Drop;
 
-    fn inspect<L: Books>(
+    fn inspect(
         &self,
         alloc: Global,
-        world: &mut World<Core, L>,
+        world: &mut World<Core>,
         totals: Totals,
     ) -> Result<Self::Seen, Stop>;
 
@@ -50,7 +48,7 @@ pub trait Inspection {
     fn refused<L: Books>(
         &self,
         _alloc: Global,
-        _world: &World<Core, L>,
+        _booked: &Booked<Core, L>,
         _share: &Share<L>,
         _fault: GatherFault,
     ) -> Result<Self::Seen, Stop> {
@@ -65,10 +63,10 @@ pub struct CommitCount;
 impl Inspection for CommitCount {
     type Seen = u64;
 
-    fn inspect<L: Books>(
+    fn inspect(
         &self,
         _alloc: Global,
-        _world: &mut World<Core, L>,
+        _world: &mut World<Core>,
         totals: Totals,
     ) -> Result<u64, Stop> {
         Ok(totals.commits)
@@ -89,10 +87,10 @@ pub struct AllCommits;
 impl Inspection for AllCommits {
     type Seen = Commits;
 
-    fn inspect<L: Books>(
+    fn inspect(
         &self,
         alloc: Global,
-        world: &mut World<Core, L>,
+        world: &mut World<Core>,
         totals: Totals,
     ) -> Result<Commits, Stop> {
         Ok(Commits {
@@ -122,13 +120,13 @@ fn run_to_end_in<L: Books, R: Wait, S: Scenario<R>, I: Inspection>(
     inspection: &I,
     blanks: Blanks,
 ) -> Result<(S::Outcome, I::Seen), Stop>
-    requires { AreBlank blanks C.name C.parts A.name A.parts K.name K.parts }
+    requires { AreBlanks blanks L.commits L.added L.taken }
 {
-    let (mut world, mut share) = made::<L>(alloc, start, blanks)?;
-    if let Err(stop) = scenario.prepare(alloc, &mut world, &mut share) {
+    let (mut booked, mut share) = made::<L>(alloc, start, blanks)?;
+    if let Err(stop) = scenario.prepare(alloc, &mut booked, &mut share) {
         return Err(stop);
     }
-    let shared = Shared::new(world);
+    let shared = Shared::new(booked);
     match scenario.run(rt, alloc, &shared, &mut share) {
         Ok(outcome) => match seen_at_end(alloc, shared, share, inspection) {
             Ok(seen) => Ok((outcome, seen)),
@@ -151,6 +149,6 @@ pub fn seen_at_end<L: Books, I: Inspection>(
     }
     match shared.finish(alloc, share) {
         Ok((mut world, totals)) => inspection.inspect(alloc, &mut world, totals),
-        Err((world, share, fault)) => inspection.refused(alloc, &world, &share, fault),
+        Err((booked, share, fault)) => inspection.refused(alloc, &booked, &share, fault),
     }
 }

@@ -4,10 +4,9 @@ use ref_fun::{Core, CoreFunctions};
 use ref_log::{Stamp, Who};
 use ref_shared::Shared;
 use ref_tx::Tx;
-use ref_world::Share;
+use ref_world::{Books, Share};
 use std::alloc::Global;
 use std::sync::Wait;
-use ref_world::Books;
 
 /// Adds a watch with this key.
 pub fn watch<L: Books, R: Wait>(

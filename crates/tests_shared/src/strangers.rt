@@ -10,11 +10,10 @@ use ref_fun::{Core, CoreFunctions};
 use ref_log::Stamp;
 use ref_shared::{Open, Quiet, Shared};
 use ref_tx::{Tx, TxFault};
-use ref_world::Share;
+use ref_world::{Books, Share};
 use std::alloc::Global;
 use std::mem::replace;
 use std::sync::Wait;
-use ref_world::Books;
 use std::test::Fail;
 
 // Begins a transaction that sets r0, which is 0, to 7, after so many commits of `ref-set r0 0`.
@@ -74,12 +73,7 @@ impl<'a, 'b, R: Wait, L: Books> On<'a, 'b, R, L> {
         ended.map(|ended| ended.0)
     }
 
-    pub(crate) fn foreign(
-        &self,
-        share: &mut Share<L>,
-        acts: &mut Acts,
-        call: &[&str],
-    ) -> Said {
+    pub(crate) fn foreign(&self, share: &mut Share<L>, acts: &mut Acts, call: &[&str]) -> Said {
         if at(call, 0) == "leave" {
             return self.leave(share, acts.t.take());
         }

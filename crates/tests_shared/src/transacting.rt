@@ -11,11 +11,10 @@ use ref_fun::{Core, CoreFunctions};
 use ref_log::Stamp;
 use ref_shared::{Gate, Shared, Spot, TransactFault, WaitFault};
 use ref_tx::{Tx, TxFault};
-use ref_world::{Receipt, Share};
+use ref_world::{Books, Receipt, Share};
 use std::alloc::{AllocError, Global};
 use std::mem::replace;
 use std::sync::Wait;
-use ref_world::Books;
 
 // What the calls of a world have open: the transactions `t` and `u`. Of the last `transact` or `when` how many bodies it began and called, and
 // how many receipts the share had then, without the other caller's. The step of the next one is how many there were.
@@ -162,7 +161,7 @@ impl<'a, 'b, R: Wait, L: Books> On<'a, 'b, R, L> {
             tries,
             gate,
             &mut ear,
-            &mut |tx: &mut Tx<Core>| {
+            |tx: &mut Tx<Core>| {
                 called = called.saturating_add(1);
                 let last = operate_all(alloc, tx, body)?;
                 match at(call, (called as usize).saturating_add(2)) {

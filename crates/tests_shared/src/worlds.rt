@@ -1,7 +1,6 @@
 //! Making shared worlds and values, and what is read of them.
-ghost use Rattle.tests_shared.specs.Ledgers.{AreBlank};
+ghost use Rattle.ref_world.specs.Shares.{AreBlanks};
 
-use crate::blanks::Blanks;
 use crate::numbers::int_of;
 use ref_agents::ErrorMode;
 use ref_edn::names::is_same;
@@ -12,10 +11,11 @@ use ref_log::{Entry, Notice, Stamp, Who};
 use ref_pvec::PVec;
 use ref_shared::Shared;
 use ref_tx::Tx;
-use ref_world::{AgentStart, AtomStart, RefStart, Share, Start, Totals, World};
+use ref_world::{
+    AgentStart, AtomStart, Blanks, Booked, Books, RefStart, Share, Start, Totals, World,
+};
 use std::alloc::{AllocError, AllocFailed, Global};
 use std::sync::Wait;
-use ref_world::Books;
 
 /// The stamp of a commit where nothing hangs on it.
 pub const STAMP: Stamp = Stamp { worker: 0, step: 0 };
@@ -101,20 +101,15 @@ pub fn agent(value: Value, rule: Option<Rule>) -> AgentStart {
     }
 }
 
-/// A world of these references, and its whole share.
+/// A world of these references with its books, and its whole share.
 pub fn made<L: Books>(
     alloc: Global,
     start: Start,
     blanks: Blanks,
-) -> Result<(World<Core, L>, Share<L>), Stop>
-    requires { AreBlank blanks C.name C.parts A.name A.parts K.name K.parts }
+) -> Result<(Booked<Core, L>, Share<L>), Stop>
+    requires { AreBlanks blanks L.commits L.added L.taken }
 {
-    let Blanks {
-        commits,
-        added,
-        taken,
-    } = blanks;
-    match World::new(alloc, &CoreFunctions, &start, blanks) {
+    match Booked::new(alloc, &CoreFunctions, &start, blanks) {
         Ok(made) => Ok(made),
         Err(_) => Err(Stop::Refused),
     }
@@ -125,7 +120,7 @@ pub fn closed<L: Books>(
     alloc: Global,
     shared: Shared<Core, L>,
     share: Share<L>,
-) -> Result<(World<Core, L>, Totals), Stop> {
+) -> Result<(World<Core>, Totals), Stop> {
     if !share.is_whole() {
         return Err(Stop::Refused);
     }
@@ -133,11 +128,7 @@ pub fn closed<L: Books>(
 }
 
 /// The number that a reference holds now, if it is there and holds one.
-pub fn int_at<L: Books, R: Wait>(
-    rt: &R,
-    shared: &Shared<Core, L>,
-    who: Who,
-) -> Option<i64> {
+pub fn int_at<L: Books, R: Wait>(rt: &R, shared: &Shared<Core, L>, who: Who) -> Option<i64> {
     int_of(&shared.value_of(rt, who).ok()??)
 }
 

@@ -1,6 +1,6 @@
 //! Runs each case of these tests on a shared world of its own, which stands in one function alone: it is lent to what the case does, and what
 //! is to be in the world is looked at in the end.
-ghost use Rattle.tests_shared.specs.Ledgers.{AreBlank};
+ghost use Rattle.ref_world.specs.Shares.{AreBlanks};
 
 use crate::flags::Place;
 use crate::same::same;
@@ -9,16 +9,14 @@ use crate::{
 };
 use ref_fun::Core;
 use ref_shared::Shared;
-use ref_world::{Share, Start, Totals, World};
+use ref_world::{Blanks, Books, Share, Start, Totals, World};
 use std::alloc::{AllocError, Global};
 use std::marker::Brand;
 use std::process::Abort;
 use std::sync::Wait;
-use ref_world::Books;
 use std::test::Fail;
 use std::thread::Threads;
 use std::time::Clock;
-use tests_shared::blanks::Blanks;
 use tests_shared::jobs::two_agents;
 use tests_shared::worlds::{Stop, closed, made, plain_start};
 
@@ -68,10 +66,7 @@ fn start(alloc: Global, case: Case) -> Result<Start, AllocError> {
     }
 }
 
-fn see<
-    L: Books + Send + Sync,
-    R: AllocGlobal + Threads + Wait + Clock + Abort + Sync,
->(
+fn see<L: Books + Send + Sync, R: AllocGlobal + Threads + Wait + Clock + Abort + Sync>(
     rt: &R,
     case: Case,
     shared: &Shared<Core, L>,
@@ -95,10 +90,7 @@ fn see<
     }
 }
 
-fn see_waking<
-    L: Books + Send + Sync,
-    R: AllocGlobal + Threads + Wait + Clock + Abort + Sync,
->(
+fn see_waking<L: Books + Send + Sync, R: AllocGlobal + Threads + Wait + Clock + Abort + Sync>(
     rt: &R,
     case: Case,
     shared: &Shared<Core, L>,
@@ -119,10 +111,10 @@ fn see_waking<
     }
 }
 
-fn look_at<L: Books, R: AllocGlobal + Abort>(
+fn look_at<R: AllocGlobal + Abort>(
     rt: &R,
     case: Case,
-    world: &World<Core, L>,
+    world: &World<Core>,
     totals: Totals,
 ) -> Result<(), Stop> {
     match case {
@@ -151,21 +143,23 @@ fn end<L: Books, R: AllocGlobal + Abort>(
     }
 }
 
-fn run<
-    L: Books + Send + Sync,
-    R: AllocGlobal + Threads + Wait + Clock + Abort + Sync,
->(rt: &R, case: Case, start: Start, blanks: Blanks) -> Result<(), Stop>
-    requires { AreBlank blanks C.name C.parts A.name A.parts K.name K.parts }
+fn run<L: Books + Send + Sync, R: AllocGlobal + Threads + Wait + Clock + Abort + Sync>(
+    rt: &R,
+    case: Case,
+    start: Start,
+    blanks: Blanks,
+) -> Result<(), Stop>
+    requires { AreBlanks blanks L.commits L.added L.taken }
 {
-    let (mut world, mut share) = made::<L>(rt.alloc(), start, blanks)?;
+    let (mut booked, mut share) = made::<L>(rt.alloc(), start, blanks)?;
     let prepared = match case {
-        Case::CarriedRelease => releases::carry_both(rt.alloc(), &mut world),
+        Case::CarriedRelease => releases::carry_both(rt.alloc(), &mut booked.world),
         _ => Ok(()),
     };
     if let Err(stop) = prepared {
         return Err(stop);
     }
-    let shared = Shared::new(world);
+    let shared = Shared::new(booked);
     match see(rt, case, &shared, &mut share) {
         Ok(()) => end(rt, case, shared, share),
         Err(stop) => Err(stop),

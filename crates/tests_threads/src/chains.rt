@@ -7,11 +7,10 @@ use ref_fun::{Action, Args, Carries, Carry, Core};
 use ref_log::Who;
 use ref_shared::Shared;
 use ref_value::{Node, Value};
-use ref_world::{Start, World};
+use ref_world::{Books, Start, World};
 use std::alloc::{AllocError, Global};
 use std::process::Abort;
 use std::sync::Wait;
-use ref_world::Books;
 use std::test::Fail;
 use std::thread;
 use std::thread::Threads;
@@ -88,10 +87,11 @@ fn send_and_close<R: Wait, L: Books>(
     sent
 }
 
-fn four_pools<
-    L: Books + Send + Sync,
-    R: Threads + Wait + Sync,
->(rt: &R, alloc: Global, shared: &Shared<Core, L>) -> Result<u32, Stop> {
+fn four_pools<L: Books + Send + Sync, R: Threads + Wait + Sync>(
+    rt: &R,
+    alloc: Global,
+    shared: &Shared<Core, L>,
+) -> Result<u32, Stop> {
     let (one, two) = thread::join(
         rt,
         move || two_pools(rt, alloc, shared),
@@ -126,7 +126,7 @@ fn is_right(g: u32, state: &Value) -> bool {
 }
 
 // The first agent that isn't as it should be.
-fn first_wrong<L: Books>(world: &World<Core, L>) -> Option<u32> {
+fn first_wrong(world: &World<Core>) -> Option<u32> {
     for g in 0..AGENTS {
         match world.value_of(Who::Agent(g)) {
             Some(state) if is_right(g, state) => {}
@@ -137,10 +137,10 @@ fn first_wrong<L: Books>(world: &World<Core, L>) -> Option<u32> {
 }
 
 // Four threads run actions, while another one sends them: six to each agent, and six to each but the first of a chain.
-pub(crate) fn see<
-    L: Books + Send + Sync,
-    R: AllocGlobal + Threads + Wait + Clock + Abort + Sync,
->(rt: &R, shared: &Shared<Core, L>) -> Result<(), Stop> {
+pub(crate) fn see<L: Books + Send + Sync, R: AllocGlobal + Threads + Wait + Clock + Abort + Sync>(
+    rt: &R,
+    shared: &Shared<Core, L>,
+) -> Result<(), Stop> {
     let alloc = rt.alloc();
     let (ran, sent) = thread::join(
         rt,
@@ -151,9 +151,9 @@ pub(crate) fn see<
     Ok(())
 }
 
-pub(crate) fn look_at<L: Books, R: AllocGlobal + Abort>(
+pub(crate) fn look_at<R: AllocGlobal + Abort>(
     rt: &R,
-    world: &World<Core, L>,
+    world: &World<Core>,
 ) -> Result<(), Stop> {
     same(rt, first_wrong(world), None);
     Ok(())

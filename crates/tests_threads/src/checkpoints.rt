@@ -4,11 +4,10 @@ use crate::same::same;
 use ref_fun::{Core, CoreFunctions};
 use ref_log::{Stamp, replay_plain};
 use ref_shared::Shared;
-use ref_world::{CheckpointFault, Share, Totals, View, World};
+use ref_world::{Books, CheckpointFault, Share, Totals, View, World};
 use std::alloc::{AllocError, Global};
 use std::process::Abort;
 use std::sync::Wait;
-use ref_world::Books;
 use std::test::Fail;
 use std::thread;
 use std::thread::Threads;
@@ -40,10 +39,11 @@ fn read(alloc: Global, view: View<Core>) -> (usize, Option<i64>) {
 }
 
 // The checkpoints by one thread, and the view by another, which has the entries from before.
-pub(crate) fn see<
-    L: Books + Send + Sync,
-    R: AllocGlobal + Threads + Wait + Clock + Abort + Sync,
->(rt: &R, shared: &Shared<Core, L>, share: &mut Share<L>) -> Result<(), Stop> {
+pub(crate) fn see<L: Books + Send + Sync, R: AllocGlobal + Threads + Wait + Clock + Abort + Sync>(
+    rt: &R,
+    shared: &Shared<Core, L>,
+    share: &mut Share<L>,
+) -> Result<(), Stop> {
     let alloc = rt.alloc();
     for step in 0..3u32 {
         commit_add(rt, alloc, shared, share, Stamp { worker: 0, step })?;
@@ -77,9 +77,9 @@ fn commit_add<R: Wait, L: Books>(
 }
 
 // The world's base, and how many entries there are after it.
-pub(crate) fn look_at<L: Books, R: AllocGlobal + Abort>(
+pub(crate) fn look_at<R: AllocGlobal + Abort>(
     rt: &R,
-    world: &World<Core, L>,
+    world: &World<Core>,
     totals: Totals,
 ) -> Result<(), Stop> {
     let base = world.base();

@@ -12,12 +12,11 @@ use ref_log::{Notice, Who};
 use ref_shared::{Gate, Shared, Spot, WatchSink, Worked};
 use ref_tx::Tx;
 use ref_value::Value;
-use ref_world::Share;
+use ref_world::{Books, Share};
 use std::alloc::Global;
 use std::process::Abort;
 use std::sync::Wait;
 use std::sync::atomic::Ordering;
-use ref_world::Books;
 use std::test::Fail;
 use std::thread;
 use std::thread::Threads;
@@ -167,7 +166,7 @@ fn commit_waiting<R: AllocGlobal + Wait + Clock, L: Books>(
         1,
         &mut gate,
         &mut sink,
-        &mut |tx: &mut Tx<Core>| {
+        |tx: &mut Tx<Core>| {
             wait_here(rt, flags, place == Place::Body);
             add_and_send(alloc, tx).map(Some)
         },

@@ -2,10 +2,10 @@
 use crate::flags::Flags;
 use ref_fun::{Core, CoreFunctions};
 use ref_shared::{Open, Quiet, Shared, Worked};
+use ref_world::Books;
 use std::alloc::Global;
 use std::sync::Wait;
 use std::sync::atomic::Ordering;
-use ref_world::Books;
 use std::thread;
 use std::thread::Threads;
 use tests_shared::jobs::{Work, work};
@@ -27,10 +27,11 @@ pub fn pool<R: Wait, L: Books>(
 }
 
 /// Two threads run actions, as [`pool`] does; it returns how many.
-pub fn two_pools<
-    L: Books + Send + Sync,
-    R: Threads + Wait + Sync,
->(rt: &R, alloc: Global, shared: &Shared<Core, L>) -> Result<u32, Stop> {
+pub fn two_pools<L: Books + Send + Sync, R: Threads + Wait + Sync>(
+    rt: &R,
+    alloc: Global,
+    shared: &Shared<Core, L>,
+) -> Result<u32, Stop> {
     let (one, two) = thread::join(
         rt,
         move || pool(rt, alloc, shared),

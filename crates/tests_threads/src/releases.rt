@@ -1,4 +1,6 @@
 //! A release wakes all who wait for an agent: that of a commit, and that of what an action carried.
+ghost use Rattle.std.specs.Prelude.{◌≡◌};
+
 use crate::cases::{Case, check};
 use crate::flags::Flags;
 use crate::same::same;
@@ -10,12 +12,11 @@ use ref_fun::codes::PLUS;
 use ref_fun::{Action, Carries, Carry, Core, CoreFunctions};
 use ref_shared::{Open, Quiet, Shared};
 use ref_tx::Tx;
-use ref_world::{Share, World};
+use ref_world::{Books, Share, World};
 use std::alloc::{AllocError, Global};
 use std::process::Abort;
 use std::sync::Wait;
 use std::sync::atomic::{AtomicBool, Ordering};
-use ref_world::Books;
 use std::test::Fail;
 use std::thread;
 use std::thread::Threads;
@@ -36,10 +37,11 @@ fn come_and_meet<R: AllocGlobal + Wait + Clock, L: Books>(
     work_and_meet(rt, shared, here, there)
 }
 
-fn two_meet<
-    L: Books + Send + Sync,
-    R: AllocGlobal + Threads + Wait + Clock + Sync,
->(rt: &R, shared: &Shared<Core, L>, flags: &Flags) -> ((bool, bool), (bool, bool)) {
+fn two_meet<L: Books + Send + Sync, R: AllocGlobal + Threads + Wait + Clock + Sync>(
+    rt: &R,
+    shared: &Shared<Core, L>,
+    flags: &Flags,
+) -> ((bool, bool), (bool, bool)) {
     let (one, two) = thread::join(
         rt,
         move || come_and_meet(rt, shared, &flags.first, &flags.third, &flags.fourth),
@@ -188,11 +190,9 @@ fn carrying_both(alloc: Global) -> Result<Action, AllocError> {
 }
 
 // Runs a job, and releases nothing of what its action carried.
-fn end_job<L: Books>(
-    alloc: Global,
-    world: &mut World<Core, L>,
-    job: Job,
-) -> Result<(), Stop> {
+fn end_job(alloc: Global, world: &mut World<Core>, job: Job) -> Result<(), Stop>
+    ensures books { world.new.books ≡ world.old.books }
+{
     let ran = match job.run(alloc, &CoreFunctions) {
         Ok(ran) => ran,
         Err((job, _)) => {
@@ -208,10 +208,9 @@ fn end_job<L: Books>(
 }
 
 // Sends that action, and ends it. `work_once` releases what it ended itself, so this is done before the world is shared.
-pub(crate) fn carry_both<L: Books>(
-    alloc: Global,
-    world: &mut World<Core, L>,
-) -> Result<(), Stop> {
+pub(crate) fn carry_both(alloc: Global, world: &mut World<Core>) -> Result<(), Stop>
+    ensures books { world.new.books ≡ world.old.books }
+{
     done(world.send(0, carrying_both(alloc)?))?;
     match done(world.take())? {
         Some(job) => end_job(alloc, world, job),

@@ -9,11 +9,11 @@ use ref_fun::codes::{MINUS, PLUS};
 use ref_fun::{Core, CoreFunctions, Functions};
 use ref_log::Who;
 use ref_shared::{Gate, Quiet, Shared, Spot, Worked};
+use ref_world::Books;
 use std::alloc::Global;
 use std::process::Abort;
 use std::sync::Wait;
 use std::sync::atomic::{AtomicBool, Ordering};
-use ref_world::Books;
 use std::test::Fail;
 use std::thread;
 use std::thread::Threads;
@@ -94,10 +94,11 @@ pub(crate) fn work_next<R: Wait + Clock, L: Books>(
 }
 
 // Two threads that run two actions of one agent.
-pub(crate) fn take_turns<
-    L: Books + Send + Sync,
-    R: Threads + Wait + Clock + Sync,
->(rt: &R, alloc: Global, shared: &Shared<Core, L>) -> ((Work, bool), (Work, bool)) {
+pub(crate) fn take_turns<L: Books + Send + Sync, R: Threads + Wait + Clock + Sync>(
+    rt: &R,
+    alloc: Global,
+    shared: &Shared<Core, L>,
+) -> ((Work, bool), (Work, bool)) {
     let flags = Flags::new();
     let lent = &flags;
     let (next, first) = thread::join(

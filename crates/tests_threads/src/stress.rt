@@ -7,11 +7,10 @@ use ref_fun::{Action, Carries, Carry, Core, CoreFunctions};
 use ref_log::{Stamp, Who};
 use ref_shared::{Open, Quiet, Shared};
 use ref_tx::Tx;
-use ref_world::{RefStart, Share, Start, Totals, World};
+use ref_world::{Books, RefStart, Share, Start, Totals, World};
 use std::alloc::{AllocError, Global};
 use std::process::Abort;
 use std::sync::Wait;
-use ref_world::Books;
 use std::test::Fail;
 use std::thread;
 use std::thread::Threads;
@@ -112,10 +111,7 @@ fn round<R: Wait, L: Books>(
 }
 
 // Two threads' rounds, each with a part of the share. It answers the parts joined, and whether none was refused.
-fn two_by_fifty<
-    L: Books + Send + Sync,
-    R: Threads + Wait + Sync,
->(
+fn two_by_fifty<L: Books + Send + Sync, R: Threads + Wait + Sync>(
     rt: &R,
     alloc: Global,
     shared: &Shared<Core, L>,
@@ -149,10 +145,7 @@ fn together<L: Books>(
 }
 
 // Four threads' rounds; then the shared world is closed.
-fn four_by_fifty<
-    L: Books + Send + Sync,
-    R: Threads + Wait + Sync,
->(
+fn four_by_fifty<L: Books + Send + Sync, R: Threads + Wait + Sync>(
     rt: &R,
     alloc: Global,
     shared: &Shared<Core, L>,
@@ -170,12 +163,12 @@ fn four_by_fifty<
     together(mine, theirs)
 }
 
-fn held<L: Books>(world: &World<Core, L>, who: Who) -> Option<i64> {
+fn held(world: &World<Core>, who: Who) -> Option<i64> {
     int_of(world.value_of(who)?)
 }
 
 // What so many refs come to.
-fn sum_of<L: Books>(world: &World<Core, L>, refs: u32) -> i64 {
+fn sum_of(world: &World<Core>, refs: u32) -> i64 {
     let mut sum = 0i64;
     for r in 0..refs {
         sum = sum.saturating_add(held(world, Who::Ref(r)).unwrap_or(0));
@@ -184,10 +177,11 @@ fn sum_of<L: Books>(world: &World<Core, L>, refs: u32) -> i64 {
 }
 
 // Two threads that run actions, and four threads' rounds with what can be split off the share.
-pub(crate) fn see<
-    L: Books + Send + Sync,
-    R: AllocGlobal + Threads + Wait + Clock + Abort + Sync,
->(rt: &R, shared: &Shared<Core, L>, share: &mut Share<L>) -> Result<(), Stop> {
+pub(crate) fn see<L: Books + Send + Sync, R: AllocGlobal + Threads + Wait + Clock + Abort + Sync>(
+    rt: &R,
+    shared: &Shared<Core, L>,
+    share: &mut Share<L>,
+) -> Result<(), Stop> {
     let (alloc, part) = (rt.alloc(), share.split(4).ok_or(Stop::Refused)?);
     let (actions, all) = thread::join(
         rt,
@@ -202,9 +196,9 @@ pub(crate) fn see<
 }
 
 // What six threads come to, on however many refs: these together, the tally, the atom, the agents, and that no action waits.
-pub(crate) fn look_at<L: Books, R: AllocGlobal + Abort>(
+pub(crate) fn look_at<R: AllocGlobal + Abort>(
     rt: &R,
-    world: &World<Core, L>,
+    world: &World<Core>,
     totals: Totals,
     refs: u32,
 ) -> Result<(), Stop> {

@@ -7,12 +7,11 @@ use ref_fun::{Core, CoreFunctions};
 use ref_log::{Notice, Stamp, Who};
 use ref_shared::{Gate, Open, Quiet, Shared, Spot, WatchSink};
 use ref_tx::Tx;
-use ref_world::{Share, Totals, World};
+use ref_world::{Books, Share, Totals, World};
 use std::alloc::Global;
 use std::process::Abort;
 use std::sync::Wait;
 use std::sync::atomic::{AtomicBool, Ordering};
-use ref_world::Books;
 use std::test::Fail;
 use std::thread;
 use std::thread::Threads;
@@ -52,9 +51,7 @@ fn hundred<R: Wait, L: Books>(
 }
 
 // A part of the share for each of two threads.
-fn two_parts<L: Books>(
-    share: &mut Share<L>,
-) -> Result<(Share<L>, Share<L>), Stop> {
+fn two_parts<L: Books>(share: &mut Share<L>) -> Result<(Share<L>, Share<L>), Stop> {
     match (share.split(1), share.split(1)) {
         (Some(one), Some(other)) => Ok((one, other)),
         _ => Err(Stop::Refused),
@@ -62,11 +59,7 @@ fn two_parts<L: Books>(
 }
 
 // Gives them back.
-fn join_both<L: Books>(
-    share: &mut Share<L>,
-    one: Share<L>,
-    other: Share<L>,
-) -> Result<(), Stop> {
+fn join_both<L: Books>(share: &mut Share<L>, one: Share<L>, other: Share<L>) -> Result<(), Stop> {
     match (share.join(one), share.join(other)) {
         (Ok(()), Ok(())) => Ok(()),
         _ => Err(Stop::Memory),
@@ -236,9 +229,9 @@ pub(crate) fn see_overtaking<
     Ok(())
 }
 
-pub(crate) fn look_at_overtaking<L: Books, R: AllocGlobal + Abort>(
+pub(crate) fn look_at_overtaking<R: AllocGlobal + Abort>(
     rt: &R,
-    world: &World<Core, L>,
+    world: &World<Core>,
     totals: Totals,
 ) -> Result<(), Stop> {
     let log = all_commits(rt.alloc(), world.log())?;

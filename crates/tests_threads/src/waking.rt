@@ -11,12 +11,11 @@ use ref_fun::{Action, Core, CoreFunctions, FunTable};
 use ref_log::Who;
 use ref_shared::{Shared, WorkFault, Worked};
 use ref_value::Value;
-use ref_world::Share;
+use ref_world::{Books, Share};
 use std::alloc::Global;
 use std::process::Abort;
 use std::sync::Wait;
 use std::sync::atomic::{AtomicBool, Ordering};
-use ref_world::Books;
 use std::test::Fail;
 use std::thread;
 use std::thread::Threads;
@@ -26,11 +25,7 @@ use tests_shared::steps::{commit, send};
 use tests_shared::worlds::{STAMP, Stop, action, done, int_at, value};
 
 // Wakes one who waits, so that a test ends which has failed.
-pub(crate) fn nudge<R: Wait, L: Books>(
-    rt: &R,
-    alloc: Global,
-    shared: &Shared<Core, L>,
-) {
+pub(crate) fn nudge<R: Wait, L: Books>(rt: &R, alloc: Global, shared: &Shared<Core, L>) {
     if let Ok(action) = action(alloc, PLUS, "1") {
         let _ = shared.send(rt, 1, action);
     }
@@ -189,10 +184,12 @@ fn close_on_two<R: Wait + Clock, L: Books>(
     was_one && was_other && one && other
 }
 
-fn two_work<
-    L: Books + Send + Sync,
-    R: Threads + Wait + Sync,
->(rt: &R, alloc: Global, shared: &Shared<Core, L>, flags: &Flags) -> (Work, Work) {
+fn two_work<L: Books + Send + Sync, R: Threads + Wait + Sync>(
+    rt: &R,
+    alloc: Global,
+    shared: &Shared<Core, L>,
+    flags: &Flags,
+) -> (Work, Work) {
     let (one, two) = thread::join(
         rt,
         move || work_between(rt, alloc, shared, &flags.first, &flags.third),

@@ -4,10 +4,10 @@ use crate::same::same;
 use ref_fun::codes::PLUS;
 use ref_fun::{Core, CoreFunctions};
 use ref_shared::{AwaitFault, Gate, Open, Quiet, Shared, Spot};
+use ref_world::Books;
 use std::process::Abort;
 use std::sync::Wait;
 use std::sync::atomic::Ordering;
-use ref_world::Books;
 use std::test::Fail;
 use std::thread;
 use std::thread::Threads;
@@ -63,8 +63,7 @@ struct Hold<'a, 'b, 'c, R: AllocGlobal + Wait + Clock, L: Books> {
     early: bool,
 }
 
-impl<'a, 'b, 'c, R: AllocGlobal + Wait + Clock, L: Books> Gate
-    for Hold<'a, 'b, 'c, R, L> {
+impl<'a, 'b, 'c, R: AllocGlobal + Wait + Clock, L: Books> Gate for Hold<'a, 'b, 'c, R, L> {
     fn pass(&mut self, spot: Spot) {
         if spot == Spot::BeforeAction {
             self.met = meet(self.rt, self.flags) && send_more(self.rt, self.shared, self.sends);
@@ -125,21 +124,13 @@ fn run_behind<R: AllocGlobal + Wait + Clock, L: Books>(
     gate.met && worked.is_ok()
 }
 
-fn put_back<R: AllocGlobal + Wait, L: Books>(
-    rt: &R,
-    shared: &Shared<Core, L>,
-    funs: Poor,
-) -> bool {
+fn put_back<R: AllocGlobal + Wait, L: Books>(rt: &R, shared: &Shared<Core, L>, funs: Poor) -> bool {
     shared
         .work_once(rt, rt.alloc(), &funs, &mut Open, &mut Quiet)
         .is_err()
 }
 
-fn restart<R: AllocGlobal + Wait, L: Books>(
-    rt: &R,
-    shared: &Shared<Core, L>,
-    clear: bool,
-) -> bool {
+fn restart<R: AllocGlobal + Wait, L: Books>(rt: &R, shared: &Shared<Core, L>, clear: bool) -> bool {
     let alloc = rt.alloc();
     match value(alloc, "0") {
         Ok(zero) => shared.restart(rt, &CoreFunctions, 0, zero, clear).is_ok(),
@@ -180,10 +171,7 @@ struct Other {
 }
 
 // Runs what is left in a closed world, so that a test ends which has failed.
-pub(crate) fn run_rest<R: AllocGlobal + Wait, L: Books>(
-    rt: &R,
-    shared: &Shared<Core, L>,
-) {
+pub(crate) fn run_rest<R: AllocGlobal + Wait, L: Books>(rt: &R, shared: &Shared<Core, L>) {
     for _ in 0..8u32 {
         let _ = work(rt, rt.alloc(), shared);
     }
@@ -217,10 +205,11 @@ fn act<R: AllocGlobal + Wait + Clock, L: Books>(
     }
 }
 
-fn await_and_act<
-    L: Books + Send + Sync,
-    R: AllocGlobal + Threads + Wait + Clock + Sync,
->(rt: &R, shared: &Shared<Core, L>, case: Waiting) -> (Result<(), AwaitFault>, Other) {
+fn await_and_act<L: Books + Send + Sync, R: AllocGlobal + Threads + Wait + Clock + Sync>(
+    rt: &R,
+    shared: &Shared<Core, L>,
+    case: Waiting,
+) -> (Result<(), AwaitFault>, Other) {
     let flags = Flags::new();
     let lent = &flags;
     let (_queue, agents, steps) = case;
@@ -239,10 +228,7 @@ const AS_PLANNED: Other = Other {
 };
 
 // The call returns this, and all goes as planned.
-pub(crate) fn see<
-    L: Books + Send + Sync,
-    R: AllocGlobal + Threads + Wait + Clock + Abort + Sync,
->(
+pub(crate) fn see<L: Books + Send + Sync, R: AllocGlobal + Threads + Wait + Clock + Abort + Sync>(
     rt: &R,
     shared: &Shared<Core, L>,
     case: Waiting,

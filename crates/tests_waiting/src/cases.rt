@@ -1,5 +1,5 @@
 //! Runs each case of these tests on a shared world of its own, which stands in one function alone: it is lent to what the case does.
-ghost use Rattle.tests_shared.specs.Ledgers.{AreBlank};
+ghost use Rattle.ref_world.specs.Shares.{AreBlanks};
 
 use crate::awaits::{Step, Waiting};
 use crate::same::same;
@@ -7,16 +7,14 @@ use crate::whens::Kind;
 use crate::{awaits, many, sleepers, turns, whens};
 use ref_fun::Core;
 use ref_shared::{AwaitFault, Shared};
-use ref_world::{Share, Start};
+use ref_world::{Blanks, Books, Share, Start};
 use std::alloc::{AllocError, Global};
 use std::marker::Brand;
 use std::process::Abort;
 use std::sync::Wait;
-use ref_world::Books;
 use std::test::Fail;
 use std::thread::Threads;
 use std::time::Clock;
-use tests_shared::blanks::Blanks;
 use tests_shared::jobs::two_agents;
 use tests_shared::scenarios::{AllCommits, CommitCount, seen_at_end};
 use tests_shared::worlds::{Stop, made, plain_start};
@@ -48,10 +46,7 @@ fn start(alloc: Global, case: Case) -> Result<Start, AllocError> {
 }
 
 // It returns whether a failure was missed.
-fn see<
-    L: Books + Send + Sync,
-    R: AllocGlobal + Threads + Wait + Clock + Abort + Sync,
->(
+fn see<L: Books + Send + Sync, R: AllocGlobal + Threads + Wait + Clock + Abort + Sync>(
     rt: &R,
     case: Case,
     shared: &Shared<Core, L>,
@@ -90,14 +85,16 @@ fn end<L: Books, R: AllocGlobal + Abort>(
     Ok(())
 }
 
-fn run<
-    L: Books + Send + Sync,
-    R: AllocGlobal + Threads + Wait + Clock + Abort + Sync,
->(rt: &R, case: Case, start: Start, blanks: Blanks) -> Result<bool, Stop>
-    requires { AreBlank blanks C.name C.parts A.name A.parts K.name K.parts }
+fn run<L: Books + Send + Sync, R: AllocGlobal + Threads + Wait + Clock + Abort + Sync>(
+    rt: &R,
+    case: Case,
+    start: Start,
+    blanks: Blanks,
+) -> Result<bool, Stop>
+    requires { AreBlanks blanks L.commits L.added L.taken }
 {
-    let (world, mut share) = made::<L>(rt.alloc(), start, blanks)?;
-    let shared = Shared::new(world);
+    let (booked, mut share) = made::<L>(rt.alloc(), start, blanks)?;
+    let shared = Shared::new(booked);
     match see(rt, case, &shared, &mut share) {
         Ok(missed) => end(rt, case, shared, share).map(|()| missed),
         Err(stop) => Err(stop),

@@ -6,12 +6,11 @@ use ref_fun::{Core, CoreFunctions};
 use ref_log::{Stamp, Who};
 use ref_shared::{Open, Quiet, Shared};
 use ref_tx::Tx;
-use ref_world::Share;
+use ref_world::{Books, Share};
 use std::alloc::Global;
 use std::process::Abort;
 use std::sync::Wait;
 use std::sync::atomic::{AtomicBool, Ordering};
-use ref_world::Books;
 use std::test::Fail;
 use std::thread;
 use std::thread::Threads;
@@ -70,7 +69,7 @@ fn take_in_rounds<R: AllocGlobal + Wait, L: Books>(
             10_000,
             &mut Open,
             &mut Quiet,
-            &mut |tx: &mut Tx<Core>| take(alloc, tx),
+            |tx: &mut Tx<Core>| take(alloc, tx),
         );
         if took.is_ok() {
             count = count.saturating_add(1);
@@ -107,10 +106,7 @@ fn give<R: AllocGlobal + Wait + Clock, L: Books>(
     (share, went && in_time)
 }
 
-fn two_take<
-    L: Books + Send + Sync,
-    R: AllocGlobal + Threads + Wait + Sync,
->(
+fn two_take<L: Books + Send + Sync, R: AllocGlobal + Threads + Wait + Sync>(
     rt: &R,
     shared: &Shared<Core, L>,
     share: Share<L>,
@@ -139,10 +135,7 @@ fn joined<L: Books>(
     (share, counts)
 }
 
-fn give_and_take<
-    L: Books + Send + Sync,
-    R: AllocGlobal + Threads + Wait + Clock + Sync,
->(
+fn give_and_take<L: Books + Send + Sync, R: AllocGlobal + Threads + Wait + Clock + Sync>(
     rt: &R,
     shared: &Shared<Core, L>,
     share: Share<L>,
@@ -253,10 +246,11 @@ fn await_in_rounds<R: AllocGlobal + Wait, L: Books>(
     count
 }
 
-fn two_await<
-    L: Books + Send + Sync,
-    R: AllocGlobal + Threads + Wait + Sync,
->(rt: &R, shared: &Shared<Core, L>, flags: &Flags) -> (u32, u32) {
+fn two_await<L: Books + Send + Sync, R: AllocGlobal + Threads + Wait + Sync>(
+    rt: &R,
+    shared: &Shared<Core, L>,
+    flags: &Flags,
+) -> (u32, u32) {
     let (one, two) = thread::join(
         rt,
         move || await_in_rounds(rt, shared, Unit::One, &flags.first),
@@ -265,10 +259,11 @@ fn two_await<
     (one, two)
 }
 
-fn run_and_close<
-    L: Books + Send + Sync,
-    R: AllocGlobal + Threads + Wait + Clock + Sync,
->(rt: &R, shared: &Shared<Core, L>, flags: &Flags) -> (Result<u32, Stop>, bool) {
+fn run_and_close<L: Books + Send + Sync, R: AllocGlobal + Threads + Wait + Clock + Sync>(
+    rt: &R,
+    shared: &Shared<Core, L>,
+    flags: &Flags,
+) -> (Result<u32, Stop>, bool) {
     let (ran, in_time) = thread::join(
         rt,
         move || two_pools(rt, rt.alloc(), shared),
@@ -280,10 +275,10 @@ fn run_and_close<
 // In how many rounds all was well, how many actions were run, and whether all ended in time.
 type Awaited = ((u32, u32), (Result<u32, Stop>, bool));
 
-fn await_and_run<
-    L: Books + Send + Sync,
-    R: AllocGlobal + Threads + Wait + Clock + Sync,
->(rt: &R, shared: &Shared<Core, L>) -> Awaited {
+fn await_and_run<L: Books + Send + Sync, R: AllocGlobal + Threads + Wait + Clock + Sync>(
+    rt: &R,
+    shared: &Shared<Core, L>,
+) -> Awaited {
     let flags = Flags::new();
     let lent = &flags;
     let (awaited, ran) = thread::join(

@@ -7,11 +7,10 @@ use crate::whens::{nudge, wait_in_vain};
 use ref_fun::Core;
 use ref_fun::codes::PLUS;
 use ref_shared::{AwaitFault, Shared, Worked};
-use ref_world::Share;
+use ref_world::{Books, Share};
 use std::process::Abort;
 use std::sync::Wait;
 use std::sync::atomic::Ordering;
-use ref_world::Books;
 use std::test::Fail;
 use std::thread;
 use std::thread::Threads;
@@ -34,10 +33,7 @@ fn work_last<R: AllocGlobal + Wait + Clock, L: Books>(
     work_thrice(rt, rt.alloc(), shared, work)
 }
 
-fn send_to_g<R: AllocGlobal + Wait, L: Books>(
-    rt: &R,
-    shared: &Shared<Core, L>,
-) -> bool {
+fn send_to_g<R: AllocGlobal + Wait, L: Books>(rt: &R, shared: &Shared<Core, L>) -> bool {
     send(rt, rt.alloc(), shared, 0, PLUS, "1").is_ok()
 }
 
@@ -88,10 +84,7 @@ type Two = (Result<(), AwaitFault>, Option<u32>);
 // The same of these two, and what the third did.
 type Three = (Result<(), AwaitFault>, Option<u32>, (Work, Work, Work));
 
-fn two_wait<
-    L: Books + Send + Sync,
-    R: AllocGlobal + Threads + Wait + Clock + Sync,
->(
+fn two_wait<L: Books + Send + Sync, R: AllocGlobal + Threads + Wait + Clock + Sync>(
     rt: &R,
     shared: &Shared<Core, L>,
     share: Share<L>,
@@ -106,10 +99,7 @@ fn two_wait<
     (awaited, bodies)
 }
 
-fn three_wait<
-    L: Books + Send + Sync,
-    R: AllocGlobal + Threads + Wait + Clock + Sync,
->(
+fn three_wait<L: Books + Send + Sync, R: AllocGlobal + Threads + Wait + Clock + Sync>(
     rt: &R,
     shared: &Shared<Core, L>,
     share: Share<L>,
@@ -133,10 +123,12 @@ struct ThreeFlags {
     work: Flags,
 }
 
-fn three_wait_and_wake<
-    L: Books + Send + Sync,
-    R: AllocGlobal + Threads + Wait + Clock + Sync,
->(rt: &R, shared: &Shared<Core, L>, share: Share<L>, point: u64) -> (Three, bool) {
+fn three_wait_and_wake<L: Books + Send + Sync, R: AllocGlobal + Threads + Wait + Clock + Sync>(
+    rt: &R,
+    shared: &Shared<Core, L>,
+    share: Share<L>,
+    point: u64,
+) -> (Three, bool) {
     let flags = ThreeFlags {
         agent: Flags::new(),
         when: Flags::new(),
@@ -199,10 +191,11 @@ fn close_on_both<R: AllocGlobal + Wait + Clock, L: Books>(
     were_there && !early && both
 }
 
-fn two_wait_and_close<
-    L: Books + Send + Sync,
-    R: AllocGlobal + Threads + Wait + Clock + Sync,
->(rt: &R, shared: &Shared<Core, L>, share: Share<L>) -> (Two, bool) {
+fn two_wait_and_close<L: Books + Send + Sync, R: AllocGlobal + Threads + Wait + Clock + Sync>(
+    rt: &R,
+    shared: &Shared<Core, L>,
+    share: Share<L>,
+) -> (Two, bool) {
     let (agent, when) = (Flags::new(), Flags::new());
     let (agent, when) = (&agent, &when);
     let (two, woke) = thread::join(

@@ -5,10 +5,10 @@ use crate::same::same;
 use ref_fun::codes::PLUS;
 use ref_fun::{Core, CoreFunctions};
 use ref_shared::{AwaitFault, Gate, Quiet, Shared, Spot};
+use ref_world::Books;
 use std::process::Abort;
 use std::sync::Wait;
 use std::sync::atomic::Ordering;
-use ref_world::Books;
 use std::test::Fail;
 use std::thread;
 use std::thread::Threads;
@@ -64,8 +64,7 @@ fn none_has_returned(waiters: &[&Flags], turn: usize) -> bool {
     true
 }
 
-impl<'a, 'b, 'c, R: AllocGlobal + Wait + Clock, L: Books> Gate
-    for Turn<'a, 'b, 'c, R, L> {
+impl<'a, 'b, 'c, R: AllocGlobal + Wait + Clock, L: Books> Gate for Turn<'a, 'b, 'c, R, L> {
     fn pass(&mut self, spot: Spot) {
         if spot == Spot::BeforeAction {
             self.went = has_returned(self.rt, self.waiters, self.turn)
@@ -127,10 +126,7 @@ type Three = (
     Result<(), AwaitFault>,
 );
 
-fn two_await<
-    L: Books + Send + Sync,
-    R: AllocGlobal + Threads + Wait + Clock + Sync,
->(
+fn two_await<L: Books + Send + Sync, R: AllocGlobal + Threads + Wait + Clock + Sync>(
     rt: &R,
     shared: &Shared<Core, L>,
     one: &Flags,
@@ -144,10 +140,13 @@ fn two_await<
     (first, second)
 }
 
-fn three_await<
-    L: Books + Send + Sync,
-    R: AllocGlobal + Threads + Wait + Clock + Sync,
->(rt: &R, shared: &Shared<Core, L>, one: &Flags, two: &Flags, three: &Flags) -> Three {
+fn three_await<L: Books + Send + Sync, R: AllocGlobal + Threads + Wait + Clock + Sync>(
+    rt: &R,
+    shared: &Shared<Core, L>,
+    one: &Flags,
+    two: &Flags,
+    three: &Flags,
+) -> Three {
     let (both, third) = thread::join(
         rt,
         move || two_await(rt, shared, one, two),
@@ -156,10 +155,10 @@ fn three_await<
     (both.0, both.1, third)
 }
 
-fn three_await_in_turn<
-    L: Books + Send + Sync,
-    R: AllocGlobal + Threads + Wait + Clock + Sync,
->(rt: &R, shared: &Shared<Core, L>) -> (Three, bool) {
+fn three_await_in_turn<L: Books + Send + Sync, R: AllocGlobal + Threads + Wait + Clock + Sync>(
+    rt: &R,
+    shared: &Shared<Core, L>,
+) -> (Three, bool) {
     let (one, two, three) = (Flags::new(), Flags::new(), Flags::new());
     let (one, two, three) = (&one, &two, &three);
     let (awaited, went) = thread::join(
@@ -170,10 +169,10 @@ fn three_await_in_turn<
     (awaited, went)
 }
 
-pub(crate) fn see<
-    L: Books + Send + Sync,
-    R: AllocGlobal + Threads + Wait + Clock + Abort + Sync,
->(rt: &R, shared: &Shared<Core, L>) -> Result<(), Stop> {
+pub(crate) fn see<L: Books + Send + Sync, R: AllocGlobal + Threads + Wait + Clock + Abort + Sync>(
+    rt: &R,
+    shared: &Shared<Core, L>,
+) -> Result<(), Stop> {
     send(rt, rt.alloc(), shared, 0, PLUS, "1")?;
     send(rt, rt.alloc(), shared, 0, PLUS, "1")?;
     let wanted = ((Ok(()), Ok(()), Ok(())), true);

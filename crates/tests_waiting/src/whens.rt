@@ -6,12 +6,11 @@ use ref_fun::{Core, CoreFunctions};
 use ref_log::{Stamp, Who};
 use ref_shared::{Open, Quiet, Shared, WaitFault};
 use ref_tx::Tx;
-use ref_world::Share;
+use ref_world::{Books, Share};
 use std::alloc::Global;
 use std::process::Abort;
 use std::sync::Wait;
 use std::sync::atomic::Ordering;
-use ref_world::Books;
 use std::test::Fail;
 use std::thread;
 use std::thread::Threads;
@@ -62,7 +61,7 @@ fn add_when<R: AllocGlobal + Wait, L: Books>(
         1,
         &mut Open,
         &mut Quiet,
-        &mut |tx: &mut Tx<Core>| {
+        |tx: &mut Tx<Core>| {
             bodies = bodies.saturating_add(1);
             add_behind(alloc, tx, flags)
         },
@@ -132,11 +131,7 @@ fn enter<R: Wait, L: Books>(
 }
 
 // Wakes all who wait for an entry, so that a test ends which has failed.
-pub(crate) fn nudge<R: Wait, L: Books>(
-    rt: &R,
-    alloc: Global,
-    shared: &Shared<Core, L>,
-) {
+pub(crate) fn nudge<R: Wait, L: Books>(rt: &R, alloc: Global, shared: &Shared<Core, L>) {
     let _ = make_ref(rt, alloc, shared);
     let _ = make_atom(rt, alloc, shared);
 }
@@ -159,10 +154,7 @@ fn enter_and_wake<R: AllocGlobal + Wait + Clock, L: Books>(
     (share, was_there && woke && entered.is_ok())
 }
 
-fn add_and_enter<
-    L: Books + Send + Sync,
-    R: AllocGlobal + Threads + Wait + Clock + Sync,
->(
+fn add_and_enter<L: Books + Send + Sync, R: AllocGlobal + Threads + Wait + Clock + Sync>(
     rt: &R,
     shared: &Shared<Core, L>,
     share: Share<L>,
@@ -256,7 +248,7 @@ pub(crate) fn wait_in_vain<R: AllocGlobal + Wait + Clock, L: Books>(
         1,
         &mut Open,
         &mut Quiet,
-        &mut |_tx: &mut Tx<Core>| -> Result<Option<()>, Stop> {
+        |_tx: &mut Tx<Core>| -> Result<Option<()>, Stop> {
             bodies = bodies.saturating_add(1);
             flags.second.store(true, Ordering::SeqCst);
             Ok(None)
@@ -286,10 +278,11 @@ fn close_on<R: AllocGlobal + Wait + Clock, L: Books>(
     was_there && woke && !early
 }
 
-fn wait_and_close<
-    L: Books + Send + Sync,
-    R: AllocGlobal + Threads + Wait + Clock + Sync,
->(rt: &R, shared: &Shared<Core, L>, share: Share<L>) -> (Option<u32>, bool) {
+fn wait_and_close<L: Books + Send + Sync, R: AllocGlobal + Threads + Wait + Clock + Sync>(
+    rt: &R,
+    shared: &Shared<Core, L>,
+    share: Share<L>,
+) -> (Option<u32>, bool) {
     let flags = Flags::new();
     let lent = &flags;
     let (bodies, woke) = thread::join(

@@ -9,10 +9,9 @@ use ref_edn::read_one;
 use ref_fun::{Action, Args, Carries, Carry, Core, CoreFunctions, MOST_CARRIES};
 use ref_log::Stamp;
 use ref_play::{Act, Event, Sim};
-use ref_world::{ALL_PARTS, World};
+use ref_world::{Blanks, Books, World};
 use std::alloc::Global;
 use std::marker::Brand;
-use ref_world::{Blanks, Books};
 use std::test::Fail;
 
 /// Why a world that begins with nothing isn't dumped after these acts of one actor, if it isn't.
@@ -22,10 +21,7 @@ fn refusal(alloc: Global, events: &[Event]) -> Result<Option<DumpMakeFault>, Fai
         atoms: Vec::new(alloc),
         agents: Vec::new(alloc),
     };
-    let (blanks) = (
-        Blanks::new(),
-    );
-    refusal_in::<Brand>(alloc, &start, events, blanks)
+    refusal_in::<Brand>(alloc, &start, events, Blanks::new())
 }
 
 fn refusal_in<L: Books>(
@@ -59,10 +55,7 @@ fn after<L: Books>(
 }
 
 // Why no dump is made, if none is. The verdict on a dump is ok, and so is that without one, which is refused for names alone.
-fn dumped<L: Books>(
-    alloc: Global,
-    world: &World<Core, L>,
-) -> Result<Option<DumpMakeFault>, Fail> {
+fn dumped(alloc: Global, world: &World<Core>) -> Result<Option<DumpMakeFault>, Fail> {
     let undumped = audit_world(alloc, &CoreFunctions::new(), world);
     let (fault, verdict) = match dump(alloc, world) {
         Ok(value) => (None, audit(alloc, &CoreFunctions::new(), &value).ok()),

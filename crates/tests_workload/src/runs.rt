@@ -1,7 +1,4 @@
 //! Running the plan of a text, with gates, and what is seen of it.
-ghost use Rattle.std.specs.Prelude.{◌≡◌};
-ghost use Rattle.ref_world.specs.Shares.{AreBlanks};
-
 use crate::gates::{Board, Role, Turn};
 use crate::tables::CoreWithout;
 use ref_audit::{audit, dump, report};
@@ -9,12 +6,9 @@ use ref_edn::read_one;
 use ref_fun::has_core;
 use ref_workload::plan::plan;
 use ref_workload::{Plan, Progress, RunFault, RunOut, run_plan_with};
-use ref_world::ALL_PARTS;
 use std::alloc::{AllocError, Global};
-use std::marker::Brand;
 use std::sync::Wait;
 use std::sync::atomic::Ordering;
-use ref_world::{Blanks, Books};
 use std::test::Fail;
 use std::thread::Threads;
 use std::time::Clock;
@@ -38,32 +32,21 @@ pub(crate) fn run<R: Threads + Wait + Clock + Sync>(
 ) -> Result<Result<Vec<u8>, RunFault>, Fail> {
     let plan = plan(alloc, &read_one(alloc, text.as_bytes())?)?;
     let board = Board::new();
-    let (blanks) = (
-        Blanks::new(),
-    );
-    let ran = run_in::<Brand, R>(
-        rt, alloc, &plan, how, progress, &board, blanks,
-    )?;
+    let ran = run_gated(rt, alloc, &plan, how, progress, &board)?;
     if board.late.load(Ordering::SeqCst) {
         return Err(Fail::new("a thread waited in vain"));
     }
     Ok(ran)
 }
 
-fn run_in<L, R>(
+fn run_gated<R: Threads + Wait + Clock + Sync>(
     rt: &R,
     alloc: Global,
     plan: &Plan,
     how: How,
     progress: &Progress,
     board: &Board,
-    blanks: Blanks,
-) -> Result<Result<Vec<u8>, RunFault>, Fail>
-where
-    L: Books + Send + Sync,
-    R: Threads + Wait + Clock + Sync,
-    requires { AreBlanks blanks L.commits L.added L.taken }
-{
+) -> Result<Result<Vec<u8>, RunFault>, Fail> {
     let Some(count) = plan.workers().len().checked_add(plan.pool() as usize) else {
         return Err(Fail::new("too many threads"));
     };
@@ -71,10 +54,7 @@ where
     if gates.len() != count {
         return Err(Fail::new("each thread has a gate"));
     }
-    let ran = run_plan_with::<CoreWithout, L, R, Turn<'_, '_, R>>(
-        rt, alloc, &how.funs, plan, how.tries, gates, progress, blanks,
-    );
-    match ran {
+    match run_plan_with(rt, alloc, &how.funs, plan, how.tries, gates, progress) {
         Ok(out) => Ok(Ok(report_of(alloc, &how.funs, plan, &out)?)),
         Err(fault) => Ok(Err(fault)),
     }
@@ -104,11 +84,11 @@ fn make_gates<'a, 'b, R: Clock>(
 }
 
 // The report of the world that a run ended with, and of the verdict on its dump.
-fn report_of<L: Books>(
+fn report_of(
     alloc: Global,
     funs: &CoreWithout,
     plan: &Plan,
-    out: &RunOut<L>,
+    out: &RunOut,
 ) -> Result<Vec<u8>, Fail> {
     if !has_core(funs) {
         return Err(Fail::new("the table has all of Core"));
