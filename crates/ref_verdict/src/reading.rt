@@ -100,7 +100,7 @@ fn base_of(
 ) -> Result<Base, AllocError>
     ensures { IfOk result (λ base. base ≡ base_with point refs.now atoms tally folded) }
 {
-    let (blanks) = folded;
+    let (commits, added, taken) = folded;
     Ok(Base {
         point,
         refs: SharedVec::of(alloc, values_of(alloc, refs.as_slice())?)?,

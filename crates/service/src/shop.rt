@@ -23,6 +23,7 @@ pub(crate) const GONE: u32 = 7;
 pub(crate) const LOGS: u32 = 2;
 
 /// The shop, and how many sales each thread is to make.
+#[derive(Drop)]
 pub(crate) struct Shop {
     pub(crate) sales: u64,
 }

@@ -28,6 +28,7 @@ impl WatchSink for Ear {
 }
 
 // One worker makes all changes, each of a reference that has a watch.
+#[derive(Drop)]
 struct Changes {
     alloc: Global,
 }

@@ -14,7 +14,7 @@ const G: u32 = 0;
 // There is none of this number.
 const NONE: u32 = 9;
 
-#[derive(Clone, Copy, Debug, Drop)]
+#[derive(Clone, Copy, Debug, Drop, PartialEq)]
 enum Wrong {
     // At the start
     Text,
@@ -37,6 +37,7 @@ enum Wrong {
 }
 
 // What goes wrong.
+#[derive(Drop)]
 struct Going {
     wrong: Wrong,
 }
@@ -140,6 +141,7 @@ fn a_run_ends_with_the_fault_of_its_start_or_of_a_worker(rt: HostRuntime) -> Res
 
 // Of three workers one waits in a transaction that is never ready, and one for an action that nobody runs. The last one ends so, once both are
 // about to wait.
+#[derive(Drop)]
 struct Waiting {
     last: Fault,
 }

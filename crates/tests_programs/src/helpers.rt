@@ -42,6 +42,7 @@ impl Functions<Core> for WithoutMinus {
 }
 
 // A worker sends what no helper can run, and waits for it. If the wait fails it may have a fault of its own.
+#[derive(Drop)]
 struct Sending {
     own: Option<Fault>,
 }

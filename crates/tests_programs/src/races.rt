@@ -7,6 +7,7 @@ use std::thread;
 use std::time::{Clock, Duration};
 
 // One worker adds 1 to a ref, held in its first body until the other one has added 10.
+#[derive(Drop)]
 struct Race<'a, Q: Clock> {
     rt: &'a Q,
     began: AtomicBool,
