@@ -1,5 +1,5 @@
 -- Numbers without their lowest bits.
-use Rattle.std.proofs.Common.{◌≡◌, ℕ, ◌+◌, ◌-◌, ◌/◌, ◌^◌, ◌<◌, ◌≤◌, sym, ap, ◌∙◌, arith, ⊎_elim}
+use Rattle.std.proofs.Common.{◌≡◌, ℕ, ◌+◌, ◌/◌, ◌^◌, ◌<◌, ◌≤◌, sym, arith, ⊎_elim}
 use Rattle.std.proofs.Math.Nat.{div-one, pow-le-pow_right}
 use Rattle.std.proofs.Math.Pow.{shr_lt}
 use Rattle.std.proofs.lemmas.Bool.{cases_lt}

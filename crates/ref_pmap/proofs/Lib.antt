@@ -6,3 +6,4 @@ pub mod Rising
 pub mod Opened
 pub mod WholeMaps
 pub mod Listed
+pub mod Crossing

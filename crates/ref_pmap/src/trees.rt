@@ -8,10 +8,9 @@ ghost use Rattle.ref_pmap.specs.Whole.{shown};
 
 use crate::blocks::{Block, Parting, SIDES, parting_of};
 use std::alloc::{AllocError, Global};
-use std::array;
 use std::marker::Model;
-use std::mem;
 use std::sync::Arc;
+use std::{array, mem};
 
 /// A tree of entries. Contracts see the entries as a map, and the height.
 #[cycle(tree)]
@@ -185,7 +184,13 @@ impl<V: Drop> Tree<V> {
     }
 
     // A fork of this tree and of a leaf for a key that has another side.
-    fn widened(&self, alloc: Global, parting: Parting, key: u32, value: V) -> Result<Tree<V>, AllocError>
+    fn widened(
+        &self,
+        alloc: Global,
+        parting: Parting,
+        key: u32,
+        value: V,
+    ) -> Result<Tree<V>, AllocError>
         requires old { (q : ℕ) → (q / 2 ^ parting.block.shift ≡ parting.block.first + parting.old_side → ⊥)
             → map.get self.now.0 q ≡ None }
         requires new { key / 2 ^ parting.block.shift ≡ parting.block.first + parting.new_side }

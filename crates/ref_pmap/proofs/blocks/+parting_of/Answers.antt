@@ -1,4 +1,4 @@
-use Rattle.std.proofs.Common.{◌≡◌, ℕ, ◌+◌, ◌≤◌, ◌<◌, ◌/◌, ◌^◌, max, ap, ◌∙◌, arith}
+use Rattle.std.proofs.Common.{◌<◌, ◌/◌, max, ap, ◌∙◌, arith}
 use Rattle.ref_pmap.proofs.HighBits.{four_more, room}
 use Rattle.ref_pmap.proofs.blocks.+parting_of.Goals as goal
 

@@ -1,4 +1,4 @@
-use Rattle.std.proofs.Common.{◌++◌, length, sym, ap, ◌∙◌, arith}
+use Rattle.std.proofs.Common.{◌++◌, sym, ap, ◌∙◌, arith}
 use Rattle.std.specs.FinMap.{entries}
 use Rattle.std.specs.List.{flat_map}
 use Rattle.std.proofs.lemmas.List.{append-nil, take_all}
@@ -25,5 +25,5 @@ returns-after-loop-side g t c =
     let block = c.deref-branch.result.now.block in
     c.loop-side.invariant
     ∙ ap (λ es. shown c.args.out.now.items ++ es)
-      (ap (flat_map (λ d. entries d.0)) (take_all c.loop-side.side-index sides (omega (arith, f.fork.count)))
-      ∙ sym (ap (λ d. entries d.0) f.is ∙ entries_all block.shift block.first sides f.fork.apart))
+    (ap (flat_map (λ d. entries d.0)) (take_all c.loop-side.side-index sides (omega (arith, f.fork.count)))
+    ∙ sym (ap (λ d. entries d.0) f.is ∙ entries_all block.shift block.first sides f.fork.apart))

@@ -1,4 +1,4 @@
-use Rattle.std.proofs.Common.{◌≡◌, ◌≤◌, ◌+◌, ◌/◌, ◌^◌, ◌∙◌, arith}
+use Rattle.std.proofs.Common.{◌≡◌, ◌≤◌, ◌/◌, ◌^◌, ◌∙◌, arith}
 use Rattle.std.proofs.Math.Pow.{shr_mono}
 use Rattle.ref_pmap.proofs.HighBits.{four_more}
 use Rattle.ref_pmap.proofs.blocks.Block.parting_from.Goals as goal
