@@ -5,14 +5,16 @@ use Rattle.std.proofs.lemmas.Option.{get_or_from_slice_get, slice_get_read}
 use Rattle.ref_value.specs.Edn.{Edn}
 use Rattle.ref_fun.specs.Meaning.{Means}
 use Rattle.ref_fun.specs.Rule.{Accepts}
+use Rattle.ref_fun.specs.declared.actions.Action.{Action}
 use Rattle.ref_fun.specs.declared.faults.Cause.{Cause}
 use Rattle.ref_fun.specs.declared.rules.Rule.{Rule}
 use Rattle.ref_log.specs.Guards.{AreAccepted, with_guard}
 use Rattle.ref_log.specs.declared.guards.Guard.{Guard}
-use Rattle.ref_agents.specs.Account.{AccountSeen, after_handled, and_handled, fit_marks, has_head, has_point, is_failed_mark, kept_queue, restarted}
-use Rattle.ref_agents.specs.Agents.{AgentsSeen, AreAgents, AreWaiting, IsAgent, IsAgentIfHere, IsStore, change_agent, has_queue_if_here, put_agent, values_of}
+use Rattle.ref_agents.specs.Account.{AccountSeen, after_handled, and_handled, fit_marks, is_failed_mark, restarted}
+use Rattle.ref_agents.specs.Agents.{AgentsSeen, AreAgents, IsAgent, IsAgentIfHere, IsStore, change_agent, put_agent, queuing, values_of, with_each, with_send}
 use Rattle.ref_agents.specs.declared.accounts.Handled.{Handled}
 use Rattle.ref_agents.specs.declared.accounts.Queued.{Queued}
+use Rattle.ref_agents.specs.declared.accounts.SentBy.{SentBy}
 use Rattle.ref_agents.specs.declared.agents.Agent.{Agent}
 
 pub not_both : {b : Bool} → b ≡ false → b ≡ true → ⊥
@@ -55,28 +57,6 @@ agents_more means [] y ok are (suc i) = tt
 agents_more means (x ∷ xs) y ok are zero = are zero
 agents_more means (x ∷ xs) y ok are (suc i) = agents_more means xs y ok (λ k. are (suc k)) i
 
--- The agents that are looked at when a job is taken, where `waits` says which numbers are among them.
-pub waits_set : (waits : ℕ → Bool) (agents : List Agent) (g : ℕ) (y : Agent) → (has_head y.account.queue ≡ true → waits g ≡ true)
-    → ((i : ℕ) → has_queue_if_here (slice_get agents i) ≡ true → waits i ≡ true) → (i : ℕ) → has_queue_if_here (slice_get (slice_set agents g y) i) ≡ true → waits i ≡ true
-waits_set waits [] g y ok are i = are i
-waits_set waits (x ∷ xs) zero y ok are zero = ok
-waits_set waits (x ∷ xs) zero y ok are (suc i) = are (suc i)
-waits_set waits (x ∷ xs) (suc g) y ok are zero = are zero
-waits_set waits (x ∷ xs) (suc g) y ok are (suc i) = waits_set (λ k. waits (suc k)) xs g y ok (λ k. are (suc k)) i
-
-pub waiting_set : (agents : List Agent) (waiting : List ℕ) (g : ℕ) (y : Agent) → (has_head y.account.queue ≡ true → has_point waiting g ≡ true) → AreWaiting agents waiting → AreWaiting (slice_set agents g y) waiting
-waiting_set agents waiting g y = waits_set (has_point waiting) agents g y
-
-pub waiting_at : (agents : List Agent) (waiting : List ℕ) (g : ℕ) (x : Agent) → AreWaiting agents waiting → slice_get agents g ≡ Some x → has_head x.account.queue ≡ true → has_point waiting g ≡ true
-waiting_at agents waiting g x are is has = are g (ap has_queue_if_here is ∙ has)
-
-pub waits_more : (waits : ℕ → Bool) (agents : List Agent) (y : Agent) → has_head y.account.queue ≡ false
-    → ((i : ℕ) → has_queue_if_here (slice_get agents i) ≡ true → waits i ≡ true) → (i : ℕ) → has_queue_if_here (slice_get (agents ++ y ∷ []) i) ≡ true → waits i ≡ true
-waits_more waits [] y none are zero has = absurd (not_both none has)
-waits_more waits [] y none are (suc i) has = are (suc i) has
-waits_more waits (x ∷ xs) y none are zero has = are zero has
-waits_more waits (x ∷ xs) y none are (suc i) has = waits_more (λ k. waits (suc k)) xs y none (λ k. are (suc k)) i has
-
 -- ---- an agent that is changed
 
 pub same_set : (agents : List Agent) (g : ℕ) (x : Agent) → slice_get agents g ≡ Some x → slice_set agents g x ≡ agents
@@ -95,23 +75,37 @@ values_same (a ∷ agents) zero x y is same =
 values_same (a ∷ agents) (suc g) x y is same = ap (λ l. a.value ∷ l) (values_same agents g x y is same)
 
 -- where all rules still accept
-pub set_agent : (means : Means) (accepts : Accepts) (agents : List Agent) (guards : List Guard) (waiting : List ℕ) (g : ℕ) (y : Agent) → IsAgent means y
-    → AreAccepted accepts guards (values_of (slice_set agents g y)) → (has_head y.account.queue ≡ true → has_point waiting g ≡ true)
-    → IsStore means accepts agents guards waiting → IsStore means accepts (slice_set agents g y) guards waiting
-set_agent means accepts agents guards waiting g y ok accepted waits store = (
+pub set_agent : (means : Means) (accepts : Accepts) (agents : List Agent) (guards : List Guard) (g : ℕ) (y : Agent) → IsAgent means y
+    → AreAccepted accepts guards (values_of (slice_set agents g y)) → IsStore means accepts agents guards → IsStore means accepts (slice_set agents g y) guards
+set_agent means accepts agents guards g y ok accepted store = (
   omega (arith, length-set agents g y, store.0),
   store.1 ∙ sym (length-set agents g y),
   accepted,
   agents_set means agents g y ok store.3,
-  waiting_set agents waiting g y waits store.4,
 )
 
 -- where its state is as it was
-pub kept : (means : Means) (accepts : Accepts) (agents : List Agent) (guards : List Guard) (waiting : List ℕ) (g : ℕ) (x y : Agent) → slice_get agents g ≡ Some x → IsAgent means y
-    → y.value ≡ x.value → (has_head y.account.queue ≡ true → has_point waiting g ≡ true)
-    → IsStore means accepts agents guards waiting → IsStore means accepts (slice_set agents g y) guards waiting
-kept means accepts agents guards waiting g x y is ok same waits store =
-    set_agent means accepts agents guards waiting g y ok (subst (AreAccepted accepts guards) (sym (values_same agents g x y is same)) store.2) waits store
+pub kept : (means : Means) (accepts : Accepts) (agents : List Agent) (guards : List Guard) (g : ℕ) (x y : Agent) → slice_get agents g ≡ Some x → IsAgent means y
+    → y.value ≡ x.value → IsStore means accepts agents guards → IsStore means accepts (slice_set agents g y) guards
+kept means accepts agents guards g x y is ok same store =
+    set_agent means accepts agents guards g y ok (subst (AreAccepted accepts guards) (sym (values_same agents g x y is same)) store.2) store
+
+pub kept_change : (means : Means) (accepts : Accepts) (agents : List Agent) (guards : List Guard) (g : ℕ) (f : Agent → Agent)
+    → ((x : Agent) → slice_get agents g ≡ Some x → IsAgent means x → IsAgent means (f x)) → ((x : Agent) → (f x).value ≡ x.value)
+    → IsStore means accepts agents guards → IsStore means accepts (change_agent agents g f) guards
+kept_change means accepts agents guards g f ok same store = by (slice_get agents g) refl where
+  by : (there : Option Agent) → slice_get agents g ≡ there → IsStore means accepts (put_agent agents g f there) guards
+  by None is = store
+  by (Some x) is = kept means accepts agents guards g x (f x) is (ok x is (agent_at means agents g x store.3 is)) (same x) store
+
+-- with more actions that wait
+pub kept_each : {X : Type 0} (to : X → ℕ) (of : X → Action) (by : SentBy) (means : Means) (accepts : Accepts) (guards : List Guard) (xs : List X) (agents : List Agent)
+    → IsStore means accepts agents guards → IsStore means accepts (with_each to of by xs agents) guards
+kept_each to of by means accepts guards [] agents store = store
+kept_each to of by means accepts guards (x ∷ xs) agents store =
+    let q : Queued = record { action = of x; by = by } in
+    kept_each to of by means accepts guards xs (with_send agents (to x) q)
+    (kept_change means accepts agents guards (to x) (queuing q) (λ y is ok. record { folded = ok.folded; marked = ok.marked; single = ok.single; idle = ok.idle }) (λ y. refl) store)
 
 -- What an agent that is changed has in common with the one from before: each other agent is as it was.
 pub relate_set : (R : Option Agent → Option Agent → Type 0) (x y : Agent) → ((o : Option Agent) → R o o) → R (Some x) (Some y)
@@ -140,16 +134,15 @@ pub as_many : (agents : List Agent) → length (values_of agents) ≡ length age
 as_many [] = refl
 as_many (x ∷ xs) = omega (arith, as_many xs)
 
-pub store_more : (means : Means) (accepts : Accepts) (agents : List Agent) (guards : List Guard) (rule : Option Rule) (waiting : List ℕ) (y : Agent) → IsAgent means y
-    → AreAccepted accepts (with_guard guards rule) (values_of agents ++ y.value ∷ []) → has_head y.account.queue ≡ false → length agents < 2 ^ 20
-    → IsStore means accepts agents guards waiting → IsStore means accepts (agents ++ y ∷ []) (with_guard guards rule) waiting
-store_more means accepts agents guards rule waiting y ok accepted none room store =
+pub store_more : (means : Means) (accepts : Accepts) (agents : List Agent) (guards : List Guard) (rule : Option Rule) (y : Agent) → IsAgent means y
+    → AreAccepted accepts (with_guard guards rule) (values_of agents ++ y.value ∷ []) → length agents < 2 ^ 20
+    → IsStore means accepts agents guards → IsStore means accepts (agents ++ y ∷ []) (with_guard guards rule)
+store_more means accepts agents guards rule y ok accepted room store =
     let guard : Guard = record { rule = rule; watches = [] } in (
       omega (arith, length-append agents (y ∷ []), room),
       omega (arith, length-append agents (y ∷ []), length-append guards (guard ∷ []), store.1),
       subst (AreAccepted accepts (with_guard guards rule)) (sym (values_more agents y)) accepted,
       agents_more means agents y ok store.3,
-      waits_more (has_point waiting) agents y none store.4,
     )
 
 pub and_false : (a b : Bool) → b ≡ false → (a && b) ≡ false
@@ -164,10 +157,6 @@ restarted_agent means account y state clear is value error idle = record {
   single = and_false y.is_out (is_some y.error) (ap is_some error);
   idle = idle;
 }
-
-pub head_kept : (clear : Bool) (queue : List Queued) → has_head (kept_queue clear queue) ≡ true → has_head queue ≡ true
-head_kept true queue has = absurd (not_both refl has)
-head_kept false queue has = has
 
 abbrev pub seen : List Agent → List Guard → List ℕ → AgentsSeen
 seen agents guards unreleased = record { agents = agents; guards = guards; unreleased = unreleased }
@@ -185,19 +174,3 @@ fit_marks-append [] h false is fit = ap not (sym is)
 fit_marks-append (x ∷ []) h true is fit = rw fit (sym is)
 fit_marks-append (x ∷ []) h false is fit = rw fit (ap not (sym is))
 fit_marks-append (x ∷ y ∷ hs) h failed is fit = all_of (not (is_failed_mark x.mark)) (fit_marks failed (y ∷ hs ++ h ∷ [])) (first _ _ fit) (fit_marks-append (y ∷ hs) h failed is (second _ _ fit))
-
--- ---- the agents that wait
-
-or_true : (b t : Bool) → t ≡ true → cond b true t ≡ true
-or_true true t is = refl
-or_true false t is = is
-
--- where the set that is looked through has one more
-pub waits_still : (agents : List Agent) (before after is : ℕ → Bool) → ((q : ℕ) → after q ≡ cond (is q) true (before q))
-    → ((i : ℕ) → has_queue_if_here (slice_get agents i) ≡ true → before i ≡ true) → (i : ℕ) → has_queue_if_here (slice_get agents i) ≡ true → after i ≡ true
-waits_still agents before after is more are i has = more i ∙ or_true (is i) (before i) (are i has)
-
--- what is left of a queue without its last has no head where the queue had none
-pub head_before : (queue left : List Queued) → left ≡ take (length queue - 1) queue → has_head left ≡ true → has_head queue ≡ true
-head_before [] left is has = absurd (not_both (ap has_head is) has)
-head_before (q ∷ qs) left is has = refl

@@ -13,6 +13,7 @@ use Rattle.ref_log.specs.Guards.{AreAccepted, keys_at, rule_at}
 use Rattle.ref_log.specs.declared.guards.Guard.{Guard}
 use Rattle.ref_agents.specs.Agents.{AgentsSeen, IsAgent, carrying, change_agent, ended, head_job, job_out, out_if_here, put_agent, queuing, values_of, with_agents, with_each, with_send}
 use Rattle.ref_agents.specs.Ends.{CanHave, IsAnswer, IsAnswerIfHere, IsAnswerOf, after_end, ending, has_carry, judged}
+use Rattle.ref_agents.specs.Indexed.{IsEnd}
 use Rattle.ref_agents.specs.Jobs.{JobSeen, RanSeen}
 use Rattle.ref_agents.specs.declared.accounts.Handled.{Handled}
 use Rattle.ref_agents.specs.declared.accounts.Mark.{Mark}
@@ -33,10 +34,6 @@ use Rattle.ref_agents.proofs.JobsOut.{made, some_of}
 pub state_is : (g : ℕ) (x : Agent) (job : JobSeen) (queue : List Queued) → head_job g x queue ≡ Some job → job.state ≡ x.value
 state_is g x job [] is = cc
 state_is g x job (q ∷ qs) is = sym (ap (λ j. j.state) (some_of (made g x q) job is))
-
-pub head_has : (g : ℕ) (x : Agent) (job : JobSeen) (queue : List Queued) → head_job g x queue ≡ Some job → has_head queue ≡ true
-head_has g x job [] is = cc
-head_has g x job (q ∷ qs) is = refl
 
 -- ---- the account
 
@@ -120,31 +117,17 @@ accepted_after accepts guards agents g x Continue (Err e) cs is can accepted =
 
 -- ---- the store
 
-here_at : (agents : List Agent) (g : ℕ) (d : Agent) (job : JobSeen) (o : Option Agent) → slice_get agents g ≡ o → out_if_here g o ≡ Some job → slice_get agents g ≡ Some (get_or agents g d)
-here_at agents g d job None is out = cc
-here_at agents g d job (Some x) is out = is ∙ ap Some (sym (get_or_from_slice_get agents g x d is))
+is_answer : (accepts : Accepts) (guards : List Guard) (ran : RanSeen) (i : ℕ) (judgement : Result Edn AgentError) (answer : Finished) (there : Option Agent)
+    → i ≡ ran.job.agent → judgement ≡ judged accepts (rule_at guards ran.job.agent) ran.outcome → IsEnd i (keys_at guards i) judgement answer there → IsAnswerIfHere accepts guards ran answer there
+is_answer accepts guards ran i judgement answer None at same told = told
+is_answer accepts guards ran i judgement answer (Some x) at same told =
+    subst (λ j. IsAnswer x.mode ran.job.agent (keys_at guards ran.job.agent) x.value j answer) same
+    (subst (λ n. IsAnswer x.mode n (keys_at guards n) x.value judgement answer) at told)
 
--- the agent of a job that is on its way, which was indexed
-pub indexed : (items agents : List Agent) (i g : ℕ) (x : Agent) (job : JobSeen) → items ≡ agents → i ≡ g → job_out agents g ≡ Some job → x ≡ get_or items i x → slice_get agents g ≡ Some x
-indexed items agents i g x job same at out is =
-    here_at agents g x job (slice_get agents g) refl out ∙ ap Some (sym (is ∙ ap (λ l. get_or l i x) same ∙ ap (λ n. get_or agents n x) at))
-
-pub closed_store : (items : List Agent) (guards : List Guard) (unreleased : List ℕ) (store : AgentsSeen) (g i : ℕ) (x new : Agent) (judgement : Result Edn AgentError) (cs : List Carry)
-    → seen items guards unreleased ≡ store → i ≡ g → slice_get store.agents g ≡ Some x → new ≡ ending judgement cs x
-    → seen (slice_set items i new) guards unreleased ≡ with_agents store (change_agent store.agents g (ending judgement cs))
-closed_store items guards unreleased store g i x new judgement cs same at is ends =
-    ap (λ s. with_agents s (slice_set s.agents i new)) same
-    ∙ ap (λ n. with_agents store (slice_set store.agents n new)) at
-    ∙ ap (λ y. with_agents store (slice_set store.agents g y)) ends
-    ∙ ap (λ o. with_agents store (put_agent store.agents g (ending judgement cs) o)) (sym is)
-
-pub answered : (accepts : Accepts) (store : AgentsSeen) (ran : RanSeen) (i : ℕ) (x : Agent) (judgement : Result Edn AgentError) (answer : Finished)
-    → i ≡ ran.job.agent → slice_get store.agents ran.job.agent ≡ Some x → judgement ≡ judged accepts (rule_at store.guards ran.job.agent) ran.outcome
-    → IsAnswer x.mode i (keys_at store.guards i) x.value judgement answer → IsAnswerOf accepts store ran answer
-answered accepts store ran i x judgement answer at is same told =
-    subst (λ o. IsAnswerIfHere accepts store.guards ran answer o) (sym is)
-    (subst (λ j. IsAnswer x.mode ran.job.agent (keys_at store.guards ran.job.agent) x.value j answer) same
-    (subst (λ n. IsAnswer x.mode n (keys_at store.guards n) x.value judgement answer) at told))
+pub answered : (accepts : Accepts) (store : AgentsSeen) (ran : RanSeen) (i : ℕ) (judgement : Result Edn AgentError) (answer : Finished)
+    → i ≡ ran.job.agent → judgement ≡ judged accepts (rule_at store.guards ran.job.agent) ran.outcome
+    → IsEnd i (keys_at store.guards i) judgement answer (slice_get store.agents ran.job.agent) → IsAnswerOf accepts store ran answer
+answered accepts store ran i judgement answer at same told = is_answer accepts store.guards ran i judgement answer (slice_get store.agents ran.job.agent) at same told
 
 -- ---- what goes out with an action
 

@@ -2,16 +2,14 @@
 use Rattle.std.proofs.Common.{◌≡◌, ◌∙◌, ℕ, ◌+◌, ◌-◌, ◌<◌, ◌≤◌, nat_lt, zero, suc, Bool, true, false, not, ◌&&◌, List, [], ◌∷◌, length, Option, None, Some, Ok, if◌then◌else◌, is_some, slice_get, slice_set, refl, sym, ap, subst, arith}
 use Rattle.ref_value.specs.Edn.{Edn}
 use Rattle.ref_fun.specs.Meaning.{Means}
-use Rattle.ref_fun.specs.Rule.{Accepts}
-use Rattle.ref_log.specs.declared.guards.Guard.{Guard}
 use Rattle.ref_agents.specs.Account.{AccountSeen, after_handled, failing, fit_marks, folded, is_failed_mark, most_folded, number_of}
-use Rattle.ref_agents.specs.Agents.{AgentsSeen, IsAgent, IsStore, can_fold_at, can_fold_if_here, folding, head_job, is_ready_if_here, out_if_here, put_agent, with_agents, with_fold}
+use Rattle.ref_agents.specs.Agents.{AgentsSeen, IsAgent, can_fold_at, can_fold_if_here, folding, head_job, is_ready_if_here, out_if_here, put_agent, with_agents, with_fold}
 use Rattle.ref_agents.specs.declared.accounts.Handled.{Handled}
 use Rattle.ref_agents.specs.declared.accounts.Mark.{Mark}
 use Rattle.ref_agents.specs.declared.accounts.Mark.TheVariants.{Done, Failed, Passed}
 use Rattle.ref_agents.specs.declared.accounts.Queued.{Queued}
 use Rattle.ref_agents.specs.declared.agents.Agent.{Agent}
-use Rattle.ref_agents.proofs.Changed.{agent_at, first, kept, not_both, same_set, second, waiting_at}
+use Rattle.ref_agents.proofs.Changed.{first, not_both, same_set, second}
 
 -- ---- the actions that stay
 
@@ -83,13 +81,6 @@ out_kept g x = rw (head_kept g x x.account.queue) refl
 
 pub ready_kept : (unreleased : List ℕ) (x : Agent) → is_ready_if_here unreleased (Some (with_folded x)) ≡ is_ready_if_here unreleased (Some x)
 ready_kept unreleased x = refl
-
--- the store with the agent whose account was folded
-pub fold_stands : (means : Means) (accepts : Accepts) (agents : List Agent) (guards : List Guard) (waiting : List ℕ) (g : ℕ) (x : Agent) (account : AccountSeen) → slice_get agents g ≡ Some x
-    → account ≡ folded x.account x.value → IsStore means accepts agents guards waiting → IsStore means accepts (slice_set agents g (record x { account = account })) guards waiting
-fold_stands means accepts agents guards waiting g x account is same store =
-    subst (λ (a : AccountSeen). IsStore means accepts (slice_set agents g (record x { account = a })) guards waiting) (sym same)
-    (kept means accepts agents guards waiting g x (with_folded x) is (folded_agent means x (agent_at means agents g x store.3 is)) refl (waiting_at agents waiting g x store.4 is) store)
 
 -- ---- whether it can be folded
 

@@ -1,18 +1,15 @@
 -- Jobs that are handed out and come back.
-use Rattle.std.proofs.Common.{◌≡◌, ◌∙◌, ℕ, Bool, true, false, not, ◌&&◌, ◌||◌, List, [], ◌∷◌, length, Option, None, Some, IsTrue, is_some, slice_get, if◌then◌else◌, refl, sym, ap, subst}
-use Rattle.std.specs.BTreeMap.{is_at}
-use Rattle.std.specs.Cmp.{unsigned_tied}
-use Rattle.std.specs.Ordering.{eq_by_cmp, nat_cmp}
-use Rattle.std.proofs.lemmas.Bool.{eqb-true}
+use Rattle.std.proofs.Common.{◌≡◌, ◌∙◌, ℕ, Bool, true, false, ◌&&◌, List, [], ◌∷◌, Option, None, Some, IsTrue, is_some, slice_get, if◌then◌else◌, refl, sym, ap, subst}
+use Rattle.std.specs.Ordering.{eq_by_cmp}
 use Rattle.ref_value.specs.Order.{edn_cmp}
 use Rattle.ref_value.specs.OrderLaws.{edn_eq}
-use Rattle.ref_agents.specs.Account.{has_head, has_point, has_released, number_of}
+use Rattle.ref_agents.specs.Account.{number_of}
 use Rattle.ref_fun.specs.Meaning.{Means}
-use Rattle.ref_agents.specs.Agents.{AgentsSeen, AreAgents, AreWaiting, has_queue_if_here, head_job, is_ready_at, is_ready_if_here, job_out, out_if_here}
+use Rattle.ref_agents.specs.Agents.{AreAgents, head_job, job_out, out_if_here}
 use Rattle.ref_agents.specs.Jobs.{JobSeen}
 use Rattle.ref_agents.specs.declared.accounts.Queued.{Queued}
 use Rattle.ref_agents.specs.declared.agents.Agent.{Agent}
-use Rattle.ref_agents.proofs.Changed.{agent_at, not_both, second}
+use Rattle.ref_agents.proofs.Changed.{agent_at, not_both}
 
 -- ---- the job that is on its way
 
@@ -76,36 +73,3 @@ out_idle means agents g job x are out is =
 pub out_fine : (means : Means) (agents : List Agent) (g : ℕ) (job : JobSeen) (x : Agent) → AreAgents means agents → job_out agents g ≡ Some job → slice_get agents g ≡ Some x → is_some x.error ≡ false
 out_fine means agents g job x are out is =
     no_error x.is_out (is_some x.error) ((agent_at means agents g x are is).single) (flag_out agents g job x is out)
-
--- ---- agents that are ready
-
-released_head : (unreleased : List ℕ) (queue : List Queued) → has_released unreleased queue ≡ true → has_head queue ≡ true
-released_head unreleased [] has = has
-released_head unreleased (q ∷ qs) has = refl
-
-ready_queue : (unreleased : List ℕ) (o : Option Agent) → is_ready_if_here unreleased o ≡ true → has_queue_if_here o ≡ true
-ready_queue unreleased None ready = ready
-ready_queue unreleased (Some x) ready = released_head unreleased x.account.queue (second (not (is_some x.error) && not x.is_out && not x.is_carrying) (has_released unreleased x.account.queue) ready)
-
--- each agent that is ready is among those that are looked at
-pub ready_waits : (store : AgentsSeen) (waiting : List ℕ) → AreWaiting store.agents waiting → (g : ℕ) → is_ready_at store g ≡ true → has_point waiting g ≡ true
-ready_waits store waiting are g ready = are g (ready_queue store.unreleased (slice_get store.agents g) ready)
-
-by_case : (b t : Bool) → (b || t) ≡ true → (b ≡ true → ⊥) → t ≡ true
-by_case true t has isnt = absurd (isnt refl)
-by_case false t has isnt = has
-
--- one that is looked at and isn't ready can be left
-pub look_on : (store : AgentsSeen) (g : ℕ) (rest : List ℕ) → is_ready_at store g ≡ false → (q : ℕ) → is_ready_at store q ≡ true → has_point (g ∷ rest) q ≡ true → has_point rest q ≡ true
-look_on store g rest isnt q ready has = by_case (is_at (nat_cmp q) g) (has_point rest q) has (λ at. not_both isnt (subst (λ k. is_ready_at store k ≡ true) (eqb-true q g (sym (unsigned_tied q g) ∙ at)) ready))
-
--- where it can't be true
-pub is_false : (b : Bool) → (b ≡ true → ⊥) → b ≡ false
-is_false true never = absurd (never refl)
-is_false false never = refl
-
--- where all were looked at and left, none is ready
-pub none_ready : (store : AgentsSeen) (waiting rest : List ℕ) → AreWaiting store.agents waiting → rest ≡ []
-    → ((q : ℕ) → is_ready_at store q ≡ true → has_point waiting q ≡ true → has_point rest q ≡ true) → (g : ℕ) → is_ready_at store g ≡ false
-none_ready store waiting rest are none left g =
-    is_false (is_ready_at store g) (λ ready. not_both (ap (λ l. has_point l g) none) (left g ready (ready_waits store waiting are g ready)))

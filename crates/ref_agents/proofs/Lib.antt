@@ -1,3 +1,6 @@
+pub mod PairLaws
+pub mod Placed
+pub mod Index
 pub mod Changed
 pub mod JobsOut
 pub mod Ended

@@ -62,11 +62,6 @@ found_last g (q ∷ qs) zero x here is carried none = rw none (ap (λ y. release
 found_last g (q ∷ qs) (suc i) x here is carried none =
     rw (has_one g qs i x (omega (arith, here)) is carried) (ap (λ l. q ∷ l) (found_last g qs i x (omega (arith, here)) is carried none))
 
--- a queue has a first action where it had one
-pub head_mapped : (g : ℕ) (queue : List Queued) → has_head (last_released g queue) ≡ true → has_head queue ≡ true
-head_mapped g [] has = has
-head_mapped g (q ∷ qs) has = refl
-
 -- ---- the agents that something was carried to
 
 one_kept : (g h n : ℕ) (agents : List Agent) → carries_at (change_agent agents h (releasing g)) n ≡ carries_at agents n

@@ -14,7 +14,7 @@ use Rattle.ref_fun.specs.declared.carries.Carry.{Carry}
 use Rattle.ref_log.specs.Guards.{AreAccepted}
 use Rattle.ref_log.specs.declared.guards.Guard.{Guard}
 use Rattle.ref_log.specs.declared.sends.Sent.{Sent}
-use Rattle.ref_agents.specs.Account.{AccountSeen, fit_marks, fold_of, folded, has_head, has_point, has_released, last_carries, most_folded, number_of, restarted, with_ended, with_queued, with_released, without_last}
+use Rattle.ref_agents.specs.Account.{AccountSeen, fit_marks, fold_of, folded, has_point, has_released, last_carries, most_folded, number_of, restarted, with_ended, with_queued, with_released, without_last}
 use Rattle.ref_agents.specs.Jobs.{JobSeen}
 use Rattle.ref_agents.specs.declared.accounts.Mark.{Mark}
 use Rattle.ref_agents.specs.declared.accounts.Queued.{Queued}
@@ -51,26 +51,16 @@ IsAgentIfHere means (Some agent) = IsAgent means agent
 abbrev pub AreAgents : Means → List Agent → Type 0
 AreAgents means agents = (g : ℕ) → IsAgentIfHere means (slice_get agents g)
 
--- Each agent with an action that waits is one of these.
-abbrev pub has_queue_if_here : Option Agent → Bool
-has_queue_if_here None = false
-has_queue_if_here (Some agent) = has_head agent.account.queue
-
-abbrev pub AreWaiting : List Agent → List ℕ → Type 0
-AreWaiting agents waiting = (g : ℕ) → has_queue_if_here (slice_get agents g) ≡ true → has_point waiting g ≡ true
-
 abbrev pub values_of : List Agent → List Edn
 values_of agents = map (λ agent. agent.value) agents
 
--- Of all agents: there are 2^20 at most, each has a rule or none, which accepts its state, and its watches; and those with an
--- action that waits are among the ones that are looked at when a job is taken.
-abbrev pub IsStore : Means → Accepts → List Agent → List Guard → List ℕ → Type 0
-IsStore means accepts agents guards waiting =
+-- Of all agents: there are 2^20 at most, and each has a rule or none, which accepts its state, and its watches.
+abbrev pub IsStore : Means → Accepts → List Agent → List Guard → Type 0
+IsStore means accepts agents guards =
     (length agents ≤ most_references)
     × (length guards ≡ length agents)
     × AreAccepted accepts guards (values_of agents)
     × AreAgents means agents
-    × AreWaiting agents waiting
 
 -- ---- what there is of an agent, if it is here
 

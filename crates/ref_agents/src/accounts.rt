@@ -1,9 +1,11 @@
 //! An agent's account.
-ghost use Rattle.std.specs.Prelude.{◌≡◌, ◌<◌, [], length, OnErr, OnOk, slice_get, option_copied};
+ghost use Rattle.std.specs.Prelude.{◌≡◌, ◌<◌, ◌==◌, ◌&&◌, ◌||◌, ℕ, [], false, if◌then◌else◌, length, OnErr, OnOk, slice_get, option_copied};
 ghost use Rattle.std.specs.Iterator.Runs.{YieldsRefsInOrder, YieldsRefsInReverse};
 ghost use Rattle.std.specs.VecDeque.Iter.{deque_iter_rest, deque_iter_steps, deque_iter_steps_back};
-ghost use Rattle.ref_agents.specs.Account.{folded, is_carried_by, is_failed_mark, last_carries, most_folded, number_of, released, restarted, with_ended, with_queued, with_released, without_last};
+ghost use Rattle.ref_agents.specs.Account.{folded, is_carried_by, is_failed_mark, last_carries, most_folded, number_of, restarted, with_ended, with_queued, with_released, without_last};
+ghost use Rattle.ref_agents.specs.Places.{has_pair};
 
+use crate::pairs::Pairs;
 use ref_fun::{Action, Carry};
 use ref_value::Value;
 use std::alloc::{AllocError, Global};
@@ -13,6 +15,9 @@ use std::marker::Model;
 
 /// An account is folded while fewer actions than these ended: 2^62.
 pub(crate) const MOST_FOLDED: u64 = 4_611_686_018_427_387_904;
+
+// So many actions may have left a queue at its front: 2^62.
+const MOST_ENDED: u64 = 4_611_686_018_427_387_904;
 
 /// How an action ended.
 #[derive(Clone, Copy, Debug, Drop, PartialEq, Eq)]
@@ -61,22 +66,6 @@ pub struct Queued {
     pub by: SentBy,
 }
 
-impl Queued {
-    // It may be taken, if an action of this agent carried it. Returns whether one did.
-    fn release(&mut self, g: u32) -> bool
-        ensures releases { self.new ≡ released g self.old }
-        ensures was { result ≡ is_carried_by g self.old.by }
-    {
-        match self.by {
-            SentBy::Carried(by) if by == g => {
-                self.by = SentBy::Outside;
-                true
-            }
-            _ => false,
-        }
-    }
-}
-
 /// What an agent was given to do: its start, the actions that ended since then, and those that wait. The start is the state at the
 /// last restart, fold or making. Contracts see lists.
 #[derive(Drop)]
@@ -86,6 +75,10 @@ pub struct Account {
     past: u64,
     handled: Vec<Handled>,
     queue: VecDeque<Queued>,
+    // How many actions left the queue at its front since it was cleared: that is the place of the first one there.
+    ended: u64,
+    // The place of each action in the queue that an action carried which isn't released, behind that one's agent.
+    carried: Pairs,
 }
 
 impl Model for Account {
@@ -93,6 +86,7 @@ impl Model for Account {
     ghost use Rattle.std.specs.Coded.{codes};
     ghost use Rattle.ref_value.specs.Code.{edn_code};
     ghost use Rattle.ref_agents.specs.Account.{AccountSeen, most_folded};
+    ghost use Rattle.ref_agents.specs.Places.{ArePlaced};
 
     ghost Value = { AccountSeen };
 
@@ -100,7 +94,7 @@ impl Model for Account {
 
     ghost view = { λ a. record { start = a.start; past = a.past; handled = a.handled.items; queue = a.queue.items } };
 
-    ghost invariant = { λ a. a.past ≤ most_folded };
+    ghost invariant = { λ a. (a.past ≤ most_folded) × (a.ended ≤ most_folded) × ArePlaced a.queue.items a.ended a.carried };
 }
 
 impl Account {
@@ -113,6 +107,8 @@ impl Account {
             past: 0,
             handled: Vec::new(alloc),
             queue: VecDeque::new(alloc),
+            ended: 0,
+            carried: Pairs::new(alloc),
         }
     }
 
@@ -165,7 +161,13 @@ impl Account {
         ensures ok { OnOk result (self.new ≡ with_queued self.old queued) }
         ensures err { OnErr result (self.new ≡ self.old) }
     {
-        self.queue.push_back(queued)?;
+        self.queue.reserve(1)?;
+        add_place(
+            &mut self.carried,
+            queued.by,
+            self.ended + self.queue.len() as u64,
+        )?;
+        self.queue.push_back_reserved(queued);
         Ok(())
     }
 
@@ -173,7 +175,13 @@ impl Account {
     pub(crate) fn pop(&mut self)
         ensures { self.new ≡ without_last self.old }
     {
-        self.queue.pop_back();
+        if let Some(queued) = self.queue.pop_back() {
+            forget_place(
+                &mut self.carried,
+                queued.by,
+                self.ended + self.queue.len() as u64,
+            );
+        }
     }
 
     // The first action that waits ended with this mark.
@@ -181,9 +189,14 @@ impl Account {
         ensures ok { OnOk result (self.new ≡ with_ended self.old mark) }
         ensures err { OnErr result (self.new ≡ self.old) }
     {
+        if self.ended >= MOST_ENDED {
+            return Err(AllocError);
+        }
         self.handled.reserve(1)?;
-        if let Some(Queued { action, .. }) = self.queue.pop_front() {
+        if let Some(Queued { action, by }) = self.queue.pop_front() {
             self.handled.push_reserved(Handled { action, mark });
+            forget_place(&mut self.carried, by, self.ended);
+            self.ended += 1;
         }
         Ok(())
     }
@@ -198,17 +211,16 @@ impl Account {
         }
     }
 
-    // The last action that waits and that an action of this agent carried may be taken, if there is one. It is looked for from the end.
+    // The last action that waits and that an action of this agent carried may be taken, if there is one.
     pub(crate) fn release(&mut self, g: u32)
         ensures { self.new ≡ with_released g self.old }
     {
-        let mut left = self.queue.len();
-        while left > 0 {
-            left -= 1;
-            if self.queue[left].release(g) {
-                return;
-            }
-        }
+        let Some(place) = self.carried.last_of(g as u64) else {
+            return;
+        };
+        let i = (place - self.ended) as usize;
+        self.carried.remove(g as u64, place);
+        self.queue[i].by = SentBy::Outside;
     }
 
     // Begins anew with this state, with an empty queue or with the same.
@@ -220,6 +232,8 @@ impl Account {
         self.handled.clear();
         if clear {
             self.queue.clear();
+            self.carried.clear();
+            self.ended = 0;
         }
     }
 
@@ -232,5 +246,25 @@ impl Account {
         self.handled.retain(|handled| handled.mark.is_failed());
         self.past += (before - self.handled.len()) as u64;
         self.start = state;
+    }
+}
+
+// The action at this place was sent by this.
+fn add_place(carried: &mut Pairs, by: SentBy, place: u64) -> Result<(), AllocError>
+    ensures ok { OnOk result ((g n : ℕ) → has_pair carried.new g n ≡ ((is_carried_by g by && place == n) || has_pair carried.old g n)) }
+    ensures err { OnErr result (carried.new ≡ carried.old) }
+{
+    match by {
+        SentBy::Carried(g) => carried.insert(g as u64, place),
+        SentBy::Outside | SentBy::Commit(_) => Ok(()),
+    }
+}
+
+// The action at this place, which was sent by this, isn't there any more.
+fn forget_place(carried: &mut Pairs, by: SentBy, place: u64)
+    ensures { (g n : ℕ) → has_pair carried.new g n ≡ (if is_carried_by g by && place == n then false else has_pair carried.old g n) }
+{
+    if let SentBy::Carried(g) = by {
+        carried.remove(g as u64, place);
     }
 }

@@ -5,11 +5,11 @@ ghost use Rattle.ref_log.specs.Limits.{most_references};
 
 use crate::accounts::Account;
 use crate::faults::{AgentError, ModeFault};
+use crate::indexed::IndexedAgents;
 use ref_fun::Meaning;
 use ref_log::Guards;
 use ref_value::Value;
 use std::alloc::Global;
-use std::collections::BTreeSet;
 use std::marker::{Model, PhantomData};
 
 /// What happens where an action fails or the rule doesn't accept its value, as Clojure's `:error-mode`.
@@ -41,18 +41,14 @@ pub struct Agent {
 /// a failed agent is on its way, nor of one whose last action carried sends that aren't released.
 #[derive(Drop)]
 pub struct AgentStore<M: Meaning> {
-    pub(crate) agents: Vec<Agent>,
+    pub(crate) agents: IndexedAgents,
     pub(crate) guards: Guards,
-    pub(crate) unreleased: BTreeSet<u64>,
-    // The agents with an action that waits, and perhaps others.
-    pub(crate) waiting: BTreeSet<u32>,
     // The agent that is looked at first when a job is taken.
     pub(crate) next: u32,
     of: PhantomData<M>,
 }
 
 impl<M: Meaning> Model for AgentStore<M> {
-    ghost use Rattle.std.specs.BTreeSet.{keys};
     ghost use Rattle.std.specs.Coded.{codes};
     ghost use Rattle.ref_value.specs.Code.{edn_code};
     ghost use Rattle.ref_agents.specs.Agents.{AgentsSeen, IsStore};
@@ -61,9 +57,9 @@ impl<M: Meaning> Model for AgentStore<M> {
 
     ghost coded = { Prim.hlevel (codes, edn_code) };
 
-    ghost view = { λ a. record { agents = a.agents.items; guards = a.guards; unreleased = keys a.unreleased } };
+    ghost view = { λ a. record { agents = a.agents.items; guards = a.guards; unreleased = a.agents.unreleased } };
 
-    ghost invariant = { λ a. IsStore M.means M.accepts a.agents.items a.guards (keys a.waiting) };
+    ghost invariant = { λ a. IsStore M.means M.accepts a.agents.items a.guards };
 }
 
 impl<M: Meaning> AgentStore<M> {
@@ -72,10 +68,8 @@ impl<M: Meaning> AgentStore<M> {
         ensures { result ≡ record { agents = []; guards = []; unreleased = [] } }
     {
         AgentStore {
-            agents: Vec::new(alloc),
+            agents: IndexedAgents::empty(alloc),
             guards: Guards::empty(alloc),
-            unreleased: BTreeSet::new(alloc),
-            waiting: BTreeSet::new(alloc),
             next: 0,
             of: PhantomData,
         }
@@ -95,21 +89,21 @@ impl<M: Meaning> AgentStore<M> {
     pub fn is_empty(&self) -> bool
         ensures { IsTrue result ↔ (self.now.agents ≡ []) }
     {
-        self.agents.is_empty()
+        self.agents.len() == 0
     }
 
     /// The state of an agent now, if there is such an agent. It takes no memory.
     pub fn value_of(&self, g: u32) -> Option<&Value>
         ensures { option_copied result ≡ value_at self.now.agents g }
     {
-        value_at(&self.agents, g)
+        value_at(self.agents.as_slice(), g)
     }
 
     /// The error of a failed agent. It takes no memory.
     pub fn error_of(&self, g: u32) -> Option<AgentError>
         ensures { result ≡ error_at self.now.agents g }
     {
-        self.agents.get(g as usize)?.error
+        self.agents.get(g)?.error
     }
 
     /// The account of an agent, if there is such an agent. It takes no memory.
@@ -118,7 +112,7 @@ impl<M: Meaning> AgentStore<M> {
         // Each agent's state is its start folded over its done actions.
         ensures agents { AreAgents M.means self.now.agents }
     {
-        Some(&self.agents.get(g as usize)?.account)
+        Some(&self.agents.get(g)?.account)
     }
 
     /// Sets what happens where an action of an agent fails. A failed agent stays failed.
@@ -128,10 +122,10 @@ impl<M: Meaning> AgentStore<M> {
         ensures none { OnErr result (slice_get self.old.agents g ≡ None) }
         ensures err { OnErr result (self.new ≡ self.old) }
     {
-        let Some(agent) = self.agents.get_mut(g as usize) else {
+        if self.agents.get(g).is_none() {
             return Err(ModeFault::NoSuchAgent);
-        };
-        agent.mode = mode;
+        }
+        self.agents.set_mode(g, mode);
         Ok(())
     }
 }

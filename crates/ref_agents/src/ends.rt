@@ -57,7 +57,6 @@ impl<M: Meaning> AgentStore<M> {
         }
         match self.end(alloc, funs, &ran) {
             Ok(finished) => {
-                self.pass_over(ran.job().agent());
                 ran.into_job().forsake();
                 Ok(finished)
             }
@@ -85,56 +84,21 @@ impl<M: Meaning> AgentStore<M> {
         }
         let judgement = judge(funs, &self.guards, g, ran.outcome())?;
         let carries = goes_out(&judgement, ran.job().action());
-        self.queue_all(SentBy::Carried(g), carries)?;
-        match self.close(alloc, ran, judgement) {
+        self.agents.queue_all(SentBy::Carried(g), carries)?;
+        let action = ran.job().action();
+        match self.agents.end(alloc, &self.guards, g, judgement, action.carries.as_slice()) {
             Ok(finished) => Ok(finished),
             Err(e) => {
-                self.take_back(carries);
+                self.agents.take_back(carries);
                 Err(e.into())
             }
         }
-    }
-
-    // Ends the job of an agent that is on its way, where what goes out with it is in its queues.
-    fn close(
-        &mut self,
-        alloc: Global,
-        ran: &Ran<M>,
-        judgement: Result<Value, AgentError>,
-    ) -> Result<Finished, AllocError>
-        requires out { job_out self.old.agents ran.now.job.agent ≡ Some ran.now.job }
-        requires judged { judgement ≡ judged M.accepts (rule_at self.old.guards ran.now.job.agent) ran.now.outcome }
-        requires can { CanHave M.accepts self.old.guards ran.now.job.agent judgement }
-        requires meant { M.means ran.now.job.action.code ran.now.job.action.args ran.now.job.state ≡ ran.now.outcome }
-        ensures ends { OnOk result (self.new ≡ with_agents self.old
-            (change_agent self.old.agents ran.now.job.agent (ending judgement ran.now.job.action.carries))) }
-        ensures answer { IfOk result (IsAnswerOf M.accepts self.old ran.now) }
-        ensures err { OnErr result (self.new ≡ self.old) }
-    {
-        let g = ran.job().agent();
-        let carries = ran.job().action().carries.as_slice();
-        let agent = &mut self.agents[g as usize];
-        let finished = agent.end(alloc, &self.guards, g, judgement, carries)?;
-        Ok(finished)
-    }
-
-    // An agent without an action that waits is looked at no more when a job is taken.
-    pub(crate) fn pass_over(&mut self, g: u32)
-        ensures { self.new ≡ self.old }
-    {
-        let Some(agent) = self.agents.get(g as usize) else {
-            return;
-        };
-        if agent.account.waiting() > 0 {
-            return;
-        }
-        self.waiting.remove(&g);
     }
 }
 
 impl Agent {
     // Ends its first action, which carries these, with the state or the error that came of it. A refused call changes nothing.
-    fn end(
+    pub(crate) fn end(
         &mut self,
         alloc: Global,
         guards: &Guards,

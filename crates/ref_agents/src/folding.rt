@@ -25,7 +25,7 @@ impl<M: Meaning> AgentStore<M> {
         ensures memory { OnErr result (can_fold_at self.old.agents g ≡ true) }
         ensures err { OnErr result (self.new ≡ self.old) }
     {
-        if !can_fold(&self.agents, g) {
+        if !can_fold(self.agents.as_slice(), g) {
             return Ok(false);
         }
         match self.fold_account(g) {
@@ -43,12 +43,7 @@ impl<M: Meaning> AgentStore<M> {
         ensures ready { (h : ℕ) → is_ready_at self.new h ≡ is_ready_at self.old h }
         ensures err { OnErr result (self.new ≡ self.old) }
     {
-        let Some(agent) = self.agents.get_mut(g as usize) else {
-            return Ok(());
-        };
-        let start = agent.value.share()?;
-        agent.account.fold(start);
-        Ok(())
+        self.agents.fold(g)
     }
 }
 

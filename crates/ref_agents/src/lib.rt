@@ -38,11 +38,15 @@
 
 pub mod accounts;
 pub mod agents;
+mod changing;
 mod ends;
 pub mod faults;
 mod folding;
+mod indexed;
 pub mod jobs;
 mod making;
+mod marks;
+mod pairs;
 mod releasing;
 mod restarting;
 mod rules;

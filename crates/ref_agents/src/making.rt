@@ -68,16 +68,18 @@ impl<M: Meaning> AgentStore<M> {
     {
         let g = self.len() as u32;
         let value = start.share()?;
-        self.agents.reserve(1)?;
-        self.guards.add(alloc, rule)?;
-        self.agents.push_reserved(Agent {
+        self.agents.push(Agent {
             value,
             mode,
             error: None,
             account: Account::new(alloc, start),
             is_out: false,
             is_carrying: false,
-        });
+        })?;
+        if self.guards.add(alloc, rule).is_err() {
+            self.agents.pop();
+            return Err(AllocError);
+        }
         Ok(g)
     }
 }

@@ -13,11 +13,11 @@ impl<M: Meaning> AgentStore<M> {
         ensures was { result ≡ is_carrying_at self.old.agents g }
         ensures releases { self.new ≡ with_carried_released self.old g }
     {
-        if !is_carrying(&self.agents, g) {
+        if !is_carrying(self.agents.as_slice(), g) {
             return false;
         }
-        for i in 0..carries(&self.agents, g).len() {
-            let h = carries(&self.agents, g)[i].g;
+        for i in 0..carries(self.agents.as_slice(), g).len() {
+            let h = carries(self.agents.as_slice(), g)[i].g;
             self.release_to(h, g);
         }
         self.put_down(g);
@@ -28,20 +28,14 @@ impl<M: Meaning> AgentStore<M> {
     fn release_to(&mut self, h: u32, g: u32)
         ensures { self.new ≡ with_agents self.old (change_agent self.old.agents h (releasing g)) }
     {
-        let Some(agent) = self.agents.get_mut(h as usize) else {
-            return;
-        };
-        agent.account.release(g);
+        self.agents.release_to(h, g);
     }
 
     // Nothing of what an agent carried is held any more.
     fn put_down(&mut self, g: u32)
         ensures { self.new ≡ with_agents self.old (change_agent self.old.agents g (carrying false)) }
     {
-        let Some(agent) = self.agents.get_mut(g as usize) else {
-            return;
-        };
-        agent.is_carrying = false;
+        self.agents.put_down(g);
     }
 }
 

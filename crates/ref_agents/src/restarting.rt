@@ -30,7 +30,6 @@ impl<M: Meaning> AgentStore<M> {
     {
         self.check_restart(funs, g, &state)?;
         self.revive(g, state, clear)?;
-        self.pass_over(g);
         Ok(())
     }
 
@@ -46,7 +45,7 @@ impl<M: Meaning> AgentStore<M> {
             (slice_set (values_of self.now.agents) g state.now)) }
         ensures told { IfErr result (λ f. f ≢ Memory) }
     {
-        let Some(agent) = self.agents.get(g as usize) else {
+        let Some(agent) = self.agents.get(g) else {
             return Err(RestartFault::NoSuchAgent);
         };
         if let Err(code) = self.guards.check_known(funs, g) {
@@ -67,13 +66,6 @@ impl<M: Meaning> AgentStore<M> {
         ensures ok { OnOk result (self.new ≡ with_restart self.old g state clear) }
         ensures err { OnErr result (self.new ≡ self.old) }
     {
-        let Some(agent) = self.agents.get_mut(g as usize) else {
-            return Ok(());
-        };
-        let start = state.share()?;
-        agent.account.restart(start, clear);
-        agent.value = state;
-        agent.error = None;
-        Ok(())
+        self.agents.restart(g, state, clear)
     }
 }

@@ -42,7 +42,7 @@ impl<M: Meaning> AgentStore<M> {
         ensures err { OnErr result (self.new ≡ self.old) }
     {
         self.guards
-            .set_rule(funs, g, value_at(&self.agents, g), rule)
+            .set_rule(funs, g, value_at(self.agents.as_slice(), g), rule)
     }
 
     /// Adds a watch to an agent, behind its others, and answers whether the key is new; a key that is there stays where it is.

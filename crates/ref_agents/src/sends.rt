@@ -3,12 +3,14 @@ ghost use Rattle.ref_log.specs.Told.{TellsThenMemory};
 ghost use Rattle.std.specs.Prelude.{◌≡◌, ◌≢◌, ℕ, [], IfOk, OnOk, OnErr};
 ghost use Rattle.ref_fun.specs.declared.actions.Action.{Action};
 ghost use Rattle.ref_agents.specs.Account.{has_point};
-ghost use Rattle.ref_agents.specs.Agents.{outside, send_refusal, with_agents, with_commit, with_each, with_release, with_send, without_each, without_send};
+ghost use Rattle.ref_agents.specs.Agents.{outside, send_refusal, with_agents, with_commit, with_each, with_release, with_send, without_each};
+ghost use Rattle.ref_agents.specs.Indexed.{with_items};
 ghost use Rattle.ref_agents.specs.declared.faults.SendFault.TheVariants as faults;
 
 use crate::accounts::{Queued, SentBy};
 use crate::agents::AgentStore;
 use crate::faults::SendFault;
+use crate::indexed::IndexedAgents;
 use ref_fun::{Action, Carry, Meaning, absent_agent};
 use ref_log::Sent;
 use std::alloc::AllocError;
@@ -24,14 +26,14 @@ impl<M: Meaning> AgentStore<M> {
         if absent_agent(self.agents.len(), g, &action).is_some() {
             return Err(SendFault::NoSuchAgent);
         }
-        let Some(agent) = self.agents.get(g as usize) else {
+        let Some(agent) = self.agents.get(g) else {
             return Err(SendFault::NoSuchAgent);
         };
         if agent.error.is_some() {
             return Err(SendFault::Failed);
         }
         let by = SentBy::Outside;
-        Ok(self.queue(g, Queued { action, by })?)
+        Ok(self.agents.queue(g, Queued { action, by })?)
     }
 
     /// Adds the sends of the commit at a new point to their agents' queues, in order. They are held until the commit is
@@ -44,9 +46,9 @@ impl<M: Meaning> AgentStore<M> {
         if sends.is_empty() {
             return Ok(());
         }
-        self.queue_all(SentBy::Commit(at), sends)?;
-        if self.unreleased.insert(at).is_err() {
-            self.take_back(sends);
+        self.agents.queue_all(SentBy::Commit(at), sends)?;
+        if self.agents.hold(at).is_err() {
+            self.agents.take_back(sends);
             return Err(AllocError);
         }
         Ok(())
@@ -58,34 +60,11 @@ impl<M: Meaning> AgentStore<M> {
         ensures was { result ≡ has_point self.old.unreleased point }
         ensures releases { self.new ≡ with_release self.old point }
     {
-        self.unreleased.remove(&point)
+        self.agents.release(point)
     }
 }
 
-impl<M: Meaning> AgentStore<M> {
-    // One more action waits, if its agent is here.
-    fn queue(&mut self, g: u32, queued: Queued) -> Result<(), AllocError>
-        ensures ok { OnOk result (self.new ≡ with_agents self.old (with_send self.old.agents g queued)) }
-        ensures err { OnErr result (self.new ≡ self.old) }
-    {
-        let Some(agent) = self.agents.get_mut(g as usize) else {
-            return Ok(());
-        };
-        self.waiting.insert(g)?;
-        agent.account.push(queued)?;
-        Ok(())
-    }
-
-    // The last action that waits for an agent is taken away again.
-    fn take_last(&mut self, g: u32)
-        ensures { self.new ≡ with_agents self.old (without_send self.old.agents g) }
-    {
-        let Some(agent) = self.agents.get_mut(g as usize) else {
-            return;
-        };
-        agent.account.pop();
-    }
-
+impl IndexedAgents {
     // Adds one action for each of these to the queues, in order, or none of them.
     pub(crate) fn queue_all<T: ToAgent>(
         &mut self,
@@ -93,7 +72,7 @@ impl<M: Meaning> AgentStore<M> {
         sends: &[T],
     ) -> Result<(), AllocError>
         ensures ok { OnOk result (self.new
-            ≡ with_agents self.old (with_each T.to T.of by sends.now self.old.agents)) }
+            ≡ with_items self.old (with_each T.to T.of by sends.now self.old.items)) }
         ensures err { OnErr result (self.new ≡ self.old) }
     {
         for (i, sent) in sends.iter().enumerate() {
@@ -106,8 +85,8 @@ impl<M: Meaning> AgentStore<M> {
     }
 
     fn queue_one<T: ToAgent>(&mut self, by: SentBy, sent: &T) -> Result<(), AllocError>
-        ensures ok { OnOk result (self.new ≡ with_agents self.old
-            (with_send self.old.agents (T.to sent.now) (record { action = T.of sent.now; by = by }))) }
+        ensures ok { OnOk result (self.new ≡ with_items self.old
+            (with_send self.old.items (T.to sent.now) (record { action = T.of sent.now; by = by }))) }
         ensures err { OnErr result (self.new ≡ self.old) }
     {
         let action = sent.action()?;
@@ -116,7 +95,7 @@ impl<M: Meaning> AgentStore<M> {
 
     // Takes away what these added to the queues, the last first.
     pub(crate) fn take_back<T: ToAgent>(&mut self, sends: &[T])
-        ensures { self.new ≡ with_agents self.old (without_each T.to sends.now self.old.agents) }
+        ensures { self.new ≡ with_items self.old (without_each T.to sends.now self.old.items) }
     {
         let mut left = sends.len();
         while left > 0 {

@@ -2,7 +2,6 @@
 ghost use Rattle.std.specs.Prelude.{◌≡◌, ◌≢◌, ◌↔◌, ℕ, true, false, None, Some, IfOk, IfErr, IfSome, IsTrue, OnOk, OnErr, is_some, slice_get};
 ghost use Rattle.ref_agents.specs.Agents.{AreAgents, is_ready_at, job_out, next_job, with_out};
 
-use crate::accounts::SentBy;
 use crate::agents::AgentStore;
 use crate::jobs::Job;
 use ref_fun::Meaning;
@@ -56,7 +55,7 @@ impl<M: Meaning> AgentStore<M> {
         // No action of a failed agent is on its way.
         ensures agents { AreAgents M.means self.now.agents }
     {
-        let Some(agent) = self.agents.get(job.agent() as usize) else {
+        let Some(agent) = self.agents.get(job.agent()) else {
             return false;
         };
         if !agent.is_out {
@@ -75,58 +74,13 @@ impl<M: Meaning> AgentStore<M> {
     }
 
     // An agent that is ready, from the next one on, if there is any.
-    fn ready_agent(&self) -> Option<u32>
-        ensures some { IfSome result (λ g. is_ready_at self.now g ≡ true) }
-        ensures none { result ≡ None → (g : ℕ) → is_ready_at self.now g ≡ false }
+    fn ready_agent(&mut self) -> Option<u32>
+        ensures some { IfSome result (λ g. is_ready_at self.old g ≡ true) }
+        ensures none { result ≡ None → (g : ℕ) → is_ready_at self.old g ≡ false }
+        ensures same { self.new ≡ self.old }
     {
-        if let Some(g) = self.ready_from(self.next) {
-            return Some(g);
-        }
-        self.first_ready()
-    }
-
-    // The first agent from a number on that is ready, or none.
-    fn ready_from(&self, first: u32) -> Option<u32>
-        ensures { IfSome result (λ g. is_ready_at self.now g ≡ true) }
-    {
-        for g in self.waiting.range(first..) {
-            if self.is_ready(*g) {
-                return Some(*g);
-            }
-        }
-        None
-    }
-
-    // The first agent that is ready, if there is any.
-    fn first_ready(&self) -> Option<u32>
-        ensures some { IfSome result (λ g. is_ready_at self.now g ≡ true) }
-        ensures none { result ≡ None → (g : ℕ) → is_ready_at self.now g ≡ false }
-    {
-        for g in &self.waiting {
-            if self.is_ready(*g) {
-                return Some(*g);
-            }
-        }
-        None
-    }
-
-    fn is_ready(&self, g: u32) -> bool
-        ensures { result ≡ is_ready_at self.now g }
-    {
-        let Some(agent) = self.agents.get(g as usize) else {
-            return false;
-        };
-        if agent.error.is_some() || agent.is_out || agent.is_carrying {
-            return false;
-        }
-        match agent.account.waiting_at(0) {
-            None => false,
-            Some(queued) => match queued.by {
-                SentBy::Outside => true,
-                SentBy::Commit(point) => !self.unreleased.contains(&point),
-                SentBy::Carried(_) => false,
-            },
-        }
+        let g = self.agents.next_ready(self.next as usize)?;
+        Some(g as u32)
     }
 
     // The job that an agent's first action makes.
@@ -135,7 +89,7 @@ impl<M: Meaning> AgentStore<M> {
         ensures job { IfOk result (λ job. next_job g (slice_get self.now.agents g) ≡ Some job) }
         ensures agent { IfOk result (λ job. job.agent ≡ g) }
     {
-        let agent = &self.agents[g as usize];
+        let agent = &self.agents.as_slice()[g as usize];
         match agent.account.waiting_at(0) {
             Some(queued) => {
                 let action = queued.action.share()?;
@@ -152,9 +106,6 @@ impl<M: Meaning> AgentStore<M> {
         requires idle { (agent : _) → slice_get self.old.agents g ≡ Some agent → agent.is_carrying ≡ false }
         ensures { self.new ≡ with_out self.old g is_out }
     {
-        let Some(agent) = self.agents.get_mut(g as usize) else {
-            return;
-        };
-        agent.is_out = is_out;
+        self.agents.set_out(g, is_out);
     }
 }

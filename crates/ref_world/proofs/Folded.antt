@@ -57,6 +57,19 @@ first_moved side tally log n =
     let all = ap (moved_of side tally) (take-append-drop n log) in
     omega (arith, both, all)
 
+-- A base into which no entry is folded stays.
+pub none_folded : (means : Means) (base : Base) (log : List Entry) (n : ℕ) → n ≡ 0 → length base.last ≡ length base.refs → IsFolded means base (take n log) base
+none_folded means base log n none lasts = subst (λ k. IsFolded means base (take k log) base) (sym none) (record {
+  point = omega arith;
+  replayed = refl;
+  changed = λ r. refl;
+  lasts = lasts;
+  tally = refl;
+  commits = omega arith;
+  added = omega arith;
+  taken = omega arith;
+})
+
 module _ (means : Means) (base : Base) (xs ys : List Entry) (after : Base) (is : IsFolded means base xs after) where
   same_point : point_after base (xs ++ ys) ≡ point_after after ys
   same_point =

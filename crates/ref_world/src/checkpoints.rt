@@ -24,8 +24,8 @@ impl<M: Meaning> World<M> {
     /// values, last changes, rules, agents and books stay, so that no later call answers otherwise. The table has to have the
     /// functions that the folded entries call, for they are replayed. Views stay as they were.
     ///
-    /// It costs a look-up for each operation of the folded entries and their replay, a step for each ref and atom, and a logarithm of
-    /// the entries that are left. A function that the table lacks is reported before any memory is taken. All growths come before the
+    /// Where there are such entries, it costs a look-up for each of their operations and their replay, a step for each ref and atom, and a
+    /// logarithm of the entries that are left; else it returns at once. A function that the table lacks is reported before any memory is taken. All growths come before the
     /// first change; a refused call changes nothing.
     #[tactic(auto, using(crate::proofs::Folded::first_called))]
     pub fn checkpoint<F: Functions<M>>(
@@ -47,6 +47,9 @@ impl<M: Meaning> World<M> {
             return Err(CheckpointFault::NoSuchPoint);
         }
         let count = point - self.base.point;
+        if count == 0 {
+            return Ok(0);
+        }
         if let Some(code) = lacking_fun::<M, F>(funs, &self.log, count as usize) {
             return Err(CheckpointFault::NoSuchFun(code));
         }

@@ -9,7 +9,7 @@ bounds-carries-i g c =
     let old = c.args.self.now in
     let n : ℕ = c.args.g in
     let same : c.carries.result.now ≡ carries_at old.agents n = c.carries.ensures
-    ∙ ap (λ l. carries_at l n) (c.deref-in-loop-i.ensures.value ∙ ap (λ s. s.agents) (c.self-in-loop-i.view_is ∙ c.loop-i.invariant.released))
+    ∙ ap (λ l. carries_at l n) (c.as_slice-in-loop-i.ensures ∙ ap (λ s. s.agents) (c.self-in-loop-i.view_is ∙ c.loop-i.invariant.released))
     ∙ carries_kept n n (take c.loop-i.i (carries_at old.agents n)) old.agents in
     subst (λ k. c.loop-i.i < k) (c.loop-i.invariant.all ∙ sym (ap length same)) c.loop-i-test.true
 
@@ -18,7 +18,7 @@ bounds-carries-i-in-loop-i g c =
     let old = c.args.self.now in
     let n : ℕ = c.args.g in
     let same : c.carries.result.now ≡ carries_at old.agents n = c.carries.ensures
-    ∙ ap (λ l. carries_at l n) (c.deref-in-loop-i.ensures.value ∙ ap (λ s. s.agents) (c.self-in-loop-i.view_is ∙ c.loop-i.invariant.released))
+    ∙ ap (λ l. carries_at l n) (c.as_slice-in-loop-i.ensures ∙ ap (λ s. s.agents) (c.self-in-loop-i.view_is ∙ c.loop-i.invariant.released))
     ∙ carries_kept n n (take c.loop-i.i (carries_at old.agents n)) old.agents in
     subst (λ k. c.loop-i.i < k) (c.loop-i.invariant.all ∙ sym (ap length same)) c.loop-i-test.true
 
@@ -29,7 +29,7 @@ loop-i-preserved g c =
     let all : List Carry = carries_at old.agents n in
     let carry : Carry = c.index-carries-i.result in
     let same : c.carries.result.now ≡ all = c.carries.ensures
-    ∙ ap (λ l. carries_at l n) (c.deref-in-loop-i.ensures.value ∙ ap (λ s. s.agents) (c.self-in-loop-i.view_is ∙ c.loop-i.invariant.released))
+    ∙ ap (λ l. carries_at l n) (c.as_slice-in-loop-i.ensures ∙ ap (λ s. s.agents) (c.self-in-loop-i.view_is ∙ c.loop-i.invariant.released))
     ∙ carries_kept n n (take c.loop-i.i all) old.agents in
     let is = c.index-carries-i.is ∙ ap (λ l. get_or l c.loop-i.i carry) same in
     record {

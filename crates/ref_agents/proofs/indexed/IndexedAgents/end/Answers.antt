@@ -1,0 +1,34 @@
+use Rattle.std.proofs.Common.{◌≡◌, ◌∙◌, ◌<◌, ℕ, Some, ap, length, refl, slice_get, slice_set, subst, sym, true}
+use Rattle.std.specs.BTreeSet.{keys}
+use Rattle.ref_agents.specs.Agents.{is_ready_if_here}
+use Rattle.ref_agents.specs.Indexed.{HaveHeads, IndexedSeen, is_sent_at, sent_by_at}
+use Rattle.ref_agents.specs.Marks.{is_set}
+use Rattle.ref_agents.proofs.Changed.{there}
+use Rattle.ref_agents.proofs.Index.{heads_ended, others_marked}
+use Rattle.ref_agents.proofs.indexed.IndexedAgents.end.Goals as goal
+
+pub index-requires-clause-heads : goal.index-requires-clause-heads
+index-requires-clause-heads c =
+    let inside = c.self.inside in
+    let items = inside.agents.items in
+    let n : ℕ = c.args.g in
+    let x = c.index_mut-agent.result.now in
+    let here : n < length items = subst (λ (s : IndexedSeen). n < length s.items) (sym c.self.view_is) c.requires in
+    let is : slice_get items n ≡ Some x = there items items n x refl here c.index_mut-agent.ensures.value in
+    let second = c.sent_by_at-second.ensures ∙ ap (λ l. sent_by_at (slice_get l n) 1) c.deref-2.ensures.value ∙ ap (λ o. sent_by_at o 1) is in
+    subst (λ l. HaveHeads l c.add_head.new.heads) (sym c.deref-3.ensures.value)
+    (heads_ended c.end-ended.result items inside.heads c.add_head.new.heads n x c.end-ended.new.self c.args.judgement c.args.carries.now is c.end-ended.ensures.ends c.end-ended.ensures.err
+    c.in_ok-add_head.ensures.kept (λ point sent. c.in_ok-add_head.ensures.here point (ap (is_sent_at point) second ∙ sent)) c.self.invariant.heads)
+
+pub index-requires-clause-others : goal.index-requires-clause-others
+index-requires-clause-others c =
+    let inside = c.self.inside in
+    let unreleased = keys inside.unreleased in
+    subst (λ l. (n : ℕ) → (n ≡ c.args.g → ⊥) → is_set inside.ready n ≡ is_ready_if_here unreleased (slice_get l n)) (sym c.deref-3.ensures.value)
+    (others_marked inside.agents.items unreleased inside.ready c.args.g c.end-ended.new.self c.self.invariant.marked)
+
+pub returns-clause-ends : goal.returns-clause-ends
+returns-clause-ends c = ?
+
+pub returns-clause-answer : goal.returns-clause-answer
+returns-clause-answer c = ?
