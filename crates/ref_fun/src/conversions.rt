@@ -39,7 +39,7 @@ impl<'a> Keyword<'a> {
     /// The keyword of this name; None where it is no name of a keyword, as `1st` and the empty text aren't.
     pub fn new(name: &'a str) -> Option<Keyword<'a>>
         ensures some { IsSome result ↔ (is_keyword name.now ≡ true) }
-        ensures name { IfSome result (λ k. k.name ≡ name) }
+        ensures name { IfSome result (λ k. k.name.now ≡ name.now) }
     {
         if is_keyword(name.as_bytes()) {
             Some(Keyword { name })
