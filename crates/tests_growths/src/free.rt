@@ -156,13 +156,14 @@ fn of_share<L: Books>(share: &mut Share<L>) -> [bool; 3] {
     [is_split, is_joined, share.is_whole()]
 }
 
+// The failed agent was restarted before.
 fn of_shared<R: Wait, L: Books>(rt: &R, alloc: Global, shared: &Shared<Core, L>) -> [bool; 4] {
     shared.close(rt);
     [
         shared.begin(rt, alloc).is_ok(),
         shared.value_of(rt, Who::Ref(0)).is_ok(),
         shared.view(rt).is_ok(),
-        shared.error_of(rt, H).is_some(),
+        shared.error_of(rt, H).is_none(),
     ]
 }
 
@@ -174,9 +175,6 @@ fn call_on_world<R: Input + Print>(
     ensures books { world.new.books ≡ world.old.books }
 {
     let (key, rule) = (value(alloc, ":k")?, at_least(alloc, "0")?);
-    let zero = value(alloc, "0")?;
-    refuse(rt, EACH);
-    end(rt, "agents", &of_agents(alloc, world, zero))?;
     refuse(rt, EACH);
     end(rt, "worlds", &of_world(alloc, world, &rule))?;
     for who in WATCHED {
@@ -184,6 +182,18 @@ fn call_on_world<R: Input + Print>(
         end(rt, "references", &of_reference(world, *who, &key))?;
     }
     Ok(())
+}
+
+fn call_on_agents<R: Input + Print>(
+    rt: &R,
+    alloc: Global,
+    world: &mut World<Core>,
+) -> Result<(), Stop>
+    ensures books { world.new.books ≡ world.old.books }
+{
+    let zero = value(alloc, "0")?;
+    refuse(rt, EACH);
+    end(rt, "agents", &of_agents(alloc, world, zero))
 }
 
 #[derive(Drop)]
@@ -200,10 +210,11 @@ impl<R: AllocGlobal + Input + Print + Wait> Use<R> for Calls {
         let called = call_on_world(rt, alloc, &mut booked.world);
         refuse(rt, EACH);
         let joined = end(rt, "shares", &of_share(&mut share));
+        let told = call_on_agents(rt, alloc, &mut booked.world);
         refuse(rt, EACH);
         let shared = Shared::new(booked);
         let closed = end(rt, "shared", &of_shared(rt, alloc, &shared));
-        ended.and(called).and(joined).and(closed)
+        ended.and(called).and(joined).and(told).and(closed)
     }
 }
 
