@@ -180,6 +180,27 @@ fn add_and_send(alloc: Global, tx: &mut Tx<Core>) -> Result<(), Stop> {
     send_four(alloc, tx)
 }
 
+fn transact_and_look<
+    C: Ledger + Send + Sync,
+    A: Ledger + Send + Sync,
+    K: Ledger + Send + Sync,
+    R: AllocGlobal + Threads + Wait + Clock + Sync,
+>(
+    rt: &R,
+    shared: &Shared<Core, C, A, K>,
+    share: Share<C, A, K>,
+    place: Place,
+    waits: bool,
+    flags: &Flags,
+) -> ((Share<C, A, K>, bool), Look) {
+    let (mine, seen) = thread::join(
+        rt,
+        move || transact(rt, shared, share, place, waits, flags),
+        move || look(rt, shared, Who::Ref(0), flags),
+    );
+    (mine, seen)
+}
+
 // A transaction in a world that is closed, so that a worker there learns that no agent is ready. The look comes before the waiting is given
 // up. What it sends isn't ready before the watches are called.
 pub(crate) fn see_transaction<
@@ -199,12 +220,7 @@ pub(crate) fn see_transaction<
     shared.close(rt);
     let part = share.split(1).ok_or(Stop::Refused)?;
     let flags = Flags::new();
-    let lent = &flags;
-    let (mine, looked) = thread::join(
-        rt,
-        move || transact(rt, shared, part, place, waits, lent),
-        move || look(rt, shared, Who::Ref(0), lent),
-    );
+    let (mine, looked) = transact_and_look(rt, shared, part, place, waits, &flags);
     let (part, is_ok) = mine;
     done(share.join(part))?;
     same(rt, (place, looked), (place, Ok((Some(seen), CLOSED))));

@@ -1,7 +1,7 @@
 use denote.Param.Send.{sendable}
 use Rattle.std.proofs.Crossing as std
 use Rattle.tests_threads.proofs.Crossing.{crosses}
-use Rattle.tests_threads.proofs.looks.see_transaction.Goals as goal
+use Rattle.tests_threads.proofs.looks.transact_and_look.Goals as goal
 
 pub join-mine-requires-send-F : goal.join-mine-requires-send-F
 join-mine-requires-send-F g c κs within = search (crosses, std.crosses, sendable) depth 60
