@@ -165,6 +165,7 @@ fn of_share<C: Ledger, A: Ledger, K: Ledger>(share: &mut Share<C, A, K>) -> [boo
     [is_split, is_joined, share.is_whole()]
 }
 
+// The failed agent was restarted before.
 fn of_shared<R: Wait, C: Ledger, A: Ledger, K: Ledger>(
     rt: &R,
     alloc: Global,
@@ -175,7 +176,7 @@ fn of_shared<R: Wait, C: Ledger, A: Ledger, K: Ledger>(
         shared.begin(rt, alloc).is_ok(),
         shared.value_of(rt, Who::Ref(0)).is_ok(),
         shared.view(rt).is_ok(),
-        shared.error_of(rt, H).is_some(),
+        shared.error_of(rt, H).is_none(),
     ]
 }
 
@@ -188,15 +189,15 @@ fn call_on_world<R: Input + Print, C: Ledger, A: Ledger, K: Ledger>(
     let (key, rule) = (value(alloc, ":k")?, at_least(alloc, "0")?);
     let zero = value(alloc, "0")?;
     refuse(rt, EACH);
-    end(rt, "agents", &of_agents(alloc, world, zero))?;
-    refuse(rt, EACH);
     end(rt, "worlds", &of_world(alloc, world, &rule))?;
     for who in WATCHED {
         refuse(rt, EACH);
         end(rt, "references", &of_reference(world, *who, &key))?;
     }
     refuse(rt, EACH);
-    end(rt, "shares", &of_share(share))
+    end(rt, "shares", &of_share(share))?;
+    refuse(rt, EACH);
+    end(rt, "agents", &of_agents(alloc, world, zero))
 }
 
 #[derive(Drop)]
