@@ -179,19 +179,14 @@ fn add_and_send(alloc: Global, tx: &mut Tx<Core>) -> Result<(), Stop> {
     send_four(alloc, tx)
 }
 
-fn transact_and_look<
-    C: Ledger + Send + Sync,
-    A: Ledger + Send + Sync,
-    K: Ledger + Send + Sync,
-    R: AllocGlobal + Threads + Wait + Clock + Sync,
->(
+fn transact_and_look<L: Books + Send + Sync, R: AllocGlobal + Threads + Wait + Clock + Sync>(
     rt: &R,
-    shared: &Shared<Core, C, A, K>,
-    share: Share<C, A, K>,
+    shared: &Shared<Core, L>,
+    share: Share<L>,
     place: Place,
     waits: bool,
     flags: &Flags,
-) -> ((Share<C, A, K>, bool), Look) {
+) -> ((Share<L>, bool), Look) {
     let (mine, seen) = thread::join(
         rt,
         move || transact(rt, shared, share, place, waits, flags),
