@@ -1,4 +1,4 @@
-//! A bank on one thread: the place to begin with this library.
+//! A bank on one thread: a world without a lock and without books. A program of threads begins with `crates/template`.
 //!
 //! Two accounts are refs, whose rule is that none is below 0. A transfer is a transaction on both, which sends its sum to the
 //! journal, an agent. Where it is refused neither account is changed and the journal gets nothing; an atom counts it then.
