@@ -249,8 +249,8 @@ impl<'a, L: Books, R: Wait, M: Meaning, F: Functions<M>, S: WatchSink> Worker<'a
         self.shared.value_of(self.rt, who)
     }
 
-    /// Waits until these agents have done what was sent to them by now: Clojure's `await`. Somebody has to help, or it waits until the run
-    /// ends.
+    /// Waits until these agents have done what was sent to them by now: Clojure's `await`. A crew without helpers runs nothing: there it waits
+    /// for ever, or until a fault of another worker ends the run.
     pub fn await_agents(&self, agents: &[u32]) -> Result<(), AwaitFault> {
         self.shared.await_agents(self.rt, self.alloc, agents)
     }
@@ -264,13 +264,14 @@ impl<'a, L: Books, R: Wait, M: Meaning, F: Functions<M>, S: WatchSink> Worker<'a
         self.shared.forget(self.rt, &mut self.share);
     }
 
-    /// Folds the entries up to a point into the base, in bites of so many, between which the lock is free; it answers how many there were.
+    /// Folds the entries up to a point into the base, in bites of so many, between which the lock is free. It returns how many these were.
     pub fn checkpoint(&self, point: u64, bite: u32) -> Result<u64, CheckpointFault> {
         self.shared
             .checkpoint_in_bites(self.rt, self.alloc, &self.funs, point, bite)
     }
 
-    /// Folds the actions that an agent has handled into its start; it answers whether the agent is there and not failed.
+    /// Folds the actions that an agent has handled into its start. It returns whether it did: the agent is there, and nothing that its last
+    /// action carried is held.
     pub fn fold_agent(&self, g: u32) -> Result<bool, AllocError> {
         self.shared.fold_agent(self.rt, g)
     }
@@ -298,7 +299,8 @@ impl<'a, L: Books, R: Wait, S: WatchSink> Worker<'a, L, R, Core, CoreFunctions, 
     }
 
     /// As [`Worker::transact`], but the body may return None, which says that it isn't ready. Then the thread sleeps until something has
-    /// changed, and all begins anew. It fails with [`WaitFault::Closed`] if the run ends before it is ready.
+    /// changed, and all begins anew. It fails with [`WaitFault::Closed`] if a fault of another thread ends the run before it is ready. A run
+    /// waits for all of its workers: where the others are done, and nothing has made it ready, it waits for ever.
     pub fn transact_when<T: Drop, D: FnMut(&mut Dosync) -> Result<Option<T>, Fault>>(
         &mut self,
         body: D,
