@@ -1,3 +1,4 @@
 pub mod Grown
+pub mod Required
 pub mod Tabled
 pub mod Versions
