@@ -1,5 +1,5 @@
 //! The agents, with an index of those that are ready.
-ghost use Rattle.std.specs.Prelude.{◌≡◌, ◌≢◌, ◌<◌, ◌-◌, ◌++◌, ◌∷◌, ℕ, [], false, true, None, IfSome, OnOk, OnErr, length, option_copied, slice_get, slice_set, take};
+ghost use Rattle.std.specs.Prelude.{◌≡◌, ◌≢◌, ◌<◌, ◌-◌, ◌==◌, ◌++◌, ◌∷◌, if◌then◌else◌, ℕ, [], false, true, None, IfSome, OnOk, OnErr, length, option_copied, slice_get, slice_set, take};
 ghost use Rattle.std.specs.BTreeMap.{is_at};
 ghost use Rattle.std.specs.BTreeSet.{insert_key, keys};
 ghost use Rattle.std.specs.Ordering.{nat_cmp};
@@ -135,6 +135,8 @@ impl IndexedAgents {
         ensures was { result ≡ has_point self.old.unreleased point }
         ensures releases { self.new
             ≡ record self.old { unreleased = remove_key (is_at (nat_cmp point)) self.old.unreleased } }
+        ensures held { (at : ℕ) → has_point self.new.unreleased at
+            ≡ (if point == at then false else has_point self.old.unreleased at) }
     {
         if !self.unreleased.remove(&point) {
             return false;
