@@ -18,8 +18,8 @@ use std::alloc::{AllocError, Global};
 use std::collections::BTreeSet;
 use std::marker::Model;
 
-/// Agents, numbered from 0, and the points of the commits whose sends may not be taken yet. An agent that is ready is found by an index, and
-/// no other is looked at. Contracts see lists.
+/// Agents, numbered from 0, and the points of the commits whose sends may not be taken yet. An agent that is ready is found by an
+/// index of marks. Contracts see lists.
 #[derive(Drop)]
 pub(crate) struct IndexedAgents {
     pub(crate) agents: Vec<Agent>,

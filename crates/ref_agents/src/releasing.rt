@@ -9,8 +9,8 @@ use ref_fun::{Carry, Meaning};
 impl<M: Meaning> AgentStore<M> {
     /// Releases what the last handled action of an agent carried, and returns whether it carried anything that wasn't released,
     /// even if all of it was dropped meanwhile. From now on it waits as if it was sent from outside, and the agent may be ready
-    /// again. It takes no memory. The time is logarithmic in the number of agents, of commits that are held and of actions that wait
-    /// for an agent, for each send that was carried.
+    /// again. It takes no memory. For each send that was carried the time is logarithmic in the number of such sends that wait for its
+    /// agent.
     pub fn release_carried(&mut self, g: u32) -> bool
         ensures was { result ≡ is_carrying_at self.old.agents g }
         ensures releases { self.new ≡ with_carried_released self.old g }

@@ -55,7 +55,8 @@ impl<M: Meaning> AgentStore<M> {
     }
 
     /// Lets the sends of the commit at this point be taken, and answers whether there were any and they were held. It takes no
-    /// memory. The time is logarithmic in the number of commits that are held.
+    /// memory. The time is logarithmic in the number of commits that are held, and for each agent whose first action that commit sent in
+    /// the number of agents.
     pub fn release(&mut self, point: u64) -> bool
         ensures was { result ≡ has_point self.old.unreleased point }
         ensures releases { self.new ≡ with_release self.old point }
