@@ -1,5 +1,5 @@
 -- Agents that are changed, and what stays so of them.
-use Rattle.std.proofs.Common.{◌≡◌, ◌∙◌, ℕ, ◌<◌, zero, suc, Bool, true, false, not, ◌&&◌, List, [], ◌∷◌, ◌++◌, length, Option, None, Some, Result, cond, is_some, slice_get, slice_set, get_or, refl, sym, ap, subst, take, ◌-◌, ◌^◌, arith}
+use Rattle.std.proofs.Common.{◌≡◌, ◌∙◌, ℕ, ◌<◌, zero, suc, Bool, true, false, not, ◌&&◌, List, [], ◌∷◌, ◌++◌, length, Option, None, Some, Result, is_some, slice_get, slice_set, get_or, refl, sym, ap, subst, ◌^◌, arith}
 use Rattle.std.proofs.lemmas.List.{length-append, length-set, set-get_or}
 use Rattle.std.proofs.lemmas.Option.{get_or_from_slice_get, slice_get_read}
 use Rattle.ref_value.specs.Edn.{Edn}

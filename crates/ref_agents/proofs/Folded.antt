@@ -1,5 +1,5 @@
 -- Accounts that are folded.
-use Rattle.std.proofs.Common.{◌≡◌, ◌∙◌, ℕ, ◌+◌, ◌-◌, ◌<◌, ◌≤◌, nat_lt, zero, suc, Bool, true, false, not, ◌&&◌, List, [], ◌∷◌, length, Option, None, Some, Ok, if◌then◌else◌, is_some, slice_get, slice_set, refl, sym, ap, subst, arith}
+use Rattle.std.proofs.Common.{◌≡◌, ◌∙◌, ℕ, ◌+◌, ◌-◌, ◌<◌, ◌≤◌, nat_lt, zero, suc, Bool, true, false, not, List, [], ◌∷◌, length, Option, None, Some, Ok, if◌then◌else◌, is_some, slice_get, slice_set, refl, sym, ap, arith}
 use Rattle.ref_value.specs.Edn.{Edn}
 use Rattle.ref_fun.specs.Meaning.{Means}
 use Rattle.ref_agents.specs.Account.{AccountSeen, after_handled, failing, fit_marks, folded, is_failed_mark, most_folded, number_of}

@@ -1,5 +1,5 @@
 -- What is held: which commits' sends may not be taken yet, and what actions carried.
-use Rattle.std.specs.Prelude.{◌≡◌, ◌≤◌, ◌<◌, ◌==◌, ℕ, suc, Bool, true, if◌then◌else◌, List, [], ◌∷◌, Option, None, Some, slice_get}
+use Rattle.std.specs.Prelude.{◌≡◌, ◌≤◌, ◌<◌, ◌==◌, ℕ, suc, true, if◌then◌else◌, List, [], ◌∷◌, Option, None, Some, slice_get}
 use Rattle.std.specs.List.{AllByRecursion}
 use Rattle.ref_fun.specs.declared.carries.Carry.{Carry}
 use Rattle.ref_agents.specs.Account.{is_carried_by}

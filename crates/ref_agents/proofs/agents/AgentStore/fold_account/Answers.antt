@@ -1,4 +1,4 @@
-use Rattle.std.proofs.Common.{◌≡◌, ◌∙◌, ap, refl, sym}
+use Rattle.std.proofs.Common.{◌≡◌, ◌∙◌, ap, refl}
 use Rattle.ref_agents.specs.Agents.{AgentsSeen, change_agent, folding, is_ready_at, is_ready_if_here, job_out, out_if_here, values_of}
 use Rattle.ref_agents.specs.Carried.{may_hold}
 use Rattle.ref_agents.specs.Indexed.{IndexedSeen, with_items}

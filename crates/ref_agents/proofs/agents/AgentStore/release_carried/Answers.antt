@@ -1,7 +1,7 @@
 use Rattle.std.proofs.Common.{◌≡◌, ◌∙◌, ◌<◌, ◌≤◌, ℕ, List, ap, arith, get_or, length, subst, sym, take, true}
 use Rattle.std.proofs.lemmas.List.{take_all}
 use Rattle.ref_fun.specs.declared.carries.Carry.{Carry}
-use Rattle.ref_agents.specs.Agents.{AgentsSeen, carries_at, carrying, change_agent, is_carrying_at, releasing, with_agents, with_each_released}
+use Rattle.ref_agents.specs.Agents.{AgentsSeen, carries_at, change_agent, is_carrying_at, releasing, with_agents, with_each_released}
 use Rattle.ref_agents.specs.Carried.{AreCarried, held_by, queue_at}
 use Rattle.ref_agents.proofs.Carried.{all_freed, same_queue}
 use Rattle.ref_agents.proofs.Released.{carries_kept, released_next}

@@ -2,7 +2,7 @@ use Rattle.std.proofs.Common.{◌≡◌, ◌∙◌, ap, subst, sym}
 use Rattle.std.specs.BTreeSet.{insert_key}
 use Rattle.std.specs.Ordering.{nat_cmp}
 use Rattle.ref_log.specs.declared.sends.Sent.{Sent}
-use Rattle.ref_agents.specs.Agents.{with_each, without_each}
+use Rattle.ref_agents.specs.Agents.{without_each}
 use Rattle.ref_agents.specs.Indexed.{IndexedSeen, with_items}
 use Rattle.ref_agents.specs.declared.accounts.SentBy.TheVariants.{Commit}
 use Rattle.ref_agents.proofs.Carried.{Stands, carried_sends}

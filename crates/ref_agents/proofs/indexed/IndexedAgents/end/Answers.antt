@@ -1,4 +1,4 @@
-use Rattle.std.proofs.Common.{◌≡◌, ◌∙◌, ◌<◌, ℕ, Err, IfOk, List, Ok, OnOk, Result, Some, ap, length, refl, slice_get, slice_set, subst, sym, true}
+use Rattle.std.proofs.Common.{◌≡◌, ◌∙◌, ◌<◌, ℕ, Err, IfOk, List, Ok, OnOk, Result, Some, ap, length, refl, slice_get, subst, sym}
 use Rattle.std.specs.BTreeSet.{keys}
 use Rattle.ref_agents.specs.Agents.{change_agent, is_ready_if_here}
 use Rattle.ref_agents.specs.Ends.{ending}
