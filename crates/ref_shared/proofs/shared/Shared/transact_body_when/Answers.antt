@@ -1,9 +1,18 @@
-use Rattle.std.proofs.Common.{rules, refl, ap, arith, ◌∷◌, ◌∙◌, Ok, Err, inl, inr}
+use Rattle.std.proofs.Common.{rules, refl, ap, arith, [], ◌∷◌, ◌∙◌, Ok, Err, inl, inr}
 use Rattle.std.specs.Prelude.{is_some}
 use Rattle.ref_shared.specs.Waits.{IsCalledAgain}
 use Rattle.ref_shared.proofs.Again.{again_earlier, not_ready, one_more, tried_more, tried_same}
 use Rattle.ref_shared.proofs.Chains.{all_more, final}
 use Rattle.ref_shared.proofs.shared.Shared.transact_body_when.Goals as goal
+
+pub loop-init : goal.loop-init
+loop-init g c = record {
+  body = c.requires.body;
+  share = refl;
+  sink = refl;
+  called = ([], refl, refl, search rules);
+  room = c.requires.tries;
+}
 
 pub returns-in_default-clause-fault : goal.returns-in_default-clause-fault
 returns-in_default-clause-fault g c =
