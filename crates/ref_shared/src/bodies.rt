@@ -1,5 +1,5 @@
 //! What a transaction runs.
-ghost use Rattle.std.specs.Prelude.{Result};
+ghost use Rattle.std.specs.Prelude.{◌≡◌, Result};
 ghost use Rattle.std.specs.Fn.{CalledAtMut};
 ghost use Rattle.ref_tx.specs.Seen.{TxSeen};
 

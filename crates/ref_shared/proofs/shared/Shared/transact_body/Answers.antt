@@ -1,40 +1,37 @@
-use Rattle.std.proofs.Common.{rules, of_calls, refl, arith, ◌∷◌, Ok, Err}
+use Rattle.std.proofs.Common.{rules, refl, arith, ◌∷◌, Ok, Err}
 use Rattle.ref_shared.specs.Bodies.{IsRetried}
 use Rattle.ref_shared.proofs.Chains.{all_earlier, all_more, final, one_more}
-use Rattle.ref_shared.proofs.transacting.Shared+Core+L.transact_by.Goals as goal
+use Rattle.ref_shared.proofs.shared.Shared.transact_body.Goals as goal
 
 pub returns-in-Err-clause-fault : goal.returns-in-Err-clause-fault
 returns-in-Err-clause-fault g c =
-    let so_far = c.loop-attempt.invariant.called in
-    let call = rw c.in-Err.is at c.body.ensures in (
+    let so_far = c.loop-attempt.invariant.called in (
       record { began = _; answer = Err c.in-Err.e; left = _ },
       so_far.0,
       one_more _ _ _ _ _ _ _ _ so_far.1 so_far.2 so_far.3 c.loop-attempt.invariant.room
-          (record { fresh = c.in-Ok.ensures; called = record { shown = _; shows = refl; left = _; called = call; leaves = refl } }),
+          (record { fresh = c.in-Ok.ensures; called = c.in-Err.ensures.does }),
       refl,
     )
 
 pub returns-in-Ok-commit-clause-ok : goal.returns-in-Ok-commit-clause-ok
 returns-in-Ok-commit-clause-ok g c =
     let so_far = c.loop-attempt.invariant.called in
-    let call = rw c.in-Ok-body.is at c.body.ensures in
     record {
-      call = record { began = _; answer = Ok c.in-Ok-body.answer; left = _ };
+      call = record { began = _; answer = Ok c.in-Ok-run.answer; left = _ };
       earlier = so_far.0;
       calls = one_more _ _ _ _ _ _ _ _ so_far.1 so_far.2 so_far.3 c.loop-attempt.invariant.room
-          (record { fresh = c.in-Ok.ensures; called = record { shown = _; shows = refl; left = _; called = call; leaves = refl } });
+          (record { fresh = c.in-Ok.ensures; called = c.in-Ok-run.ensures.does });
       answered = refl;
       landed = search rules;
     }
 
 pub returns-then-attempt-tries-clause-fault : goal.returns-then-attempt-tries-clause-fault
 returns-then-attempt-tries-clause-fault g c =
-    let so_far = c.loop-attempt.invariant.called in
-    let call = rw c.in-Ok-body.is at c.body.ensures in (
-      record { began = _; answer = Ok c.in-Ok-body.answer; left = _ },
+    let so_far = c.loop-attempt.invariant.called in (
+      record { began = _; answer = Ok c.in-Ok-run.answer; left = _ },
       so_far.0,
       one_more _ _ _ _ _ _ _ _ so_far.1 so_far.2 so_far.3 c.loop-attempt.invariant.room
-          (record { fresh = c.in-Ok.ensures; called = record { shown = _; shows = refl; left = _; called = call; leaves = refl } }),
+          (record { fresh = c.in-Ok.ensures; called = c.in-Ok-run.ensures.does }),
       refl,
       refl,
       omega (arith, so_far.2, c.if-attempt-tries.true),
@@ -44,14 +41,13 @@ returns-then-attempt-tries-clause-fault g c =
 pub loop-attempt-preserved : goal.loop-attempt-preserved
 loop-attempt-preserved g c =
     let so_far = c.loop-attempt.invariant.called in
-    let call = rw c.in-Ok-body.is at c.body.ensures in
     record {
-      body = search (of_calls, rules);
+      body = c.in-Ok-run.ensures.may;
       share = search rules;
       sink = search rules;
       called = (
-        (record { began = _; answer = Ok c.in-Ok-body.answer; left = _ }) ∷ so_far.0,
-        (_, so_far.1, record { fresh = c.in-Ok.ensures; called = record { shown = _; shows = refl; left = _; called = call; leaves = refl } }),
+        (record { began = _; answer = Ok c.in-Ok-run.answer; left = _ }) ∷ so_far.0,
+        (_, so_far.1, record { fresh = c.in-Ok.ensures; called = c.in-Ok-run.ensures.does }),
         omega (arith, so_far.2),
         all_more IsRetried _ so_far.0 (record { answered = refl; conflict = c.in-Conflict.conflict; fits = search rules }) so_far.3,
       );
@@ -60,21 +56,19 @@ loop-attempt-preserved g c =
 
 pub returns-in-Memory-clause-fault : goal.returns-in-Memory-clause-fault
 returns-in-Memory-clause-fault g c =
-    let so_far = c.loop-attempt.invariant.called in
-    let call = rw c.in-Ok-body.is at c.body.ensures in (
-      (record { began = _; answer = Ok c.in-Ok-body.answer; left = _ }) ∷ so_far.0,
+    let so_far = c.loop-attempt.invariant.called in (
+      (record { began = _; answer = Ok c.in-Ok-run.answer; left = _ }) ∷ so_far.0,
       one_more _ _ _ _ _ _ _ _ so_far.1 so_far.2 so_far.3 c.loop-attempt.invariant.room
-          (record { fresh = c.in-Ok.ensures; called = record { shown = _; shows = refl; left = _; called = call; leaves = refl } }),
+          (record { fresh = c.in-Ok.ensures; called = c.in-Ok-run.ensures.does }),
     )
 
 pub returns-in_default-fault-clause-fault : goal.returns-in_default-fault-clause-fault
 returns-in_default-fault-clause-fault g c =
-    let so_far = c.loop-attempt.invariant.called in
-    let call = rw c.in-Ok-body.is at c.body.ensures in (
-      record { began = _; answer = Ok c.in-Ok-body.answer; left = _ },
+    let so_far = c.loop-attempt.invariant.called in (
+      record { began = _; answer = Ok c.in-Ok-run.answer; left = _ },
       so_far.0,
       one_more _ _ _ _ _ _ _ _ so_far.1 so_far.2 so_far.3 c.loop-attempt.invariant.room
-          (record { fresh = c.in-Ok.ensures; called = record { shown = _; shows = refl; left = _; called = call; leaves = refl } }),
+          (record { fresh = c.in-Ok.ensures; called = c.in-Ok-run.ensures.does }),
       refl,
       final _ c.in_default-fault.not-Conflict c.in_default-fault.not-Memory,
     )
