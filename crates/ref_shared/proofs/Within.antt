@@ -3,7 +3,6 @@ use Rattle.std.proofs.Common.{◌≡◌, ℕ, List, [], ◌∷◌, Ok, ap, subst
 use Rattle.std.proofs.lemmas.Result.{IfErr-weaker, IfOk-weaker}
 use Rattle.std.specs.Prelude.{Result, Option, IfErr, IfOk}
 use Rattle.ref_log.specs.declared.entries.Stamp.{Stamp}
-use Rattle.ref_tx.specs.Seen.{TxSeen}
 use Rattle.ref_world.specs.Seen.{ShareSeen}
 use Rattle.ref_world.specs.declared.commits.Receipt.{Receipt}
 use Rattle.ref_shared.specs.Bodies.{Doing, Call, Called, AllCalls, Committed, FaultComes}

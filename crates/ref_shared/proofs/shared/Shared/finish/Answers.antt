@@ -8,7 +8,7 @@ pub returns-in-Ok-clause-ok : goal.returns-in-Ok-clause-ok
 returns-in-Ok-clause-ok g c =
     fits_so _ _ _ _ _ _
     (ap (λ (b : Base). b.point) c.base.ensures.base
-        ∙ ap (λ (w : WorldSeen). w.base.point) (sym c.totals-totals.ensures.world ∙ sym c.into_world.ensures))
+    ∙ ap (λ (w : WorldSeen). w.base.point) (sym c.totals-totals.ensures.world ∙ sym c.into_world.ensures))
     (c.log.ensures.log ∙ ap (λ (w : WorldSeen). w.log) (sym c.into_world.ensures))
     (search rules)
     c.in-Ok.ensures.ok
