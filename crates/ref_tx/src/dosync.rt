@@ -1,5 +1,5 @@
 //! A transaction as its body sees it.
-ghost use Rattle.std.specs.Prelude.{◌≡◌, List, Some, None, IfOk, OnErr, OnOk};
+ghost use Rattle.std.specs.Prelude.{◌≡◌, List, true, Some, None, IfOk, OnErr, OnOk};
 ghost use Rattle.ref_fun.specs.declared.actions.Action.{Action};
 ghost use Rattle.ref_log.specs.declared.operations.Op.TheVariants.{Set, Alter, Commute, Ensure};
 ghost use Rattle.ref_tx.specs.Inner.{inner_value, with_done, with_sent};
@@ -104,7 +104,10 @@ impl<M: Meaning, F: Functions<M>> Dosync<M, F> {
 
     /// Asks whether a predicate with these arguments accepts the in-transaction value of a ref: [`TxFault::NotMet`] if it doesn't. It adds no
     /// operation.
-    pub fn require<A: IntoArgs>(&self, r: u32, code: u32, args: A) -> Result<(), TxFault> {
+    pub fn require<A: IntoArgs>(&self, r: u32, code: u32, args: A) -> Result<(), TxFault>
+        ensures { OnOk result ((given : List Edn) × (v : Edn) × A.are args given
+            × (inner_value M.means self.now r ≡ Some v) × (M.accepts code given v ≡ true)) }
+    {
         let args = args.into_args(self.alloc)?;
         self.tx.require(&self.funs, r, &Rule { code, args })
     }
