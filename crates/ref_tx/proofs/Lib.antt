@@ -1,4 +1,3 @@
 pub mod Grown
-pub mod Required
 pub mod Tabled
 pub mod Versions
