@@ -1,6 +1,6 @@
 use Rattle.std.proofs.Common.{◌∙◌}
 use Rattle.ref_player.proofs.Told.{play_of_parts, refused_of_parts}
-use Rattle.ref_player.proofs.plays.output_of.Goals as goal
+use Rattle.ref_player.proofs.plays.output_in.Goals as goal
 
 pub returns-in-Ok-clause-ok : goal.returns-in-Ok-clause-ok
 returns-in-Ok-clause-ok g c =
