@@ -3,11 +3,14 @@ ghost use Rattle.std.specs.Prelude.{◌≡◌, ◌⊎◌, ◌+◌, true, false, 
 ghost use Rattle.ref_fun.specs.declared.actions.Action.{Action};
 ghost use Rattle.ref_log.specs.Replay.{place};
 ghost use Rattle.ref_log.specs.declared.entries.Entry.TheVariants as entries;
+ghost use Rattle.ref_log.specs.declared.notices.Notice.{Notice};
+ghost use Rattle.ref_log.specs.declared.notices.Who.TheVariants as who;
 ghost use Rattle.ref_log.specs.declared.operations.Op.TheVariants.{Alter, Set};
 ghost use Rattle.ref_program.specs.Seen.{IsSameWorker};
-ghost use Rattle.ref_program.specs.Stamps.{HasNoStamp};
+ghost use Rattle.ref_program.specs.Stamps.{HasNoStamp, IsNext, IsNoEarlier};
 ghost use Rattle.ref_shared.specs.Bodies.{Committed, FaultComes, calls_of};
-ghost use Rattle.ref_shared.specs.Commits.{HasReceipt};
+ghost use Rattle.ref_shared.specs.Commits.{AreNotices, HasReceipt};
+ghost use Rattle.ref_shared.specs.Sinks.{TakesAll};
 ghost use Rattle.ref_shared.specs.Waits.{Landed, WaitFails};
 ghost use Rattle.ref_value.specs.Edn.{Edn};
 
@@ -54,10 +57,14 @@ pub struct Worker<
 }
 
 impl<'a, L: Books, R: Wait, M: Meaning, F: Functions<M>, S: WatchSink> Model for Worker<'a, L, R, M, F, S> {
-    ghost use Rattle.std.specs.Prelude.{◌<◌};
+    ghost use Rattle.std.specs.Prelude.{◌≡◌, ◌<◌};
+    ghost use Rattle.std.specs.Coded.{codes};
     ghost use Rattle.ref_program.specs.Seen.{WorkerSeen};
+    ghost use Rattle.ref_value.specs.Code.{edn_code};
 
     ghost Value = { WorkerSeen S };
+
+    ghost coded = { Prim.hlevel (codes, edn_code) };
 
     ghost view = { λ w. record {
       number = w.number;
@@ -68,7 +75,7 @@ impl<'a, L: Books, R: Wait, M: Meaning, F: Functions<M>, S: WatchSink> Model for
       sink = w.sink;
     } };
 
-    ghost invariant = { λ w. 0 < w.tries };
+    ghost invariant = { λ w. (0 < w.tries) × (w.share.parts ≡ 1) };
 }
 
 impl<'a, L: Books, R: Wait, M: Meaning, F: Functions<M>, S: WatchSink> Worker<'a, L, R, M, F, S> {
@@ -111,6 +118,9 @@ impl<'a, L: Books, R: Wait, M: Meaning, F: Functions<M>, S: WatchSink> Worker<'a
         ensures fault { IfErr result (λ f. HasNoStamp self.old.next self.old.workers
             ⊎ FaultComes B.does body.old body.new self.old.tries f) }
         ensures same { OnErr result ((self.new.share ≡ self.old.share) × (self.new.sink ≡ self.old.sink)) }
+        ensures told { OnOk result ((notices : List Notice) × TakesAll S.takes self.old.sink notices self.new.sink) }
+        ensures stamp { OnOk result (IsNext self.old.workers self.old.next self.new.next) }
+        ensures stamps { IsNoEarlier self.old.workers self.old.next self.new.next }
         ensures worker { IsSameWorker self.old self.new }
     {
         let Some(stamp) = self.stamps.next() else {
@@ -142,6 +152,9 @@ impl<'a, L: Books, R: Wait, M: Meaning, F: Functions<M>, S: WatchSink> Worker<'a
         ensures fault { IfErr result (λ f. HasNoStamp self.old.next self.old.workers
             ⊎ WaitFails B.does body.old body.new self.old.tries f) }
         ensures same { OnErr result ((self.new.share ≡ self.old.share) × (self.new.sink ≡ self.old.sink)) }
+        ensures told { OnOk result ((notices : List Notice) × TakesAll S.takes self.old.sink notices self.new.sink) }
+        ensures stamp { OnOk result (IsNext self.old.workers self.old.next self.new.next) }
+        ensures stamps { IsNoEarlier self.old.workers self.old.next self.new.next }
         ensures worker { IsSameWorker self.old self.new }
     {
         let Some(stamp) = self.stamps.next() else {
@@ -169,6 +182,8 @@ impl<'a, L: Books, R: Wait, M: Meaning, F: Functions<M>, S: WatchSink> Worker<'a
         ensures share { IfOk result (λ s. (given : List Edn) × A.are args given
             × (place M.means (Alter code given) s.old ≡ Ok s.new)
             × HasReceipt (entries.Atom a (Alter code given) s.new) self.old.share self.new.share) }
+        ensures told { IfOk result (λ s. AreNotices (who.Atom a) s.old s.new s.notices.items
+            × TakesAll S.takes self.old.sink s.notices.items self.new.sink) }
         ensures same { OnErr result (self.new ≡ self.old) }
         ensures worker { IsSameWorker self.old self.new × (self.new.next ≡ self.old.next) }
     {
@@ -190,6 +205,8 @@ impl<'a, L: Books, R: Wait, M: Meaning, F: Functions<M>, S: WatchSink> Worker<'a
     pub fn reset<V: IntoValue>(&mut self, a: u32, value: V) -> Result<Swapped, AtomFault>
         ensures share { IfOk result (λ s. V.is value s.new
             × HasReceipt (entries.Atom a (Set s.new) s.new) self.old.share self.new.share) }
+        ensures told { IfOk result (λ s. AreNotices (who.Atom a) s.old s.new s.notices.items
+            × TakesAll S.takes self.old.sink s.notices.items self.new.sink) }
         ensures same { OnErr result (self.new ≡ self.old) }
         ensures worker { IsSameWorker self.old self.new × (self.new.next ≡ self.old.next) }
     {
@@ -214,7 +231,9 @@ impl<'a, L: Books, R: Wait, M: Meaning, F: Functions<M>, S: WatchSink> Worker<'a
         new: V,
     ) -> Result<bool, AtomFault>
         ensures done { IfOk result (λ done. done ≡ true → (v : Edn) × V.is new v
-            × HasReceipt (entries.Atom a (Set v) v) self.old.share self.new.share) }
+            × HasReceipt (entries.Atom a (Set v) v) self.old.share self.new.share
+            × (notices : List Notice) × AreNotices (who.Atom a) old.now v notices
+            × TakesAll S.takes self.old.sink notices self.new.sink) }
         ensures undone { IfOk result (λ done. done ≡ false → self.new ≡ self.old) }
         ensures same { OnErr result (self.new ≡ self.old) }
         ensures worker { IsSameWorker self.old self.new × (self.new.next ≡ self.old.next) }
@@ -257,7 +276,7 @@ impl<'a, L: Books, R: Wait, M: Meaning, F: Functions<M>, S: WatchSink> Worker<'a
 
     /// Drops the receipts of entries that a checkpoint has folded.
     pub fn forget(&mut self)
-        ensures worker { IsSameWorker self.old self.new × (self.new.next ≡ self.old.next) }
+        ensures worker { IsSameWorker self.old self.new × (self.new.next ≡ self.old.next) × (self.new.sink ≡ self.old.sink) }
         ensures books { (self.new.share.commits ≡ self.old.share.commits) × (self.new.share.added ≡ self.old.share.added)
             × (self.new.share.taken ≡ self.old.share.taken) }
     {
@@ -292,6 +311,9 @@ impl<'a, L: Books, R: Wait, S: WatchSink> Worker<'a, L, R, Core, CoreFunctions, 
         ensures fault { IfErr result (λ f. HasNoStamp self.old.next self.old.workers
             ⊎ (last : D) × FaultComes (calls_of D.FnMut) body last self.old.tries f) }
         ensures same { OnErr result ((self.new.share ≡ self.old.share) × (self.new.sink ≡ self.old.sink)) }
+        ensures told { OnOk result ((notices : List Notice) × TakesAll S.takes self.old.sink notices self.new.sink) }
+        ensures stamp { OnOk result (IsNext self.old.workers self.old.next self.new.next) }
+        ensures stamps { IsNoEarlier self.old.workers self.old.next self.new.next }
         ensures worker { IsSameWorker self.old self.new }
     {
         let mut body = OnDosync::of(body);
@@ -311,6 +333,9 @@ impl<'a, L: Books, R: Wait, S: WatchSink> Worker<'a, L, R, Core, CoreFunctions, 
         ensures fault { IfErr result (λ f. HasNoStamp self.old.next self.old.workers
             ⊎ (last : D) × WaitFails (calls_of D.FnMut) body last self.old.tries f) }
         ensures same { OnErr result ((self.new.share ≡ self.old.share) × (self.new.sink ≡ self.old.sink)) }
+        ensures told { OnOk result ((notices : List Notice) × TakesAll S.takes self.old.sink notices self.new.sink) }
+        ensures stamp { OnOk result (IsNext self.old.workers self.old.next self.new.next) }
+        ensures stamps { IsNoEarlier self.old.workers self.old.next self.new.next }
         ensures worker { IsSameWorker self.old self.new }
     {
         let mut body = OnDosync::of(body);
