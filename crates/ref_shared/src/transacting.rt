@@ -99,7 +99,7 @@ impl<L: Books> Shared<Core, L> {
     /// What its earlier calls did outside the transaction stays done. Where a fault is returned, this call has committed nothing,
     /// and no send is left of it. A fault of the body, a refused commit other than a conflict, and out of memory end it.
     ///
-    /// It is for functions that mean what [`Core`]'s mean; with another meaning take [`Shared::transact_body`].
+    /// The closure is dropped at the end. [`Shared::transact_body`] is lent its body, and takes one of any meaning.
     pub fn transact<
         R: Wait,
         F: Functions<Core>,

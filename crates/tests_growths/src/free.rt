@@ -17,7 +17,7 @@ use ref_pmap::PMap;
 use ref_pvec::PVec;
 use ref_shared::Shared;
 use ref_value::{Node, Value};
-use ref_world::{Books, Share, World};
+use ref_world::{Booked, Books, Share, World};
 use std::alloc::Global;
 use std::sync::Wait;
 use tests_shared::worlds::{Stop, at_least, done, one_arg, value};
@@ -167,33 +167,28 @@ fn of_shared<R: Wait, L: Books>(rt: &R, alloc: Global, shared: &Shared<Core, L>)
     ]
 }
 
-fn call_on_world<R: Input + Print>(
+fn call_on_world<R: Input + Print, L: Books>(
     rt: &R,
     alloc: Global,
-    world: &mut World<Core>,
-) -> Result<(), Stop>
-    ensures books { world.new.books ≡ world.old.books }
-{
+    booked: &mut Booked<Core, L>,
+    share: &mut Share<L>,
+) -> Result<(), Stop> {
     let (key, rule) = (value(alloc, ":k")?, at_least(alloc, "0")?);
-    refuse(rt, EACH);
-    end(rt, "worlds", &of_world(alloc, world, &rule))?;
-    for who in WATCHED {
-        refuse(rt, EACH);
-        end(rt, "references", &of_reference(world, *who, &key))?;
-    }
-    Ok(())
-}
-
-fn call_on_agents<R: Input + Print>(
-    rt: &R,
-    alloc: Global,
-    world: &mut World<Core>,
-) -> Result<(), Stop>
-    ensures books { world.new.books ≡ world.old.books }
-{
     let zero = value(alloc, "0")?;
     refuse(rt, EACH);
-    end(rt, "agents", &of_agents(alloc, world, zero))
+    end(rt, "worlds", &of_world(alloc, &booked.world, &rule))?;
+    for who in WATCHED {
+        refuse(rt, EACH);
+        end(
+            rt,
+            "references",
+            &of_reference(&mut booked.world, *who, &key),
+        )?;
+    }
+    refuse(rt, EACH);
+    end(rt, "shares", &of_share(share))?;
+    refuse(rt, EACH);
+    end(rt, "agents", &of_agents(alloc, &mut booked.world, zero))
 }
 
 #[derive(Drop)]
@@ -207,14 +202,11 @@ impl<R: AllocGlobal + Input + Print + Wait> Use<R> for Calls {
         refuse(rt, EACH);
         let (mut booked, mut share) = sim.end();
         let ended = end(rt, "end of a play", &[true]);
-        let called = call_on_world(rt, alloc, &mut booked.world);
-        refuse(rt, EACH);
-        let joined = end(rt, "shares", &of_share(&mut share));
-        let told = call_on_agents(rt, alloc, &mut booked.world);
+        let called = call_on_world(rt, alloc, &mut booked, &mut share);
         refuse(rt, EACH);
         let shared = Shared::new(booked);
         let closed = end(rt, "shared", &of_shared(rt, alloc, &shared));
-        ended.and(called).and(joined).and(told).and(closed)
+        ended.and(called).and(closed)
     }
 }
 

@@ -46,12 +46,7 @@ fn account_text(alloc: Global, account: &Account, word: &str) -> Said {
     }
 }
 
-fn of_world(
-    alloc: Global,
-    world: &World<Core>,
-    totals: Totals,
-    call: &[&str],
-) -> Said {
+fn of_world(alloc: Global, world: &World<Core>, totals: Totals, call: &[&str]) -> Said {
     match at(call, 1) {
         "entries" => format!(in alloc; "{}", world.log().len()),
         "commits" => transactions_text(alloc, world.log(), false),

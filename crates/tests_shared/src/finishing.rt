@@ -105,45 +105,29 @@ fn matched(alloc: Global, row: &Row) -> Result<bool, AllocError> {
 
 const FIVE: Kind = Kind::Set(STEP_0, "5");
 
+const LATER: Kind = Kind::Set(STEP_1, "5");
+
+const SIX: Kind = Kind::Set(STEP_0, "6");
+
 const OTHER_SIX: Kind = Kind::Set(OTHER, "6");
+
+const RESET: Kind = Kind::Reset;
+
+const MADE: Kind = Kind::MadeRef;
 
 const RECEIPTS: &[Row] = &[
     // A receipt is the whole entry at its point.
     ("the same", 0, &[FIVE], &[(1, FIVE)], true),
     ("none", 0, &[FIVE], &[], false),
-    (
-        "another stamp",
-        0,
-        &[FIVE],
-        &[(1, Kind::Set(STEP_1, "5"))],
-        false,
-    ),
-    (
-        "another operation",
-        0,
-        &[FIVE],
-        &[(1, Kind::Set(STEP_0, "6"))],
-        false,
-    ),
+    ("another stamp", 0, &[FIVE], &[(1, LATER)], false),
+    ("another operation", 0, &[FIVE], &[(1, SIX)], false),
     ("another point", 0, &[FIVE], &[(2, FIVE)], false),
     ("twice", 0, &[FIVE], &[(1, FIVE), (1, FIVE)], false),
     // What is made has no receipt, and atoms have one.
-    ("an atom's", 0, &[Kind::Reset], &[], false),
-    (
-        "an atom's with its receipt",
-        0,
-        &[Kind::Reset],
-        &[(1, Kind::Reset)],
-        true,
-    ),
-    ("a ref that was made", 0, &[Kind::MadeRef], &[], true),
-    (
-        "a receipt of a making",
-        0,
-        &[Kind::MadeRef],
-        &[(1, Kind::MadeRef)],
-        false,
-    ),
+    ("an atom's", 0, &[RESET], &[], false),
+    ("its receipt", 0, &[RESET], &[(1, RESET)], true),
+    ("a ref that was made", 0, &[MADE], &[], true),
+    ("a making's", 0, &[MADE], &[(1, MADE)], false),
     ("no entry", 0, &[], &[(1, FIVE)], false),
     // Receipts match in any order, and past the base.
     (
@@ -157,7 +141,7 @@ const RECEIPTS: &[Row] = &[
         "up to the base's point",
         3,
         &[FIVE],
-        &[(0, OTHER_SIX), (3, Kind::Set(STEP_1, "7")), (4, FIVE)],
+        &[(0, OTHER_SIX), (3, LATER), (4, FIVE)],
         true,
     ),
 ];

@@ -43,10 +43,7 @@ fn ended(alloc: Global, world: &mut World<Core>, job: Job) -> Result<Finished, S
 }
 
 // The agent whose job is taken and run, and the error with which it goes on.
-fn continued(
-    alloc: Global,
-    world: &mut World<Core>,
-) -> Result<Option<(u32, AgentError)>, Stop> {
+fn continued(alloc: Global, world: &mut World<Core>) -> Result<Option<(u32, AgentError)>, Stop> {
     let Some(job) = world.take()? else {
         return Ok(None);
     };

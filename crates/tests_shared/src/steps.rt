@@ -1,8 +1,10 @@
 //! Single steps on a shared world that are not to be refused.
-use crate::worlds::{Stop, action, done, value};
+ghost use Rattle.std.specs.Prelude.{◌<◌};
+
+use crate::worlds::{Stop, action, add, done, value};
 use ref_fun::{Core, CoreFunctions};
 use ref_log::{Stamp, Who};
-use ref_shared::Shared;
+use ref_shared::{Open, Quiet, Shared};
 use ref_tx::Tx;
 use ref_world::{Books, Share};
 use std::alloc::Global;
@@ -45,6 +47,24 @@ pub fn commit<L: Books, R: Wait>(
 ) -> Result<u64, Stop> {
     let receipt = done(shared.commit(rt, alloc, &CoreFunctions, share, stamp, tx))?;
     Ok(receipt.point)
+}
+
+/// Adds a number to ref 0 in a `transact` with so many tries, and returns the point.
+pub fn transact_add<L: Books, R: Wait>(
+    rt: &R,
+    alloc: Global,
+    shared: &Shared<Core, L>,
+    share: &mut Share<L>,
+    stamp: Stamp,
+    tries: u32,
+    n: &str,
+) -> Result<u64, Stop>
+    requires { 0 < tries }
+{
+    let (funs, gate, sink) = (&CoreFunctions, &mut Open, &mut Quiet);
+    let body = |tx: &mut Tx<Core>| add(alloc, tx, 0, n);
+    let added = shared.transact(rt, alloc, funs, share, stamp, tries, gate, sink, body);
+    done(added).map(|(_, receipt)| receipt.point)
 }
 
 /// Commits `ref-set 0 text`, and returns the point.

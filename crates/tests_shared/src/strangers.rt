@@ -45,21 +45,12 @@ impl<'a, 'b, R: Wait, L: Books> On<'a, 'b, R, L> {
     // What comes of a `transact` whose body leaves a transaction in the place of its own.
     fn leave(&self, share: &mut Share<L>, stranger: Option<Tx<Core>>) -> Said {
         let (rt, alloc, funs, mut stranger) = (self.rt, self.alloc, &CoreFunctions, stranger);
-        let committed = self.shared.transact(
-            rt,
-            alloc,
-            funs,
-            share,
-            STAMP,
-            3,
-            &mut Open,
-            &mut Quiet,
-            |tx: &mut Tx<Core>| {
-                *tx = stranger.take().ok_or(TxFault::NotMet)?;
-                Ok(())
-            },
-        );
-        match committed {
+        let (shared, gate, sink) = (self.shared, &mut Open, &mut Quiet);
+        let body = |tx: &mut Tx<Core>| {
+            *tx = stranger.take().ok_or(TxFault::NotMet)?;
+            Ok(())
+        };
+        match shared.transact(rt, alloc, funs, share, STAMP, 3, gate, sink, body) {
             Ok(_) => text(alloc, "committed"),
             Err(fault) => fault_text(alloc, fault),
         }

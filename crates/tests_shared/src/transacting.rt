@@ -117,21 +117,13 @@ impl<'a, 'b, R: Wait, L: Books> On<'a, 'b, R, L> {
         let (rt, alloc, shared, funs) = (self.rt, self.alloc, self.shared, table_at(call, 3));
         let (worker, step, tries) = (0, acts.step, count_at(call, 1));
         let (heard, mut called) = (text(alloc, "")?, 0u32);
-        let mut ear = Ear { alloc, heard };
-        let answer = shared.transact(
-            rt,
-            alloc,
-            &funs,
-            share,
-            Stamp { worker, step },
-            tries,
-            gate,
-            &mut ear,
-            |tx: &mut Tx<Core>| {
-                called = called.saturating_add(1);
-                operate_all(alloc, tx, body)
-            },
-        );
+        let (mut ear, stamp) = (Ear { alloc, heard }, Stamp { worker, step });
+        let work = |tx: &mut Tx<Core>| {
+            called = called.saturating_add(1);
+            operate_all(alloc, tx, body)
+        };
+        let sink = &mut ear;
+        let answer = shared.transact(rt, alloc, &funs, share, stamp, tries, gate, sink, work);
         acts.called = called;
         match answer {
             Ok((answer, receipt)) => landed(alloc, answer, receipt, ear),
@@ -151,26 +143,18 @@ impl<'a, 'b, R: Wait, L: Books> On<'a, 'b, R, L> {
         let (rt, alloc, shared, funs) = (self.rt, self.alloc, self.shared, &CoreFunctions);
         let (worker, step, tries) = (0, acts.step, count_at(call, 1));
         let (heard, mut called) = (text(alloc, "")?, 0u32);
-        let mut ear = Ear { alloc, heard };
-        let answer = shared.transact_when(
-            rt,
-            alloc,
-            funs,
-            share,
-            Stamp { worker, step },
-            tries,
-            gate,
-            &mut ear,
-            |tx: &mut Tx<Core>| {
-                called = called.saturating_add(1);
-                let last = operate_all(alloc, tx, body)?;
-                match at(call, (called as usize).saturating_add(2)) {
-                    "ready" => Ok(Some(last)),
-                    "refused" => Err(TxFault::NotMet),
-                    _ => Ok(None),
-                }
-            },
-        );
+        let (mut ear, stamp) = (Ear { alloc, heard }, Stamp { worker, step });
+        let work = |tx: &mut Tx<Core>| {
+            called = called.saturating_add(1);
+            let last = operate_all(alloc, tx, body)?;
+            match at(call, (called as usize).saturating_add(2)) {
+                "ready" => Ok(Some(last)),
+                "refused" => Err(TxFault::NotMet),
+                _ => Ok(None),
+            }
+        };
+        let sink = &mut ear;
+        let answer = shared.transact_when(rt, alloc, funs, share, stamp, tries, gate, sink, work);
         acts.called = called;
         match answer {
             Ok((answer, receipt)) => landed(alloc, answer, receipt, ear),

@@ -6,7 +6,7 @@ use ref_agents::ErrorMode;
 use ref_edn::names::is_same;
 use ref_edn::{Value, read_all, read_one};
 use ref_fun::codes::{AT_LEAST, PLUS};
-use ref_fun::{Action, Args, Core, CoreFunctions, Rule};
+use ref_fun::{Action, Args, Carry, Core, CoreFunctions, Rule};
 use ref_log::{Entry, Notice, Stamp, Who};
 use ref_pvec::PVec;
 use ref_shared::Shared;
@@ -62,6 +62,12 @@ pub fn one_arg(alloc: Global, text: &str) -> Result<Args, AllocError> {
 
 pub fn action(alloc: Global, code: u32, text: &str) -> Result<Action, AllocError> {
     Ok(Action::new(code, one_arg(alloc, text)?))
+}
+
+/// `+` with one argument for an agent, as an action carries it.
+pub fn carry(alloc: Global, g: u32, text: &str) -> Result<Carry, AllocError> {
+    let (code, args) = (PLUS, one_arg(alloc, text)?);
+    Ok(Carry { g, code, args })
 }
 
 /// `[>= BOUND]`.

@@ -151,10 +151,7 @@ pub(crate) fn see<L: Books + Send + Sync, R: AllocGlobal + Threads + Wait + Cloc
     Ok(())
 }
 
-pub(crate) fn look_at<R: AllocGlobal + Abort>(
-    rt: &R,
-    world: &World<Core>,
-) -> Result<(), Stop> {
+pub(crate) fn look_at<R: AllocGlobal + Abort>(rt: &R, world: &World<Core>) -> Result<(), Stop> {
     same(rt, first_wrong(world), None);
     Ok(())
 }

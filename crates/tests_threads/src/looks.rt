@@ -112,71 +112,31 @@ fn transact<R: AllocGlobal + Wait + Clock, L: Books>(
     waits: bool,
     flags: &Flags,
 ) -> (Share<L>, bool) {
+    let (alloc, funs) = (rt.alloc(), &CoreFunctions);
+    let gate = &mut Pause { rt, flags, place };
+    let sink = &mut Pause { rt, flags, place };
     let is_ok = if waits {
-        commit_waiting(rt, shared, &mut share, place, flags)
+        let body = |tx: &mut Tx<Core>| add_and_send(rt, tx, place, flags).map(Some);
+        let share = &mut share;
+        let committed = shared.transact_when(rt, alloc, funs, share, STAMP, 1, gate, sink, body);
+        committed.is_ok()
     } else {
-        commit(rt, shared, &mut share, place, flags)
+        let body = |tx: &mut Tx<Core>| add_and_send(rt, tx, place, flags);
+        let committed = shared.transact(rt, alloc, funs, &mut share, STAMP, 1, gate, sink, body);
+        committed.is_ok()
     };
     (share, is_ok)
 }
 
-fn commit<R: AllocGlobal + Wait + Clock, L: Books>(
+fn add_and_send<R: AllocGlobal + Clock>(
     rt: &R,
-    shared: &Shared<Core, L>,
-    share: &mut Share<L>,
+    tx: &mut Tx<Core>,
     place: Place,
     flags: &Flags,
-) -> bool {
-    let alloc = rt.alloc();
-    let mut gate = Pause { rt, flags, place };
-    let mut sink = Pause { rt, flags, place };
-    let committed = shared.transact(
-        rt,
-        alloc,
-        &CoreFunctions,
-        share,
-        STAMP,
-        1,
-        &mut gate,
-        &mut sink,
-        |tx: &mut Tx<Core>| {
-            wait_here(rt, flags, place == Place::Body);
-            add_and_send(alloc, tx)
-        },
-    );
-    committed.is_ok()
-}
-
-fn commit_waiting<R: AllocGlobal + Wait + Clock, L: Books>(
-    rt: &R,
-    shared: &Shared<Core, L>,
-    share: &mut Share<L>,
-    place: Place,
-    flags: &Flags,
-) -> bool {
-    let alloc = rt.alloc();
-    let mut gate = Pause { rt, flags, place };
-    let mut sink = Pause { rt, flags, place };
-    let committed = shared.transact_when(
-        rt,
-        alloc,
-        &CoreFunctions,
-        share,
-        STAMP,
-        1,
-        &mut gate,
-        &mut sink,
-        |tx: &mut Tx<Core>| {
-            wait_here(rt, flags, place == Place::Body);
-            add_and_send(alloc, tx).map(Some)
-        },
-    );
-    committed.is_ok()
-}
-
-fn add_and_send(alloc: Global, tx: &mut Tx<Core>) -> Result<(), Stop> {
-    add(alloc, tx, 0, "1")?;
-    send_four(alloc, tx)
+) -> Result<(), Stop> {
+    wait_here(rt, flags, place == Place::Body);
+    add(rt.alloc(), tx, 0, "1")?;
+    send_four(rt.alloc(), tx)
 }
 
 fn transact_and_look<L: Books + Send + Sync, R: AllocGlobal + Threads + Wait + Clock + Sync>(

@@ -7,7 +7,7 @@ use crate::side_by_side::{take_turns, work_first, work_next};
 use crate::waits::{Meet, wait_for};
 use ref_agents::ErrorMode;
 use ref_fun::codes::PLUS;
-use ref_fun::{Action, Carries, Carry, Core, CoreFunctions};
+use ref_fun::{Action, Carries, Core, CoreFunctions};
 use ref_log::{Notice, Who};
 use ref_shared::{Shared, WatchSink, Worked};
 use ref_world::Books;
@@ -21,22 +21,15 @@ use std::thread::Threads;
 use std::time::Clock;
 use tests_shared::jobs::{Work, agents_at, work};
 use tests_shared::steps::{send, watch};
-use tests_shared::worlds::{Stop, done, one_arg};
+use tests_shared::worlds::{Stop, action, carry, done};
 
 // ---- One that was carried
 
 // For g `+` with this argument, which carries `+ 4` for h.
 fn carrying(alloc: Global, text: &str) -> Result<Action, AllocError> {
-    let to_h = Carry {
-        g: 1,
-        code: PLUS,
-        args: one_arg(alloc, "4")?,
-    };
-    Ok(Action {
-        code: PLUS,
-        args: one_arg(alloc, text)?,
-        carries: Carries::of(alloc, vec![in alloc; to_h]?)?,
-    })
+    let mut action = action(alloc, PLUS, text)?;
+    action.carries = Carries::of(alloc, vec![in alloc; carry(alloc, 1, "4")?]?)?;
+    Ok(action)
 }
 
 pub(crate) fn see_carried<
@@ -75,12 +68,7 @@ fn work_watched<R: Wait + Clock, L: Books>(
     shared: &Shared<Core, L>,
     flags: &Flags,
 ) -> (Work, bool) {
-    let mut gate = Meet {
-        rt,
-        here: &flags.first,
-        there: &flags.second,
-        met: false,
-    };
+    let mut gate = Meet::at(rt, &flags.first, &flags.second);
     let mut sink = Late {
         rt,
         ended: &flags.third,

@@ -9,7 +9,7 @@ use crate::waits::{wait_for, wait_past};
 use crate::waking::nudge;
 use ref_agents::Job;
 use ref_fun::codes::PLUS;
-use ref_fun::{Action, Carries, Carry, Core, CoreFunctions};
+use ref_fun::{Action, Carries, Core, CoreFunctions};
 use ref_shared::{Open, Quiet, Shared};
 use ref_tx::Tx;
 use ref_world::{Books, Share, World};
@@ -23,7 +23,7 @@ use std::thread::Threads;
 use std::time::Clock;
 use tests_shared::jobs::{agents_at, send_four};
 use tests_shared::steps::commit;
-use tests_shared::worlds::{STAMP, Stop, action, done, one_arg};
+use tests_shared::worlds::{STAMP, Stop, action, carry, done};
 
 // Runs one action, which is held until the other's has begun, and says before that it comes.
 fn come_and_meet<R: AllocGlobal + Wait + Clock, L: Books>(
@@ -132,19 +132,10 @@ fn transact_for_two<R: AllocGlobal + Wait + Clock, L: Books>(
     mut share: Share<L>,
     flags: &Flags,
 ) -> (Share<L>, bool) {
-    let alloc = rt.alloc();
+    let (alloc, funs, gate, sink) = (rt.alloc(), &CoreFunctions, &mut Open, &mut Quiet);
     let were_there = both_wait(rt, flags);
-    let committed = shared.transact(
-        rt,
-        alloc,
-        &CoreFunctions,
-        &mut share,
-        STAMP,
-        1,
-        &mut Open,
-        &mut Quiet,
-        |tx: &mut Tx<Core>| send_both(alloc, tx),
-    );
+    let body = |tx: &mut Tx<Core>| send_both(alloc, tx);
+    let committed = shared.transact(rt, alloc, funs, &mut share, STAMP, 1, gate, sink, body);
     let began = both_begin(rt, shared, flags);
     (share, were_there && began && committed.is_ok())
 }
@@ -172,21 +163,9 @@ pub(crate) fn see_transact<
 
 // For g `+ 0`, which carries `+ 1` for g and `+ 4` for h.
 fn carrying_both(alloc: Global) -> Result<Action, AllocError> {
-    let to_g = Carry {
-        g: 0,
-        code: PLUS,
-        args: one_arg(alloc, "1")?,
-    };
-    let to_h = Carry {
-        g: 1,
-        code: PLUS,
-        args: one_arg(alloc, "4")?,
-    };
-    Ok(Action {
-        code: PLUS,
-        args: one_arg(alloc, "0")?,
-        carries: Carries::of(alloc, vec![in alloc; to_g, to_h]?)?,
-    })
+    let (mut action, to_g) = (action(alloc, PLUS, "0")?, carry(alloc, 0, "1")?);
+    action.carries = Carries::of(alloc, vec![in alloc; to_g, carry(alloc, 1, "4")?]?)?;
+    Ok(action)
 }
 
 // Runs a job, and releases nothing of what its action carried.

@@ -30,12 +30,7 @@ pub(crate) fn work_and_meet<R: AllocGlobal + Wait + Clock, L: Books>(
     there: &AtomicBool,
 ) -> (bool, bool) {
     let alloc = rt.alloc();
-    let mut gate = Meet {
-        rt,
-        here,
-        there,
-        met: false,
-    };
+    let mut gate = Meet::at(rt, here, there);
     let worked = shared.work_once(rt, alloc, &CoreFunctions, &mut gate, &mut Quiet);
     (worked.is_ok(), gate.met)
 }
@@ -67,12 +62,7 @@ pub(crate) fn work_first<R: Wait + Clock, L: Books, F: Functions<Core>>(
     funs: &F,
     flags: &Flags,
 ) -> (Work, bool) {
-    let mut gate = Meet {
-        rt,
-        here: &flags.first,
-        there: &flags.second,
-        met: false,
-    };
+    let mut gate = Meet::at(rt, &flags.first, &flags.second);
     let worked = shared.work_once(rt, alloc, funs, &mut gate, &mut Quiet);
     let in_time = gate.met && wait_for(rt, &flags.third);
     shared.close(rt);

@@ -3,7 +3,7 @@ use crate::cases::{Case, check};
 use crate::pools::two_pools;
 use crate::same::same;
 use ref_fun::codes::{MINUS, PLUS};
-use ref_fun::{Action, Carries, Carry, Core, CoreFunctions};
+use ref_fun::{Action, Carries, Core, CoreFunctions};
 use ref_log::{Stamp, Who};
 use ref_shared::{Open, Quiet, Shared};
 use ref_tx::Tx;
@@ -16,7 +16,7 @@ use std::thread;
 use std::thread::Threads;
 use std::time::Clock;
 use tests_shared::numbers::int_of;
-use tests_shared::worlds::{Stop, add, agent, done, one_arg, plain_start, value};
+use tests_shared::worlds::{Stop, action, add, agent, carry, done, one_arg, plain_start, value};
 
 /// So few that any two transactions have one in common.
 const FEW: u32 = 3;
@@ -47,16 +47,9 @@ fn on_turn(n: u32, refs: u32) -> u32 {
 
 // `+ 1`, which carries `+ 1` to an agent.
 fn carrying(alloc: Global, to: u32) -> Result<Action, Stop> {
-    let carry = Carry {
-        g: to,
-        code: PLUS,
-        args: one_arg(alloc, "1")?,
-    };
-    Ok(Action {
-        code: PLUS,
-        args: one_arg(alloc, "1")?,
-        carries: Carries::of(alloc, vec![in alloc; carry]?)?,
-    })
+    let mut action = action(alloc, PLUS, "1")?;
+    action.carries = Carries::of(alloc, vec![in alloc; carry(alloc, to, "1")?]?)?;
+    Ok(action)
 }
 
 // Adds 1 to two of the refs and to the tally, which comes after them, and sends `+ 1` to an agent, which sends it on to the other.
@@ -94,19 +87,11 @@ fn round<R: Wait, L: Books>(
     stamp: Stamp,
 ) -> Result<(), Stop> {
     let n = stamp.worker.saturating_add(stamp.step);
-    let _ = done(shared.transact(
-        rt,
-        alloc,
-        &CoreFunctions,
-        share,
-        stamp,
-        10_000,
-        &mut Open,
-        &mut Quiet,
-        |tx: &mut Tx<Core>| change(alloc, tx, n),
-    ))?;
+    let (funs, gate, sink) = (&CoreFunctions, &mut Open, &mut Quiet);
+    let body = |tx: &mut Tx<Core>| change(alloc, tx, n);
+    let _ = done(shared.transact(rt, alloc, funs, share, stamp, 10_000, gate, sink, body))?;
     let one = one_arg(alloc, "1")?;
-    let _ = done(shared.swap(rt, alloc, &CoreFunctions, share, 0, PLUS, one))?;
+    let _ = done(shared.swap(rt, alloc, funs, share, 0, PLUS, one))?;
     Ok(())
 }
 

@@ -17,7 +17,7 @@ use std::thread;
 use std::thread::Threads;
 use std::time::Clock;
 use tests_shared::numbers::int_of;
-use tests_shared::steps::watch;
+use tests_shared::steps::{transact_add, watch};
 use tests_shared::worlds::{STAMP, Stop, Told, add, all_commits, done, int_at, told_of};
 
 const OTHER: Stamp = Stamp { worker: 1, step: 0 };
@@ -32,18 +32,9 @@ fn hundred<R: Wait, L: Books>(
 ) -> (Share<L>, u32) {
     let mut refused = 0u32;
     for step in 0..100u32 {
-        let committed = shared.transact(
-            rt,
-            alloc,
-            &CoreFunctions,
-            &mut share,
-            Stamp { worker, step },
-            1000,
-            &mut Open,
-            &mut Quiet,
-            |tx: &mut Tx<Core>| add(alloc, tx, 0, "1"),
-        );
-        if committed.is_err() {
+        let stamp = Stamp { worker, step };
+        let added = transact_add(rt, alloc, shared, &mut share, stamp, 1000, "1");
+        if added.is_err() {
             refused = refused.saturating_add(1);
         }
     }
@@ -120,22 +111,14 @@ fn add_beside<R: Wait, L: Books, G: Gate>(
     share: &mut Share<L>,
     gate: &mut G,
 ) -> Result<(u64, Option<i64>), Stop> {
-    let (read, receipt) = done(shared.transact(
-        rt,
-        alloc,
-        &CoreFunctions,
-        share,
-        STAMP,
-        10,
-        gate,
-        &mut Quiet,
-        |tx: &mut Tx<Core>| -> Result<Option<i64>, Stop> {
-            let read = int_of(done(tx.deref(0))?);
-            add(alloc, tx, 0, "1")?;
-            Ok(read)
-        },
-    ))?;
-    Ok((receipt.point, read))
+    let (funs, sink) = (&CoreFunctions, &mut Quiet);
+    let body = |tx: &mut Tx<Core>| -> Result<Option<i64>, Stop> {
+        let read = int_of(done(tx.deref(0))?);
+        add(alloc, tx, 0, "1")?;
+        Ok(read)
+    };
+    let added = shared.transact(rt, alloc, funs, share, STAMP, 10, gate, sink, body);
+    done(added).map(|(read, receipt)| (receipt.point, read))
 }
 
 // What came of the held commit: its point, how many bodies it took, and what the last one read.
@@ -185,23 +168,9 @@ fn add_meanwhile<R: AllocGlobal + Wait + Clock, L: Books>(
     if !wait_for(rt, &flags.first) {
         return (share, Err(Stop::Late));
     }
-    let committed = shared.transact(
-        rt,
-        alloc,
-        &CoreFunctions,
-        &mut share,
-        OTHER,
-        1,
-        &mut Open,
-        &mut Quiet,
-        |tx: &mut Tx<Core>| add(alloc, tx, 0, "10"),
-    );
+    let added = transact_add(rt, alloc, shared, &mut share, OTHER, 1, "10");
     flags.second.store(true, Ordering::SeqCst);
-    let answer = match committed {
-        Ok((_, receipt)) => Ok(receipt.point),
-        Err(_) => Err(Stop::Refused),
-    };
-    (share, answer)
+    (share, added)
 }
 
 // A commit of one thread, held until one of the other is there: it begins anew.
@@ -281,17 +250,9 @@ fn add_to<R: Wait, L: Books, W: WatchSink>(
     share: &mut Share<L>,
     sink: &mut W,
 ) -> Result<Vec<Told>, Stop> {
-    let (_, receipt) = done(shared.transact(
-        rt,
-        alloc,
-        &CoreFunctions,
-        share,
-        STAMP,
-        1,
-        &mut Open,
-        sink,
-        |tx: &mut Tx<Core>| add(alloc, tx, 0, "1"),
-    ))?;
+    let (funs, gate) = (&CoreFunctions, &mut Open);
+    let body = |tx: &mut Tx<Core>| add(alloc, tx, 0, "1");
+    let (_, receipt) = done(shared.transact(rt, alloc, funs, share, STAMP, 1, gate, sink, body))?;
     let mut told = Vec::new(alloc);
     for notice in &receipt.notices {
         told.push(told_of(notice))?;

@@ -32,6 +32,18 @@ pub struct Meet<'a, 'b, 'c, R: Clock> {
     pub met: bool,
 }
 
+impl<'a, 'b, 'c, R: Clock> Meet<'a, 'b, 'c, R> {
+    pub fn at(rt: &'a R, here: &'b AtomicBool, there: &'c AtomicBool) -> Meet<'a, 'b, 'c, R> {
+        let met = false;
+        Meet {
+            rt,
+            here,
+            there,
+            met,
+        }
+    }
+}
+
 impl<'a, 'b, 'c, R: Clock> Gate for Meet<'a, 'b, 'c, R> {
     fn pass(&mut self, spot: Spot) {
         if spot == Spot::BeforeAction {

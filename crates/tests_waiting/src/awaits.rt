@@ -114,12 +114,7 @@ fn run_behind<R: AllocGlobal + Wait + Clock, L: Books>(
     shared: &Shared<Core, L>,
     flags: &Flags,
 ) -> bool {
-    let mut gate = Meet {
-        rt,
-        here: &flags.fourth,
-        there: &flags.third,
-        met: false,
-    };
+    let mut gate = Meet::at(rt, &flags.fourth, &flags.third);
     let worked = shared.work_once(rt, rt.alloc(), &CoreFunctions, &mut gate, &mut Quiet);
     gate.met && worked.is_ok()
 }

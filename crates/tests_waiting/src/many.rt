@@ -17,8 +17,8 @@ use std::thread::Threads;
 use std::time::Clock;
 use tests_shared::jobs::agents_at;
 use tests_shared::numbers::int_of;
-use tests_shared::steps::send;
-use tests_shared::worlds::{Stop, add, done, int_at, one_arg};
+use tests_shared::steps::{send, transact_add};
+use tests_shared::worlds::{Stop, done, int_at, one_arg};
 use tests_threads::flags::Flags;
 use tests_threads::pools::two_pools;
 use tests_threads::waits::wait_for;
@@ -57,20 +57,13 @@ fn take_in_rounds<R: AllocGlobal + Wait, L: Books>(
     worker: u32,
     ended: &AtomicBool,
 ) -> (Share<L>, u32) {
-    let alloc = rt.alloc();
+    let (alloc, funs) = (rt.alloc(), &CoreFunctions);
     let mut count = 0u32;
     for step in 0..ROUNDS {
-        let took = shared.transact_when(
-            rt,
-            alloc,
-            &CoreFunctions,
-            &mut share,
-            Stamp { worker, step },
-            10_000,
-            &mut Open,
-            &mut Quiet,
-            |tx: &mut Tx<Core>| take(alloc, tx),
-        );
+        let (stamp, share) = (Stamp { worker, step }, &mut share);
+        let (tries, gate, sink) = (10_000, &mut Open, &mut Quiet);
+        let body = |tx: &mut Tx<Core>| take(alloc, tx);
+        let took = shared.transact_when(rt, alloc, funs, share, stamp, tries, gate, sink, body);
         if took.is_ok() {
             count = count.saturating_add(1);
         }
@@ -89,17 +82,8 @@ fn give<R: AllocGlobal + Wait + Clock, L: Books>(
     let alloc = rt.alloc();
     let mut went = true;
     for step in 0..2 * ROUNDS {
-        let gave = shared.transact(
-            rt,
-            alloc,
-            &CoreFunctions,
-            &mut share,
-            Stamp { worker: 2, step },
-            10_000,
-            &mut Open,
-            &mut Quiet,
-            |tx: &mut Tx<Core>| add(alloc, tx, 0, "1"),
-        );
+        let stamp = Stamp { worker: 2, step };
+        let gave = transact_add(rt, alloc, shared, &mut share, stamp, 10_000, "1");
         went = went && gave.is_ok();
     }
     let in_time = close_behind(rt, shared, flags);

@@ -2,7 +2,7 @@
 //! where the action failed is among the rows of `tests_shared`.
 use ref_agents::Finished;
 use ref_fun::codes::PLUS;
-use ref_fun::{Carries, Carry, Core, CoreFunctions};
+use ref_fun::{Carries, Core, CoreFunctions};
 use ref_log::{Notice, Who};
 use ref_shared::{Open, Shared, WatchSink, Worked};
 use ref_world::{Books, Share};
@@ -12,7 +12,7 @@ use std::test::Fail;
 use tests_shared::jobs::{CLOSED, Work, agents_at, two_agents, work};
 use tests_shared::scenarios::{CommitCount, Scenario, run_to_end};
 use tests_shared::steps::{send, watch};
-use tests_shared::worlds::{Stop, action, done, one_arg};
+use tests_shared::worlds::{Stop, action, carry, done};
 
 // For g `+ 1`, which carries `+ 4` for h, and behind it `+ 2`.
 fn send_two<R: Wait, L: Books>(
@@ -20,9 +20,8 @@ fn send_two<R: Wait, L: Books>(
     alloc: Global,
     shared: &Shared<Core, L>,
 ) -> Result<(), Stop> {
-    let (g, code, args) = (1, PLUS, one_arg(alloc, "4")?);
     let mut action = action(alloc, PLUS, "1")?;
-    action.carries = Carries::of(alloc, vec![in alloc; Carry { g, code, args }]?)?;
+    action.carries = Carries::of(alloc, vec![in alloc; carry(alloc, 1, "4")?]?)?;
     done(shared.send(rt, 0, action))?;
     send(rt, alloc, shared, 0, PLUS, "2")
 }

@@ -50,22 +50,14 @@ fn add_when<R: AllocGlobal + Wait, L: Books>(
     mut share: Share<L>,
     flags: &Flags,
 ) -> (Share<L>, Added) {
-    let alloc = rt.alloc();
+    let (alloc, funs, gate, sink) = (rt.alloc(), &CoreFunctions, &mut Open, &mut Quiet);
     let mut bodies = 0u32;
-    let committed = shared.transact_when(
-        rt,
-        alloc,
-        &CoreFunctions,
-        &mut share,
-        STAMP,
-        1,
-        &mut Open,
-        &mut Quiet,
-        |tx: &mut Tx<Core>| {
-            bodies = bodies.saturating_add(1);
-            add_behind(alloc, tx, flags)
-        },
-    );
+    let body = |tx: &mut Tx<Core>| {
+        bodies = bodies.saturating_add(1);
+        add_behind(alloc, tx, flags)
+    };
+    let lent = &mut share;
+    let committed = shared.transact_when(rt, alloc, funs, lent, STAMP, 1, gate, sink, body);
     flags.second.store(true, Ordering::SeqCst);
     let point = match committed {
         Ok((_, receipt)) => Ok(receipt.point),
@@ -238,22 +230,15 @@ pub(crate) fn wait_in_vain<R: AllocGlobal + Wait + Clock, L: Books>(
     flags: &Flags,
 ) -> Option<u32> {
     let _ = wait_for(rt, &flags.first);
+    let (alloc, funs, gate, sink) = (rt.alloc(), &CoreFunctions, &mut Open, &mut Quiet);
     let mut bodies = 0u32;
-    let waited = shared.transact_when(
-        rt,
-        rt.alloc(),
-        &CoreFunctions,
-        &mut share,
-        STAMP,
-        1,
-        &mut Open,
-        &mut Quiet,
-        |_tx: &mut Tx<Core>| -> Result<Option<()>, Stop> {
-            bodies = bodies.saturating_add(1);
-            flags.second.store(true, Ordering::SeqCst);
-            Ok(None)
-        },
-    );
+    let body = |_tx: &mut Tx<Core>| -> Result<Option<()>, Stop> {
+        bodies = bodies.saturating_add(1);
+        flags.second.store(true, Ordering::SeqCst);
+        Ok(None)
+    };
+    let lent = &mut share;
+    let waited = shared.transact_when(rt, alloc, funs, lent, STAMP, 1, gate, sink, body);
     flags.third.store(true, Ordering::SeqCst);
     match waited {
         Err(WaitFault::Closed) => Some(bodies),
