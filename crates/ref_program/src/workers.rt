@@ -1,5 +1,5 @@
 //! What a thread has.
-ghost use Rattle.std.specs.Prelude.{◌≡◌, ◌⊎◌, ◌+◌, true, false, List, Ok, IfOk, IfErr, OnErr, OnOk};
+ghost use Rattle.std.specs.Prelude.{◌≡◌, ◌⊎◌, ◌+◌, ◌<◌, true, false, List, Ok, IfOk, IfErr, OnErr, OnOk};
 ghost use Rattle.ref_fun.specs.declared.actions.Action.{Action};
 ghost use Rattle.ref_log.specs.Replay.{place};
 ghost use Rattle.ref_log.specs.declared.entries.Entry.TheVariants as entries;
@@ -14,7 +14,6 @@ ghost use Rattle.ref_shared.specs.Sinks.{TakesAll};
 ghost use Rattle.ref_shared.specs.Waits.{Landed, WaitFails};
 ghost use Rattle.ref_value.specs.Edn.{Edn};
 
-use crate::faults::Fault;
 use crate::stamps::Stamps;
 use ref_agents::SendFault;
 use ref_atoms::{AtomFault, Cas, Swapped};
@@ -122,11 +121,12 @@ impl<'a, L: Books, R: Wait, M: Meaning, F: Functions<M>, S: WatchSink> Worker<'a
         ensures stamp { OnOk result (IsNext self.old.workers self.old.next self.new.next) }
         ensures stamps { IsNoEarlier self.old.workers self.old.next self.new.next }
         ensures worker { IsSameWorker self.old self.new }
+        ensures may { B.may body.new }
     {
         let Some(stamp) = self.stamps.next() else {
             return Err(TransactFault::Commit(CommitFault::PointLimit));
         };
-        let (answer, receipt) = self.shared.transact_body(
+        match self.shared.transact_body(
             self.rt,
             self.alloc,
             &self.funs,
@@ -136,9 +136,13 @@ impl<'a, L: Books, R: Wait, M: Meaning, F: Functions<M>, S: WatchSink> Worker<'a
             &mut Open,
             &mut self.sink,
             body,
-        )?;
-        self.point = receipt.point;
-        Ok(answer)
+        ) {
+            Ok((answer, receipt)) => {
+                self.point = receipt.point;
+                Ok(answer)
+            }
+            Err(fault) => Err(fault),
+        }
     }
 
     /// As [`Worker::transact_when`], for a [`Body`].
@@ -156,13 +160,14 @@ impl<'a, L: Books, R: Wait, M: Meaning, F: Functions<M>, S: WatchSink> Worker<'a
         ensures stamp { OnOk result (IsNext self.old.workers self.old.next self.new.next) }
         ensures stamps { IsNoEarlier self.old.workers self.old.next self.new.next }
         ensures worker { IsSameWorker self.old self.new }
+        ensures may { B.may body.new }
     {
         let Some(stamp) = self.stamps.next() else {
             return Err(WaitFault::Transact(TransactFault::Commit(
                 CommitFault::PointLimit,
             )));
         };
-        let (answer, receipt) = self.shared.transact_body_when(
+        match self.shared.transact_body_when(
             self.rt,
             self.alloc,
             &self.funs,
@@ -172,9 +177,13 @@ impl<'a, L: Books, R: Wait, M: Meaning, F: Functions<M>, S: WatchSink> Worker<'a
             &mut Open,
             &mut self.sink,
             body,
-        )?;
-        self.point = receipt.point;
-        Ok(answer)
+        ) {
+            Ok((answer, receipt)) => {
+                self.point = receipt.point;
+                Ok(answer)
+            }
+            Err(fault) => Err(fault),
+        }
     }
 
     /// Sets an atom to the function of its value and the arguments: Clojure's `swap!`. The sink gets the notices.
@@ -284,7 +293,9 @@ impl<'a, L: Books, R: Wait, M: Meaning, F: Functions<M>, S: WatchSink> Worker<'a
     }
 
     /// Folds the entries up to a point into the base, in bites of so many, between which the lock is free. It returns how many these were.
-    pub fn checkpoint(&self, point: u64, bite: u32) -> Result<u64, CheckpointFault> {
+    pub fn checkpoint(&self, point: u64, bite: u32) -> Result<u64, CheckpointFault>
+        requires { 0 < bite }
+    {
         self.shared
             .checkpoint_in_bites(self.rt, self.alloc, &self.funs, point, bite)
     }
@@ -301,10 +312,10 @@ impl<'a, L: Books, R: Wait, S: WatchSink> Worker<'a, L, R, Core, CoreFunctions, 
     /// then, as often as the crew's tries say. The answer is what the body's last call returned.
     ///
     /// What the body did outside the transaction in an earlier call stays done. On a fault nothing is committed, and nothing is sent.
-    pub fn transact<T: Drop, D: FnMut(&mut Dosync) -> Result<T, Fault>>(
+    pub fn transact<T: Drop, E, D: FnMut(&mut Dosync) -> Result<T, E>>(
         &mut self,
         body: D,
-    ) -> Result<T, TransactFault<Fault>>
+    ) -> Result<T, TransactFault<E>>
         requires { D.IsAlwaysCallable body }
         ensures ok { IfOk result (λ t. (last : D) × (point : _) × Committed (calls_of D.FnMut) body last self.old.tries (Ok t)
             self.old.next point self.old.share self.new.share) }
@@ -323,10 +334,10 @@ impl<'a, L: Books, R: Wait, S: WatchSink> Worker<'a, L, R, Core, CoreFunctions, 
     /// As [`Worker::transact`], but the body may return None, which says that it isn't ready. Then the thread sleeps until something has
     /// changed, and all begins anew. It fails with [`WaitFault::Closed`] if a fault of another thread ends the run before it is ready. A run
     /// waits for all of its workers: where the others are done, and nothing has made it ready, it waits for ever.
-    pub fn transact_when<T: Drop, D: FnMut(&mut Dosync) -> Result<Option<T>, Fault>>(
+    pub fn transact_when<T: Drop, E, D: FnMut(&mut Dosync) -> Result<Option<T>, E>>(
         &mut self,
         body: D,
-    ) -> Result<T, WaitFault<Fault>>
+    ) -> Result<T, WaitFault<E>>
         requires { D.IsAlwaysCallable body }
         ensures ok { IfOk result (λ t. (last : D) × (point : _) × Landed (calls_of D.FnMut) body last self.old.tries t
             self.old.next point self.old.share self.new.share) }
@@ -343,11 +354,11 @@ impl<'a, L: Books, R: Wait, S: WatchSink> Worker<'a, L, R, Core, CoreFunctions, 
     }
 
     /// Runs a body as so many transactions, one after the other: Clojure's `(dotimes [_ times] (dosync ..))`. The first fault ends it.
-    pub fn dotimes<T: Drop, D: FnMut(&mut Dosync) -> Result<T, Fault>>(
+    pub fn dotimes<T: Drop, E, D: FnMut(&mut Dosync) -> Result<T, E>>(
         &mut self,
         times: u32,
         body: D,
-    ) -> Result<(), TransactFault<Fault>>
+    ) -> Result<(), TransactFault<E>>
         requires { D.IsAlwaysCallable body }
         ensures commits { OnOk result (self.new.share.commits ≡ self.old.share.commits + times) }
         ensures worker { IsSameWorker self.old self.new }
