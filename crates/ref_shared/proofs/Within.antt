@@ -27,7 +27,7 @@ all_calls : {W B T E : Type 0} (inner : W → B) (does : Doing B (Result T E)) (
 all_calls inner does body last calls tries all =
     record { called = called inner does body last calls all.called; few = all.few; retried = all.retried }
 
-committed : {W B T E : Type 0} (inner : W → B) (does : Doing B (Result T E)) (body last : W) (tries : ℕ) (answer : Result T E) (stamp : Stamp) (point : ℕ) (old new : ShareSeen)
+pub committed : {W B T E : Type 0} (inner : W → B) (does : Doing B (Result T E)) (body last : W) (tries : ℕ) (answer : Result T E) (stamp : Stamp) (point : ℕ) (old new : ShareSeen)
     → Committed (within inner does) body last tries answer stamp point old new → Committed does (inner body) (inner last) tries answer stamp point old new
 committed inner does body last tries answer stamp point old new so = record {
   call = so.call;
@@ -37,7 +37,7 @@ committed inner does body last tries answer stamp point old new so = record {
   landed = so.landed;
 }
 
-fault_comes : {W B T E : Type 0} (inner : W → B) (does : Doing B (Result T E)) (body last : W) (tries : ℕ) (fault : TransactFault E)
+pub fault_comes : {W B T E : Type 0} (inner : W → B) (does : Doing B (Result T E)) (body last : W) (tries : ℕ) (fault : TransactFault E)
     → FaultComes (within inner does) body last tries fault → FaultComes does (inner body) (inner last) tries fault
 fault_comes inner does body last tries (GaveUp n conflict) so =
     (so.0, so.1, all_calls inner does body last (so.0 ∷ so.1) tries so.2, so.3, so.4, so.5, so.6)
@@ -51,7 +51,7 @@ all_waits : {W B T E : Type 0} (inner : W → B) (does : Doing B (Result (Option
 all_waits inner does body last calls tries all =
     record { called = called inner does body last calls all.called; few = all.few; again = all.again }
 
-landed : {W B T E : Type 0} (inner : W → B) (does : Doing B (Result (Option T) E)) (body last : W) (tries : ℕ) (answer : T) (stamp : Stamp) (point : ℕ) (old new : ShareSeen)
+pub landed : {W B T E : Type 0} (inner : W → B) (does : Doing B (Result (Option T) E)) (body last : W) (tries : ℕ) (answer : T) (stamp : Stamp) (point : ℕ) (old new : ShareSeen)
     → Landed (within inner does) body last tries answer stamp point old new → Landed does (inner body) (inner last) tries answer stamp point old new
 landed inner does body last tries answer stamp point old new so = record {
   call = so.call;
@@ -61,7 +61,7 @@ landed inner does body last tries answer stamp point old new so = record {
   landed = so.landed;
 }
 
-wait_fails : {W B T E : Type 0} (inner : W → B) (does : Doing B (Result (Option T) E)) (body last : W) (tries : ℕ) (fault : WaitFault E)
+pub wait_fails : {W B T E : Type 0} (inner : W → B) (does : Doing B (Result (Option T) E)) (body last : W) (tries : ℕ) (fault : WaitFault E)
     → WaitFails (within inner does) body last tries fault → WaitFails does (inner body) (inner last) tries fault
 wait_fails inner does body last tries Closed so = (so.0, so.1, all_waits inner does body last (so.0 ∷ so.1) tries so.2, so.3)
 wait_fails inner does body last tries (Transact (GaveUp n conflict)) so =
