@@ -89,9 +89,19 @@ impl<'a, L: Books, R: Wait, M: Meaning, F: Functions<M>, S: WatchSink> Worker<'a
         self.alloc
     }
 
-    /// The shared world, for calls that a worker doesn't have.
+    /// The shared world, for calls that a worker doesn't have. They take [`Worker::rt`], [`Worker::alloc`] and [`Worker::functions`].
     pub fn shared(&self) -> &'a Shared<M, L> {
         self.shared
+    }
+
+    /// The right to wait.
+    pub fn rt(&self) -> &'a R {
+        self.rt
+    }
+
+    /// What functions are called by.
+    pub fn functions(&self) -> &F {
+        &self.funs
     }
 
     /// The sink, which has got the notices of this worker's changes.
