@@ -106,7 +106,8 @@ def impl_head(text):
     trait, has_trait, type = text[at:].strip().partition(" for ")
     if not has_trait:
         trait, type = None, trait
-    return trait, re.match(r"(?:&(?:'\w+ )?(?:mut )?)?([\w:]+)", type)[1].split("::")
+    # A tuple has no path, and no place is found of it.
+    return trait, re.match(r"(?:&(?:'\w+ )?(?:mut )?)?([\w:]+|\()", type)[1].split("::")
 
 
 def is_ghost_use(item):

@@ -1,4 +1,4 @@
-//! A bank on one thread: the place to begin with this library.
+//! A bank on one thread: a world without a lock and without books. A program of threads begins with `crates/template`.
 //!
 //! Two accounts are refs, whose rule is that none is below 0. A transfer is a transaction on both, which sends its sum to the
 //! journal, an agent. Where it is refused neither account is changed and the journal gets nothing; an atom counts it then.
@@ -38,20 +38,14 @@ fn business<R: AllocGlobal + Print>(rt: &R, funs: &FunTable) -> Result<(), Troub
     work(rt, &mut bank)
 }
 
-fn work<R: AllocGlobal + Print>(
-    rt: &R,
-    bank: &mut Bank,
-) -> Result<(), Trouble> {
+fn work<R: AllocGlobal + Print>(rt: &R, bank: &mut Bank) -> Result<(), Trouble> {
     transfer(rt, bank, 0, "30")?;
     transfer(rt, bank, 1, "80")?;
     transfer(rt, bank, 2, "50")?;
     tell_all(rt, bank)
 }
 
-fn tell_all<R: AllocGlobal + Print>(
-    rt: &R,
-    bank: &Bank,
-) -> Result<(), Trouble> {
+fn tell_all<R: AllocGlobal + Print>(rt: &R, bank: &Bank) -> Result<(), Trouble> {
     say(rt, "the first account has", bank.balance(FIRST))?;
     say(rt, "the second account has", bank.balance(SECOND))?;
     say(rt, "the journal has", bank.journal())?;

@@ -5,8 +5,8 @@ ghost use Rattle.ref_value.specs.Edn.{int};
 ghost use Rattle.ref_fun.specs.Meaning.{Answers};
 ghost use Rattle.ref_fun.specs.Limits.{most_arguments};
 
-use ref_value::{Node, Value};
 use ref_fun::{CallFault, Cause, FunFault, Functions, Meaning, core_fun};
+use ref_value::{Node, Value};
 use std::alloc::Global;
 
 pub(crate) const ADD: u32 = 1;

@@ -4,7 +4,7 @@
 //! stock, adds the price to the takings, and sends a line to the journal and the price to the till, which are agents. The four
 //! threads of customers are workers; the two helpers run what was sent. What is printed is the same in whatever order the threads get on.
 //!
-//! The box office ([`tickets`]) sells by functions of its own.
+//! The box office ([`tickets`]) sells by functions of its own ([`acts`]).
 #![tactic(auto)]
 
 mod acts;

@@ -118,7 +118,11 @@ pub(crate) fn sell_tickets<R: AllocGlobal + Print + Threads + Wait + Sync>(
     say(rt, &end.world, "tickets sold", Who::Ref(SOLD))?;
     say(rt, &end.world, "groups too late", Who::Atom(TOO_LATE))?;
     say(rt, &end.world, "groups too large", Who::Atom(TOO_LARGE))?;
-    println!(rt; "commits {}, which added {}", end.world.commits(), end.world.added())?;
+    println!(rt;
+        "commits {}, which added {}",
+        end.world.commits(),
+        end.world.added()
+    )?;
     Ok(())
 }
 

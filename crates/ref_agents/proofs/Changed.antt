@@ -1,5 +1,5 @@
 -- Agents that are changed, and what stays so of them.
-use Rattle.std.proofs.Common.{◌≡◌, ◌∙◌, ℕ, ◌<◌, zero, suc, Bool, true, false, not, ◌&&◌, List, [], ◌∷◌, ◌++◌, length, Option, None, Some, Result, cond, is_some, slice_get, slice_set, get_or, refl, sym, ap, subst, take, ◌-◌, ◌^◌, arith}
+use Rattle.std.proofs.Common.{◌≡◌, ◌∙◌, ℕ, ◌<◌, zero, suc, Bool, true, false, not, ◌&&◌, List, [], ◌∷◌, ◌++◌, length, Option, None, Some, Result, is_some, slice_get, slice_set, get_or, refl, sym, ap, subst, ◌^◌, arith}
 use Rattle.std.proofs.lemmas.List.{length-append, length-set, set-get_or}
 use Rattle.std.proofs.lemmas.Option.{get_or_from_slice_get, slice_get_read}
 use Rattle.ref_value.specs.Edn.{Edn}
@@ -11,7 +11,7 @@ use Rattle.ref_fun.specs.declared.rules.Rule.{Rule}
 use Rattle.ref_log.specs.Guards.{AreAccepted, with_guard}
 use Rattle.ref_log.specs.declared.guards.Guard.{Guard}
 use Rattle.ref_agents.specs.Account.{AccountSeen, after_handled, and_handled, fit_marks, is_failed_mark, restarted}
-use Rattle.ref_agents.specs.Agents.{AgentsSeen, AreAgents, IsAgent, IsAgentIfHere, IsStore, change_agent, put_agent, queuing, values_of, with_each, with_send}
+use Rattle.ref_agents.specs.Agents.{AgentsSeen, AreAgents, IsAgent, IsAgentIfHere, IsStore, change_agent, put_agent, queuing, revived, values_of, with_each, with_send}
 use Rattle.ref_agents.specs.declared.accounts.Handled.{Handled}
 use Rattle.ref_agents.specs.declared.accounts.Queued.{Queued}
 use Rattle.ref_agents.specs.declared.accounts.SentBy.{SentBy}
@@ -62,6 +62,9 @@ agents_more means (x ∷ xs) y ok are (suc i) = agents_more means xs y ok (λ k.
 pub same_set : (agents : List Agent) (g : ℕ) (x : Agent) → slice_get agents g ≡ Some x → slice_set agents g x ≡ agents
 same_set agents g x is = ap (λ y. slice_set agents g y) (sym (get_or_from_slice_get agents g x x is)) ∙ set-get_or agents g x
 
+pub change_is : (agents : List Agent) (g : ℕ) (x y : Agent) (f : Agent → Agent) → slice_get agents g ≡ Some x → y ≡ f x → slice_set agents g y ≡ change_agent agents g f
+change_is agents g x y f is same = ap (slice_set agents g) same ∙ sym (ap (put_agent agents g f) is)
+
 pub values_set : (agents : List Agent) (g : ℕ) (y : Agent) → values_of (slice_set agents g y) ≡ slice_set (values_of agents) g y.value
 values_set [] g y = refl
 values_set (x ∷ xs) zero y = refl
@@ -73,6 +76,12 @@ values_same (a ∷ agents) zero x y is same =
     let first : a ≡ x = cc in
     ap (λ v. v ∷ values_of agents) (same ∙ ap (λ k. k.value) (sym first))
 values_same (a ∷ agents) (suc g) x y is same = ap (λ l. a.value ∷ l) (values_same agents g x y is same)
+
+pub values_change : (agents : List Agent) (g : ℕ) (f : Agent → Agent) → ((x : Agent) → (f x).value ≡ x.value) → values_of (change_agent agents g f) ≡ values_of agents
+values_change agents g f same = by (slice_get agents g) refl where
+  by : (there : Option Agent) → slice_get agents g ≡ there → values_of (put_agent agents g f there) ≡ values_of agents
+  by None is = refl
+  by (Some x) is = values_same agents g x (f x) is (same x)
 
 -- where all rules still accept
 pub set_agent : (means : Means) (accepts : Accepts) (agents : List Agent) (guards : List Guard) (g : ℕ) (y : Agent) → IsAgent means y
@@ -157,6 +166,16 @@ restarted_agent means account y state clear is value error idle = record {
   single = and_false y.is_out (is_some y.error) (ap is_some error);
   idle = idle;
 }
+
+pub store_restarted : (means : Means) (accepts : Accepts) (agents : List Agent) (guards : List Guard) (g : ℕ) (state : Edn) (clear : Bool) → AreAccepted accepts guards (slice_set (values_of agents) g state)
+    → IsStore means accepts agents guards → IsStore means accepts (change_agent agents g (revived state clear)) guards
+store_restarted means accepts agents guards g state clear accepted store = by (slice_get agents g) refl where
+  by : (there : Option Agent) → slice_get agents g ≡ there → IsStore means accepts (put_agent agents g (revived state clear) there) guards
+  by None is = store
+  by (Some x) is =
+      let y : Agent = revived state clear x in
+      set_agent means accepts agents guards g y (restarted_agent means x.account y state clear refl refl refl (agent_at means agents g x store.3 is).idle)
+      (subst (AreAccepted accepts guards) (sym (values_set agents g y)) accepted) store
 
 abbrev pub seen : List Agent → List Guard → List ℕ → AgentsSeen
 seen agents guards unreleased = record { agents = agents; guards = guards; unreleased = unreleased }

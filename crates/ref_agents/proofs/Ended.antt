@@ -1,6 +1,5 @@
 -- Agents whose job has ended.
-use Rattle.std.proofs.Common.{◌≡◌, ◌∙◌, Bool, true, false, ◌&&◌, List, [], ◌∷◌, ◌++◌, Option, None, Some, Result, Ok, Err, ℕ, is_some, get_or, slice_get, slice_set, if◌then◌else◌, refl, sym, ap, subst}
-use Rattle.std.proofs.lemmas.Option.{get_or_from_slice_get}
+use Rattle.std.proofs.Common.{◌≡◌, ◌∙◌, Bool, true, false, ◌&&◌, List, [], ◌∷◌, ◌++◌, Option, None, Some, Result, Ok, Err, ℕ, is_some, slice_get, slice_set, if◌then◌else◌, refl, sym, ap, subst}
 use Rattle.ref_value.specs.Edn.{Edn}
 use Rattle.ref_fun.specs.Meaning.{Means}
 use Rattle.ref_fun.specs.Rule.{Accepts, passes}
@@ -8,11 +7,11 @@ use Rattle.ref_fun.specs.declared.actions.Action.{Action}
 use Rattle.ref_fun.specs.declared.carries.Carry.{Carry}
 use Rattle.ref_fun.specs.declared.faults.Cause.{Cause}
 use Rattle.ref_fun.specs.declared.rules.Rule.{Rule}
-use Rattle.ref_agents.specs.Account.{AccountSeen, after_marked, and_handled, fit_marks, fold_of, has_head, is_failed_mark, with_head_ended}
+use Rattle.ref_agents.specs.Account.{AccountSeen, after_marked, and_handled, fit_marks, fold_of, is_failed_mark, with_head_ended}
 use Rattle.ref_log.specs.Guards.{AreAccepted, keys_at, rule_at}
 use Rattle.ref_log.specs.declared.guards.Guard.{Guard}
-use Rattle.ref_agents.specs.Agents.{AgentsSeen, IsAgent, carrying, change_agent, ended, head_job, job_out, out_if_here, put_agent, queuing, values_of, with_agents, with_each, with_send}
-use Rattle.ref_agents.specs.Ends.{CanHave, IsAnswer, IsAnswerIfHere, IsAnswerOf, after_end, ending, has_carry, judged}
+use Rattle.ref_agents.specs.Agents.{AgentsSeen, IsAgent, carrying, ended, head_job, job_out, out_if_here, queuing, values_of, with_agents, with_each, with_send}
+use Rattle.ref_agents.specs.Ends.{CanHave, IsAnswer, IsAnswerIfHere, IsAnswerOf, after_end, has_carry, judged}
 use Rattle.ref_agents.specs.Indexed.{IsEnd}
 use Rattle.ref_agents.specs.Jobs.{JobSeen, RanSeen}
 use Rattle.ref_agents.specs.declared.accounts.Handled.{Handled}
@@ -26,7 +25,7 @@ use Rattle.ref_agents.specs.declared.agents.ErrorMode.TheVariants.{Fail, Continu
 use Rattle.ref_agents.specs.declared.ends.Finished.{Finished}
 use Rattle.ref_agents.specs.declared.faults.AgentError.{AgentError}
 use Rattle.ref_agents.specs.declared.faults.AgentError.TheVariants.{Invalid}
-use Rattle.ref_agents.proofs.Changed.{after_handled-append, fit_marks-append, relate_change, seen, values_same, values_set}
+use Rattle.ref_agents.proofs.Changed.{after_handled-append, fit_marks-append, relate_change, values_same, values_set}
 use Rattle.ref_agents.proofs.JobsOut.{made, some_of}
 
 -- ---- what a job says of its agent

@@ -1,9 +1,9 @@
 -- Accounts that are folded.
-use Rattle.std.proofs.Common.{◌≡◌, ◌∙◌, ℕ, ◌+◌, ◌-◌, ◌<◌, ◌≤◌, nat_lt, zero, suc, Bool, true, false, not, ◌&&◌, List, [], ◌∷◌, length, Option, None, Some, Ok, if◌then◌else◌, is_some, slice_get, slice_set, refl, sym, ap, subst, arith}
+use Rattle.std.proofs.Common.{◌≡◌, ◌∙◌, ℕ, ◌+◌, ◌-◌, ◌<◌, ◌≤◌, nat_lt, zero, suc, Bool, true, false, not, List, [], ◌∷◌, length, Option, None, Some, Ok, if◌then◌else◌, is_some, slice_get, slice_set, refl, sym, ap, arith}
 use Rattle.ref_value.specs.Edn.{Edn}
 use Rattle.ref_fun.specs.Meaning.{Means}
 use Rattle.ref_agents.specs.Account.{AccountSeen, after_handled, failing, fit_marks, folded, is_failed_mark, most_folded, number_of}
-use Rattle.ref_agents.specs.Agents.{AgentsSeen, IsAgent, can_fold_at, can_fold_if_here, folding, head_job, is_ready_if_here, out_if_here, put_agent, with_agents, with_fold}
+use Rattle.ref_agents.specs.Agents.{AgentsSeen, IsAgent, can_fold, can_fold_at, can_fold_if_here, folding, head_job, is_ready_if_here, out_if_here, put_agent, with_agents, with_fold}
 use Rattle.ref_agents.specs.declared.accounts.Handled.{Handled}
 use Rattle.ref_agents.specs.declared.accounts.Mark.{Mark}
 use Rattle.ref_agents.specs.declared.accounts.Mark.TheVariants.{Done, Failed, Passed}
@@ -81,6 +81,32 @@ out_kept g x = rw (head_kept g x x.account.queue) refl
 
 pub ready_kept : (unreleased : List ℕ) (x : Agent) → is_ready_if_here unreleased (Some (with_folded x)) ≡ is_ready_if_here unreleased (Some x)
 ready_kept unreleased x = refl
+
+-- ---- an agent that is folded, if it can be
+
+pub folding_agent : (means : Means) (x : Agent) → IsAgent means x → IsAgent means (folding x)
+folding_agent means x ok = by (can_fold x) where
+  by : (b : Bool) → IsAgent means (if b then with_folded x else x)
+  by true = folded_agent means x ok
+  by false = ok
+
+pub folding_value : (x : Agent) → (folding x).value ≡ x.value
+folding_value x = by (can_fold x) where
+  by : (b : Bool) → (if b then with_folded x else x).value ≡ x.value
+  by true = refl
+  by false = refl
+
+pub folding_out : (g : ℕ) (x : Agent) → out_if_here g (Some (folding x)) ≡ out_if_here g (Some x)
+folding_out g x = by (can_fold x) where
+  by : (b : Bool) → out_if_here g (Some (if b then with_folded x else x)) ≡ out_if_here g (Some x)
+  by true = out_kept g x
+  by false = refl
+
+pub folding_ready : (unreleased : List ℕ) (x : Agent) → is_ready_if_here unreleased (Some (folding x)) ≡ is_ready_if_here unreleased (Some x)
+folding_ready unreleased x = by (can_fold x) where
+  by : (b : Bool) → is_ready_if_here unreleased (Some (if b then with_folded x else x)) ≡ is_ready_if_here unreleased (Some x)
+  by true = ready_kept unreleased x
+  by false = refl
 
 -- ---- whether it can be folded
 

@@ -1,5 +1,5 @@
 -- Jobs that are handed out and come back.
-use Rattle.std.proofs.Common.{◌≡◌, ◌∙◌, ℕ, Bool, true, false, ◌&&◌, List, [], ◌∷◌, Option, None, Some, IsTrue, is_some, slice_get, if◌then◌else◌, refl, sym, ap, subst}
+use Rattle.std.proofs.Common.{◌≡◌, ◌∙◌, ℕ, Bool, true, false, ◌&&◌, List, [], ◌∷◌, Option, None, Some, IsTrue, is_some, slice_get, if◌then◌else◌, refl, sym, ap}
 use Rattle.std.specs.Ordering.{eq_by_cmp}
 use Rattle.ref_value.specs.Order.{edn_cmp}
 use Rattle.ref_value.specs.OrderLaws.{edn_eq}

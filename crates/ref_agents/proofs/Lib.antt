@@ -7,3 +7,6 @@ pub mod Ended
 pub mod SentBack
 pub mod Released
 pub mod Folded
+pub mod Rising
+pub mod Carried
+pub mod Finishes

@@ -1,9 +1,9 @@
 -- What an action carried, released.
-use Rattle.std.proofs.Common.{◌≡◌, ◌∙◌, ◌<◌, ◌≤◌, ◌-◌, ◌+◌, ℕ, zero, suc, Bool, false, ◌||◌, List, [], ◌∷◌, ◌++◌, drop, get_or, length, map, take, true, arith, refl, sym, ap}
+use Rattle.std.proofs.Common.{◌≡◌, ◌∙◌, ◌<◌, ◌≤◌, ◌-◌, ◌+◌, ℕ, zero, suc, Bool, false, ◌||◌, List, [], ◌∷◌, ◌++◌, drop, get_or, length, take, true, arith, refl, sym, ap}
 use Rattle.std.proofs.Math.Seq.{take-suc}
 use Rattle.std.specs.Prelude.{slice_set}
 use Rattle.ref_fun.specs.declared.carries.Carry.{Carry}
-use Rattle.ref_agents.specs.Account.{AccountSeen, has_carried, has_head, is_carried_by, last_carries, last_released, released, released_by}
+use Rattle.ref_agents.specs.Account.{AccountSeen, has_carried, is_carried_by, last_carries, last_released, released, released_by}
 use Rattle.ref_agents.specs.Agents.{carries_at, carries_if_here, change_agent, releasing, with_each_released}
 use Rattle.ref_agents.specs.declared.accounts.Handled.{Handled}
 use Rattle.ref_agents.specs.declared.accounts.Queued.{Queued}

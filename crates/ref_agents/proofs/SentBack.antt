@@ -1,5 +1,5 @@
 -- Sends that are added to queues and taken back.
-use Rattle.std.proofs.Common.{◌≡◌, ◌∙◌, ℕ, ◌<◌, ◌-◌, ◌+◌, zero, suc, List, [], ◌∷◌, ◌++◌, length, Option, None, Some, Result, Ok, Err, OnOk, OnErr, true, false, drop, take, get_or, slice_get, slice_set, arith, refl, sym, ap}
+use Rattle.std.proofs.Common.{◌≡◌, ◌∙◌, ℕ, ◌<◌, ◌-◌, ◌+◌, zero, suc, List, [], ◌∷◌, ◌++◌, length, Option, None, Some, Result, Ok, Err, OnOk, OnErr, true, false, drop, take, get_or, slice_get, slice_set, arith, refl, sym, ap, subst}
 use Rattle.std.specs.Result.{is_err}
 use Rattle.std.proofs.Math.Seq.{drop-cons, take-append_seam, take-suc}
 use Rattle.std.proofs.lemmas.List.{length-append}
@@ -86,3 +86,8 @@ on_ok (Err e) P holds is = cc
 pub on_err : {T E : Type 0} (r : Result T E) (P : Type 0) → OnErr r P → is_err r ≡ true → P
 on_err (Ok x) P holds is = cc
 on_err (Err e) P holds is = holds
+
+-- what comes of a call in both cases
+pub on_either : {T E A : Type 0} (r : Result T E) (P : A → Type 0) (new one other : A) → OnOk r (new ≡ one) → OnErr r (new ≡ other) → P one → P other → P new
+on_either (Ok x) P new one other ok err first second = subst P (sym ok) first
+on_either (Err e) P new one other ok err first second = subst P (sym err) second

@@ -14,7 +14,7 @@ use Rattle.ref_fun.specs.declared.carries.Carry.{Carry}
 use Rattle.ref_log.specs.Guards.{AreAccepted}
 use Rattle.ref_log.specs.declared.guards.Guard.{Guard}
 use Rattle.ref_log.specs.declared.sends.Sent.{Sent}
-use Rattle.ref_agents.specs.Account.{AccountSeen, fit_marks, fold_of, folded, has_point, has_released, last_carries, most_folded, number_of, restarted, with_ended, with_queued, with_released, without_last}
+use Rattle.ref_agents.specs.Account.{AccountSeen, fit_marks, fold_of, folded, has_released, last_carries, most_folded, number_of, restarted, with_ended, with_queued, with_released, without_last}
 use Rattle.ref_agents.specs.Jobs.{JobSeen}
 use Rattle.ref_agents.specs.declared.accounts.Mark.{Mark}
 use Rattle.ref_agents.specs.declared.accounts.Queued.{Queued}

@@ -3,6 +3,7 @@
 pub mod Account
 pub mod Jobs
 pub mod Agents
+pub mod Carried
 pub mod Make
 pub mod Ends
 pub mod Marks

@@ -1,6 +1,7 @@
 //! The store of agents.
 ghost use Rattle.std.specs.Prelude.{◌≡◌, ◌≢◌, ◌≤◌, ◌↔◌, [], IsTrue, None, Some, OnOk, OnErr, length, option_copied, slice_get};
 ghost use Rattle.ref_agents.specs.Agents.{AreAgents, account_at, error_at, value_at, with_mode};
+ghost use Rattle.ref_agents.specs.Carried.{AreCarried, AreRising};
 ghost use Rattle.ref_log.specs.Limits.{most_references};
 
 use crate::accounts::Account;
@@ -37,8 +38,9 @@ pub struct Agent {
 /// Contracts see lists.
 ///
 /// It is always so that each rule accepts the state of its agent; that the state is the start of the agent's account folded
-/// over its done actions; that an agent is failed exactly where its last handled action is marked failed; and that no action of
-/// a failed agent is on its way, nor of one whose last action carried sends that aren't released.
+/// over its done actions; that an agent is failed exactly where its last handled action is marked failed; that no action of
+/// a failed agent is on its way, nor of one whose last action carried sends that aren't released; that no more is held in an
+/// agent's name than its last action carried; and that no commit is held twice.
 #[derive(Drop)]
 pub struct AgentStore<M: Meaning> {
     pub(crate) agents: IndexedAgents,
@@ -52,6 +54,7 @@ impl<M: Meaning> Model for AgentStore<M> {
     ghost use Rattle.std.specs.Coded.{codes};
     ghost use Rattle.ref_value.specs.Code.{edn_code};
     ghost use Rattle.ref_agents.specs.Agents.{AgentsSeen, IsStore};
+    ghost use Rattle.ref_agents.specs.Carried.{AreCarried, AreRising};
 
     ghost Value = { AgentsSeen };
 
@@ -59,7 +62,7 @@ impl<M: Meaning> Model for AgentStore<M> {
 
     ghost view = { λ a. record { agents = a.agents.items; guards = a.guards; unreleased = a.agents.unreleased } };
 
-    ghost invariant = { λ a. IsStore M.means M.accepts a.agents.items a.guards };
+    ghost invariant = { λ a. IsStore M.means M.accepts a.agents.items a.guards × AreCarried a.agents.items × AreRising a.agents.unreleased };
 }
 
 impl<M: Meaning> AgentStore<M> {
@@ -111,6 +114,9 @@ impl<M: Meaning> AgentStore<M> {
         ensures account { option_copied result ≡ account_at self.now.agents g }
         // Each agent's state is its start folded over its done actions.
         ensures agents { AreAgents M.means self.now.agents }
+        // No more is held in an agent's name than its last action carried, and no commit is held twice.
+        ensures carried { AreCarried self.now.agents }
+        ensures rising { AreRising self.now.unreleased }
     {
         Some(&self.agents.get(g)?.account)
     }

@@ -32,8 +32,8 @@ impl<M: Meaning> AgentStore<M> {
     /// accepts, that is the state from now on, and what the action carries is added to its queues, in order: it is held until
     /// `release_carried`, and until then the agent isn't ready. Else the state stays, the agent is failed or goes on, by its error
     /// mode, and nothing goes out. A failed agent is sent what is carried, too. The action leaves the queue. The time is linear in
-    /// the sizes of its arguments and its state, which are compared, in the number of watches, and for each send that is carried
-    /// logarithmic in the number of agents with an action that waits. A refused call changes nothing, and returns the job.
+    /// the sizes of its arguments and its state, which are compared, and in the number of watches; for each send that is carried it is
+    /// logarithmic in the number of such sends that wait for its agent. A refused call changes nothing, and returns the job.
     pub fn finish<F: Functions<M>>(
         &mut self,
         alloc: Global,

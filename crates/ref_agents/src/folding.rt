@@ -1,6 +1,7 @@
 //! How accounts are folded.
 ghost use Rattle.std.specs.Prelude.{◌≡◌, ℕ, false, true, IfOk, OnErr, OnOk};
 ghost use Rattle.ref_agents.specs.Agents.{can_fold_at, is_ready_at, job_out, values_of, with_fold};
+ghost use Rattle.ref_agents.specs.Carried.{may_hold};
 
 use crate::accounts::MOST_FOLDED;
 use crate::agents::{Agent, AgentStore};
@@ -22,6 +23,8 @@ impl<M: Meaning> AgentStore<M> {
         ensures values { values_of self.new.agents ≡ values_of self.old.agents }
         ensures out { (h : ℕ) → job_out self.new.agents h ≡ job_out self.old.agents h }
         ensures ready { (h : ℕ) → is_ready_at self.new h ≡ is_ready_at self.old h }
+        // What an agent's last action carried, as long as it isn't released, stays, so that a release frees it.
+        ensures carried { (h to : ℕ) → may_hold self.new.agents h to ≡ may_hold self.old.agents h to }
         ensures memory { OnErr result (can_fold_at self.old.agents g ≡ true) }
         ensures err { OnErr result (self.new ≡ self.old) }
     {
@@ -41,6 +44,7 @@ impl<M: Meaning> AgentStore<M> {
         ensures values { values_of self.new.agents ≡ values_of self.old.agents }
         ensures out { (h : ℕ) → job_out self.new.agents h ≡ job_out self.old.agents h }
         ensures ready { (h : ℕ) → is_ready_at self.new h ≡ is_ready_at self.old h }
+        ensures carried { (h to : ℕ) → may_hold self.new.agents h to ≡ may_hold self.old.agents h to }
         ensures err { OnErr result (self.new ≡ self.old) }
     {
         self.agents.fold(g)

@@ -1,5 +1,5 @@
 //! The agents, with an index of those that are ready.
-ghost use Rattle.std.specs.Prelude.{◌≡◌, ◌≢◌, ◌<◌, ◌-◌, ◌++◌, ◌∷◌, ℕ, [], false, true, None, IfSome, OnOk, OnErr, length, option_copied, slice_get, slice_set, take};
+ghost use Rattle.std.specs.Prelude.{◌≡◌, ◌≢◌, ◌<◌, ◌-◌, ◌==◌, ◌++◌, ◌∷◌, if◌then◌else◌, ℕ, [], false, true, None, IfSome, OnOk, OnErr, length, option_copied, slice_get, slice_set, take};
 ghost use Rattle.std.specs.BTreeMap.{is_at};
 ghost use Rattle.std.specs.BTreeSet.{insert_key, keys};
 ghost use Rattle.std.specs.Ordering.{nat_cmp};
@@ -18,8 +18,8 @@ use std::alloc::{AllocError, Global};
 use std::collections::BTreeSet;
 use std::marker::Model;
 
-/// Agents, numbered from 0, and the points of the commits whose sends may not be taken yet. An agent that is ready is found by an index, and
-/// no other is looked at. Contracts see lists.
+/// Agents, numbered from 0, and the points of the commits whose sends may not be taken yet. An agent that is ready is found by an
+/// index of marks. Contracts see lists.
 #[derive(Drop)]
 pub(crate) struct IndexedAgents {
     pub(crate) agents: Vec<Agent>,
@@ -135,6 +135,8 @@ impl IndexedAgents {
         ensures was { result ≡ has_point self.old.unreleased point }
         ensures releases { self.new
             ≡ record self.old { unreleased = remove_key (is_at (nat_cmp point)) self.old.unreleased } }
+        ensures held { (at : ℕ) → has_point self.new.unreleased at
+            ≡ (if point == at then false else has_point self.old.unreleased at) }
     {
         if !self.unreleased.remove(&point) {
             return false;

@@ -24,11 +24,13 @@
 //! Take it where a program has agents alone; otherwise take `ref_world`, where transactions send to them, or `ref_shared`, where each
 //! thread that calls `work_once` in a loop is one of a pool.
 //!
-//! **Costs.** A send is logarithmic in the number of agents with an action that waits, and `release` in that of the commits that are
-//! held. `take` looks at such agents until one is ready, and is linear in how many it looks at. `finish` and `put_back` compare
-//! arguments and state of the job, in time linear in their sizes; `finish` tests the rule too and makes a notice for each watch. An
-//! account stores each action that ended until a fold or a restart, which takes a step for each that it drops. A `finish` takes a send's time for
-//! each that is carried, and `release_carried` for each walks back over what its agent was sent since.
+//! **Costs.** A `send` takes constant time. What a commit sends takes, for each send, time logarithmic in the number of agents, and so does
+//! its `release` for each agent whose first action it sent; both are logarithmic in the number of commits that are held. `take` finds an
+//! agent that is ready by an index of blocks of 1,024 agents: it takes a step for each agent of a block and one for each block,
+//! however many agents wait. `finish` and `put_back` compare arguments and state of the job, in time linear in their sizes; `finish`
+//! tests the rule too and makes a notice for each watch. An account stores each action that ended until a fold or a restart, which
+//! takes a step for each that it drops. For each send that is carried `finish` and `release_carried` take time logarithmic in the number
+//! of such sends that wait for its agent.
 //!
 //! **Not promised.** Which of the ready agents `take` returns: they take turns, but no contract says so. That an action is ever run,
 //! or that a job comes back: while one is lost, its agent can't be taken, and only that job or an equal one ends it. That

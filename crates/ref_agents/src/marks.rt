@@ -79,7 +79,7 @@ impl Marks {
     }
 
     /// The first number from one on whose mark is set, if there is one. The time is linear in the size of a block and in the number of
-    /// blocks: a block that is looked at in vain isn't looked at again before one of its marks is set.
+    /// blocks: but for that of the number itself, a block that is looked at in vain isn't looked at again before one of its marks is set.
     pub(crate) fn first_from(&mut self, from: usize) -> Option<usize>
         ensures set { IfSome result (λ i. is_set self.old i ≡ true) }
         ensures first { IfSome result (λ i. (from ≤ i) × AreClear self.old from i) }

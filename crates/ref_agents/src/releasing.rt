@@ -1,6 +1,7 @@
 //! How what an action carried is released.
-ghost use Rattle.std.specs.Prelude.{◌≡◌, false};
+ghost use Rattle.std.specs.Prelude.{◌≡◌, ℕ, false};
 ghost use Rattle.ref_agents.specs.Agents.{carries_at, carrying, change_agent, is_carrying_at, releasing, with_agents, with_carried_released};
+ghost use Rattle.ref_agents.specs.Carried.{held_by, queue_at};
 
 use crate::agents::{Agent, AgentStore};
 use ref_fun::{Carry, Meaning};
@@ -8,10 +9,13 @@ use ref_fun::{Carry, Meaning};
 impl<M: Meaning> AgentStore<M> {
     /// Releases what the last handled action of an agent carried, and returns whether it carried anything that wasn't released,
     /// even if all of it was dropped meanwhile. From now on it waits as if it was sent from outside, and the agent may be ready
-    /// again. It takes no memory. For each send that was carried it walks back over what that agent was sent since.
+    /// again. It takes no memory. For each send that was carried the time is logarithmic in the number of such sends that wait for its
+    /// agent.
     pub fn release_carried(&mut self, g: u32) -> bool
         ensures was { result ≡ is_carrying_at self.old.agents g }
         ensures releases { self.new ≡ with_carried_released self.old g }
+        // Nothing that waits is held in its name any more.
+        ensures free { (h : ℕ) → held_by g (queue_at self.new.agents h) ≡ 0 }
     {
         if !is_carrying(self.agents.as_slice(), g) {
             return false;
@@ -33,6 +37,7 @@ impl<M: Meaning> AgentStore<M> {
 
     // Nothing of what an agent carried is held any more.
     fn put_down(&mut self, g: u32)
+        requires { (h : ℕ) → held_by g (queue_at self.old.agents h) ≡ 0 }
         ensures { self.new ≡ with_agents self.old (change_agent self.old.agents g (carrying false)) }
     {
         self.agents.put_down(g);

@@ -1,8 +1,8 @@
 //! How failed agents are restarted.
 ghost use Rattle.ref_log.specs.Told.{Tells, TellsThenMemory};
-ghost use Rattle.std.specs.Prelude.{◌≡◌, ◌≢◌, IfErr, OnOk, OnErr, slice_set};
+ghost use Rattle.std.specs.Prelude.{◌≡◌, ◌≢◌, true, IfErr, OnOk, OnErr, is_some, slice_set};
 ghost use Rattle.ref_log.specs.Guards.{AreAccepted};
-ghost use Rattle.ref_agents.specs.Agents.{values_of, with_restart};
+ghost use Rattle.ref_agents.specs.Agents.{error_at, values_of, with_restart};
 ghost use Rattle.ref_agents.specs.Ends.{restart_refusal};
 ghost use Rattle.ref_agents.specs.declared.faults.RestartFault.TheVariants.{Memory};
 
@@ -43,6 +43,7 @@ impl<M: Meaning> AgentStore<M> {
         ensures refused { Tells (restart_refusal M.accepts (F.knows funs.now).preds self.now g state.now) result }
         ensures accepted { OnOk result (AreAccepted M.accepts self.now.guards
             (slice_set (values_of self.now.agents) g state.now)) }
+        ensures failed { OnOk result (is_some (error_at self.now.agents g) ≡ true) }
         ensures told { IfErr result (λ f. f ≢ Memory) }
     {
         let Some(agent) = self.agents.get(g) else {
@@ -60,9 +61,10 @@ impl<M: Meaning> AgentStore<M> {
         Ok(())
     }
 
-    // Restarts an agent, if it is here, with a state that its rule accepts.
+    // Restarts a failed agent with a state that its rule accepts.
     fn revive(&mut self, g: u32, state: Value, clear: bool) -> Result<(), AllocError>
-        requires { AreAccepted M.accepts self.old.guards (slice_set (values_of self.old.agents) g state) }
+        requires failed { is_some (error_at self.old.agents g) ≡ true }
+        requires accepted { AreAccepted M.accepts self.old.guards (slice_set (values_of self.old.agents) g state) }
         ensures ok { OnOk result (self.new ≡ with_restart self.old g state clear) }
         ensures err { OnErr result (self.new ≡ self.old) }
     {

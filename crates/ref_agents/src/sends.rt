@@ -1,6 +1,6 @@
 //! Sending actions to agents.
 ghost use Rattle.ref_log.specs.Told.{TellsThenMemory};
-ghost use Rattle.std.specs.Prelude.{◌≡◌, ◌≢◌, ℕ, [], IfOk, OnOk, OnErr};
+ghost use Rattle.std.specs.Prelude.{◌≡◌, ◌≢◌, ◌==◌, ℕ, [], false, if◌then◌else◌, IfOk, OnOk, OnErr};
 ghost use Rattle.ref_fun.specs.declared.actions.Action.{Action};
 ghost use Rattle.ref_agents.specs.Account.{has_point};
 ghost use Rattle.ref_agents.specs.Agents.{outside, send_refusal, with_agents, with_commit, with_each, with_release, with_send, without_each};
@@ -55,10 +55,14 @@ impl<M: Meaning> AgentStore<M> {
     }
 
     /// Lets the sends of the commit at this point be taken, and answers whether there were any and they were held. It takes no
-    /// memory. The time is logarithmic in the number of commits that are held.
+    /// memory. The time is logarithmic in the number of commits that are held, and for each agent whose first action that commit sent in
+    /// the number of agents.
     pub fn release(&mut self, point: u64) -> bool
         ensures was { result ≡ has_point self.old.unreleased point }
         ensures releases { self.new ≡ with_release self.old point }
+        // That commit isn't held any more, and each other is as it was.
+        ensures held { (at : ℕ) → has_point self.new.unreleased at
+            ≡ (if point == at then false else has_point self.old.unreleased at) }
     {
         self.agents.release(point)
     }

@@ -10,9 +10,9 @@ use std::alloc::AllocError;
 impl<M: Meaning> AgentStore<M> {
     /// Returns the first action of some agent that is ready: one that isn't failed, of which no job is on its way, whose last action
     /// carried nothing that isn't released, and whose first action may be taken. None only where no agent is ready. The action stays
-    /// in the queue. Agents take turns: those with actions that wait are looked at from the next one on, and where none of these is
-    /// ready from the first on, until one is ready. The time is linear in the number of agents that are looked at, and logarithmic in
-    /// that of all with actions that wait and of the commits that are held. A refused call changes nothing.
+    /// in the queue. Agents take turns: it is the next one that is ready after the last that was taken, or where there is none, the
+    /// first. No clause says so. It takes a step for each agent of a block, of which an index has 1,024 each, and one for each block. A
+    /// refused call changes nothing.
     pub fn take(&mut self) -> Result<Option<Job>, AllocError>
         ensures ready { IfOk result (λ found. IfSome found (λ job. is_ready_at self.old job.agent ≡ true)) }
         ensures job { IfOk result (λ found.

@@ -28,10 +28,7 @@ pub(crate) use worlds::unnamed_in;
 /// Where an action in the log's sends or in an agent's account, or what it carries, names a function that Core doesn't have, the
 /// least such code is reported, and else that the dump would nest deeper than 64. The time is linear in what is dumped; values are shared, not copied.
 #[tactic(auto, using(crate::proofs::Dumps::dump_told))]
-pub fn dump(
-    alloc: Global,
-    world: &World<Core>,
-) -> Result<Value, DumpMakeFault>
+pub fn dump(alloc: Global, world: &World<Core>) -> Result<Value, DumpMakeFault>
     ensures value { IfOk result (λ v. v ≡ dumped world.now) }
     ensures refused { TellsOrMemory faults.Memory (unnamed_refusal world.now) (dump_refusal world.now) result }
 {

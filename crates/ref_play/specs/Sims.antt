@@ -68,6 +68,10 @@ pub record SimSeen : Type 0 where
   pub slots : Slots
   pub jobs : JobSlots
 
+-- As much is in the books of a world as before.
+abbrev pub HaveSameBooks : WorldSeen → WorldSeen → Type 0
+HaveSameBooks old new = (new.books.commits ≡ old.books.commits) × (new.books.added ≡ old.books.added) × (new.books.taken ≡ old.books.taken)
+
 -- what there is now
 abbrev pub present : SimSeen → Present
 present s = record {

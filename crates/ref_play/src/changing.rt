@@ -1,6 +1,6 @@
 //! Acts that add an entry: commits, changes of atoms, and makings; and the one that folds entries.
 ghost use Rattle.std.specs.Prelude.{ℕ};
-ghost use Rattle.ref_play.specs.Sims.{Serves, SimSeen};
+ghost use Rattle.ref_play.specs.Sims.{HaveSameBooks, Serves, SimSeen};
 ghost use Rattle.ref_play.specs.declared.events.Act.TheVariants as acts;
 
 use crate::actors::Actors;
@@ -119,9 +119,10 @@ pub(crate) fn make_ref<M: Meaning, F: Functions<M>>(
     rule: &Option<Rule>,
     tally: bool,
 ) -> Reply
-    ensures { (s : SimSeen) (actor : ℕ) → Serves M.means M.accepts (F.knows funs.now) (record s { world = world.old })
+    ensures serves { (s : SimSeen) (actor : ℕ) → Serves M.means M.accepts (F.knows funs.now) (record s { world = world.old })
         actor (acts.MakeRef value.now rule.now tally) result
         (record s { world = world.new }) }
+    ensures books { HaveSameBooks world.old world.new }
 {
     let Ok(value) = value.share() else {
         return Reply::MakeRef(Err(MakeFault::Memory));
@@ -143,9 +144,10 @@ pub(crate) fn make_atom<M: Meaning, F: Functions<M>>(
     value: &Value,
     rule: &Option<Rule>,
 ) -> Reply
-    ensures { (s : SimSeen) (actor : ℕ) → Serves M.means M.accepts (F.knows funs.now) (record s { world = world.old })
+    ensures serves { (s : SimSeen) (actor : ℕ) → Serves M.means M.accepts (F.knows funs.now) (record s { world = world.old })
         actor (acts.MakeAtom value.now rule.now) result
         (record s { world = world.new }) }
+    ensures books { HaveSameBooks world.old world.new }
 {
     let Ok(value) = value.share() else {
         return Reply::MakeAtom(Err(MakeFault::Memory));
@@ -166,9 +168,10 @@ pub(crate) fn checkpoint<M: Meaning, F: Functions<M>>(
     world: &mut World<M>,
     point: u64,
 ) -> Reply
-    ensures { (s : SimSeen) (actor : ℕ) → Serves M.means M.accepts (F.knows funs.now) (record s { world = world.old })
+    ensures serves { (s : SimSeen) (actor : ℕ) → Serves M.means M.accepts (F.knows funs.now) (record s { world = world.old })
         actor (acts.Checkpoint point) result
         (record s { world = world.new }) }
+    ensures books { HaveSameBooks world.old world.new }
 {
     match world.checkpoint(alloc, funs, point) {
         Ok(count) => Reply::Checkpoint(Ok(count)),

@@ -2,7 +2,7 @@
 ghost use Rattle.std.specs.Prelude.{ℕ, []};
 ghost use Rattle.ref_fun.specs.Calls.{Known};
 ghost use Rattle.ref_play.specs.Present.{ReadsError, ReadsRule, ReadsValue};
-ghost use Rattle.ref_play.specs.Sims.{Serves, SimSeen, present};
+ghost use Rattle.ref_play.specs.Sims.{HaveSameBooks, Serves, SimSeen, present};
 ghost use Rattle.ref_play.specs.declared.events.Act.TheVariants as acts;
 
 use crate::events::Reply;
@@ -19,9 +19,10 @@ pub(crate) fn set_validator<M: Meaning, F: Functions<M>>(
     who: Who,
     rule: &Option<Rule>,
 ) -> Reply
-    ensures { (s : SimSeen) (actor : ℕ) → Serves M.means M.accepts (F.knows funs.now) (record s { world = world.old })
+    ensures serves { (s : SimSeen) (actor : ℕ) → Serves M.means M.accepts (F.knows funs.now) (record s { world = world.old })
         actor (acts.SetValidator who rule.now) result
         (record s { world = world.new }) }
+    ensures books { HaveSameBooks world.old world.new }
 {
     let Ok(rule) = share_rule(rule) else {
         return Reply::SetValidator(Err(RuleFault::Memory));
@@ -33,14 +34,11 @@ pub(crate) fn set_validator<M: Meaning, F: Functions<M>>(
 }
 
 // Adds a watch to a reference.
-pub(crate) fn add_watch<M: Meaning>(
-    world: &mut World<M>,
-    who: Who,
-    key: &Value,
-) -> Reply
-    ensures { (s : SimSeen) (knows : Known) (actor : ℕ) → Serves M.means M.accepts knows
+pub(crate) fn add_watch<M: Meaning>(world: &mut World<M>, who: Who, key: &Value) -> Reply
+    ensures serves { (s : SimSeen) (knows : Known) (actor : ℕ) → Serves M.means M.accepts knows
         (record s { world = world.old }) actor (acts.AddWatch who key.now) result
         (record s { world = world.new }) }
+    ensures books { HaveSameBooks world.old world.new }
 {
     let Ok(key) = key.share() else {
         return Reply::AddWatch(Err(WatchFault::Memory));
@@ -52,23 +50,17 @@ pub(crate) fn add_watch<M: Meaning>(
 }
 
 // Takes a watch away from a reference.
-pub(crate) fn remove_watch<M: Meaning>(
-    world: &mut World<M>,
-    who: Who,
-    key: &Value,
-) -> Reply
-    ensures { (s : SimSeen) (knows : Known) (actor : ℕ) → Serves M.means M.accepts knows
+pub(crate) fn remove_watch<M: Meaning>(world: &mut World<M>, who: Who, key: &Value) -> Reply
+    ensures serves { (s : SimSeen) (knows : Known) (actor : ℕ) → Serves M.means M.accepts knows
         (record s { world = world.old }) actor (acts.RemoveWatch who key.now) result
         (record s { world = world.new }) }
+    ensures books { HaveSameBooks world.old world.new }
 {
     Reply::RemoveWatch(world.remove_watch(who, key))
 }
 
 // The value of a reference now, if it is there.
-pub(crate) fn value_of<M: Meaning>(
-    world: &World<M>,
-    who: Who,
-) -> Reply
+pub(crate) fn value_of<M: Meaning>(world: &World<M>, who: Who) -> Reply
     ensures { (s : SimSeen) → ReadsValue (present (record s { world = world.now })) who result []
         (present (record s { world = world.now })) }
 {
@@ -82,10 +74,7 @@ pub(crate) fn value_of<M: Meaning>(
 }
 
 // The rule of a reference now, if it has one.
-pub(crate) fn rule_of<M: Meaning>(
-    world: &World<M>,
-    who: Who,
-) -> Reply
+pub(crate) fn rule_of<M: Meaning>(world: &World<M>, who: Who) -> Reply
     ensures { (s : SimSeen) → ReadsRule (present (record s { world = world.now })) who result []
         (present (record s { world = world.now })) }
 {
@@ -99,10 +88,7 @@ pub(crate) fn rule_of<M: Meaning>(
 }
 
 // The error of a failed agent.
-pub(crate) fn error_of<M: Meaning>(
-    world: &World<M>,
-    g: u32,
-) -> Reply
+pub(crate) fn error_of<M: Meaning>(world: &World<M>, g: u32) -> Reply
     ensures { (s : SimSeen) → ReadsError (present (record s { world = world.now })) g result []
         (present (record s { world = world.now })) }
 {

@@ -13,11 +13,7 @@ use ref_world::World;
 use std::alloc::{AllocError, Global};
 
 // Sends an action to an agent.
-pub(crate) fn send<M: Meaning>(
-    world: &mut World<M>,
-    g: u32,
-    action: &Action,
-) -> Reply
+pub(crate) fn send<M: Meaning>(world: &mut World<M>, g: u32, action: &Action) -> Reply
     ensures acts { (s : SimSeen) → Sends (present (record s { world = world.old })) g action.now result []
         (present (record s { world = world.new })) }
     ensures rest { world.new ≡ with_agents world.old world.new.agents }
@@ -32,10 +28,7 @@ pub(crate) fn send<M: Meaning>(
 }
 
 // Lets the sends of a commit be taken.
-pub(crate) fn release<M: Meaning>(
-    world: &mut World<M>,
-    point: u64,
-) -> Reply
+pub(crate) fn release<M: Meaning>(world: &mut World<M>, point: u64) -> Reply
     ensures acts { (s : SimSeen) → Releases (present (record s { world = world.old })) point result []
         (present (record s { world = world.new })) }
     ensures rest { world.new ≡ with_agents world.old world.new.agents }
@@ -44,10 +37,7 @@ pub(crate) fn release<M: Meaning>(
 }
 
 // Releases what the last action of an agent carried.
-pub(crate) fn release_carried<M: Meaning>(
-    world: &mut World<M>,
-    g: u32,
-) -> Reply
+pub(crate) fn release_carried<M: Meaning>(world: &mut World<M>, g: u32) -> Reply
     ensures acts { (s : SimSeen) → ReleasesCarried (present (record s { world = world.old })) g result []
         (present (record s { world = world.new })) }
     ensures rest { world.new ≡ with_agents world.old world.new.agents }
@@ -78,11 +68,7 @@ pub(crate) fn restart<M: Meaning, F: Functions<M>>(
 }
 
 // Sets what happens where an action of an agent fails.
-pub(crate) fn set_error_mode<M: Meaning>(
-    world: &mut World<M>,
-    g: u32,
-    mode: ErrorMode,
-) -> Reply
+pub(crate) fn set_error_mode<M: Meaning>(world: &mut World<M>, g: u32, mode: ErrorMode) -> Reply
     ensures acts { (s : SimSeen) → SetsMode (present (record s { world = world.old })) g mode result []
         (present (record s { world = world.new })) }
     ensures rest { world.new ≡ with_agents world.old world.new.agents }
@@ -94,10 +80,7 @@ pub(crate) fn set_error_mode<M: Meaning>(
 }
 
 // Folds the account of an agent.
-pub(crate) fn fold_agent<M: Meaning>(
-    world: &mut World<M>,
-    g: u32,
-) -> Reply
+pub(crate) fn fold_agent<M: Meaning>(world: &mut World<M>, g: u32) -> Reply
     ensures acts { (s : SimSeen) → FoldsAgent (present (record s { world = world.old })) g result []
         (present (record s { world = world.new })) }
     ensures rest { world.new ≡ with_agents world.old world.new.agents }

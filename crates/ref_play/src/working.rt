@@ -12,11 +12,7 @@ use ref_world::World;
 use std::alloc::Global;
 
 // Takes a job of any agent that is ready, where the actor has none.
-pub(crate) fn take<M: Meaning>(
-    world: &mut World<M>,
-    jobs: &mut Jobs<M>,
-    actor: u32,
-) -> Reply
+pub(crate) fn take<M: Meaning>(world: &mut World<M>, jobs: &mut Jobs<M>, actor: u32) -> Reply
     ensures acts { (s : SimSeen) → Takes (present (record s { world = world.old; jobs = jobs.old })) actor result []
         (present (record s { world = world.new; jobs = jobs.new })) }
     ensures rest { world.new ≡ with_agents world.old world.new.agents }
@@ -90,11 +86,7 @@ pub(crate) fn run<M: Meaning, F: Functions<M>>(
 }
 
 // Puts the job of an actor back, whether it has run or not.
-pub(crate) fn put_back<M: Meaning>(
-    world: &mut World<M>,
-    jobs: &mut Jobs<M>,
-    actor: u32,
-) -> Reply
+pub(crate) fn put_back<M: Meaning>(world: &mut World<M>, jobs: &mut Jobs<M>, actor: u32) -> Reply
     requires { AreHeld M.means world.old.agents.agents (jobs_of jobs.old) }
     ensures acts { (s : SimSeen) → PutsBack (present (record s { world = world.old; jobs = jobs.old })) actor result []
         (present (record s { world = world.new; jobs = jobs.new })) }

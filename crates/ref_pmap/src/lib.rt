@@ -37,7 +37,7 @@
 //! couldn't be made again, share it before the call.
 #![tactic(auto)]
 
-mod blocks;
+mod bounds;
 pub mod maps;
 pub mod numbered;
 mod trees;

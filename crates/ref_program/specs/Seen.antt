@@ -1,5 +1,5 @@
 -- What a worker shows.
-use Rattle.std.specs.Prelude.{◌≡◌, ℕ, [], ◌×◌}
+use Rattle.std.specs.Prelude.{◌≡◌, ℕ, []}
 use Rattle.ref_log.specs.declared.entries.Stamp.{Stamp}
 use Rattle.ref_world.specs.Seen.{ShareSeen}
 

@@ -12,3 +12,7 @@ IsNext workers stamp next =
 -- There is no stamp behind this one.
 abbrev pub HasNoStamp : Stamp → ℕ → Type 0
 HasNoStamp stamp workers = (stamp.step ≡ 2 ^ 32 - 1) × (2 ^ 32 ≤ stamp.worker + workers)
+
+-- The stamp is still to be used, or the next one is.
+abbrev pub IsNoEarlier : ℕ → Stamp → Stamp → Type 0
+IsNoEarlier workers stamp next = (next ≡ stamp) ⊎ IsNext workers stamp next

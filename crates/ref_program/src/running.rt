@@ -1,7 +1,7 @@
 //! A whole program: its world is made, its workers work, and its world is taken out.
-ghost use Rattle.std.specs.Prelude.{◌≡◌, ◌-◌, true, length, IfOk, OnOk, is_ok};
+ghost use Rattle.std.specs.Prelude.{◌≡◌, ◌+◌, ◌-◌, ◌<◌, ◌^◌, true, [], ◌∷◌, ◌++◌, map, vec_len, Ok, IfOk, OnOk, is_ok};
 ghost use Rattle.std.specs.Thread.{IsSend, IsSync};
-ghost use Rattle.ref_program.specs.Done.{AreFresh, AreLeft, AreShares, HaveDone, IsEach};
+ghost use Rattle.ref_program.specs.Done.{AreFresh, AreLeft, AreNumbers, HaveDone, IsEach, totals_of};
 ghost use Rattle.ref_program.specs.Seen.{HasDoneNothing};
 ghost use Rattle.ref_world.specs.Shares.{AreBlanks, all_parts, whole};
 
@@ -86,13 +86,15 @@ fn run_booked<
 
 // What all threads are lent.
 #[derive(Drop)]
-struct Hall<'p, P: CustomProgram, L: Books> {
+struct Hall<'p, P, M: Meaning, F, L: Books> {
     alloc: Global,
     program: &'p P,
-    funs: P::Functions,
+    funs: F,
     crew: Crew,
-    shared: Shared<P::Meaning, L>,
+    shared: Shared<M, L>,
 }
+
+type HallOf<'p, P, L> = Hall<'p, P, <P as CustomProgram>::Meaning, <P as CustomProgram>::Functions, L>;
 
 // What a worker leaves: its share and its sink.
 #[derive(Drop)]
@@ -118,7 +120,7 @@ fn open<'p, L: Books, P: CustomProgram>(
     program: &'p P,
     crew: Crew,
     blanks: Blanks,
-) -> Result<(Hall<'p, P, L>, Share<L>), Fault>
+) -> Result<(HallOf<'p, P, L>, Share<L>), Fault>
     requires { AreBlanks blanks L.commits L.added L.taken }
     ensures share { IfOk result (λ r. r.1 ≡ whole) }
     ensures crew { IfOk result (λ r. r.0.crew ≡ crew) }
@@ -159,9 +161,9 @@ fn work_all<
     L: Books + Send + Sync,
     P: CustomProgram + Sync,
     R: AllocGlobal + Threads + Wait + Sync,
->(rt: &R, hall: &Hall<'_, P, L>, share: &mut Share<L>) -> Result<Vec<P::Sink>, Fault>
+>(rt: &R, hall: &HallOf<'_, P, L>, share: &mut Share<L>) -> Result<Vec<P::Sink>, Fault>
     requires { share.old ≡ whole }
-    ensures done { OnOk result (AreShares P.did hall.now.crew.workers share.new) }
+    ensures done { OnOk result (HaveDone P.did hall.now.crew.workers (totals_of share.new)) }
     ensures parts { OnOk result (share.new.parts ≡ all_parts) }
 {
     let parts = parts(hall.alloc, hall.crew.workers, share)?;
@@ -169,7 +171,10 @@ fn work_all<
         thread::scope_env(),
         rt,
         |scope| -> Result<(Vec<Left<L, P::Sink>>, Vec<P::Sink>), Fault>
-            requires { IsSync P.row × IsSend L.row × IsSync L.row × AreFresh parts.items }
+            requires { IsSync P.row × IsSend L.row × IsSync L.row × AreFresh parts.items
+                × (vec_len parts ≡ hall.now.crew.workers) × (vec_len parts < 2 ^ 32) }
+            ensures { IfOk result (λ r. (vec_len r.0 ≡ hall.entry.now.crew.workers)
+                × AreLeft P.did 0 (map (λ left. left.share) r.0.items)) }
         { open_hours(scope, rt, hall, parts) },
     );
     let (left, helped) = left?;
@@ -179,7 +184,8 @@ fn work_all<
 // A part of the share for each worker, by number.
 fn parts<L: Books>(alloc: Global, workers: u32, share: &mut Share<L>) -> Result<Vec<Share<L>>, AllocError>
     requires { share.old ≡ whole }
-    ensures parts { IfOk result (λ parts. AreFresh parts.items × (length parts.items ≡ workers)) }
+    ensures parts { IfOk result (λ parts. AreFresh parts.items) }
+    ensures count { IfOk result (λ parts. (vec_len parts ≡ workers) × (vec_len parts < 2 ^ 32)) }
     ensures rest { OnOk result (share.new ≡ record whole { parts = all_parts - workers }) }
 {
     let mut parts = Vec::with_capacity(alloc, workers as usize)?;
@@ -197,15 +203,16 @@ fn parts<L: Books>(alloc: Global, workers: u32, share: &mut Share<L>) -> Result<
 fn open_hours<'s, E, L, P, R>(
     scope: &Scope<'s, E>,
     rt: &'s R,
-    hall: &'s Hall<'s, P, L>,
+    hall: &'s HallOf<'s, P, L>,
     parts: Vec<Share<L>>,
 ) -> Result<(Vec<Left<L, P::Sink>>, Vec<P::Sink>), Fault>
 where
     L: Books + Send + Sync + 's,
     P: CustomProgram + Sync + 's,
     R: Threads + Wait + Sync + 's,
-    requires { AreFresh parts.items }
-    ensures { IfOk result (λ r. AreLeft P.did (length parts.items) r.0.items) }
+    requires { AreFresh parts.items × (vec_len parts ≡ hall.now.crew.workers) × (vec_len parts < 2 ^ 32) }
+    ensures { IfOk result (λ r. (vec_len r.0 ≡ hall.now.crew.workers)
+        × AreLeft P.did 0 (map (λ left. left.share) r.0.items)) }
 {
     let mut helpers = Vec::with_capacity(hall.alloc, hall.crew.helpers as usize)?;
     let mut workers = Vec::with_capacity(hall.alloc, parts.len())?;
@@ -227,7 +234,7 @@ where
 
 // The first fault, but one that says that all was over only if there is no other.
 fn first_fault(one: Result<(), Fault>, other: Result<(), Fault>) -> Result<(), Fault>
-    ensures { OnOk result (is_ok one ≡ true) }
+    ensures { OnOk result ((is_ok one ≡ true) × (is_ok other ≡ true)) }
 {
     match one {
         Ok(()) => other,
@@ -239,10 +246,21 @@ fn first_fault(one: Result<(), Fault>, other: Result<(), Fault>) -> Result<(), F
     }
 }
 
+// Stores what a thread leaves with what the others left.
+fn keep<T: Drop>(all: &mut Vec<T>, one: Result<T, Fault>) -> Result<(), Fault>
+    ensures { OnOk result ((x : T) × (one ≡ Ok x) × (all.new.items ≡ all.old.items ++ x ∷ [])
+        × (vec_len all.new ≡ vec_len all.old + 1)) }
+{
+    match all.push(one?) {
+        Ok(()) => Ok(()),
+        Err(_) => Err(Fault::Memory),
+    }
+}
+
 fn start_helpers<'s, E, L, P, R>(
     scope: &Scope<'s, E>,
     rt: &'s R,
-    hall: &'s Hall<'s, P, L>,
+    hall: &'s HallOf<'s, P, L>,
     helpers: &mut Vec<JoinHandle<Result<P::Sink, Fault>>>,
 ) -> Result<(), Fault>
 where
@@ -264,7 +282,7 @@ where
 fn start_workers<'s, E, L, P, R>(
     scope: &Scope<'s, E>,
     rt: &'s R,
-    hall: &'s Hall<'s, P, L>,
+    hall: &'s HallOf<'s, P, L>,
     parts: Vec<Share<L>>,
     workers: &mut Vec<PromisedHandle<Result<Left<L, P::Sink>, Fault>, AsWorker<P>>>,
 ) -> Result<(), Fault>
@@ -272,6 +290,11 @@ where
     L: Books + Send + Sync + 's,
     P: CustomProgram + Sync + 's,
     R: Wait + Sync + 's,
+    requires fresh { AreFresh parts.items }
+    requires count { (vec_len parts ≡ hall.now.crew.workers) × (vec_len parts < 2 ^ 32) }
+    requires none { (workers.old.items ≡ []) × (vec_len workers.old ≡ 0) }
+    ensures numbers { AreNumbers 0 (map (λ h. h.promise.number) workers.new.items) }
+    ensures all { OnOk result (vec_len workers.new ≡ hall.now.crew.workers) }
 {
     let mut number = 0u32;
     for part in parts {
@@ -279,7 +302,13 @@ where
             number,
             of: PhantomData,
         };
-        let Ok(handle) = scope.spawn_with(promise, move || work_in(rt, hall, number, part)) else {
+        let Ok(handle) = scope.spawn_with(
+            promise,
+            move || -> Result<Left<L, P::Sink>, Fault>
+                requires { HasDoneNothing part × (part.parts ≡ 1) }
+                ensures { IfOk result (λ left. P.did number left.share × (left.share.parts ≡ 1)) }
+            { work_in(rt, hall, number, part) },
+        ) else {
             return Err(Fault::Memory);
         };
         if workers.push(handle).is_err() {
@@ -293,7 +322,7 @@ where
 // What a worker does in its thread. If it ends early nobody is to wait for what it would have done.
 fn work_in<L: Books, P: CustomProgram, R: Wait>(
     rt: &R,
-    hall: &Hall<'_, P, L>,
+    hall: &HallOf<'_, P, L>,
     number: u32,
     share: Share<L>,
 ) -> Result<Left<L, P::Sink>, Fault>
@@ -327,7 +356,7 @@ fn work_in<L: Books, P: CustomProgram, R: Wait>(
 
 // Runs actions, whichever agent is ready, until all is closed and nothing is left to do. A helper that can't go on closes all, so that nobody
 // waits for what isn't run any more.
-fn help<L: Books, P: CustomProgram, R: Wait>(rt: &R, hall: &Hall<'_, P, L>) -> Result<P::Sink, Fault> {
+fn help<L: Books, P: CustomProgram, R: Wait>(rt: &R, hall: &HallOf<'_, P, L>) -> Result<P::Sink, Fault> {
     let mut sink = hall.program.sink();
     for _ in rt.forever() {
         match hall
@@ -350,16 +379,15 @@ fn join_workers<L: Books, P: CustomProgram, R: Threads>(
     rt: &R,
     workers: Vec<PromisedHandle<Result<Left<L, P::Sink>, Fault>, AsWorker<P>>>,
     left: &mut Vec<Left<L, P::Sink>>,
-) -> Result<(), Fault> {
+) -> Result<(), Fault>
+    requires numbers { AreNumbers 0 (map (λ h. h.promise.number) workers.items) }
+    requires none { (left.old.items ≡ []) × (vec_len left.old ≡ 0) }
+    ensures count { OnOk result (vec_len left.new ≡ vec_len workers) }
+    ensures left { OnOk result (AreLeft P.did 0 (map (λ left. left.share) left.new.items)) }
+{
     let mut ended = Ok(());
     for handle in workers {
-        let worked = match handle.join(rt) {
-            Ok(one) => match left.push(one) {
-                Ok(()) => Ok(()),
-                Err(_) => Err(Fault::Memory),
-            },
-            Err(fault) => Err(fault),
-        };
+        let worked = keep(left, handle.join(rt));
         ended = first_fault(ended, worked);
     }
     ended
@@ -372,13 +400,7 @@ fn join_helpers<S: Drop, R: Threads>(
 ) -> Result<(), Fault> {
     let mut ended = Ok(());
     for handle in helpers {
-        let helped = match handle.join(rt) {
-            Ok(sink) => match sinks.push(sink) {
-                Ok(()) => Ok(()),
-                Err(_) => Err(Fault::Memory),
-            },
-            Err(fault) => Err(fault),
-        };
+        let helped = keep(sinks, handle.join(rt));
         ended = first_fault(ended, helped);
     }
     ended
@@ -390,7 +412,13 @@ fn join_all<L: Books, P: CustomProgram>(
     share: &mut Share<L>,
     left: Vec<Left<L, P::Sink>>,
     helped: Vec<P::Sink>,
-) -> Result<Vec<P::Sink>, Fault> {
+) -> Result<Vec<P::Sink>, Fault>
+    requires left { AreLeft P.did 0 (map (λ left. left.share) left.items) }
+    requires rest { share.old ≡ record whole { parts = all_parts - vec_len left } }
+    requires few { vec_len left < all_parts }
+    ensures done { OnOk result (HaveDone P.did (vec_len left) (totals_of share.new)) }
+    ensures parts { OnOk result (share.new.parts ≡ all_parts) }
+{
     let mut sinks = Vec::with_capacity(alloc, left.len())?;
     for one in left {
         let Left { share: part, sink } = one;

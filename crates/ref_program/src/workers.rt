@@ -1,17 +1,19 @@
 //! What a thread has.
-ghost use Rattle.std.specs.Prelude.{◌≡◌, ◌⊎◌, ◌+◌, true, false, List, Ok, IfOk, IfErr, OnErr, OnOk};
+ghost use Rattle.std.specs.Prelude.{◌≡◌, ◌⊎◌, ◌+◌, ◌<◌, true, false, List, Ok, IfOk, IfErr, OnErr, OnOk};
 ghost use Rattle.ref_fun.specs.declared.actions.Action.{Action};
 ghost use Rattle.ref_log.specs.Replay.{place};
 ghost use Rattle.ref_log.specs.declared.entries.Entry.TheVariants as entries;
+ghost use Rattle.ref_log.specs.declared.notices.Notice.{Notice};
+ghost use Rattle.ref_log.specs.declared.notices.Who.TheVariants as who;
 ghost use Rattle.ref_log.specs.declared.operations.Op.TheVariants.{Alter, Set};
 ghost use Rattle.ref_program.specs.Seen.{IsSameWorker};
-ghost use Rattle.ref_program.specs.Stamps.{HasNoStamp};
+ghost use Rattle.ref_program.specs.Stamps.{HasNoStamp, IsNext, IsNoEarlier};
 ghost use Rattle.ref_shared.specs.Bodies.{Committed, FaultComes, calls_of};
-ghost use Rattle.ref_shared.specs.Commits.{HasReceipt};
+ghost use Rattle.ref_shared.specs.Commits.{AreNotices, HasReceipt};
+ghost use Rattle.ref_shared.specs.Sinks.{TakesAll};
 ghost use Rattle.ref_shared.specs.Waits.{Landed, WaitFails};
 ghost use Rattle.ref_value.specs.Edn.{Edn};
 
-use crate::faults::Fault;
 use crate::stamps::Stamps;
 use ref_agents::SendFault;
 use ref_atoms::{AtomFault, Cas, Swapped};
@@ -54,10 +56,14 @@ pub struct Worker<
 }
 
 impl<'a, L: Books, R: Wait, M: Meaning, F: Functions<M>, S: WatchSink> Model for Worker<'a, L, R, M, F, S> {
-    ghost use Rattle.std.specs.Prelude.{◌<◌};
+    ghost use Rattle.std.specs.Prelude.{◌≡◌, ◌<◌};
+    ghost use Rattle.std.specs.Coded.{codes};
     ghost use Rattle.ref_program.specs.Seen.{WorkerSeen};
+    ghost use Rattle.ref_value.specs.Code.{edn_code};
 
     ghost Value = { WorkerSeen S };
+
+    ghost coded = { Prim.hlevel (codes, edn_code) };
 
     ghost view = { λ w. record {
       number = w.number;
@@ -68,7 +74,7 @@ impl<'a, L: Books, R: Wait, M: Meaning, F: Functions<M>, S: WatchSink> Model for
       sink = w.sink;
     } };
 
-    ghost invariant = { λ w. 0 < w.tries };
+    ghost invariant = { λ w. (0 < w.tries) × (w.share.parts ≡ 1) };
 }
 
 impl<'a, L: Books, R: Wait, M: Meaning, F: Functions<M>, S: WatchSink> Worker<'a, L, R, M, F, S> {
@@ -83,9 +89,19 @@ impl<'a, L: Books, R: Wait, M: Meaning, F: Functions<M>, S: WatchSink> Worker<'a
         self.alloc
     }
 
-    /// The shared world, for calls that a worker doesn't have.
+    /// The shared world, for calls that a worker doesn't have. They take [`Worker::rt`], [`Worker::alloc`] and [`Worker::functions`].
     pub fn shared(&self) -> &'a Shared<M, L> {
         self.shared
+    }
+
+    /// The right to wait.
+    pub fn rt(&self) -> &'a R {
+        self.rt
+    }
+
+    /// What functions are called by.
+    pub fn functions(&self) -> &F {
+        &self.funs
     }
 
     /// The sink, which has got the notices of this worker's changes.
@@ -111,12 +127,16 @@ impl<'a, L: Books, R: Wait, M: Meaning, F: Functions<M>, S: WatchSink> Worker<'a
         ensures fault { IfErr result (λ f. HasNoStamp self.old.next self.old.workers
             ⊎ FaultComes B.does body.old body.new self.old.tries f) }
         ensures same { OnErr result ((self.new.share ≡ self.old.share) × (self.new.sink ≡ self.old.sink)) }
+        ensures told { OnOk result ((notices : List Notice) × TakesAll S.takes self.old.sink notices self.new.sink) }
+        ensures stamp { OnOk result (IsNext self.old.workers self.old.next self.new.next) }
+        ensures stamps { IsNoEarlier self.old.workers self.old.next self.new.next }
         ensures worker { IsSameWorker self.old self.new }
+        ensures may { B.may body.new }
     {
         let Some(stamp) = self.stamps.next() else {
             return Err(TransactFault::Commit(CommitFault::PointLimit));
         };
-        let (answer, receipt) = self.shared.transact_body(
+        match self.shared.transact_body(
             self.rt,
             self.alloc,
             &self.funs,
@@ -126,9 +146,13 @@ impl<'a, L: Books, R: Wait, M: Meaning, F: Functions<M>, S: WatchSink> Worker<'a
             &mut Open,
             &mut self.sink,
             body,
-        )?;
-        self.point = receipt.point;
-        Ok(answer)
+        ) {
+            Ok((answer, receipt)) => {
+                self.point = receipt.point;
+                Ok(answer)
+            }
+            Err(fault) => Err(fault),
+        }
     }
 
     /// As [`Worker::transact_when`], for a [`Body`].
@@ -142,14 +166,18 @@ impl<'a, L: Books, R: Wait, M: Meaning, F: Functions<M>, S: WatchSink> Worker<'a
         ensures fault { IfErr result (λ f. HasNoStamp self.old.next self.old.workers
             ⊎ WaitFails B.does body.old body.new self.old.tries f) }
         ensures same { OnErr result ((self.new.share ≡ self.old.share) × (self.new.sink ≡ self.old.sink)) }
+        ensures told { OnOk result ((notices : List Notice) × TakesAll S.takes self.old.sink notices self.new.sink) }
+        ensures stamp { OnOk result (IsNext self.old.workers self.old.next self.new.next) }
+        ensures stamps { IsNoEarlier self.old.workers self.old.next self.new.next }
         ensures worker { IsSameWorker self.old self.new }
+        ensures may { B.may body.new }
     {
         let Some(stamp) = self.stamps.next() else {
             return Err(WaitFault::Transact(TransactFault::Commit(
                 CommitFault::PointLimit,
             )));
         };
-        let (answer, receipt) = self.shared.transact_body_when(
+        match self.shared.transact_body_when(
             self.rt,
             self.alloc,
             &self.funs,
@@ -159,9 +187,13 @@ impl<'a, L: Books, R: Wait, M: Meaning, F: Functions<M>, S: WatchSink> Worker<'a
             &mut Open,
             &mut self.sink,
             body,
-        )?;
-        self.point = receipt.point;
-        Ok(answer)
+        ) {
+            Ok((answer, receipt)) => {
+                self.point = receipt.point;
+                Ok(answer)
+            }
+            Err(fault) => Err(fault),
+        }
     }
 
     /// Sets an atom to the function of its value and the arguments: Clojure's `swap!`. The sink gets the notices.
@@ -169,6 +201,8 @@ impl<'a, L: Books, R: Wait, M: Meaning, F: Functions<M>, S: WatchSink> Worker<'a
         ensures share { IfOk result (λ s. (given : List Edn) × A.are args given
             × (place M.means (Alter code given) s.old ≡ Ok s.new)
             × HasReceipt (entries.Atom a (Alter code given) s.new) self.old.share self.new.share) }
+        ensures told { IfOk result (λ s. AreNotices (who.Atom a) s.old s.new s.notices.items
+            × TakesAll S.takes self.old.sink s.notices.items self.new.sink) }
         ensures same { OnErr result (self.new ≡ self.old) }
         ensures worker { IsSameWorker self.old self.new × (self.new.next ≡ self.old.next) }
     {
@@ -190,6 +224,8 @@ impl<'a, L: Books, R: Wait, M: Meaning, F: Functions<M>, S: WatchSink> Worker<'a
     pub fn reset<V: IntoValue>(&mut self, a: u32, value: V) -> Result<Swapped, AtomFault>
         ensures share { IfOk result (λ s. V.is value s.new
             × HasReceipt (entries.Atom a (Set s.new) s.new) self.old.share self.new.share) }
+        ensures told { IfOk result (λ s. AreNotices (who.Atom a) s.old s.new s.notices.items
+            × TakesAll S.takes self.old.sink s.notices.items self.new.sink) }
         ensures same { OnErr result (self.new ≡ self.old) }
         ensures worker { IsSameWorker self.old self.new × (self.new.next ≡ self.old.next) }
     {
@@ -214,7 +250,9 @@ impl<'a, L: Books, R: Wait, M: Meaning, F: Functions<M>, S: WatchSink> Worker<'a
         new: V,
     ) -> Result<bool, AtomFault>
         ensures done { IfOk result (λ done. done ≡ true → (v : Edn) × V.is new v
-            × HasReceipt (entries.Atom a (Set v) v) self.old.share self.new.share) }
+            × HasReceipt (entries.Atom a (Set v) v) self.old.share self.new.share
+            × (notices : List Notice) × AreNotices (who.Atom a) old.now v notices
+            × TakesAll S.takes self.old.sink notices self.new.sink) }
         ensures undone { IfOk result (λ done. done ≡ false → self.new ≡ self.old) }
         ensures same { OnErr result (self.new ≡ self.old) }
         ensures worker { IsSameWorker self.old self.new × (self.new.next ≡ self.old.next) }
@@ -249,28 +287,31 @@ impl<'a, L: Books, R: Wait, M: Meaning, F: Functions<M>, S: WatchSink> Worker<'a
         self.shared.value_of(self.rt, who)
     }
 
-    /// Waits until these agents have done what was sent to them by now: Clojure's `await`. Somebody has to help, or it waits until the run
-    /// ends.
+    /// Waits until these agents have done what was sent to them by now: Clojure's `await`. A crew without helpers runs nothing: there it waits
+    /// for ever, or until a fault of another worker ends the run.
     pub fn await_agents(&self, agents: &[u32]) -> Result<(), AwaitFault> {
         self.shared.await_agents(self.rt, self.alloc, agents)
     }
 
     /// Drops the receipts of entries that a checkpoint has folded.
     pub fn forget(&mut self)
-        ensures worker { IsSameWorker self.old self.new × (self.new.next ≡ self.old.next) }
+        ensures worker { IsSameWorker self.old self.new × (self.new.next ≡ self.old.next) × (self.new.sink ≡ self.old.sink) }
         ensures books { (self.new.share.commits ≡ self.old.share.commits) × (self.new.share.added ≡ self.old.share.added)
             × (self.new.share.taken ≡ self.old.share.taken) }
     {
         self.shared.forget(self.rt, &mut self.share);
     }
 
-    /// Folds the entries up to a point into the base, in bites of so many, between which the lock is free; it answers how many there were.
-    pub fn checkpoint(&self, point: u64, bite: u32) -> Result<u64, CheckpointFault> {
+    /// Folds the entries up to a point into the base, in bites of so many, between which the lock is free. It returns how many these were.
+    pub fn checkpoint(&self, point: u64, bite: u32) -> Result<u64, CheckpointFault>
+        requires { 0 < bite }
+    {
         self.shared
             .checkpoint_in_bites(self.rt, self.alloc, &self.funs, point, bite)
     }
 
-    /// Folds the actions that an agent has handled into its start; it answers whether the agent is there and not failed.
+    /// Folds the actions that an agent has handled into its start. It returns whether it did: the agent is there, and nothing that its last
+    /// action carried is held.
     pub fn fold_agent(&self, g: u32) -> Result<bool, AllocError> {
         self.shared.fold_agent(self.rt, g)
     }
@@ -281,16 +322,19 @@ impl<'a, L: Books, R: Wait, S: WatchSink> Worker<'a, L, R, Core, CoreFunctions, 
     /// then, as often as the crew's tries say. The answer is what the body's last call returned.
     ///
     /// What the body did outside the transaction in an earlier call stays done. On a fault nothing is committed, and nothing is sent.
-    pub fn transact<T: Drop, D: FnMut(&mut Dosync) -> Result<T, Fault>>(
+    pub fn transact<T: Drop, E, D: FnMut(&mut Dosync) -> Result<T, E>>(
         &mut self,
         body: D,
-    ) -> Result<T, TransactFault<Fault>>
+    ) -> Result<T, TransactFault<E>>
         requires { D.IsAlwaysCallable body }
         ensures ok { IfOk result (λ t. (last : D) × (point : _) × Committed (calls_of D.FnMut) body last self.old.tries (Ok t)
             self.old.next point self.old.share self.new.share) }
         ensures fault { IfErr result (λ f. HasNoStamp self.old.next self.old.workers
             ⊎ (last : D) × FaultComes (calls_of D.FnMut) body last self.old.tries f) }
         ensures same { OnErr result ((self.new.share ≡ self.old.share) × (self.new.sink ≡ self.old.sink)) }
+        ensures told { OnOk result ((notices : List Notice) × TakesAll S.takes self.old.sink notices self.new.sink) }
+        ensures stamp { OnOk result (IsNext self.old.workers self.old.next self.new.next) }
+        ensures stamps { IsNoEarlier self.old.workers self.old.next self.new.next }
         ensures worker { IsSameWorker self.old self.new }
     {
         let mut body = OnDosync::of(body);
@@ -298,17 +342,21 @@ impl<'a, L: Books, R: Wait, S: WatchSink> Worker<'a, L, R, Core, CoreFunctions, 
     }
 
     /// As [`Worker::transact`], but the body may return None, which says that it isn't ready. Then the thread sleeps until something has
-    /// changed, and all begins anew. It fails with [`WaitFault::Closed`] if the run ends before it is ready.
-    pub fn transact_when<T: Drop, D: FnMut(&mut Dosync) -> Result<Option<T>, Fault>>(
+    /// changed, and all begins anew. It fails with [`WaitFault::Closed`] if a fault of another thread ends the run before it is ready. A run
+    /// waits for all of its workers: where the others are done, and nothing has made it ready, it waits for ever.
+    pub fn transact_when<T: Drop, E, D: FnMut(&mut Dosync) -> Result<Option<T>, E>>(
         &mut self,
         body: D,
-    ) -> Result<T, WaitFault<Fault>>
+    ) -> Result<T, WaitFault<E>>
         requires { D.IsAlwaysCallable body }
         ensures ok { IfOk result (λ t. (last : D) × (point : _) × Landed (calls_of D.FnMut) body last self.old.tries t
             self.old.next point self.old.share self.new.share) }
         ensures fault { IfErr result (λ f. HasNoStamp self.old.next self.old.workers
             ⊎ (last : D) × WaitFails (calls_of D.FnMut) body last self.old.tries f) }
         ensures same { OnErr result ((self.new.share ≡ self.old.share) × (self.new.sink ≡ self.old.sink)) }
+        ensures told { OnOk result ((notices : List Notice) × TakesAll S.takes self.old.sink notices self.new.sink) }
+        ensures stamp { OnOk result (IsNext self.old.workers self.old.next self.new.next) }
+        ensures stamps { IsNoEarlier self.old.workers self.old.next self.new.next }
         ensures worker { IsSameWorker self.old self.new }
     {
         let mut body = OnDosync::of(body);
@@ -316,11 +364,11 @@ impl<'a, L: Books, R: Wait, S: WatchSink> Worker<'a, L, R, Core, CoreFunctions, 
     }
 
     /// Runs a body as so many transactions, one after the other: Clojure's `(dotimes [_ times] (dosync ..))`. The first fault ends it.
-    pub fn dotimes<T: Drop, D: FnMut(&mut Dosync) -> Result<T, Fault>>(
+    pub fn dotimes<T: Drop, E, D: FnMut(&mut Dosync) -> Result<T, E>>(
         &mut self,
         times: u32,
         body: D,
-    ) -> Result<(), TransactFault<Fault>>
+    ) -> Result<(), TransactFault<E>>
         requires { D.IsAlwaysCallable body }
         ensures commits { OnOk result (self.new.share.commits ≡ self.old.share.commits + times) }
         ensures worker { IsSameWorker self.old self.new }

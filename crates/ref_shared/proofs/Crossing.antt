@@ -6,9 +6,9 @@ use denote.Param.Send.{IsSend, IsSync, sendable}
 use denote.Param.SendFields.{declared_send, declared_sync}
 use Rattle.std.proofs.Crossing.{crosses as std_crosses}
 use Rattle.std.proofs.MapsCrossing.{crosses as map_crosses}
-use Rattle.ref_world.specs.declared.books.Books as Books
+use Rattle.ref_world.specs.declared.names.Books as Books
 use Rattle.ref_fun.specs.declared.meanings.Meaning as Meaning
-use Rattle.ref_world.proofs.Crossing.{share_send, world_send}
+use Rattle.ref_world.proofs.Crossing.{booked_send, share_send}
 use Rattle.ref_shared.specs.contracts.shared.Held as Held
 use Rattle.ref_shared.specs.contracts.shared.Shared as Shared
 use Rattle.ref_shared.specs.contracts.waiters.Awaited as Awaited
@@ -22,7 +22,7 @@ waiters_send = declared_send Waiters.the_type (search (std_crosses, sendable) de
 
 module _ (M L : RattleType) (gM : Meaning.Ghosts M.Denot) (gL : Books.Ghosts L.Denot) where
   held_send : IsSend (Held.the_row M L gM gL)
-  held_send = declared_send (Held.the_type M L gM gL) (world_send L gL M gM, (search (std_crosses, sendable) depth 60, (waiters_send, tt)))
+  held_send = declared_send (Held.the_type M L gM gL) (booked_send L gL M gM, (search (std_crosses, sendable) depth 60, (waiters_send, tt)))
 
   pub shared_sync : IsSync (Shared.the_row M L gM gL)
   shared_sync = declared_sync (Shared.the_type M L gM gL) (search (held_send, std_crosses, sendable) depth 60, (search (std_crosses, sendable) depth 60, (search (std_crosses, sendable) depth 60, tt)))

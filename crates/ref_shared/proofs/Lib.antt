@@ -7,3 +7,4 @@ pub mod Crossing
 pub mod Forgotten
 pub mod Looks
 pub mod Ended
+pub mod Within

@@ -1,5 +1,5 @@
 //! What a transaction runs.
-ghost use Rattle.std.specs.Prelude.{Result};
+ghost use Rattle.std.specs.Prelude.{◌≡◌, Result};
 ghost use Rattle.std.specs.Fn.{CalledAtMut};
 ghost use Rattle.ref_tx.specs.Seen.{TxSeen};
 
@@ -29,7 +29,10 @@ pub trait Body {
 
     fn functions(&self) -> Self::Functions;
 
-    fn run(&mut self, tx: &mut Dosync<Self::Meaning, Self::Functions>) -> Result<Self::Answer, Self::Fault>
+    fn run(
+        &mut self,
+        tx: &mut Dosync<Self::Meaning, Self::Functions>,
+    ) -> Result<Self::Answer, Self::Fault>
         requires { may self.old }
         ensures does { does self.old tx.old result tx.new self.new }
         ensures may { may self.new };
@@ -53,7 +56,8 @@ impl<D, T, E> OnDosync<D, T, E> {
     }
 }
 
-impl<T: Drop, E, D: FnMut(&mut Dosync<Core, CoreFunctions>) -> Result<T, E>> Body for OnDosync<D, T, E> {
+impl<T: Drop, E, D: FnMut(&mut Dosync<Core, CoreFunctions>) -> Result<T, E>> Body
+    for OnDosync<D, T, E> {
     type Meaning = Core;
 
     type Functions = CoreFunctions;

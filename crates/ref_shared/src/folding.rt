@@ -77,7 +77,7 @@ impl<M: Meaning, L: Books> Shared<M, L> {
         fold_and_free(held, alloc, funs, to)
     }
 
-    /// Drops the receipts of a share whose entries are folded into the base: see [`ref_world::World::forget`]. The lock is held for a look at
+    /// Drops the receipts of a share whose entries are folded into the base: see [`ref_world::Booked::forget`]. The lock is held for a look at
     /// the base, and the receipts are dropped with the lock free. A receipt holds its entry whole, so a checkpoint frees entries only once the
     /// shares have forgotten them.
     pub fn forget<R: Wait>(&self, rt: &R, share: &mut Share<L>)

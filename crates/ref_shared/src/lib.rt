@@ -1,6 +1,6 @@
 //! A world that threads share.
 //!
-//! [`Shared`] holds a `ref_world::World` under one lock: [`Shared::transact`] runs a body on a transaction and commits it, as Clojure's
+//! [`Shared`] holds a `ref_world::Booked` under one lock: [`Shared::transact`] runs a body on a transaction and commits it, as Clojure's
 //! `dosync`, again and again where it is in conflict; the calls on atoms and agents are one step each; a thread that calls
 //! [`Shared::work_once`] in a loop runs the actions of agents, until [`Shared::close`]. [`Shared::await_agents`] waits until what agents were
 //! sent is done, and [`Shared::transact_when`] until a transaction's body is ready. Each thread that changes refs or atoms has a share
@@ -9,17 +9,19 @@
 //!
 //! | Name | Is |
 //! |---|---|
-//! | [`Shared`] | the world under its lock; whenever the lock is free, all holds that the type `World` guarantees |
+//! | [`Shared`] | the world under its lock; whenever the lock is free, all holds that the types `World` and `Booked` guarantee |
+//! | [`Body`], [`OnTx`], [`OnDosync`] | what a transaction runs, of any meaning, and a closure as one, over a `Tx` or a `Dosync` |
 //! | [`Gate`], [`Spot`], [`Open`] | what is called between two steps, where that is, and a gate that lets all pass |
-//! | [`WatchSink`], [`Quiet`] | who gets the notices of a commit or an action, and how an action ended; and a sink that drops both |
+//! | [`WatchSink`], [`Quiet`], [`tell`] | who gets the notices of a commit or an action, and how an action ended; a sink that drops both; and giving one notices in order |
 //! | [`Worked`], [`WorkFault`] | what a call of `work_once` did, and why it didn't run an action to its end |
 //! | [`TransactFault`] | why a transaction came to no commit: it gave up, its body ended it, or its commit or memory was refused |
 //! | [`WaitFault`], [`AwaitFault`] | why a transaction that waits came to no commit, and why not all was done that was waited for |
 //! | [`match_receipts`], [`GatherFault`] | the comparison of a log with receipts, which `finish` makes, and why they don't fit |
 //! | [`folded_receipts_say_nothing`] | a law of it: [`Shared::forget`] changes nothing that it says |
 //!
-//! Take it where threads share refs, atoms and agents; otherwise take `ref_world`, whose calls wait for nobody. `transact` is there for
-//! functions that mean what Core's mean; with another meaning call [`Shared::begin`], [`Shared::commit`] and [`Shared::release`].
+//! Take it where threads that come and go share refs, atoms and agents; for a program whose threads all begin and end with their world
+//! `ref_program` is shorter. On one thread take `ref_world`, whose calls wait for nobody. `transact` and `transact_when` take a closure,
+//! where functions mean what Core's mean; [`Shared::transact_body`] and [`Shared::transact_body_when`] take a [`Body`] of any meaning.
 //!
 //! **Costs.** Each call takes the lock once, and costs what its call of the world costs; `transact` takes it twice for each try, and once
 //! more where what was committed sent something; `transact_when` does so too, and takes it once more for each call of a body that isn't
@@ -35,7 +37,7 @@
 //! **Not promised.** Which thread comes first, how often a transaction is tried within its limit and whether it gets through, that a waiter
 //! ever wakes or an action is ever run, and how long anything takes; a call that locks or waits holds its promise where it returns. That
 //! what was found at one lock holds at the next, and in which order two threads deliver their notices. Of the calls on a `Shared` only
-//! `begin`, `commit`, `transact`, `transact_by`, `transact_when`, `work_once`, those on atoms, `forget` and `finish` have clauses, and
+//! `begin`, `commit`, the four that begin with `transact`, `work_once`, those on atoms, `forget` and `finish` have clauses, and
 //! `await_agents` one that says which agent a fault names: what the others do, that a wait ends when it should and not before, that
 //! `transact` delivers the notices and then releases the sends, and that no lock is held over a body, an action, a gate or a sink, is only
 //! tested.

@@ -95,7 +95,7 @@ impl<M: Meaning, L: Books> Shared<M, L> {
         self.lock(rt).booked.world.begin(alloc)
     }
 
-    /// Commits a transaction: see [`World::commit_with`]. The caller delivers the notices of the receipt to the watches, and
+    /// Commits a transaction: see [`Booked::commit_with`]. The caller delivers the notices of the receipt to the watches, and
     /// then releases the commit's sends by [`Shared::release`]; [`Shared::transact`] does all of it.
     pub fn commit<R: Wait, F: Functions<M>>(
         &self,

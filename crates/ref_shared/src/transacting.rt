@@ -47,6 +47,7 @@ impl<M: Meaning, L: Books> Shared<M, L> {
         ensures same { OnErr result (share.new ≡ share.old) }
         ensures told { IfOk result (λ r. TakesAll S.takes sink.old r.1.notices.items sink.new) }
         ensures untold { OnErr result (sink.new ≡ sink.old) }
+        ensures may { B.may body.new }
     {
         for attempt in 0..tries {
             let Ok(tx) = self.begin(rt, alloc) else {
@@ -99,7 +100,7 @@ impl<L: Books> Shared<Core, L> {
     /// What its earlier calls did outside the transaction stays done. Where a fault is returned, this call has committed nothing,
     /// and no send is left of it. A fault of the body, a refused commit other than a conflict, and out of memory end it.
     ///
-    /// A program whose functions mean what [`Core`]'s mean calls this; another begins, commits and releases by itself.
+    /// The closure is dropped at the end. [`Shared::transact_body`] is lent its body, and takes one of any meaning.
     pub fn transact<
         R: Wait,
         F: Functions<Core>,

@@ -132,6 +132,7 @@ impl<M: Meaning, L: Books> Shared<M, L> {
         ensures same { OnErr result (share.new ≡ share.old) }
         ensures told { IfOk result (λ r. TakesAll S.takes sink.old r.1.notices.items sink.new) }
         ensures untold { OnErr result (sink.new ≡ sink.old) }
+        ensures may { B.may body.new }
     {
         let mut conflicts = 0u32;
         for _ in rt.forever() {

@@ -1,8 +1,9 @@
 //! A transaction as its body sees it.
-ghost use Rattle.std.specs.Prelude.{◌≡◌, List, Some, None, IfOk, OnErr, OnOk};
+ghost use Rattle.std.specs.Prelude.{◌≡◌, List, true, false, Some, None, IfErr, IfOk, OnErr, OnOk};
 ghost use Rattle.ref_fun.specs.declared.actions.Action.{Action};
 ghost use Rattle.ref_log.specs.declared.operations.Op.TheVariants.{Set, Alter, Commute, Ensure};
 ghost use Rattle.ref_tx.specs.Inner.{inner_value, with_done, with_sent};
+ghost use Rattle.ref_tx.specs.declared.faults.TxFault.TheVariants.{NotMet};
 ghost use Rattle.ref_value.specs.Edn.{Edn};
 
 use crate::faults::TxFault;
@@ -104,7 +105,12 @@ impl<M: Meaning, F: Functions<M>> Dosync<M, F> {
 
     /// Asks whether a predicate with these arguments accepts the in-transaction value of a ref: [`TxFault::NotMet`] if it doesn't. It adds no
     /// operation.
-    pub fn require<A: IntoArgs>(&self, r: u32, code: u32, args: A) -> Result<(), TxFault> {
+    pub fn require<A: IntoArgs>(&self, r: u32, code: u32, args: A) -> Result<(), TxFault>
+        ensures met { OnOk result ((given : List Edn) × (v : Edn) × A.are args given
+            × (inner_value M.means self.now r ≡ Some v) × (M.accepts code given v ≡ true)) }
+        ensures unmet { IfErr result (λ f. f ≡ NotMet → (given : List Edn) × (v : Edn) × A.are args given
+            × (inner_value M.means self.now r ≡ Some v) × (M.accepts code given v ≡ false)) }
+    {
         let args = args.into_args(self.alloc)?;
         self.tx.require(&self.funs, r, &Rule { code, args })
     }

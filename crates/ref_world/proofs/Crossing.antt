@@ -7,7 +7,7 @@ use denote.Param.Send.{IsSend, IsSync, sendable, view_send, view_sync}
 use denote.Param.SendFields.{declared_send, declared_sync, variants_send, variants_sync}
 use Rattle.std.proofs.Crossing.{crosses, Arc-send}
 use Rattle.std.proofs.MapsCrossingOver as over
-use Rattle.ref_world.specs.declared.books.Books as Books
+use Rattle.ref_world.specs.declared.names.Books as Books
 use Rattle.ref_value.proofs.data.Value.TheLaws.TheKnot as knot
 use Rattle.ref_fun.proofs.lists.SharedVec.TheSendSync as lists
 use Rattle.ref_pmap.proofs.Crossing.{numbered_send}
@@ -47,10 +47,19 @@ use Rattle.ref_agents.specs.contracts.agents.Agent as Agent
 use Rattle.ref_agents.specs.contracts.accounts.Account as Account
 use Rattle.ref_agents.specs.contracts.accounts.Queued as Queued
 use Rattle.ref_agents.specs.contracts.accounts.Handled as Handled
+use Rattle.ref_agents.specs.contracts.indexed.IndexedAgents as IndexedAgents
+use Rattle.ref_agents.specs.contracts.indexed.IndexedAgents.TheInside as InIndexedAgents
+use Rattle.ref_agents.specs.contracts.marks.Marks as Marks
+use Rattle.ref_agents.specs.contracts.marks.Marks.TheInside as InMarks
+use Rattle.ref_agents.specs.contracts.pairs.Pairs as Pairs
+use Rattle.ref_agents.specs.contracts.pairs.Pairs.TheInside as InPairs
 use Rattle.std.proofs.sync.ledger.Book.TheSendSync as book
 use Rattle.std.proofs.sync.ledger.Share.TheSendSync as part
-use Rattle.ref_world.specs.contracts.books.Books as Books
-use Rattle.ref_world.specs.contracts.books.Books.TheInside as InBooks
+use Rattle.ref_world.specs.contracts.booked.Booked as Booked
+use Rattle.ref_world.specs.contracts.counts.Counts as Counts
+use Rattle.ref_world.specs.contracts.counts.Counts.TheInside as InCounts
+use Rattle.ref_world.specs.contracts.ledgers.Ledgers as Ledgers
+use Rattle.ref_world.specs.contracts.ledgers.Ledgers.TheInside as InLedgers
 use Rattle.ref_world.specs.contracts.shares.LogReceipt as LogReceipt
 use Rattle.ref_world.specs.contracts.shares.Share as Share
 use Rattle.ref_world.specs.contracts.shares.Share.TheInside as InShare
@@ -241,11 +250,23 @@ queued_send = declared_send Queued.the_type (action_send, (search plain depth 60
 handled_send : IsSend Handled.the_row
 handled_send = declared_send Handled.the_type (action_send, (search plain depth 60, tt))
 
+pairs_send : IsSend Pairs.the_row
+pairs_send = view_send _ _ _ _ _ (declared_send InPairs.the_type (search (over.crosses, plain) depth 60, tt))
+
+marks_send : IsSend Marks.the_row
+marks_send = view_send _ _ _ _ _ (declared_send InMarks.the_type (search plain depth 60, (search plain depth 60, tt)))
+
 account_send : IsSend Account.the_row
-account_send = search (value_send, handled_send, queued_send, plain) depth 60
+account_send = search (value_send, handled_send, queued_send, pairs_send, plain) depth 60
 
 agent_send : IsSend Agent.the_row
 agent_send = search (value_send, account_send, plain) depth 60
+
+indexed_send : IsSend IndexedAgents.the_row
+indexed_send = view_send _ _ _ _ _ (declared_send InIndexedAgents.the_type (
+  search (agent_send, plain) depth 60,
+  (search (over.crosses, plain) depth 60, (marks_send, (pairs_send, tt))),
+))
 
 version_send : IsSend Version.the_row
 version_send = declared_send Version.the_type (value_send, (search plain depth 60, tt))
@@ -255,6 +276,9 @@ version_sync = declared_sync Version.the_type (value_sync, (search plain depth 6
 
 snapshot_send : IsSend Snapshot.the_row
 snapshot_send = view_send _ _ _ _ _ (declared_send InSnapshot.the_type (search (numbered_send, version_send, version_sync, plain) depth 60, tt))
+
+counts_send : IsSend Counts.the_row
+counts_send = view_send _ _ _ _ _ (declared_send InCounts.the_type (search plain depth 60, (search plain depth 60, (search plain depth 60, (search plain depth 60, tt)))))
 
 module _ (M : RattleType) (g : Meaning.Ghosts M.Denot) where
   refs_send : IsSend (RefStore.the_row M g)
@@ -280,12 +304,24 @@ module _ (M : RattleType) (g : Meaning.Ghosts M.Denot) where
 
   agents_send : IsSend (AgentStore.the_row M g)
   agents_send = view_send _ _ _ _ _ (declared_send (InAgentStore.the_type M g) (
-    search (agent_send, plain) depth 60,
+    indexed_send,
+    (guards_send, (search plain depth 60, (search plain depth 60, tt))),
+  ))
+
+  pub world_send : IsSend (World.the_row M g)
+  world_send = view_send _ _ _ _ _ (declared_send (InWorld.the_type M g) (
+    Arc-send _ base_send base_sync,
     (
-      guards_send,
+      vector_send _ entry_send entry_sync,
       (
-        search (over.crosses, plain) depth 60,
-        (search (over.crosses, plain) depth 60, (search plain depth 60, (search plain depth 60, tt))),
+        refs_send,
+        (
+          atoms_send,
+          (
+            agents_send,
+            (counts_send, tt),
+          ),
+        ),
       ),
     ),
   ))
@@ -312,42 +348,15 @@ module _ (L : RattleType) (gL : Books.Ghosts L.Denot) where
     ),
   ))
 
-  books_send : IsSend (Books.the_row L gL)
-  books_send = view_send _ _ _ _ _ (declared_send (InBooks.the_type L gL) (
-    search plain depth 60,
+  ledgers_send : IsSend (Ledgers.the_row L gL)
+  ledgers_send = view_send _ _ _ _ _ (declared_send (InLedgers.the_type L gL) (
+    search (book.the_send, plain) depth 60,
     (
-      search plain depth 60,
-      (
-        search plain depth 60,
-        (
-          search plain depth 60,
-          (
-            search (book.the_send, plain) depth 60,
-            (
-              search (book.the_send, plain) depth 60,
-              (search (book.the_send, plain) depth 60, tt),
-            ),
-          ),
-        ),
-      ),
+      search (book.the_send, plain) depth 60,
+      (search (book.the_send, plain) depth 60, tt),
     ),
   ))
 
   module _ (M : RattleType) (gM : Meaning.Ghosts M.Denot) where
-    pub world_send : IsSend (World.the_row M L gM gL)
-    world_send = view_send _ _ _ _ _ (declared_send (InWorld.the_type M L gM gL) (
-      Arc-send _ base_send base_sync,
-      (
-        vector_send _ entry_send entry_sync,
-        (
-          refs_send M gM,
-          (
-            atoms_send M gM,
-            (
-              agents_send M gM,
-              (books_send, tt),
-            ),
-          ),
-        ),
-      ),
-    ))
+    pub booked_send : IsSend (Booked.the_row M L gM gL)
+    booked_send = declared_send (Booked.the_type M L gM gL) (world_send M gM, (ledgers_send, tt))

@@ -1,4 +1,5 @@
 pub mod Counted
+pub mod Refusals
 pub mod Starting
 pub mod Crossing
 pub mod Folded

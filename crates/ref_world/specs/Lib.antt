@@ -1,5 +1,6 @@
 -- To be read and believed: all but Entered. IsWorld and AreBooks, in World, are what is always so.
 pub mod Seen
+pub mod Parts
 pub mod World
 pub mod References
 pub mod Shares

@@ -3,11 +3,8 @@ use Rattle.std.specs.Prelude.{◌≡◌, ℕ, nat_lt, ◌+◌, List, [], ◌∷�
 use Rattle.ref_world.specs.declared.names.Blanks.{Blanks}
 use Rattle.ref_log.specs.declared.entries.Entry.{Entry}
 use Rattle.ref_world.specs.Seen.{ShareSeen}
+pub use Rattle.ref_world.specs.Parts.{all_parts}
 use Rattle.ref_world.specs.declared.shares.LogReceipt.{LogReceipt}
-
--- how many parts all shares of a world have
-abbrev pub all_parts : ℕ
-all_parts = 4294967296
 
 -- These are the blanks of the books that have these names.
 abbrev pub AreBlanks : Blanks → ℕ → ℕ → ℕ → Type 0

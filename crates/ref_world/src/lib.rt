@@ -4,7 +4,7 @@
 //! state is its start folded over its done actions; and that each rule, Clojure's validator, accepts its reference's value. Each call
 //! is one step that needs nobody else, and one that is refused changes nothing.
 //!
-//! [`World::begin`] returns a transaction and [`World::commit_with`] commits it; [`World::swap`], [`World::reset`] and
+//! [`World::begin`] returns a transaction and [`World::commit`] commits it; [`World::swap`], [`World::reset`] and
 //! [`World::compare_and_set`] change an atom; [`World::make_ref`] and [`World::make_atom`] make a reference. Each of these changes adds
 //! one entry at the next point, also where all values stay; a comparison that answers false adds none. Agents have no entries: what is
 //! sent waits in a queue, where a commit's sends are held until [`World::release`], which is for when its watches were called. So is what
@@ -13,22 +13,24 @@
 //!
 //! | Type | Is |
 //! |---|---|
-//! | [`World`] | refs, atoms and agents, at most 2^20 of each, with a base, a log, and books of what was done |
+//! | [`World`] | refs, atoms and agents, at most 2^20 of each, with a base and a log; it counts its commits |
+//! | [`Booked`] | a world with its books: its commits and changes of atoms are counted in a share, too ([`Booked::commit_with`]) |
 //! | [`Start`], [`RefStart`], [`AtomStart`], [`AgentStart`] | what a world begins with ([`World::new`]), and the parts of that |
 //! | [`Share`] | what commits and changes of atoms are counted in. It is split and joined; one with [`ALL_PARTS`] has what the books have |
+//! | [`Books`], [`Blanks`] | which world's books and shares these are: a type parameter; and what its books are made of |
 //! | [`Receipt`], [`LogReceipt`] | what a commit returns; what a share stores of an entry: its point and the whole entry |
-//! | [`Totals`] | what the books say: how many commits there were, and how much they added to the tally and took from it |
+//! | [`Totals`] | what was counted: how many commits there were, and how much they added to the tally and took from it |
 //! | [`View`] | base and log as they were ([`World::view`]), to be read while the world goes on |
 //! | [`CheckpointFault`] | why [`World::checkpoint`] folded nothing. Other calls have the faults of the stores and of `ref_log` |
 //!
-//! Take it where one thread has all of the world, as in `crates/bank`; otherwise, where threads share it, take `ref_shared`. A store
+//! Take a [`World`] where one thread has all of it, as in `crates/bank`; otherwise, where threads share it, take `ref_shared`. A store
 //! alone will do where there is one kind of reference and no log.
 //!
 //! **Costs.** `begin` and `view` take constant time and no memory, whatever the number of refs and entries. A commit, a change of an atom
 //! and a making cost what they do in their stores and a push to the log, a [`ref_pvec::PVec`]; a commit also takes a step for each send,
 //! logarithmic in the number of agents with actions that wait. A checkpoint costs a replay of the entries that it folds, a step for each
 //! ref and atom, and a logarithm of the entries that are left; a join a step for each receipt of the other share. The log holds an entry
-//! until it is folded, a share each receipt until it forgets it ([`World::forget`]), and an account each action that ended until a restart or
+//! until it is folded, a share each receipt until it forgets it ([`Booked::forget`]), and an account each action that ended until a restart or
 //! a fold ([`World::fold_agent`]). A receipt holds its entry too.
 //!
 //! **Not promised.** That a share which was dropped comes back: no other one is whole then. That a transaction of this world has nothing

@@ -1,6 +1,6 @@
 //! The names of a world's books, and its blanks: one type parameter stands for all three.
 ghost use Rattle.std.specs.Prelude.{◌≡◌, ℕ};
-ghost use Rattle.ref_world.specs.Shares.{all_parts};
+ghost use Rattle.ref_world.specs.Parts.{all_parts};
 
 use crate::shares::ALL_PARTS;
 use std::marker::{Brand, PhantomData};

@@ -21,7 +21,7 @@ pub struct LogReceipt {
 /// it, and the receipt of each entry that a commit or a change of an atom added, in the order of the calls, as long as no share was joined.
 ///
 /// A world comes with one share, which has all parts. Whoever is to change it gets some of them by [`Share::split`]; the calls
-/// that add such an entry take the share and count in it. C, A and K name the world's books, so that a share fits no other
+/// that add such an entry take the share and count in it. L names the world's books, so that a share fits no other
 /// world and meets no share of one. Where all are joined again, what is in the share is what is in the world's books. A share
 /// that is dropped takes its parts with it.
 #[derive(Drop)]

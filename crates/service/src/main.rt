@@ -57,8 +57,16 @@ fn say_world<R: Print>(rt: &R, end: &Ended<Core, Errors>) -> Result<(), Fault> {
     println!(rt; "sold at counters of one thread {own}, at the shared one {shared}")?;
     println!(rt; "lines in the logs {}", sum(end, LOGS, Who::Agent)?)?;
     let totals = end.totals;
-    println!(rt; "takings {}, added {}", held(end, Who::Ref(TAKINGS))?, totals.added)?;
-    println!(rt; "threads that sold {}, commits {}", held(end, Who::Ref(GONE))?, totals.commits)?;
+    println!(rt;
+        "takings {}, added {}",
+        held(end, Who::Ref(TAKINGS))?,
+        totals.added
+    )?;
+    println!(rt;
+        "threads that sold {}, commits {}",
+        held(end, Who::Ref(GONE))?,
+        totals.commits
+    )?;
     let folded = end.world.base().point > 0;
     println!(rt; "folded: {}", if folded { "yes" } else { "no" })?;
     Ok(())

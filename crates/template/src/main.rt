@@ -24,7 +24,11 @@ impl Program for Poll {
 
     // What a thread does: its transactions, one after the other. RENAME
     fn work<L: Books, R: Wait>(&self, worker: &mut Worker<'_, L, R>) -> Result<(), Fault> {
-        let choice = keyword(if worker.number() % 2 == 0 { "yes" } else { "no" })?;
+        let choice = keyword(if worker.number() % 2 == 0 {
+            "yes"
+        } else {
+            "no"
+        })?;
         worker.dotimes(25, |tx| vote(tx, choice))?;
         Ok(())
     }

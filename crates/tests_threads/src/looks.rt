@@ -139,6 +139,22 @@ fn add_and_send<R: AllocGlobal + Clock>(
     send_four(rt.alloc(), tx)
 }
 
+fn transact_and_look<L: Books + Send + Sync, R: AllocGlobal + Threads + Wait + Clock + Sync>(
+    rt: &R,
+    shared: &Shared<Core, L>,
+    share: Share<L>,
+    place: Place,
+    waits: bool,
+    flags: &Flags,
+) -> ((Share<L>, bool), Look) {
+    let (mine, seen) = thread::join(
+        rt,
+        move || transact(rt, shared, share, place, waits, flags),
+        move || look(rt, shared, Who::Ref(0), flags),
+    );
+    (mine, seen)
+}
+
 // A transaction in a world that is closed, so that a worker there learns that no agent is ready. The look comes before the waiting is given
 // up. What it sends isn't ready before the watches are called.
 pub(crate) fn see_transaction<
@@ -156,12 +172,7 @@ pub(crate) fn see_transaction<
     shared.close(rt);
     let part = share.split(1).ok_or(Stop::Refused)?;
     let flags = Flags::new();
-    let lent = &flags;
-    let (mine, looked) = thread::join(
-        rt,
-        move || transact(rt, shared, part, place, waits, lent),
-        move || look(rt, shared, Who::Ref(0), lent),
-    );
+    let (mine, looked) = transact_and_look(rt, shared, part, place, waits, &flags);
     let (part, is_ok) = mine;
     done(share.join(part))?;
     same(rt, (place, looked), (place, Ok((Some(seen), CLOSED))));

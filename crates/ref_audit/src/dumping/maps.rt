@@ -32,10 +32,7 @@ pub(crate) struct Parts {
 }
 
 #[tactic(auto, using(crate::proofs::Depths::make_faults))]
-pub(crate) fn parts_of(
-    alloc: Global,
-    world: &World<Core>,
-) -> Result<Parts, DumpMakeFault>
+pub(crate) fn parts_of(alloc: Global, world: &World<Core>) -> Result<Parts, DumpMakeFault>
     requires { AreFew world.now }
     ensures made { IfOk result (AreParts world.now) }
     ensures fault { IfErr result (IsMakeFault (nesting (dumped world.now))) }

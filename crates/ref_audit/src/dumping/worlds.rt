@@ -44,10 +44,7 @@ pub(crate) fn values_now(
 
 // The agents now, with their accounts.
 #[tactic(auto, using(crate::proofs::Depths::make_faults))]
-pub(crate) fn agents_now(
-    alloc: Global,
-    world: &World<Core>,
-) -> Result<Value, DumpMakeFault>
+pub(crate) fn agents_now(alloc: Global, world: &World<Core>) -> Result<Value, DumpMakeFault>
     requires { AreFew world.now }
     ensures made { IfOk result (λ v. v ≡ agents_form world.now.agents.guards world.now.agents.agents) }
     ensures fault { IfErr result (IsMakeFault (nesting (agents_form world.now.agents.guards world.now.agents.agents))) }
@@ -68,9 +65,7 @@ pub(crate) fn agents_now(
 }
 
 // The least code of the log's sends and the agents' accounts that no function of Core has.
-pub(crate) fn unnamed_in(
-    world: &World<Core>,
-) -> Option<u32>
+pub(crate) fn unnamed_in(world: &World<Core>) -> Option<u32>
     requires { AreFew world.now }
     ensures { result ≡ unnamed world.now }
 {

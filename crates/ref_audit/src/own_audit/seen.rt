@@ -15,10 +15,7 @@ use std::alloc::{AllocError, Global};
 
 /// What the dump of a world says. Values, entries and actions are shared: it is linear in the numbers of references and of actions,
 /// whatever the length of the log.
-pub(crate) fn dump_seen(
-    alloc: Global,
-    world: &World<Core>,
-) -> Result<Dump, AllocError>
+pub(crate) fn dump_seen(alloc: Global, world: &World<Core>) -> Result<Dump, AllocError>
     requires { AreFew world.now }
     ensures { IfOk result (λ dump. dump ≡ dump_seen world.now) }
 {
@@ -84,10 +81,7 @@ fn kepts_seen(
 }
 
 // The agents now, with what they did and what waits.
-fn agents_seen(
-    alloc: Global,
-    world: &World<Core>,
-) -> Result<SharedVec<KeptAgent>, AllocError>
+fn agents_seen(alloc: Global, world: &World<Core>) -> Result<SharedVec<KeptAgent>, AllocError>
     requires { AreFew world.now }
     ensures { IfOk result (λ all. all ≡ agents_seen world.now.agents.guards world.now.agents.agents) }
 {

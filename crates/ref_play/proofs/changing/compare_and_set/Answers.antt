@@ -11,7 +11,7 @@ returns-in_default g c = λ s actor.
     let means = g.M.Meaning.means in
     let accepts = g.M.Meaning.accepts in
     let knows = g.F.Functions.knows c.args.funs.now in
-    refused_world means accepts knows (record s { world = c.args.world.now; share = c.args.share.now }) actor c.args.world.now c.args.share.now (acts.CompareAndSet c.args.n c.args.old.now c.args.new.now) (replies.CompareAndSet (Err faults.Memory)) refl refl refl
+    refused_world means accepts knows (record s { world = c.args.booked.now.world; share = c.args.share.now }) actor c.args.booked.now.world c.args.share.now (acts.CompareAndSet c.args.n c.args.old.now c.args.new.now) (replies.CompareAndSet (Err faults.Memory)) refl refl refl
     (Err faults.Memory, refl, at_once faults.Memory _, tt, (refl, refl))
 
 pub returns-in-Err : goal.returns-in-Err
@@ -20,10 +20,10 @@ returns-in-Err g c = λ s actor.
     let accepts = g.M.Meaning.accepts in
     let knows = g.F.Functions.knows c.args.funs.now in
     let did = c.in-Err.ensures in
-    let old : SimSeen = record s { world = c.args.world.now; share = c.args.share.now } in
-    let new : SimSeen = record s { world = c.compare_and_set.new.self; share = c.compare_and_set.new.share } in
+    let old : SimSeen = record s { world = c.args.booked.now.world; share = c.args.share.now } in
+    let new : SimSeen = record s { world = c.compare_and_set.new.self.world; share = c.compare_and_set.new.share } in
     subst (λ x. Serves means accepts knows old actor (acts.CompareAndSet c.args.n c.args.old.now x) (replies.CompareAndSet (Err c.in-Err.fault)) new) c.in-Ok.ensures
-    (refused_world means accepts knows old actor c.compare_and_set.new.self c.compare_and_set.new.share (acts.CompareAndSet c.args.n c.args.old.now c.in-Ok.new) (replies.CompareAndSet (Err c.in-Err.fault)) refl did.err did.same
+    (refused_world means accepts knows old actor c.compare_and_set.new.self.world c.compare_and_set.new.share (acts.CompareAndSet c.args.n c.args.old.now c.in-Ok.new) (replies.CompareAndSet (Err c.in-Err.fault)) refl did.err did.same
     (Err c.in-Err.fault, refl, late_fault faults.Memory _ _ c.in-Err.fault did.refused, tt, (refl, refl)))
 
 pub returns-in-Ok-compare_and_set : goal.returns-in-Ok-compare_and_set
@@ -32,7 +32,7 @@ returns-in-Ok-compare_and_set g c = λ s actor.
     let accepts = g.M.Meaning.accepts in
     let knows = g.F.Functions.knows c.args.funs.now in
     let did = c.in-Ok-compare_and_set.ensures in
-    let old : SimSeen = record s { world = c.args.world.now; share = c.args.share.now } in
-    let new : SimSeen = record s { world = c.compare_and_set.new.self; share = c.compare_and_set.new.share } in
+    let old : SimSeen = record s { world = c.args.booked.now.world; share = c.args.share.now } in
+    let new : SimSeen = record s { world = c.compare_and_set.new.self.world; share = c.compare_and_set.new.share } in
     subst (λ x. Serves means accepts knows old actor (acts.CompareAndSet c.args.n c.args.old.now x) (replies.CompareAndSet (Ok c.in-Ok-compare_and_set.compared)) new) c.in-Ok.ensures
-    (compare_made means accepts knows old actor c.args.n c.args.old.now c.in-Ok.new c.compare_and_set.new.self c.compare_and_set.new.share c.in-Ok-compare_and_set.compared did.refused did.done did.entry did.notices did.share did.unset did.unshared did.untold)
+    (compare_made means accepts knows old actor c.args.n c.args.old.now c.in-Ok.new c.compare_and_set.new.self.world c.compare_and_set.new.share c.in-Ok-compare_and_set.compared did.refused did.done did.entry did.notices did.share did.unset did.unshared did.untold)

@@ -6,24 +6,24 @@ use Rattle.ref_play.specs.declared.events.Reply.TheVariants as replies
 use Rattle.ref_play.proofs.Answering.{at_once, late_fault, refused_world}
 use Rattle.ref_play.proofs.changing.make_atom.Goals as goal
 
-pub returns-in_default : goal.returns-in_default
-returns-in_default g c = λ s actor.
+pub returns-in_default-clause-serves : goal.returns-in_default-clause-serves
+returns-in_default-clause-serves g c = λ s actor.
     let means = g.M.Meaning.means in
     let accepts = g.M.Meaning.accepts in
     let knows = g.F.Functions.knows c.args.funs.now in
     refused_world means accepts knows (record s { world = c.args.world.now }) actor c.args.world.now s.share (acts.MakeAtom c.args.value.now c.args.rule.now) (replies.MakeAtom (Err faults.Memory)) refl refl refl
     (Err faults.Memory, refl, at_once faults.Memory _, tt, (refl, refl))
 
-pub returns-in_default-share_rule : goal.returns-in_default-share_rule
-returns-in_default-share_rule g c = λ s actor.
+pub returns-in_default-share_rule-clause-serves : goal.returns-in_default-share_rule-clause-serves
+returns-in_default-share_rule-clause-serves g c = λ s actor.
     let means = g.M.Meaning.means in
     let accepts = g.M.Meaning.accepts in
     let knows = g.F.Functions.knows c.args.funs.now in
     refused_world means accepts knows (record s { world = c.args.world.now }) actor c.args.world.now s.share (acts.MakeAtom c.args.value.now c.args.rule.now) (replies.MakeAtom (Err faults.Memory)) refl refl refl
     (Err faults.Memory, refl, at_once faults.Memory _, tt, (refl, refl))
 
-pub returns-in-Err : goal.returns-in-Err
-returns-in-Err g c = λ s actor.
+pub returns-in-Err-clause-serves : goal.returns-in-Err-clause-serves
+returns-in-Err-clause-serves g c = λ s actor.
     let means = g.M.Meaning.means in
     let accepts = g.M.Meaning.accepts in
     let knows = g.F.Functions.knows c.args.funs.now in

@@ -11,7 +11,7 @@ returns-in_default g c = λ s actor.
     let means = g.M.Meaning.means in
     let accepts = g.M.Meaning.accepts in
     let knows = g.F.Functions.knows c.args.funs.now in
-    refused_world means accepts knows (record s { world = c.args.world.now; share = c.args.share.now }) actor c.args.world.now c.args.share.now (acts.Reset c.args.n c.args.value.now) (replies.Reset (Err faults.Memory)) refl refl refl
+    refused_world means accepts knows (record s { world = c.args.booked.now.world; share = c.args.share.now }) actor c.args.booked.now.world c.args.share.now (acts.Reset c.args.n c.args.value.now) (replies.Reset (Err faults.Memory)) refl refl refl
     (Err faults.Memory, refl, at_once faults.Memory _, tt, (refl, refl))
 
 pub returns-in-Err : goal.returns-in-Err
@@ -20,8 +20,8 @@ returns-in-Err g c = λ s actor.
     let accepts = g.M.Meaning.accepts in
     let knows = g.F.Functions.knows c.args.funs.now in
     let did = c.in-Err.ensures in
-    let old : SimSeen = record s { world = c.args.world.now; share = c.args.share.now } in
-    let new : SimSeen = record s { world = c.reset.new.self; share = c.reset.new.share } in
+    let old : SimSeen = record s { world = c.args.booked.now.world; share = c.args.share.now } in
+    let new : SimSeen = record s { world = c.reset.new.self.world; share = c.reset.new.share } in
     subst (λ x. Serves means accepts knows old actor (acts.Reset c.args.n x) (replies.Reset (Err c.in-Err.fault)) new) c.in-Ok.ensures
-    (refused_world means accepts knows old actor c.reset.new.self c.reset.new.share (acts.Reset c.args.n c.in-Ok.value) (replies.Reset (Err c.in-Err.fault)) refl did.err did.same
+    (refused_world means accepts knows old actor c.reset.new.self.world c.reset.new.share (acts.Reset c.args.n c.in-Ok.value) (replies.Reset (Err c.in-Err.fault)) refl did.err did.same
     (Err c.in-Err.fault, refl, late_fault faults.Memory _ _ c.in-Err.fault did.refused, tt, (refl, refl)))

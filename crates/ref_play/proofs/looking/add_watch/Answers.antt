@@ -5,8 +5,8 @@ use Rattle.ref_play.specs.declared.events.Reply.TheVariants as replies
 use Rattle.ref_play.proofs.Answering.{watch_added, watch_refused}
 use Rattle.ref_play.proofs.looking.add_watch.Goals as goal
 
-pub returns-in-Ok-add_watch : goal.returns-in-Ok-add_watch
-returns-in-Ok-add_watch g c = λ s knows actor.
+pub returns-in-Ok-add_watch-clause-serves : goal.returns-in-Ok-add_watch-clause-serves
+returns-in-Ok-add_watch-clause-serves g c = λ s knows actor.
     let means = g.M.Meaning.means in
     let accepts = g.M.Meaning.accepts in
     let did = c.in-Ok-add_watch.ensures in
@@ -14,8 +14,8 @@ returns-in-Ok-add_watch g c = λ s knows actor.
     subst (λ x. Serves means accepts knows old actor (acts.AddWatch c.args.who x) (replies.AddWatch (Ok c.in-Ok-add_watch.is_new)) (record s { world = c.add_watch.new.self })) c.in-Ok.ensures
     (watch_added means accepts knows old actor c.args.who c.in-Ok.key c.add_watch.new.self c.in-Ok-add_watch.is_new did.new did.here did.adds)
 
-pub returns-in-Err : goal.returns-in-Err
-returns-in-Err g c = λ s knows actor.
+pub returns-in-Err-clause-serves : goal.returns-in-Err-clause-serves
+returns-in-Err-clause-serves g c = λ s knows actor.
     let means = g.M.Meaning.means in
     let accepts = g.M.Meaning.accepts in
     let did = c.in-Err.ensures in

@@ -1,4 +1,4 @@
-use Rattle.std.proofs.Common.{◌∙◌, ◌≤◌, ◌-◌, ap, length, subst, sym}
+use Rattle.std.proofs.Common.{◌∙◌, ap, sym}
 use Rattle.ref_agents.specs.Account.{last_carries}
 use Rattle.ref_agents.proofs.Released.{last_is}
 use Rattle.ref_agents.proofs.accounts.Account.carries.Goals as goal

@@ -1,10 +1,10 @@
-use Rattle.std.proofs.Common.{◌≡◌, ◌∙◌, ◌≤◌, ◌<◌, ◌+◌, ◌-◌, ◌^◌, ℕ, suc, drop, false, ap, arith, length, slice_set, subst, sym, refl}
+use Rattle.std.proofs.Common.{◌≡◌, ◌∙◌, ◌≤◌, ◌+◌, ◌-◌, ◌^◌, suc, drop, false, ap, arith, length, slice_set, sym, refl}
 use Rattle.std.proofs.lemmas.Option.{slice_get_within}
 use Rattle.ref_agents.specs.Account.{AccountSeen, has_carried, last_released, released, with_released}
 use Rattle.ref_agents.specs.declared.accounts.Queued.{Queued}
 use Rattle.ref_agents.specs.declared.accounts.SentBy.{SentBy}
 use Rattle.ref_agents.specs.declared.accounts.SentBy.TheVariants.{Outside}
-use Rattle.ref_agents.proofs.Placed.{IsThere, none_placed, place_there, placed_released, read_there, released_outside}
+use Rattle.ref_agents.proofs.Placed.{none_placed, place_there, placed_released, read_there, released_outside}
 use Rattle.ref_agents.proofs.Released.{account_is, found_last, none_released}
 use Rattle.ref_agents.proofs.accounts.Account.release.Goals as goal
 

@@ -1,4 +1,4 @@
-use Rattle.std.proofs.Common.{◌≡◌, ◌∙◌, ℕ, Some, ap, refl, slice_get, slice_set, subst, sym, true}
+use Rattle.std.proofs.Common.{◌≡◌, ℕ, Some, refl, slice_get, subst, sym, true}
 use Rattle.std.specs.BTreeSet.{keys}
 use Rattle.ref_agents.specs.Account.{AccountSeen}
 use Rattle.ref_agents.specs.Agents.{is_ready_if_here}

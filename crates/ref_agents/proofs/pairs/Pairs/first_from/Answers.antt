@@ -1,4 +1,4 @@
-use Rattle.std.proofs.Common.{◌≡◌, ◌≤◌, false, true, arith, subst}
+use Rattle.std.proofs.Common.{◌≡◌, false, true, arith, subst}
 use Rattle.ref_agents.specs.Places.{has_pair}
 use Rattle.ref_agents.proofs.PairLaws.{first_here, first_least, none_here}
 use Rattle.ref_agents.proofs.pairs.Pairs.first_from.Goals as goal

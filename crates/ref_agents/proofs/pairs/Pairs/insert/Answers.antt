@@ -1,4 +1,4 @@
-use Rattle.std.proofs.Common.{◌∙◌, ◌==◌, ◌&&◌, ◌||◌, ap, true}
+use Rattle.std.proofs.Common.{◌∙◌, ◌==◌, ◌&&◌, ◌||◌, ap}
 use Rattle.ref_agents.specs.Places.{has_pair}
 use Rattle.ref_agents.proofs.PairLaws.{with_one}
 use Rattle.ref_agents.proofs.pairs.Pairs.insert.Goals as goal

@@ -1,4 +1,4 @@
-use Rattle.std.proofs.Common.{◌≡◌, ◌≤◌, false, true, arith, subst}
+use Rattle.std.proofs.Common.{◌≡◌, false, true, arith, subst}
 use Rattle.ref_agents.specs.Places.{has_pair}
 use Rattle.ref_agents.proofs.PairLaws.{last_here, last_greatest, none_here}
 use Rattle.ref_agents.proofs.pairs.Pairs.last_of.Goals as goal

@@ -5,7 +5,7 @@ use Rattle.ref_audit.proofs.dumping.worlds.agents_now.Given as goal
 
 -- The forms that are made and those that are left are all of them.
 abbrev pub invariant-loop-g : goal.invariant-loop-g
-invariant-loop-g g l =
+invariant-loop-g l =
     let agents = l.world.agents.agents in
     let form = agent_form l.world.agents.guards in
     record {

@@ -7,7 +7,7 @@ use Rattle.ref_audit.proofs.dumping.worlds.values_now.Given as goal
 
 -- The forms that are made and those that are left are all of them.
 abbrev pub invariant-loop-n : goal.invariant-loop-n
-invariant-loop-n g l =
+invariant-loop-n l =
     let values = values_of l.world (who_of l.kind 0) in
     let form = value_form (guards_of l.world (who_of l.kind 0)) in
     record {

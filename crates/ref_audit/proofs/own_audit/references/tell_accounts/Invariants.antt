@@ -4,4 +4,4 @@ use Rattle.ref_audit.specs.OwnDump.{account_fact}
 use Rattle.ref_audit.proofs.own_audit.references.tell_accounts.Given as goal
 
 abbrev pub invariant-loop-g : goal.invariant-loop-g
-invariant-loop-g g l = (k : ℕ) → k < l.g → account_fact (account_at l.world.agents.agents k) ≡ true
+invariant-loop-g l = (k : ℕ) → k < l.g → account_fact (account_at l.world.agents.agents k) ≡ true

@@ -11,16 +11,16 @@ length_of_values [] = refl
 length_of_values (agent ∷ agents) = ap (λ n. suc n) (length_of_values agents)
 
 pub loop-g-preserved : goal.loop-g-preserved
-loop-g-preserved g c = below_more _ _ c.loop-g.invariant c.tell_reference.ensures.fact
+loop-g-preserved c = below_more _ _ c.loop-g.invariant c.tell_reference.ensures.fact
 
 pub returns-then-not-tell_reference : goal.returns-then-not-tell_reference
-returns-then-not-tell_reference g c =
+returns-then-not-tell_reference c =
     let world = c.args.world.now in
     let none : is_some (slice_get (values_of world.agents.agents) c.loop-g.g) ≡ false = search rules in
     all_here (values_of world.agents.agents) (rule_at world.agents.guards) c.loop-g.g c.loop-g.invariant none
 
 pub returns : goal.returns
-returns g c =
+returns c =
     let world = c.args.world.now in
     let count = length_of_values world.agents.agents in
     all_past (values_of world.agents.agents) (rule_at world.agents.guards) c.loop-g.g c.loop-g.invariant (omega (arith, count))

@@ -5,4 +5,4 @@ use Rattle.ref_audit.specs.OwnDump.{rule_fact}
 use Rattle.ref_audit.proofs.own_audit.references.tell_refs.Given as goal
 
 abbrev pub invariant-loop-r : goal.invariant-loop-r
-invariant-loop-r g l = (k : ℕ) → k < l.r → rule_fact (slice_get l.world.refs.values k) (rule_at l.world.refs.guards k) ≡ true
+invariant-loop-r l = (k : ℕ) → k < l.r → rule_fact (slice_get l.world.refs.values k) (rule_at l.world.refs.guards k) ≡ true

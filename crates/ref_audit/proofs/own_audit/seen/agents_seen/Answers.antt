@@ -29,19 +29,19 @@ same_parts : (account : AccountSeen) (start state state' : Edn) (handled : List 
 same_parts account start state state' handled queue failed rule rule' p q r s t = rw (p, q, r, s, t) refl
 
 pub returns-in_default : goal.returns-in_default
-returns-in_default g c =
+returns-in_default c =
     let store = c.args.world.now.agents in
     let none : None ≡ account_at store.agents c.loop-g.g = ap option_copied (sym c.in_default.is) ∙ c.account.ensures.account in
     let all = agents_all (agent_seen store.guards) store.agents c.loop-g.g c.loop-g.all.items none c.loop-g.invariant.left in
     rw all at c.of.ensures.value
 
 pub unreachable-requires : goal.unreachable-requires
-unreachable-requires g c =
+unreachable-requires c =
     let none : None ≡ value_at c.args.world.now (Agent c.loop-g.g) = ap option_copied (sym c.in_default-value_of.is) ∙ c.value_of.ensures.value in
     has_state c.args.world.now c.loop-g.g c.in-Some.account.now c.in-Some.ensures.account none
 
 pub loop-g-preserved : goal.loop-g-preserved
-loop-g-preserved g c =
+loop-g-preserved c =
     let left = agent_left parts c.args.world.now c.loop-g.g c.in-Some.account.now c.in-Some-value_of.state.now _ _ _
     c.in-Some.ensures.account c.in-Some-value_of.ensures.value c.error_of.ensures c.is_some.ensures c.rule_of.ensures.rule in
     let start = c.in_ok-share.ensures ∙ c.start.ensures in

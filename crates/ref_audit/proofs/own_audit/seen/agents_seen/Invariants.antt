@@ -5,7 +5,7 @@ use Rattle.ref_audit.proofs.own_audit.seen.agents_seen.Given as goal
 
 -- Those that are taken and those that are left are all of them.
 abbrev pub invariant-loop-g : goal.invariant-loop-g
-invariant-loop-g g l =
+invariant-loop-g l =
     let agents = l.world.agents.agents in
     let seen = agent_seen l.world.agents.guards in
     record {

@@ -16,7 +16,7 @@ same_kept : (v w : Edn) (r s : Option Rule) → v ≡ w → r ≡ s → kept_par
 same_kept v w r s p q = rw (p, q) refl
 
 pub returns-in_default : goal.returns-in_default
-returns-in_default g c =
+returns-in_default c =
     let values = values_of c.args.world.now (who_of c.args.kind 0) in
     let told : None ≡ value_at c.args.world.now c.who-who.result = ap option_copied (sym c.in_default.is) ∙ c.value_of.ensures.value in
     let none = value_there c.args.world.now c.args.kind c.loop-n.n c.who-who.result None c.who-who.ensures told in
@@ -24,7 +24,7 @@ returns-in_default g c =
     rw all at c.of.ensures.value
 
 pub loop-n-preserved : goal.loop-n-preserved
-loop-n-preserved g c =
+loop-n-preserved c =
     let there = value_there c.args.world.now c.args.kind c.loop-n.n c.who-who.result _ c.who-who.ensures c.in-Some.ensures.value in
     let left = value_left kept_parts c.args.world.now c.args.kind c.loop-n.n c.who-who.result c.in-Some.value.now _ c.who-who.ensures c.in-Some.ensures.value c.rule_of.ensures.rule in
     record {

@@ -7,7 +7,7 @@ use Rattle.ref_audit.proofs.own_audit.seen.kepts_seen.Given as goal
 
 -- Those that are taken and those that are left are all of them.
 abbrev pub invariant-loop-n : goal.invariant-loop-n
-invariant-loop-n g l =
+invariant-loop-n l =
     let values = values_of l.world (who_of l.kind 0) in
     let kept = kept_seen (guards_of l.world (who_of l.kind 0)) in
     record {

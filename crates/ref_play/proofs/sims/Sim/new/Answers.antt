@@ -13,8 +13,8 @@ no_tx P (Some tx) none = absurd cc
 pub invariant_of-result : goal.invariant_of-result
 invariant_of-result g c = record {
   opens = λ a. no_tx _ _ (c.none.ensures a);
-  jobs = held_by_nobody g.M.Meaning.means c.in_ok-world.world.agents (jobs_of c.none-2.result) c.none-2.ensures
-      (declared_idle g.M.Meaning.accepts (g.F.Functions.knows c.args.funs.now).preds c.args.start.now.agents.items c.in_ok-world.world.agents c.in_ok-world.ensures.agents).0;
-  carried = (declared_idle g.M.Meaning.accepts (g.F.Functions.knows c.args.funs.now).preds c.args.start.now.agents.items c.in_ok-world.world.agents c.in_ok-world.ensures.agents).1;
-  share = ap (λ (s : ShareSeen). s.parts) c.in_ok-world.ensures.share;
+  jobs = held_by_nobody g.M.Meaning.means c.in_ok-booked.booked.world.agents (jobs_of c.none-2.result) c.none-2.ensures
+      (declared_idle g.M.Meaning.accepts (g.F.Functions.knows c.args.funs.now).preds c.args.start.now.agents.items c.in_ok-booked.booked.world.agents c.in_ok-booked.ensures.agents).0;
+  carried = (declared_idle g.M.Meaning.accepts (g.F.Functions.knows c.args.funs.now).preds c.args.start.now.agents.items c.in_ok-booked.booked.world.agents c.in_ok-booked.ensures.agents).1;
+  share = ap (λ (s : ShareSeen). s.parts) c.in_ok-booked.ensures.share;
 }

@@ -10,7 +10,7 @@ loop-event-init g c =
     let means = g.M.Meaning.means in
     let accepts = g.M.Meaning.accepts in
     let knows = g.F.Functions.knows c.args.funs.now in
-    let s : SimSeen = record { world = c.self.inside.world; share = c.self.inside.share; slots = c.self.inside.actors; jobs = c.self.inside.jobs } in
+    let s : SimSeen = record { world = c.self.inside.booked.world; share = c.self.inside.share; slots = c.self.inside.actors; jobs = c.self.inside.jobs } in
     let served = subst (λ (x : SimSeen). IsServed knows (present x)) (sym c.self.view_is) c.requires.served in
     record {
       run = λ m stands. subst (λ rs. Reaches means accepts knows m [] rs s) (sym c.in_ok-replies.ensures.items)
@@ -29,8 +29,8 @@ loop-event-preserved g c =
     let es = c.args.events.now in
     let i = c.loop-event.event-index in
     let e = c.event-item.result in
-    let old : SimSeen = record { world = c.loop-event.self-inside.world; share = c.loop-event.self-inside.share; slots = c.loop-event.self-inside.actors; jobs = c.loop-event.self-inside.jobs } in
-    let new : SimSeen = record { world = c.serve-reply.new.world; share = c.serve-reply.new.share; slots = c.serve-reply.new.actors; jobs = c.serve-reply.new.jobs } in
+    let old : SimSeen = record { world = c.loop-event.self-inside.booked.world; share = c.loop-event.self-inside.share; slots = c.loop-event.self-inside.actors; jobs = c.loop-event.self-inside.jobs } in
+    let new : SimSeen = record { world = c.serve-reply.new.booked.world; share = c.serve-reply.new.share; slots = c.serve-reply.new.actors; jobs = c.serve-reply.new.jobs } in
     let more = take_more es i e c.loop-event-test.true ∙ ap (λ x. take i es ++ x ∷ []) (sym c.event-item.is) in
     record {
       run = λ m stands.
@@ -50,7 +50,7 @@ returns g c =
     let accepts = g.M.Meaning.accepts in
     let knows = g.F.Functions.knows c.args.funs.now in
     let es = c.args.events.now in
-    let s : SimSeen = record { world = c.loop-event.self-inside.world; share = c.loop-event.self-inside.share; slots = c.loop-event.self-inside.actors; jobs = c.loop-event.self-inside.jobs } in
+    let s : SimSeen = record { world = c.loop-event.self-inside.booked.world; share = c.loop-event.self-inside.share; slots = c.loop-event.self-inside.actors; jobs = c.loop-event.self-inside.jobs } in
     record {
       run = λ m stands.
           let all = take_all c.loop-event.event-index es c.loop-event-test.false in

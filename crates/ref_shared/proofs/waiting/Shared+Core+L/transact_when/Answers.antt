@@ -1,127 +1,15 @@
-use Rattle.std.proofs.Common.{rules, of_calls, refl, ap, arith, ◌∷◌, ◌∙◌, Ok, Err, inl, inr}
-use Rattle.std.specs.Prelude.{is_some}
-use Rattle.ref_shared.specs.Waits.{IsCalledAgain}
-use Rattle.ref_shared.proofs.Again.{again_earlier, not_ready, one_more, tried_more, tried_same}
-use Rattle.ref_shared.proofs.Chains.{all_more, final}
+use Rattle.std.proofs.Common.{of_calls, rules}
+use Rattle.std.specs.Prelude.{Option}
+use Rattle.ref_shared.specs.Bodies.{calls_of}
+use Rattle.ref_shared.specs.declared.bodies.OnTx.{OnTx}
+use Rattle.ref_shared.proofs.Within.{if_wait_fails, if_landed}
 use Rattle.ref_shared.proofs.waiting.Shared+Core+L.transact_when.Goals as goal
 
-pub returns-in_default-clause-fault : goal.returns-in_default-clause-fault
-returns-in_default-clause-fault g c =
-    let so_far = c.loop.invariant.called in (
-      so_far.0,
-      record { called = so_far.1; few = omega (arith, so_far.2, c.loop.invariant.room); again = again_earlier so_far.0 so_far.3 },
-    )
+pub transact_body_when-requires-clause-body : goal.transact_body_when-requires-clause-body
+transact_body_when-requires-clause-body g c = rw c.of-body.ensures (search (of_calls, rules))
 
-pub returns-in-Err-clause-fault : goal.returns-in-Err-clause-fault
-returns-in-Err-clause-fault g c =
-    let so_far = c.loop.invariant.called in
-    let call = rw c.in-Err.is at c.body.ensures in (
-      record { began = _; answer = Err c.in-Err.e; left = _ },
-      so_far.0,
-      one_more _ _ _ _ _ _ _ _ so_far.1 so_far.2 so_far.3 c.loop.invariant.room
-          (record { fresh = c.in-Ok.ensures; called = record { shown = _; shows = refl; left = _; called = call; leaves = refl } }),
-      refl,
-    )
+pub returns-clause-ok : goal.returns-clause-ok
+returns-clause-ok g c = if_landed (λ (w : OnTx g.row.B.Denot (Option g.row.T.Denot) g.row.E.Denot). w.body) (calls_of g.B.FnMut) _ _ _ _ _ _ _ _ c.of-body.ensures c.transact_body_when.ensures.ok
 
-pub returns-then-not-wait_past-clause-fault : goal.returns-then-not-wait_past-clause-fault
-returns-then-not-wait_past-clause-fault g c =
-    let so_far = c.loop.invariant.called in
-    let call = rw c.in-Ok-body.is at c.body.ensures in (
-      record { began = _; answer = Ok c.in-Ok-body.answer; left = _ },
-      so_far.0,
-      one_more _ _ _ _ _ _ _ _ so_far.1 so_far.2 so_far.3 c.loop.invariant.room
-          (record { fresh = c.in-Ok.ensures; called = record { shown = _; shows = refl; left = _; called = call; leaves = refl } }),
-      search rules,
-    )
-
-pub loop-preserved-in_default-answer : goal.loop-preserved-in_default-answer
-loop-preserved-in_default-answer g c =
-    let so_far = c.loop.invariant.called in
-    let call = rw c.in-Ok-body.is at c.body.ensures in
-    record {
-      body = search (of_calls, rules);
-      share = search rules;
-      sink = search rules;
-      called = (
-        (record { began = _; answer = Ok c.in-Ok-body.answer; left = _ }) ∷ so_far.0,
-        (_, so_far.1, record { fresh = c.in-Ok.ensures; called = record { shown = _; shows = refl; left = _; called = call; leaves = refl } }),
-        tried_same _ _ (Ok c.in-Ok-body.answer) so_far.0 (ap is_some (not_ready _ c.in_default-answer.not-Some)) ∙ so_far.2,
-        all_more IsCalledAgain _ so_far.0 (inl (ap Ok (not_ready _ c.in_default-answer.not-Some))) so_far.3,
-      );
-      room = c.loop.invariant.room;
-    }
-
-pub returns-in-Ok-commit-clause-ok : goal.returns-in-Ok-commit-clause-ok
-returns-in-Ok-commit-clause-ok g c =
-    let so_far = c.loop.invariant.called in
-    let call = rw c.in-Ok-body.is at c.body.ensures in
-    record {
-      call = record { began = _; answer = Ok c.in-Ok-body.answer; left = _ };
-      earlier = so_far.0;
-      calls = one_more _ _ _ _ _ _ _ _ so_far.1 so_far.2 so_far.3 c.loop.invariant.room
-          (record { fresh = c.in-Ok.ensures; called = record { shown = _; shows = refl; left = _; called = call; leaves = refl } });
-      answered = search rules;
-      landed = search rules;
-    }
-
-pub returns-then-conflicts-tries-clause-fault : goal.returns-then-conflicts-tries-clause-fault
-returns-then-conflicts-tries-clause-fault g c =
-    let so_far = c.loop.invariant.called in
-    let call = rw c.in-Ok-body.is at c.body.ensures in (
-      record { began = _; answer = Ok c.in-Ok-body.answer; left = _ },
-      so_far.0,
-      one_more _ _ _ _ _ _ _ _ so_far.1 so_far.2 so_far.3 c.loop.invariant.room
-          (record { fresh = c.in-Ok.ensures; called = record { shown = _; shows = refl; left = _; called = call; leaves = refl } }),
-      search rules,
-      refl,
-      tried_more _ _ (Ok c.in-Ok-body.answer) so_far.0 (ap is_some c.in-Some-answer.is) ∙ omega (arith, so_far.2, c.if-conflicts-tries.true),
-      search rules,
-    )
-
-pub returns-in-Memory-clause-fault : goal.returns-in-Memory-clause-fault
-returns-in-Memory-clause-fault g c =
-    let so_far = c.loop.invariant.called in
-    let call = rw c.in-Ok-body.is at c.body.ensures in (
-      (record { began = _; answer = Ok c.in-Ok-body.answer; left = _ }) ∷ so_far.0,
-      one_more _ _ _ _ _ _ _ _ so_far.1 so_far.2 so_far.3 c.loop.invariant.room
-          (record { fresh = c.in-Ok.ensures; called = record { shown = _; shows = refl; left = _; called = call; leaves = refl } }),
-    )
-
-pub returns-in_default-fault : goal.returns-in_default-fault
-returns-in_default-fault g c =
-    let so_far = c.loop.invariant.called in
-    let call = rw c.in-Ok-body.is at c.body.ensures in
-    record {
-      ok = tt;
-      stamp = tt;
-      fault = (
-        record { began = _; answer = Ok c.in-Ok-body.answer; left = _ },
-        so_far.0,
-        one_more _ _ _ _ _ _ _ _ so_far.1 so_far.2 so_far.3 c.loop.invariant.room
-            (record { fresh = c.in-Ok.ensures; called = record { shown = _; shows = refl; left = _; called = call; leaves = refl } }),
-        ap is_some c.in-Some-answer.is,
-        final _ c.in_default-fault.not-Conflict c.in_default-fault.not-Memory,
-      );
-      same = search rules;
-      told = tt;
-      untold = search rules;
-    }
-
-pub loop-preserved : goal.loop-preserved
-loop-preserved g c =
-    let so_far = c.loop.invariant.called in
-    let call = rw c.in-Ok-body.is at c.body.ensures in
-    let is_value = ap is_some c.in-Some-answer.is in
-    record {
-      body = search (of_calls, rules);
-      share = search rules;
-      sink = search rules;
-      called = (
-        (record { began = _; answer = Ok c.in-Ok-body.answer; left = _ }) ∷ so_far.0,
-        (_, so_far.1, record { fresh = c.in-Ok.ensures; called = record { shown = _; shows = refl; left = _; called = call; leaves = refl } }),
-        tried_more _ _ (Ok c.in-Ok-body.answer) so_far.0 is_value ∙ omega (arith, so_far.2),
-        all_more IsCalledAgain _ so_far.0
-            (inr (record { answered = is_value; conflict = c.in-Conflict.conflict; fits = search rules })) so_far.3,
-      );
-      room = omega (arith, c.loop.invariant.room, c.if-conflicts-tries.false);
-    }
+pub returns-clause-fault : goal.returns-clause-fault
+returns-clause-fault g c = if_wait_fails (λ (w : OnTx g.row.B.Denot (Option g.row.T.Denot) g.row.E.Denot). w.body) (calls_of g.B.FnMut) _ _ _ _ _ c.of-body.ensures c.transact_body_when.ensures.fault

@@ -1,0 +1,55 @@
+-- What is said of a closure as a body, said of the closure.
+use Rattle.std.proofs.Common.{◌≡◌, ◌⊎◌, ⊎_elim, inl, inr, ℕ, Ok, subst}
+use Rattle.std.proofs.lemmas.Result.{IfErr-weaker, IfOk-weaker}
+use Rattle.std.specs.Prelude.{Result, Option, IfErr, IfOk}
+use Rattle.ref_log.specs.declared.entries.Stamp.{Stamp}
+use Rattle.ref_world.specs.Seen.{ShareSeen}
+use Rattle.ref_shared.proofs.Within.{within, committed, fault_comes, landed, wait_fails}
+use Rattle.ref_shared.specs.Bodies.{Doing, Committed, FaultComes}
+use Rattle.ref_shared.specs.Waits.{Landed, WaitFails}
+use Rattle.ref_shared.specs.declared.faults.TransactFault.{TransactFault}
+use Rattle.ref_shared.specs.declared.faults.WaitFault.{WaitFault}
+
+pub if_committed : {W B T E : Type 0} (inner : W → B) (does : Doing B (Result T E)) (first last : W) (body : B) (tries : ℕ) (stamp : Stamp) (old new : ShareSeen) (r : Result T (TransactFault E))
+    → inner first ≡ body → IfOk r (λ t. (point : ℕ) × Committed (within inner does) first last tries (Ok t) stamp point old new)
+    → IfOk r (λ t. (after : B) × (point : ℕ) × Committed does body after tries (Ok t) stamp point old new)
+if_committed {B = B} inner does first last body tries stamp old new r is so =
+    subst (λ (b : B). IfOk r (λ t. (after : B) × (point : ℕ) × Committed does b after tries (Ok t) stamp point old new)) is
+    (IfOk-weaker r
+    (λ t. (point : ℕ) × Committed (within inner does) first last tries (Ok t) stamp point old new)
+    (λ t. (after : B) × (point : ℕ) × Committed does (inner first) after tries (Ok t) stamp point old new)
+    (λ t h. (inner last, h.0, committed inner does first last tries (Ok t) stamp h.0 old new h.1))
+    so)
+
+pub if_fault_comes : {W B T E : Type 0} (P : Type 0) (inner : W → B) (does : Doing B (Result T E)) (first last : W) (body : B) (tries : ℕ) (r : Result T (TransactFault E))
+    → inner first ≡ body → IfErr r (λ f. P ⊎ FaultComes (within inner does) first last tries f)
+    → IfErr r (λ f. P ⊎ (after : B) × FaultComes does body after tries f)
+if_fault_comes {B = B} P inner does first last body tries r is so =
+    subst (λ (b : B). IfErr r (λ f. P ⊎ (after : B) × FaultComes does b after tries f)) is
+    (IfErr-weaker r
+    (λ f. P ⊎ FaultComes (within inner does) first last tries f)
+    (λ f. P ⊎ (after : B) × FaultComes does (inner first) after tries f)
+    (λ f h. ⊎_elim (λ p. inl p) (λ q. inr (inner last, fault_comes inner does first last tries f q)) h)
+    so)
+
+pub if_landed : {W B T E : Type 0} (inner : W → B) (does : Doing B (Result (Option T) E)) (first last : W) (body : B) (tries : ℕ) (stamp : Stamp) (old new : ShareSeen) (r : Result T (WaitFault E))
+    → inner first ≡ body → IfOk r (λ t. (point : ℕ) × Landed (within inner does) first last tries t stamp point old new)
+    → IfOk r (λ t. (after : B) × (point : ℕ) × Landed does body after tries t stamp point old new)
+if_landed {B = B} inner does first last body tries stamp old new r is so =
+    subst (λ (b : B). IfOk r (λ t. (after : B) × (point : ℕ) × Landed does b after tries t stamp point old new)) is
+    (IfOk-weaker r
+    (λ t. (point : ℕ) × Landed (within inner does) first last tries t stamp point old new)
+    (λ t. (after : B) × (point : ℕ) × Landed does (inner first) after tries t stamp point old new)
+    (λ t h. (inner last, h.0, landed inner does first last tries t stamp h.0 old new h.1))
+    so)
+
+pub if_wait_fails : {W B T E : Type 0} (P : Type 0) (inner : W → B) (does : Doing B (Result (Option T) E)) (first last : W) (body : B) (tries : ℕ) (r : Result T (WaitFault E))
+    → inner first ≡ body → IfErr r (λ f. P ⊎ WaitFails (within inner does) first last tries f)
+    → IfErr r (λ f. P ⊎ (after : B) × WaitFails does body after tries f)
+if_wait_fails {B = B} P inner does first last body tries r is so =
+    subst (λ (b : B). IfErr r (λ f. P ⊎ (after : B) × WaitFails does b after tries f)) is
+    (IfErr-weaker r
+    (λ f. P ⊎ WaitFails (within inner does) first last tries f)
+    (λ f. P ⊎ (after : B) × WaitFails does (inner first) after tries f)
+    (λ f h. ⊎_elim (λ p. inl p) (λ q. inr (inner last, wait_fails inner does first last tries f q)) h)
+    so)

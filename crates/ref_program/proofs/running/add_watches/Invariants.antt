@@ -1,0 +1,5 @@
+use Rattle.std.proofs.Common.{◌≡◌}
+use Rattle.ref_program.proofs.running.add_watches.Given as goal
+
+abbrev pub invariant-loop-watch : goal.invariant-loop-watch
+invariant-loop-watch g l = l.world.books ≡ l.fn.world.books

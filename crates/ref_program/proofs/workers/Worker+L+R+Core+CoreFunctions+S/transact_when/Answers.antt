@@ -1,0 +1,15 @@
+use Rattle.std.proofs.Common.{of_calls, rules}
+use Rattle.std.specs.Prelude.{Option}
+use Rattle.ref_shared.specs.Bodies.{calls_of}
+use Rattle.ref_shared.specs.declared.bodies.OnDosync.{OnDosync}
+use Rattle.ref_program.proofs.Bodies.{if_landed, if_wait_fails}
+use Rattle.ref_program.proofs.workers.Worker+L+R+Core+CoreFunctions+S.transact_when.Goals as goal
+
+pub transact_body_when-requires : goal.transact_body_when-requires
+transact_body_when-requires g c = rw c.of-body.ensures (search (of_calls, rules))
+
+pub returns-clause-ok : goal.returns-clause-ok
+returns-clause-ok g c = if_landed (λ (w : OnDosync g.row.D.Denot (Option g.row.T.Denot) g.row.E.Denot). w.body) (calls_of g.D.FnMut) _ _ _ _ _ _ _ _ c.of-body.ensures c.transact_body_when.ensures.ok
+
+pub returns-clause-fault : goal.returns-clause-fault
+returns-clause-fault g c = if_wait_fails _ (λ (w : OnDosync g.row.D.Denot (Option g.row.T.Denot) g.row.E.Denot). w.body) (calls_of g.D.FnMut) _ _ _ _ _ c.of-body.ensures c.transact_body_when.ensures.fault

@@ -1,0 +1,128 @@
+use Rattle.std.proofs.Common.{rules, refl, ap, arith, [], ◌∷◌, ◌∙◌, Ok, Err, inl, inr}
+use Rattle.std.specs.Prelude.{is_some}
+use Rattle.ref_shared.specs.Waits.{IsCalledAgain}
+use Rattle.ref_shared.proofs.Again.{again_earlier, not_ready, one_more, tried_more, tried_same}
+use Rattle.ref_shared.proofs.Chains.{all_more, final}
+use Rattle.ref_shared.proofs.shared.Shared.transact_body_when.Goals as goal
+
+pub loop-init : goal.loop-init
+loop-init g c = record {
+  body = c.requires.body;
+  share = refl;
+  sink = refl;
+  called = ([], refl, refl, search rules);
+  room = c.requires.tries;
+}
+
+pub returns-in_default-clause-fault : goal.returns-in_default-clause-fault
+returns-in_default-clause-fault g c =
+    let so_far = c.loop.invariant.called in (
+      so_far.0,
+      record { called = so_far.1; few = omega (arith, so_far.2, c.loop.invariant.room); again = again_earlier so_far.0 so_far.3 },
+    )
+
+pub returns-in-Err-clause-fault : goal.returns-in-Err-clause-fault
+returns-in-Err-clause-fault g c =
+    let so_far = c.loop.invariant.called in (
+      record { began = _; answer = Err c.in-Err.e; left = _ },
+      so_far.0,
+      one_more _ _ _ _ _ _ _ _ so_far.1 so_far.2 so_far.3 c.loop.invariant.room
+          (record { fresh = c.in-Ok.ensures; called = c.in-Err.ensures.does }),
+      refl,
+    )
+
+pub returns-then-not-wait_past-clause-fault : goal.returns-then-not-wait_past-clause-fault
+returns-then-not-wait_past-clause-fault g c =
+    let so_far = c.loop.invariant.called in (
+      record { began = _; answer = Ok c.in-Ok-run.answer; left = _ },
+      so_far.0,
+      one_more _ _ _ _ _ _ _ _ so_far.1 so_far.2 so_far.3 c.loop.invariant.room
+          (record { fresh = c.in-Ok.ensures; called = c.in-Ok-run.ensures.does }),
+      search rules,
+    )
+
+pub loop-preserved-in_default-answer : goal.loop-preserved-in_default-answer
+loop-preserved-in_default-answer g c =
+    let so_far = c.loop.invariant.called in
+    record {
+      body = c.in-Ok-run.ensures.may;
+      share = search rules;
+      sink = search rules;
+      called = (
+        (record { began = _; answer = Ok c.in-Ok-run.answer; left = _ }) ∷ so_far.0,
+        (_, so_far.1, record { fresh = c.in-Ok.ensures; called = c.in-Ok-run.ensures.does }),
+        tried_same _ _ (Ok c.in-Ok-run.answer) so_far.0 (ap is_some (not_ready _ c.in_default-answer.not-Some)) ∙ so_far.2,
+        all_more IsCalledAgain _ so_far.0 (inl (ap Ok (not_ready _ c.in_default-answer.not-Some))) so_far.3,
+      );
+      room = c.loop.invariant.room;
+    }
+
+pub returns-in-Ok-commit-clause-ok : goal.returns-in-Ok-commit-clause-ok
+returns-in-Ok-commit-clause-ok g c =
+    let so_far = c.loop.invariant.called in
+    record {
+      call = record { began = _; answer = Ok c.in-Ok-run.answer; left = _ };
+      earlier = so_far.0;
+      calls = one_more _ _ _ _ _ _ _ _ so_far.1 so_far.2 so_far.3 c.loop.invariant.room
+          (record { fresh = c.in-Ok.ensures; called = c.in-Ok-run.ensures.does });
+      answered = search rules;
+      landed = search rules;
+    }
+
+pub returns-then-conflicts-tries-clause-fault : goal.returns-then-conflicts-tries-clause-fault
+returns-then-conflicts-tries-clause-fault g c =
+    let so_far = c.loop.invariant.called in (
+      record { began = _; answer = Ok c.in-Ok-run.answer; left = _ },
+      so_far.0,
+      one_more _ _ _ _ _ _ _ _ so_far.1 so_far.2 so_far.3 c.loop.invariant.room
+          (record { fresh = c.in-Ok.ensures; called = c.in-Ok-run.ensures.does }),
+      search rules,
+      refl,
+      tried_more _ _ (Ok c.in-Ok-run.answer) so_far.0 (ap is_some c.in-Some-answer.is) ∙ omega (arith, so_far.2, c.if-conflicts-tries.true),
+      search rules,
+    )
+
+pub returns-in-Memory-clause-fault : goal.returns-in-Memory-clause-fault
+returns-in-Memory-clause-fault g c =
+    let so_far = c.loop.invariant.called in (
+      (record { began = _; answer = Ok c.in-Ok-run.answer; left = _ }) ∷ so_far.0,
+      one_more _ _ _ _ _ _ _ _ so_far.1 so_far.2 so_far.3 c.loop.invariant.room
+          (record { fresh = c.in-Ok.ensures; called = c.in-Ok-run.ensures.does }),
+    )
+
+pub returns-in_default-fault : goal.returns-in_default-fault
+returns-in_default-fault g c =
+    let so_far = c.loop.invariant.called in
+    record {
+      ok = tt;
+      stamp = tt;
+      fault = (
+        record { began = _; answer = Ok c.in-Ok-run.answer; left = _ },
+        so_far.0,
+        one_more _ _ _ _ _ _ _ _ so_far.1 so_far.2 so_far.3 c.loop.invariant.room
+            (record { fresh = c.in-Ok.ensures; called = c.in-Ok-run.ensures.does }),
+        ap is_some c.in-Some-answer.is,
+        final _ c.in_default-fault.not-Conflict c.in_default-fault.not-Memory,
+      );
+      same = search rules;
+      told = tt;
+      untold = search rules;
+    }
+
+pub loop-preserved : goal.loop-preserved
+loop-preserved g c =
+    let so_far = c.loop.invariant.called in
+    let is_value = ap is_some c.in-Some-answer.is in
+    record {
+      body = c.in-Ok-run.ensures.may;
+      share = search rules;
+      sink = search rules;
+      called = (
+        (record { began = _; answer = Ok c.in-Ok-run.answer; left = _ }) ∷ so_far.0,
+        (_, so_far.1, record { fresh = c.in-Ok.ensures; called = c.in-Ok-run.ensures.does }),
+        tried_more _ _ (Ok c.in-Ok-run.answer) so_far.0 is_value ∙ omega (arith, so_far.2),
+        all_more IsCalledAgain _ so_far.0
+            (inr (record { answered = is_value; conflict = c.in-Conflict.conflict; fits = search rules })) so_far.3,
+      );
+      room = omega (arith, c.loop.invariant.room, c.if-conflicts-tries.false);
+    }
