@@ -6,7 +6,7 @@ ghost use Rattle.ref_fun.specs.Limits.{most_arguments};
 use crate::calls::Call;
 use crate::refusing::{EACH, refuse, was_refused};
 use crate::worlds::{G, H, Use, WATCHED, opened};
-use ref_agents::ErrorMode;
+use ref_agents::{ErrorMode, Job};
 use ref_fun::codes::{AT_LEAST, PLUS};
 use ref_fun::{
     Core, CoreFunctions, FunTable, Functions, Pred, Rule, StoredPred, code_of, core_test, name_of,
@@ -118,31 +118,65 @@ fn of_reference(world: &mut World<Core>, who: Who, key: &Value) -> [bool; 3]
     ]
 }
 
+fn take(world: &mut World<Core>) -> Option<Job>
+    ensures books { world.new.books ≡ world.old.books }
+{
+    match world.take() {
+        Ok(job) => job,
+        Err(_) => None,
+    }
+}
+
+fn sets_mode(world: &mut World<Core>) -> bool
+    ensures books { world.new.books ≡ world.old.books }
+{
+    world.set_error_mode(G, ErrorMode::Continue).is_ok()
+}
+
+fn folds(world: &mut World<Core>) -> bool
+    ensures books { world.new.books ≡ world.old.books }
+{
+    matches!(world.fold_agent(G), Ok(true))
+}
+
+fn restarts(world: &mut World<Core>, zero: Value) -> bool
+    ensures books { world.new.books ≡ world.old.books }
+{
+    world.restart(&CoreFunctions, H, zero, false).is_ok()
+}
+
+// Puts a job back, and forsakes it when it is taken again.
+fn puts_back(world: &mut World<Core>, job: Job) -> bool
+    ensures books { world.new.books ≡ world.old.books }
+{
+    let (is_back, job) = match world.put_back(job) {
+        Ok(()) => (true, take(world)),
+        Err(job) => (false, Some(job)),
+    };
+    if let Some(job) = job {
+        job.forsake();
+    }
+    is_back
+}
+
 // Takes a job, runs it and puts it back; takes it again and forsakes it. The sends of the commit at point 2 are held.
 fn of_agents(alloc: Global, world: &mut World<Core>, zero: Value) -> [bool; 6]
     ensures books { world.new.books ≡ world.old.books }
 {
-    let Some(job) = world.take().ok().flatten() else {
+    let Some(job) = take(world) else {
         return [false; 6];
     };
     let job = match job.run::<Core, _>(alloc, &CoreFunctions) {
         Ok(ran) => ran.into_job(),
         Err((job, _)) => job,
     };
-    let (is_back, job) = match world.put_back(job) {
-        Ok(()) => (true, world.take().ok().flatten()),
-        Err(job) => (false, Some(job)),
-    };
-    if let Some(job) = job {
-        job.forsake();
-    }
     [
-        is_back,
-        world.set_error_mode(G, ErrorMode::Continue).is_ok(),
+        puts_back(world, job),
+        sets_mode(world),
         !world.release_carried(G),
         world.release(2),
-        matches!(world.fold_agent(G), Ok(true)),
-        world.restart(&CoreFunctions, H, zero, false).is_ok(),
+        folds(world),
+        restarts(world, zero),
     ]
 }
 
