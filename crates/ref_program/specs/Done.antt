@@ -1,23 +1,16 @@
 -- What the workers of a run have done, taken together.
-use Rattle.std.specs.Prelude.{◌≡◌, ◌<◌, ◌+◌, ◌*◌, ℕ, List, [], ◌∷◌, length, sum_by}
+use Rattle.std.specs.Prelude.{◌≡◌, ◌<◌, ◌+◌, ◌*◌, ℕ, zero, suc, List, [], ◌∷◌}
 use Rattle.std.specs.List.{All}
 use Rattle.ref_program.specs.Seen.{HasDoneNothing}
 use Rattle.ref_world.specs.Seen.{ShareSeen}
 use Rattle.ref_world.specs.declared.worlds.Totals.{Totals}
 
--- The worker of this number and those of the numbers after it have done this, each by the share in its place.
-abbrev pub AreDone : (ℕ → ShareSeen → Type 0) → ℕ → List ShareSeen → Type 0
-AreDone did number [] = Unit {0}
-AreDone did number (s ∷ shares) = did number s × AreDone did (number + 1) shares
-
--- There are shares, one for each worker, by which each has done its work, and the totals are their sums.
-pub record HaveDone (did : ℕ → ShareSeen → Type 0) (workers : ℕ) (totals : Totals) : Type 0 where
-  pub shares : List ShareSeen
-  pub count : length shares ≡ workers
-  pub each : AreDone did 0 shares
-  pub commits : totals.commits ≡ sum_by (λ s. s.commits) shares
-  pub added : totals.added ≡ sum_by (λ s. s.added) shares
-  pub taken : totals.taken ≡ sum_by (λ s. s.taken) shares
+-- The workers of the numbers below this one have done this, each by a share, and the totals are the sums of these shares.
+abbrev pub HaveDone : (ℕ → ShareSeen → Type 0) → ℕ → Totals → Type 0
+HaveDone did zero totals = (totals.commits ≡ 0) × (totals.added ≡ 0) × (totals.taken ≡ 0)
+HaveDone did (suc n) totals =
+    (s : ShareSeen) × (before : Totals) × HaveDone did n before × did n s × (totals.commits ≡ before.commits + s.commits)
+    × (totals.added ≡ before.added + s.added) × (totals.taken ≡ before.taken + s.taken)
 
 -- Where each worker does as much, all do so many times as much.
 abbrev pub IsEach : (ℕ → ShareSeen → Type 0) → ℕ → (ShareSeen → ℕ) → ℕ → Type 0
@@ -37,7 +30,8 @@ AreNumbers first (n ∷ numbers) = (n ≡ first) × AreNumbers (first + 1) numbe
 
 -- The worker of this number and those after it have done this, each by the share in its place, which has one part.
 abbrev pub AreLeft : (ℕ → ShareSeen → Type 0) → ℕ → List ShareSeen → Type 0
-AreLeft did number shares = AreDone (λ i s. did i s × (s.parts ≡ 1)) number shares
+AreLeft did number [] = Unit {0}
+AreLeft did number (s ∷ shares) = (did number s × (s.parts ≡ 1)) × AreLeft did (number + 1) shares
 
 -- what a share has of the books
 abbrev pub totals_of : ShareSeen → Totals

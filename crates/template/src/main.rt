@@ -44,7 +44,7 @@ fn vote(tx: &mut Dosync, choice: Keyword) -> Result<(), Fault> {
 }
 
 // Four workers and no helper. However the threads get on, they make 100 commits. RENAME
-fn poll<R: AllocGlobal + Threads + Wait + Sync>(rt: &R) -> Result<Ended, Fault>
+fn run_poll<R: AllocGlobal + Threads + Wait + Sync>(rt: &R) -> Result<Ended, Fault>
     ensures { IfOk result (λ end. end.totals.commits ≡ 100) }
 {
     run(rt, &Poll, Crew::of(4, 0))
@@ -52,7 +52,7 @@ fn poll<R: AllocGlobal + Threads + Wait + Sync>(rt: &R) -> Result<Ended, Fault>
 
 // Prints what is in the world at the end. RENAME
 fn main(rt: HostRuntime) -> Result<(), Fault> {
-    let end = poll(&rt)?;
+    let end = run_poll(&rt)?;
     let votes = text(rt.alloc(), end.value_of(Who::Ref(VOTES))?)?;
     println!(rt; "votes {votes}, commits {}", end.totals.commits)?;
     Ok(())

@@ -1,6 +1,6 @@
-use Rattle.std.proofs.Common.{arith, ap}
+use Rattle.std.proofs.Common.{arith}
 use Rattle.std.proofs.lemmas.List.{length_push}
-use Rattle.ref_program.proofs.Sums.{have_joined}
+use Rattle.ref_program.proofs.Sums.{have_joined, joined_parts}
 use Rattle.ref_program.proofs.running.join_all.Goals as goal
 
 pub loop-one-preserved : goal.loop-one-preserved
@@ -12,7 +12,7 @@ loop-one-preserved g c =
     let left = rw step.0 at was.rest in
     record {
       count = omega (arith, n, step.1, was.count);
-      parts = omega (arith, step.1, was.parts, ap (λ s. s.parts) both, left.0.1);
+      parts = omega (arith, step.1, was.parts, joined_parts _ _ _ both, left.0.1);
       rest = rw n left.1;
       done = rw n (have_joined _ _ _ _ _ both was.done left.0.0);
     }
