@@ -16,7 +16,6 @@ use std::test::Fail;
 use std::thread::Threads;
 use std::time::Clock;
 
-// Codes of Core.
 // How often who calls `inc` is overtaken by who calls `+`.
 const TIMES: u32 = 3;
 
