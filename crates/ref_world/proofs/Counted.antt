@@ -1,5 +1,5 @@
 -- The books of a world with an entry more.
-use Rattle.std.proofs.Common.{◌≡◌, ℕ, ◌&&◌, ◌+◌, ◌≤◌, ◌∷◌, ◌++◌, [], ◌||◌, not, is_some, true, false, Bool, List, length, Option, None, Some, Ok, cond, refl, ap, sym, subst, ◌∙◌, arith}
+use Rattle.std.proofs.Common.{◌≡◌, ℕ, ◌&&◌, ◌+◌, ◌≤◌, ◌∷◌, ◌++◌, [], ◌||◌, not, is_some, true, false, Bool, List, length, Option, None, Some, Ok, cond, refl, ◌∙◌, arith}
 use Rattle.std.specs.List.{list_all}
 use Rattle.std.proofs.lemmas.List.Folds.{list_all-append}
 use Rattle.std.proofs.lemmas.Bool.{and_from}

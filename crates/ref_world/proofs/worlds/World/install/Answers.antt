@@ -1,11 +1,11 @@
-use Rattle.std.proofs.Common.{arith, rules, ◌≡◌, ◌∙◌, ℕ, ◌≤◌, ◌^◌, ◌+◌, ◌++◌, ◌∷◌, [], true, Ok, ap, refl, subst, sym}
+use Rattle.std.proofs.Common.{rules, ◌≡◌, ◌∙◌, ℕ, ◌+◌, ◌++◌, ◌∷◌, [], true, Ok, ap, refl, subst, sym}
 use Rattle.ref_log.specs.Replay.{point_after, step}
 use Rattle.ref_log.specs.Tally.{IsMoved, moved_by_dones}
 use Rattle.ref_log.specs.declared.counting.Side.TheVariants.{Taken}
 use Rattle.ref_log.specs.TallyLaws.{books-moved}
 use Rattle.ref_refs.specs.Commit.{changed_by, entry_of}
 use Rattle.ref_refs.specs.Seen.{are_unchanged_since, changed_at}
-use Rattle.ref_world.specs.World.{AreBooks, IsWorld, are_past, most_booked, point_of, values_now}
+use Rattle.ref_world.specs.World.{AreBooks, IsWorld, are_past, point_of, values_now}
 use Rattle.ref_agents.specs.Agents.{with_commit, with_unreleased}
 use Rattle.ref_world.proofs.Counted.{books_committed}
 use Rattle.ref_world.specs.Entered.{entered_same, held_commit, held_still}

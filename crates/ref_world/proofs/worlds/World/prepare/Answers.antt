@@ -1,4 +1,4 @@
-use Rattle.std.proofs.Common.{◌≡◌, ◌∙◌, ◌+◌, ℕ, length, ap, sym}
+use Rattle.std.proofs.Common.{◌≡◌, ◌∙◌, ◌+◌, length, ap, sym}
 use Rattle.ref_log.specs.Replay.{point_after}
 use Rattle.ref_log.specs.Told.{TellsOrMemory}
 use Rattle.ref_refs.specs.Commit as refs
