@@ -132,14 +132,18 @@ fn sell(tx: &mut Dosync, good: Good) -> Result<(), Fault> {
 /// A day at the market, and what is in its world at the end.
 pub(crate) fn run_day<R: AllocGlobal + Print + Threads + Wait + Sync>(rt: &R) -> Result<(), Fault> {
     let end = run_custom(rt, &Market, Crew::of(4, 2))?;
-    say(rt, &end, "customers", Who::Atom(CAME))?;
-    say(rt, &end, ":apple", Who::Ref(APPLE.stock))?;
-    say(rt, &end, ":bread", Who::Ref(BREAD.stock))?;
-    say(rt, &end, ":cheese", Who::Ref(CHEESE.stock))?;
-    say(rt, &end, "takings", Who::Ref(TAKINGS))?;
-    say(rt, &end, "till", Who::Agent(TILL))?;
-    say(rt, &end, "sold out", Who::Atom(SOLD_OUT))?;
-    say(rt, &end, "without bread", Who::Atom(WITHOUT_BREAD))?;
+    say_all(rt, &end)
+}
+
+fn say_all<R: AllocGlobal + Print>(rt: &R, end: &Ended<Core, Board>) -> Result<(), Fault> {
+    say(rt, end, "customers", Who::Atom(CAME))?;
+    say(rt, end, ":apple", Who::Ref(APPLE.stock))?;
+    say(rt, end, ":bread", Who::Ref(BREAD.stock))?;
+    say(rt, end, ":cheese", Who::Ref(CHEESE.stock))?;
+    say(rt, end, "takings", Who::Ref(TAKINGS))?;
+    say(rt, end, "till", Who::Agent(TILL))?;
+    say(rt, end, "sold out", Who::Atom(SOLD_OUT))?;
+    say(rt, end, "without bread", Who::Atom(WITHOUT_BREAD))?;
     say_journal(rt, end.value_of(Who::Agent(JOURNAL))?)?;
     say_notices(rt, Board::sum(end.sinks.as_slice()))?;
     let totals = end.totals;

@@ -111,18 +111,22 @@ pub(crate) fn sell_tickets<R: AllocGlobal + Print + Threads + Wait + Sync>(
     rt: &R,
 ) -> Result<(), Fault> {
     let mut end = run_custom(rt, &Office, Crew::of(CLERKS, 0))?;
-    say(rt, &end.world, "first evening", Who::Ref(FIRST))?;
-    say(rt, &end.world, "second evening", Who::Ref(SECOND))?;
-    close(rt.alloc(), &mut end.world, SECOND)?;
-    say(rt, &end.world, "closed, it has", Who::Ref(SECOND))?;
-    say(rt, &end.world, "tickets sold", Who::Ref(SOLD))?;
-    say(rt, &end.world, "groups too late", Who::Atom(TOO_LATE))?;
-    say(rt, &end.world, "groups too large", Who::Atom(TOO_LARGE))?;
-    println!(rt;
-        "commits {}, which added {}",
-        end.world.commits(),
-        end.world.added()
-    )?;
+    close_and_say(rt, &mut end.world)
+}
+
+// Closes the second evening, and says what is in the world.
+fn close_and_say<R: AllocGlobal + Print>(
+    rt: &R,
+    world: &mut World<BoxOffice>,
+) -> Result<(), Fault> {
+    say(rt, world, "first evening", Who::Ref(FIRST))?;
+    say(rt, world, "second evening", Who::Ref(SECOND))?;
+    close(rt.alloc(), world, SECOND)?;
+    say(rt, world, "closed, it has", Who::Ref(SECOND))?;
+    say(rt, world, "tickets sold", Who::Ref(SOLD))?;
+    say(rt, world, "groups too late", Who::Atom(TOO_LATE))?;
+    say(rt, world, "groups too large", Who::Atom(TOO_LARGE))?;
+    println!(rt; "commits {}, which added {}", world.commits(), world.added())?;
     Ok(())
 }
 

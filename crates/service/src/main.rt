@@ -32,10 +32,7 @@ fn main(rt: HostRuntime) -> Result<(), Fault> {
     // Four sell, one folds, and two help.
     let crew = Crew::of(COUNTERS + 1, 2).with_tries(u32::MAX);
     let end = run_custom(&rt, &shop, crew)?;
-    say_world(&rt, &end)?;
-    let errors = Errors::sum(end.sinks.as_slice());
-    println!(rt; "errors {}", errors.count)?;
-    Ok(())
+    say_all(&rt, &end)
 }
 
 // How many sales each thread is to make, by the first argument.
@@ -50,7 +47,14 @@ fn sales_asked_for<R: Env + Alloc>(rt: &R) -> Result<u64, Fault> {
     }
 }
 
-// What is in the world.
+// What is in the world, and what the sinks counted.
+fn say_all<R: Print>(rt: &R, end: &Ended<Core, Errors>) -> Result<(), Fault> {
+    say_world(rt, end)?;
+    let errors = Errors::sum(end.sinks.as_slice());
+    println!(rt; "errors {}", errors.count)?;
+    Ok(())
+}
+
 fn say_world<R: Print>(rt: &R, end: &Ended<Core, Errors>) -> Result<(), Fault> {
     let own = sum(end, COUNTERS, Who::Ref)?;
     let shared = held(end, Who::Ref(SHARED_COUNTER))?;
