@@ -6,7 +6,7 @@ use denote.Ref.{NamedLft}
 use denote.Param.Send.{IsSend, IsSync, sendable}
 use denote.Param.SendFields.{declared_send, declared_sync, variants_send, variants_sync}
 use Rattle.std.proofs.Crossing as std
-use Rattle.ref_world.specs.declared.books.Books as Books
+use Rattle.ref_world.specs.declared.names.Books as Books
 use Rattle.ref_value.proofs.data.Value.TheLaws.TheKnot as knot
 use Rattle.ref_fun.proofs.lists.SharedVec.TheSendSync as lists
 use Rattle.ref_audit.specs.contracts.reports.Reason as Reason

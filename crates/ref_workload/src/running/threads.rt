@@ -40,7 +40,7 @@ where
         thread::scope_env(),
         rt,
         |scope| -> Result<(), Stop>
-            requires { IsSync F.row × IsSend C.row × IsSend A.row × IsSend K.row × IsSend G.row }
+            requires { IsSync F.row × IsSend L.row × IsSend G.row }
         {
             let mut started = start_pool(scope, rt, run, rest, &mut pool);
             if started.is_ok() {

@@ -4,7 +4,7 @@ use Rattle.ref_workload.proofs.Marking.{not_done, not_orderly, orderly}
 use Rattle.ref_workload.proofs.order.is_orderly.Goals as goal
 
 pub returns-clause-yes : goal.returns-clause-yes
-returns-clause-yes g c = λ all.
+returns-clause-yes c = λ all.
     let plan = c.args.plan.now in
     let world = c.args.world.now in
     let declared : c.base.result.now ≡ base_declared plan.refs plan.atoms =
@@ -16,13 +16,13 @@ returns-clause-yes g c = λ all.
     (λ m. c.if-not-mark_refused.ensures.yes _ m refl) (λ m. c.if-not-mark_entries.ensures.yes _ m refl) (c.is_done.ensures.yes all)
 
 pub returns-then-not-mark_entries-clause-no : goal.returns-then-not-mark_entries-clause-no
-returns-then-not-mark_entries-clause-no g c = λ no.
+returns-then-not-mark_entries-clause-no c = λ no.
     not_orderly c.args.plan.now c.args.world.now c.args.refused.now c.workers-workers.result.now c.log.result.now _ _ c.workers-workers.ensures c.log.ensures.log
     c.in_ok-board.ensures (λ m. c.if-not-mark_refused.ensures.yes _ m refl)
     (λ m order entries whole. c.if-not-mark_entries.ensures.no c.args.refused.now c.args.world.now.base.point m refl order entries)
 
 pub returns-clause-no : goal.returns-clause-no
-returns-clause-no g c = λ no.
+returns-clause-no c = λ no.
     not_orderly c.args.plan.now c.args.world.now c.args.refused.now c.workers-workers.result.now c.log.result.now _ _ c.workers-workers.ensures c.log.ensures.log
     c.in_ok-board.ensures (λ m. c.if-not-mark_refused.ensures.yes _ m refl)
     (not_done c.workers-workers.result.now c.args.refused.now c.log.result.now _ _ c.args.world.now.base.point

@@ -7,5 +7,5 @@ use Rattle.ref_workload.proofs.running.threads.start_pool.Goals as goal
 
 pub spawn-requires-send-F : goal.spawn-requires-send-F
 spawn-requires-send-F g c κs within =
-    let run : (κ : NamedLft) → IsSync (Run.the_row κ (param 1 g.row.F) (param 2 g.row.C) (param 3 g.row.A) (param 4 g.row.K) g.C.Ledger g.A.Ledger g.K.Ledger) = λ κ. run_sync κ _ _ _ _ _ _ _ c.type_bounds.sync-F in
+    let run : (κ : NamedLft) → IsSync (Run.the_row κ (param 1 g.row.F) (param 2 g.row.L) g.L.Books) = λ κ. run_sync κ _ _ _ c.type_bounds.sync-F in
     search (run, sendable) depth 60
