@@ -38,20 +38,14 @@ fn business<R: AllocGlobal + Print>(rt: &R, funs: &FunTable) -> Result<(), Troub
     work(rt, &mut bank)
 }
 
-fn work<R: AllocGlobal + Print>(
-    rt: &R,
-    bank: &mut Bank,
-) -> Result<(), Trouble> {
+fn work<R: AllocGlobal + Print>(rt: &R, bank: &mut Bank) -> Result<(), Trouble> {
     transfer(rt, bank, 0, "30")?;
     transfer(rt, bank, 1, "80")?;
     transfer(rt, bank, 2, "50")?;
     tell_all(rt, bank)
 }
 
-fn tell_all<R: AllocGlobal + Print>(
-    rt: &R,
-    bank: &Bank,
-) -> Result<(), Trouble> {
+fn tell_all<R: AllocGlobal + Print>(rt: &R, bank: &Bank) -> Result<(), Trouble> {
     say(rt, "the first account has", bank.balance(FIRST))?;
     say(rt, "the second account has", bank.balance(SECOND))?;
     say(rt, "the journal has", bank.journal())?;

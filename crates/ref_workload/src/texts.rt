@@ -119,15 +119,7 @@ where
     ensures inner { IfErr result IsOfPlan }
 {
     let gates = open_gates(alloc, plan)?;
-    let ran = run_plan_with(
-        rt,
-        alloc,
-        funs,
-        plan,
-        options.tries,
-        gates,
-        progress,
-    );
+    let ran = run_plan_with(rt, alloc, funs, plan, options.tries, gates, progress);
     let out = ran?;
     if options.dump {
         let dumped = audited(alloc, funs, &out.world)?;
@@ -207,11 +199,7 @@ fn dump_line(alloc: Global, dumped: &Value) -> Result<Vec<u8>, RunFault>
 }
 
 // The report of a run whose world was audited.
-fn report_of(
-    alloc: Global,
-    plan: &Plan,
-    out: &RunOut,
-) -> Result<Vec<u8>, RunFault>
+fn report_of(alloc: Global, plan: &Plan, out: &RunOut) -> Result<Vec<u8>, RunFault>
     ensures ok { IfOk result (λ text. text.items
         ≡ reported plan.now.names out.now.world out.now.refused.items verdicts.Ok) }
     ensures inner { IfErr result IsOfPlan }
