@@ -126,7 +126,11 @@ fn close_and_say<R: AllocGlobal + Print>(
     say(rt, world, "tickets sold", Who::Ref(SOLD))?;
     say(rt, world, "groups too late", Who::Atom(TOO_LATE))?;
     say(rt, world, "groups too large", Who::Atom(TOO_LARGE))?;
-    println!(rt; "commits {}, which added {}", world.commits(), world.added())?;
+    println!(rt;
+        "commits {}, which added {}",
+        world.commits(),
+        world.added()
+    )?;
     Ok(())
 }
 

@@ -43,7 +43,12 @@ impl Declared {
     }
 
     /// A ref whose rule, Clojure's `:validator`, is a predicate with these arguments.
-    pub fn make_ref_with<A: IntoArgs>(&mut self, value: &str, code: u32, args: A) -> Result<u32, Fault> {
+    pub fn make_ref_with<A: IntoArgs>(
+        &mut self,
+        value: &str,
+        code: u32,
+        args: A,
+    ) -> Result<u32, Fault> {
         let rule = self.rule(code, args)?;
         self.push_ref(value, Some(rule), false)
     }
@@ -59,7 +64,12 @@ impl Declared {
     }
 
     /// An atom whose rule is a predicate with these arguments.
-    pub fn make_atom_with<A: IntoArgs>(&mut self, value: &str, code: u32, args: A) -> Result<u32, Fault> {
+    pub fn make_atom_with<A: IntoArgs>(
+        &mut self,
+        value: &str,
+        code: u32,
+        args: A,
+    ) -> Result<u32, Fault> {
         let rule = self.rule(code, args)?;
         self.push_atom(value, Some(rule))
     }
@@ -108,7 +118,12 @@ impl Declared {
         Ok(number)
     }
 
-    fn push_agent(&mut self, state: &str, rule: Option<Rule>, mode: ErrorMode) -> Result<u32, Fault> {
+    fn push_agent(
+        &mut self,
+        state: &str,
+        rule: Option<Rule>,
+        mode: ErrorMode,
+    ) -> Result<u32, Fault> {
         let value = edn(self.alloc, state)?;
         let number = number_of(self.start.agents.len())?;
         self.start.agents.push(AgentStart { value, rule, mode })?;

@@ -61,12 +61,7 @@ fn run_booked<
     L: Books + Send + Sync,
     P: CustomProgram + Sync,
     R: AllocGlobal + Threads + Wait + Sync,
->(
-    rt: &R,
-    program: &P,
-    crew: Crew,
-    blanks: Blanks,
-) -> Result<Ended<P::Meaning, P::Sink>, Fault>
+>(rt: &R, program: &P, crew: Crew, blanks: Blanks) -> Result<Ended<P::Meaning, P::Sink>, Fault>
     requires { AreBlanks blanks L.commits L.added L.taken }
     ensures { IfOk result (λ end. HaveDone P.did crew.workers end.totals) }
 {
@@ -94,7 +89,13 @@ struct Hall<'p, P, M: Meaning, F, L: Books> {
     shared: Shared<M, L>,
 }
 
-type HallOf<'p, P, L> = Hall<'p, P, <P as CustomProgram>::Meaning, <P as CustomProgram>::Functions, L>;
+type HallOf<'p, P, L> = Hall<
+    'p,
+    P,
+    <P as CustomProgram>::Meaning,
+    <P as CustomProgram>::Functions,
+    L,
+>;
 
 // What a worker leaves: its share and its sink.
 #[derive(Drop)]
@@ -182,7 +183,11 @@ fn work_all<
 }
 
 // A part of the share for each worker, by number.
-fn parts<L: Books>(alloc: Global, workers: u32, share: &mut Share<L>) -> Result<Vec<Share<L>>, AllocError>
+fn parts<L: Books>(
+    alloc: Global,
+    workers: u32,
+    share: &mut Share<L>,
+) -> Result<Vec<Share<L>>, AllocError>
     requires { share.old ≡ whole }
     ensures parts { IfOk result (λ parts. AreFresh parts.items) }
     ensures count { IfOk result (λ parts. (vec_len parts ≡ workers) × (vec_len parts < 2 ^ 32)) }
@@ -356,7 +361,10 @@ fn work_in<L: Books, P: CustomProgram, R: Wait>(
 
 // Runs actions, whichever agent is ready, until all is closed and nothing is left to do. A helper that can't go on closes all, so that nobody
 // waits for what isn't run any more.
-fn help<L: Books, P: CustomProgram, R: Wait>(rt: &R, hall: &HallOf<'_, P, L>) -> Result<P::Sink, Fault> {
+fn help<L: Books, P: CustomProgram, R: Wait>(
+    rt: &R,
+    hall: &HallOf<'_, P, L>,
+) -> Result<P::Sink, Fault> {
     let mut sink = hall.program.sink();
     for _ in rt.forever() {
         match hall

@@ -55,7 +55,8 @@ pub struct Worker<
     pub(crate) sink: S,
 }
 
-impl<'a, L: Books, R: Wait, M: Meaning, F: Functions<M>, S: WatchSink> Model for Worker<'a, L, R, M, F, S> {
+impl<'a, L: Books, R: Wait, M: Meaning, F: Functions<M>, S: WatchSink> Model
+    for Worker<'a, L, R, M, F, S> {
     ghost use Rattle.std.specs.Prelude.{◌≡◌, ◌<◌};
     ghost use Rattle.std.specs.Coded.{codes};
     ghost use Rattle.ref_program.specs.Seen.{WorkerSeen};
@@ -163,9 +164,7 @@ impl<'a, L: Books, R: Wait, M: Meaning, F: Functions<M>, S: WatchSink> Worker<'a
         ensures may { B.may body.new }
     {
         let Some(stamp) = self.stamps.next() else {
-            return Err(WaitFault::Transact(TransactFault::Commit(
-                CommitFault::PointLimit,
-            )));
+            return Err(WaitFault::Transact(TransactFault::Commit(CommitFault::PointLimit)));
         };
         match self.shared.transact_body_when(
             self.rt,
@@ -220,14 +219,9 @@ impl<'a, L: Books, R: Wait, M: Meaning, F: Functions<M>, S: WatchSink> Worker<'a
         ensures worker { IsSameWorker self.old self.new × (self.new.next ≡ self.old.next) }
     {
         let value = value.into_value(self.alloc)?;
-        let swapped = self.shared.reset(
-            self.rt,
-            self.alloc,
-            &self.funs,
-            &mut self.share,
-            a,
-            value,
-        )?;
+        let swapped = self
+            .shared
+            .reset(self.rt, self.alloc, &self.funs, &mut self.share, a, value)?;
         tell(&mut self.sink, swapped.notices.as_slice());
         Ok(swapped)
     }
