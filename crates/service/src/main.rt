@@ -82,7 +82,9 @@ fn held(end: &Ended<Core, Errors>, who: Who) -> Result<i64, Fault> {
 }
 
 // What the first references of a kind have together.
-fn sum(end: &Ended<Core, Errors>, count: u32, of: fn(u32) -> Who) -> Result<i64, Fault> {
+fn sum(end: &Ended<Core, Errors>, count: u32, of: fn(u32) -> Who) -> Result<i64, Fault>
+    requires { IsAlwaysCallable of }
+{
     let mut sum = 0i64;
     for n in 0..count {
         sum = sum.saturating_add(held(end, of(n))?);

@@ -20,7 +20,7 @@ struct Sale {
 
 // The sale of this number of a thread. One in eight is made at the counter that all share, and of one in sixteen the line is damaged. A piece
 // costs at a counter what its number says, and one more.
-fn sale(number: u32, n: u64) -> Sale {
+fn nth_sale(number: u32, n: u64) -> Sale {
     Sale {
         counter: if n % 8 == 7 { SHARED_COUNTER } else { number },
         log: number % LOGS,
@@ -45,7 +45,7 @@ pub(crate) fn sell_next<L: Books, R: Wait>(
     worker: &mut Worker<'_, L, R, Core, CoreFunctions, Errors>,
     n: u64,
 ) -> Result<(), Fault> {
-    let sale = sale(worker.number(), n);
+    let sale = nth_sale(worker.number(), n);
     worker.transact_when(|tx| sell(tx, sale))?;
     if n % SALES_TO_A_REST == SALES_TO_A_REST - 1 {
         // So neither the receipts nor a queue grow for long.
