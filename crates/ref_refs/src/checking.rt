@@ -89,12 +89,27 @@ pub(crate) fn is_any_other<M: Meaning>(refs: &Refs, tx: &Tx<M>) -> bool
     let dones = tx.dones();
     let mut known = None;
     for done in dones {
-        if is_new(known, done) && is_other(refs, began, read_point, done.r) {
+        if protects_other(refs, began, read_point, known, done) {
             return true;
         }
         known = known_after(known, done);
     }
     false
+}
+
+// Whether an operation protects a ref, other than the known one, that has changed after a point or has another value than in the
+// beginning.
+fn protects_other(
+    refs: &Refs,
+    began: &Snapshot,
+    read_point: u64,
+    known: Option<u32>,
+    done: &Done,
+) -> bool
+    ensures { result ≡ (is_new known done.now && (changed_after refs.now.lasts read_point done.now.r
+        || differs_at refs.now.values began.now.values done.now.r)) }
+{
+    is_new(known, done) && is_other(refs, began, read_point, done.r)
 }
 
 // Whether an operation protects a ref, and another one than this, which is known.
@@ -114,7 +129,11 @@ fn is_new(known: Option<u32>, done: &Done) -> bool
 fn known_after(known: Option<u32>, done: &Done) -> Option<u32>
     ensures { result ≡ known_after known done.now }
 {
-    if done.op.is_commute() { known } else { Some(done.r) }
+    if done.op.is_commute() {
+        known
+    } else {
+        Some(done.r)
+    }
 }
 
 // Whether a ref has changed after a point, or has another value than in the beginning.
@@ -156,7 +175,7 @@ pub(crate) fn first_differing<M: Meaning>(refs: &Refs, tx: &Tx<M>) -> Option<u32
     let dones = tx.dones();
     let (mut first, mut known) = (None, None);
     for done in dones {
-        if is_new(known, done) && differs_at(refs, began, done.r) {
+        if protects_differing(refs, began, known, done) {
             first = Some(smaller(first, done.r));
         }
         known = known_after(known, done);
@@ -169,6 +188,13 @@ fn protects_changed(refs: &Refs, done: &Done, point: u64) -> bool
     ensures { result ≡ (not (is_commute done.now.op) && changed_after refs.now.lasts point done.now.r) }
 {
     !done.op.is_commute() && is_changed(refs, done.r, point)
+}
+
+// Whether an operation protects a ref, other than the known one, that has another value than in the beginning.
+fn protects_differing(refs: &Refs, began: &Snapshot, known: Option<u32>, done: &Done) -> bool
+    ensures { result ≡ (is_new known done.now && differs_at refs.now.values began.now.values done.now.r) }
+{
+    is_new(known, done) && differs_at(refs, began, done.r)
 }
 
 // Whether no ref has changed after a point.

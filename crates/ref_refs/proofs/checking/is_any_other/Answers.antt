@@ -1,8 +1,8 @@
-use Rattle.std.proofs.Common.{ℕ, Bool, ◌||◌, false, None, ap, subst, sym, ◌∙◌}
+use Rattle.std.proofs.Common.{ℕ, Bool, ◌||◌, false, None, ap, subst, sym, take, ◌+◌, ◌∙◌}
 use Rattle.std.proofs.lemmas.Bool.{or_left, or_right}
 use Rattle.std.proofs.lemmas.List.{take_all}
 use Rattle.ref_refs.specs.Commit.{alien_ref, changed_after, differs_at, first_protected}
-use Rattle.ref_refs.proofs.Smallest.{IsFirst, first_protected_is, next_first, none_of, protecting}
+use Rattle.ref_refs.proofs.Smallest.{IsFirst, IsKnown, first_protected_is, next_known, next_new, none_of, protecting}
 use Rattle.ref_refs.proofs.checking.is_any_other.Goals as goal
 
 pub loop-done-preserved : goal.loop-done-preserved
@@ -12,8 +12,9 @@ loop-done-preserved g c =
     let d = c.done-item.result in
     let other : ℕ → Bool = λ r. changed_after c.args.refs.now.lasts c.read_point-read_point.result r || differs_at c.args.refs.now.values c.began-began.result.now.values r in
     record {
-      first = next_new other ds i d None c.loop-done.known false c.loop-done-test.true c.done-item.is c.loop-done.invariant.first c.loop-done.invariant.known ?;
-      known = subst (IsKnown (protecting (take (i + 1) ds))) (sym c.known_after.ensures) (next_known ds i d c.loop-done.known c.loop-done-test.true c.done-item.is c.loop-done.invariant.known);
+      first = next_new other ds i d None c.loop-done.known false c.loop-done-test.true c.done-item.is c.loop-done.invariant.first c.loop-done.invariant.known
+          (sym c.if-protects_other.false ∙ c.protects_other.ensures);
+      known = subst (IsKnown (protecting (take (i + 1) ds))) (sym c.known_after-known.ensures) (next_known ds i d c.loop-done.known c.loop-done-test.true c.done-item.is c.loop-done.invariant.known);
     }
 
 pub returns-clause-unchanged : goal.returns-clause-unchanged
