@@ -276,12 +276,6 @@ all_freed agents g are on k =
     let may : may_hold agents g k ≡ sends_to (carries_at agents g) k = ap (λ b. cond b (sends_to (carries_at agents g) k) 0) on in
     omega (arith, each_freed g (carries_at agents g) agents k, are.holds g k, may)
 
--- and where it carries nothing
-pub none_left : (agents : List Agent) (g : ℕ) → AreCarried agents → is_carrying_at agents g ≡ false → (k : ℕ) → held_by g (queue_at agents k) ≡ 0
-none_left agents g are off k =
-    let may : may_hold agents g k ≡ 0 = ap (λ b. cond b (sends_to (carries_at agents g) k) 0) off in
-    omega (arith, are.holds g k, may)
-
 -- ---- nothing of what it carried is held any more
 
 pub same_queue : (agents : List Agent) (g k : ℕ) → queue_at (change_agent agents g (carrying false)) k ≡ queue_at agents k

@@ -36,9 +36,6 @@ pub there : (items agents : List Agent) (g : ℕ) (x : Agent) → items ≡ agen
 there items agents g x same here is =
     ap (λ l. slice_get l g) (sym same) ∙ slice_get_read items (length items) g x refl here is
 
-pub not_none : {T : Type 0} (o : Option T) (x : T) → o ≡ Some x → o ≡ None → ⊥
-not_none o x is none = cc
-
 -- ---- what is always so
 
 pub agent_at : (means : Means) (agents : List Agent) (g : ℕ) (x : Agent) → AreAgents means agents → slice_get agents g ≡ Some x → IsAgent means x

@@ -121,19 +121,3 @@ not_folded store g can = ap (with_agents store) (not_folded_here store.agents g 
 -- one that can be is folded
 pub folding_is : (agents : List Agent) (g : ℕ) (x : Agent) → slice_get agents g ≡ Some x → can_fold_at agents g ≡ true → folding x ≡ with_folded x
 folding_is agents g x is can = rw (sym (ap can_fold_if_here is) ∙ can) refl
-
-less : (a b : ℕ) → nat_lt a b ≡ true → a < b
-less a b is = grind arith
-
-pub few_ended : (agents : List Agent) (g : ℕ) (x : Agent) → slice_get agents g ≡ Some x → can_fold_at agents g ≡ true → number_of x.account < most_folded
-few_ended agents g x is can =
-    less (number_of x.account) most_folded (second (not x.is_carrying) (nat_lt (number_of x.account) most_folded) (sym (ap can_fold_if_here is) ∙ can))
-
--- what is the same of an agent and of what it becomes is the same at each number
-pub set_same : {T : Type 0} (f : Option Agent → T) (agents : List Agent) (g : ℕ) (x y : Agent) → slice_get agents g ≡ Some x → f (Some y) ≡ f (Some x)
-    → (h : ℕ) → f (slice_get (slice_set agents g y) h) ≡ f (slice_get agents h)
-set_same f [] g x y is same h = refl
-set_same f (a ∷ agents) zero x y is same zero = same ∙ ap f (sym is)
-set_same f (a ∷ agents) zero x y is same (suc h) = refl
-set_same f (a ∷ agents) (suc g) x y is same zero = refl
-set_same f (a ∷ agents) (suc g) x y is same (suc h) = set_same f agents g x y is same h

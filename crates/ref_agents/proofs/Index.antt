@@ -82,15 +82,6 @@ marked_same agents unreleased marks g x y is same are = (as_many agents unreleas
 abbrev pub headed : ℕ → List Queued → Bool
 headed point queue = is_sent_at point (option_map (λ q. q.by) (slice_get queue 0))
 
-pub head_taken : (point n : ℕ) (queue : List Queued) → headed point (take n queue) ≡ true → headed point queue ≡ true
-head_taken point zero queue is = absurd (both_ways false is refl)
-head_taken point (suc n) [] is = is
-head_taken point (suc n) (q ∷ qs) is = is
-
-pub head_left : (point : ℕ) (clear : Bool) (queue : List Queued) → headed point (kept_queue clear queue) ≡ true → headed point queue ≡ true
-head_left point true queue is = absurd (both_ways false is refl)
-head_left point false queue is = is
-
 sent_released : (point g : ℕ) (by : SentBy) → is_sent_at point (Some (released_by g by)) ≡ true → is_sent_at point (Some by) ≡ true
 sent_released point g Outside is = is
 sent_released point g (Commit at) is = is
@@ -106,10 +97,6 @@ head_released point g (q ∷ qs) is = by (has_carried g qs) is where
   by true is = is
   by false is = sent_released point g q.by is
 
-head_queued : (point : ℕ) (queue : List Queued) (q : Queued) → headed point (queue ++ q ∷ []) ≡ true → (headed point queue ≡ true) ⊎ ((length queue ≡ 0) × (is_sent_at point (Some q.by) ≡ true))
-head_queued point [] q is = inr (refl, is)
-head_queued point (p ∷ ps) q is = inl is
-
 head_ended : (point : ℕ) (account : AccountSeen) (mark : Mark) (queue : List Queued) → account.queue ≡ queue → headed point (with_head_ended account mark queue).queue ≡ true
     → is_sent_at point (option_map (λ q. q.by) (slice_get queue 1)) ≡ true
 head_ended point account mark [] none is = absurd (both_ways (headed point account.queue) is (ap (headed point) none))
@@ -121,20 +108,6 @@ head_after point Fail (Err e) cs x is = head_ended point x.account _ x.account.q
 head_after point Continue (Err e) cs x is = head_ended point x.account _ x.account.queue refl is
 
 -- ---- a change that may be refused
-
--- an action that is queued, or isn't
-pub heads_queued : {T E : Type 0} (r : Result T E) (agents : List Agent) (heads after : List (ℕ × ℕ)) (g : ℕ) (x y : Agent) (q : Queued) → slice_get agents g ≡ Some x
-    → OnOk r (y.account ≡ with_queued x.account q) → OnErr r (y.account ≡ x.account)
-    → ((point h : ℕ) → has_pair heads point h ≡ true → has_pair after point h ≡ true)
-    → (length x.account.queue ≡ 0 → (point : ℕ) → is_sent_at point (Some q.by) ≡ true → has_pair after point g ≡ true)
-    → HaveHeads agents heads → HaveHeads (slice_set agents g y) after
-heads_queued (Ok u) agents heads after g x y q is ok err more here are =
-    heads_with agents after g x y is (λ point first. by point (head_queued point x.account.queue q (subst (λ (a : AccountSeen). headed point a.queue ≡ true) ok first))) (heads_more agents heads after more are) where
-      by : (point : ℕ) → (headed point x.account.queue ≡ true) ⊎ ((length x.account.queue ≡ 0) × (is_sent_at point (Some q.by) ≡ true)) → has_pair after point g ≡ true
-      by point (inl was) = more point g (are g point (ap (is_headed point) is ∙ was))
-      by point (inr only) = here only.0 point only.1
-heads_queued (Err e) agents heads after g x y q is ok err more here are =
-    heads_kept agents after g x y is (λ point first. subst (λ (a : AccountSeen). headed point a.queue ≡ true) err first) (heads_more agents heads after more are)
 
 -- an action that ended, or didn't
 pub heads_ended : {T E : Type 0} (r : Result T E) (agents : List Agent) (heads after : List (ℕ × ℕ)) (g : ℕ) (x y : Agent) (judgement : Result Edn AgentError) (cs : List Carry) → slice_get agents g ≡ Some x
@@ -148,60 +121,6 @@ heads_ended (Err e) agents heads after g x y judgement cs is ok err more here ar
     heads_kept agents after g x y is (λ point first. subst (λ (a : Agent). is_headed point (Some a) ≡ true) err first) (heads_more agents heads after more are)
 
 -- ---- the marks
-
--- one agent is marked, where all others are
-pub marked_one : (agents : List Agent) (unreleased : List ℕ) (marks : List Bool) (g : ℕ) → g < length agents → length marks ≡ length agents
-    → ((h : ℕ) → (h ≡ g → ⊥) → is_set marks h ≡ is_ready_if_here unreleased (slice_get agents h))
-    → AreMarked agents unreleased (slice_set marks g (is_ready_if_here unreleased (slice_get agents g)))
-marked_one agents unreleased marks g here count others = (length-set marks g ready ∙ count, λ h. by h (cases_eq h g)) where
-  ready : Bool
-  ready = is_ready_if_here unreleased (slice_get agents g)
-
-  by : (h : ℕ) → (h ≡ g) ⊎ (h ≡ g → ⊥) → is_set (slice_set marks g (is_ready_if_here unreleased (slice_get agents g))) h ≡ is_ready_if_here unreleased (slice_get agents h)
-  by h (inl same) =
-      let at : g < length marks = omega (arith, here, count) in
-      ap (is_set (slice_set marks g (is_ready_if_here unreleased (slice_get agents g)))) same ∙ get_or-set_same marks g (is_ready_if_here unreleased (slice_get agents g)) false at
-      ∙ ap (λ k. is_ready_if_here unreleased (slice_get agents k)) (sym same)
-  by h (inr other) = get_or-set_other marks g h (is_ready_if_here unreleased (slice_get agents g)) false other ∙ others h other
-
--- one more agent, for which nothing waits
-none_ready : (unreleased : List ℕ) (x : Agent) (queue : List Queued) → x.account.queue ≡ queue → has_head queue ≡ false → is_ready_if_here unreleased (Some x) ≡ false
-none_ready unreleased x [] is none = ap (λ l. not (is_some x.error) && not x.is_out && not x.is_carrying && has_released unreleased l) is ∙ nothing (not (is_some x.error) && not x.is_out && not x.is_carrying) where
-  nothing : (b : Bool) → (b && false) ≡ false
-  nothing true = refl
-  nothing false = refl
-none_ready unreleased x (q ∷ qs) is none = cc
-
-pub more_set : (marks : List Bool) (h : ℕ) → is_set (marks ++ false ∷ []) h ≡ is_set marks h
-more_set [] zero = refl
-more_set [] (suc h) = refl
-more_set (m ∷ ms) zero = refl
-more_set (m ∷ ms) (suc h) = more_set ms h
-
-more_ready : (unreleased : List ℕ) (agents : List Agent) (x : Agent) → is_ready_if_here unreleased (Some x) ≡ false → (h : ℕ) → is_ready_if_here unreleased (slice_get (agents ++ x ∷ []) h) ≡ is_ready_if_here unreleased (slice_get agents h)
-more_ready unreleased [] x none zero = none
-more_ready unreleased [] x none (suc h) = refl
-more_ready unreleased (a ∷ agents) x none zero = refl
-more_ready unreleased (a ∷ agents) x none (suc h) = more_ready unreleased agents x none h
-
-pub marked_more : (agents : List Agent) (unreleased : List ℕ) (marks : List Bool) (x : Agent) → has_head x.account.queue ≡ false → AreMarked agents unreleased marks → AreMarked (agents ++ x ∷ []) unreleased (marks ++ false ∷ [])
-marked_more agents unreleased marks x none are = (
-  omega (arith, length-append agents (x ∷ []), length-append marks (false ∷ []), are.0),
-  λ h. more_set marks h ∙ are.1 h ∙ sym (more_ready unreleased agents x (none_ready unreleased x x.account.queue refl none) h),
-)
-
-none_headed : (point : ℕ) (queue : List Queued) → has_head queue ≡ false → headed point queue ≡ false
-none_headed point [] none = refl
-none_headed point (q ∷ qs) none = cc
-
-more_headed : (point : ℕ) (agents : List Agent) (x : Agent) → is_headed point (Some x) ≡ false → (h : ℕ) → is_headed point (slice_get (agents ++ x ∷ []) h) ≡ is_headed point (slice_get agents h)
-more_headed point [] x none zero = none
-more_headed point [] x none (suc h) = refl
-more_headed point (a ∷ agents) x none zero = refl
-more_headed point (a ∷ agents) x none (suc h) = more_headed point agents x none h
-
-pub heads_added : (agents : List Agent) (heads : List (ℕ × ℕ)) (x : Agent) → has_head x.account.queue ≡ false → HaveHeads agents heads → HaveHeads (agents ++ x ∷ []) heads
-heads_added agents heads x none are g point is = are g point (sym (more_headed point agents x (none_headed point x.account.queue none) g) ∙ is)
 
 -- without the last
 less_of : {X Y : Type 0} (see : Option X → Y) (xs : List X) (n h : ℕ) → (h < n → see (slice_get (take n xs) h) ≡ see (slice_get xs h)) × (n ≤ h → slice_get (take n xs) h ≡ None)
@@ -230,67 +149,3 @@ marked_less agents unreleased marks n m same are = subst (λ k. AreMarked (take 
   by : (h : ℕ) → (h < n) ⊎ (n ≤ h) → is_set (take n marks) h ≡ is_ready_if_here unreleased (slice_get (take n agents) h)
   by h (inl below) = (set_less marks n h).0 below ∙ are.1 h ∙ sym ((less_of (is_ready_if_here unreleased) agents n h).0 below)
   by h (inr past) = (set_less marks n h).1 past ∙ ap (is_ready_if_here unreleased) (sym ((less_of (is_ready_if_here unreleased) agents n h).1 past))
-
--- ---- a commit that is held or released
-
-released_apart : (old new : List ℕ) (point : ℕ) → ((p : ℕ) → is_at (nat_cmp point) p ≡ false → has_point new p ≡ has_point old p)
-    → (queue : List Queued) → headed point queue ≡ false → has_released new queue ≡ has_released old queue
-released_apart old new point same [] isnt = refl
-released_apart old new point same (q ∷ qs) isnt = by q.by isnt where
-  by : (by : SentBy) → is_sent_at point (Some by) ≡ false → is_released_by new by ≡ is_released_by old by
-  by Outside isnt = refl
-  by (Carried g) isnt = refl
-  by (Commit at) isnt = ap not (same at (unsigned_tied point at ∙ ne_eqb point at (λ is. both_ways (at == point) (eq-eqb at point (sym is)) isnt)))
-
--- the others are as ready as they were
-pub ready_apart : (old new : List ℕ) (point : ℕ) → ((p : ℕ) → is_at (nat_cmp point) p ≡ false → has_point new p ≡ has_point old p)
-    → (there : Option Agent) → is_headed point there ≡ false → is_ready_if_here new there ≡ is_ready_if_here old there
-ready_apart old new point same None isnt = refl
-ready_apart old new point same (Some x) isnt =
-    ap (λ b. not (is_some x.error) && not x.is_out && not x.is_carrying && b) (released_apart old new point same x.account.queue isnt)
-
--- ---- the loop over the agents that a commit heads
-
--- none is headed behind the last that was found
-pub not_headed : (agents : List Agent) (heads : List (ℕ × ℕ)) (point h : ℕ) → HaveHeads agents heads → has_pair heads point h ≡ false → is_headed point (slice_get agents h) ≡ false
-not_headed agents heads point h are none = false_from_ne_true (is_headed point (slice_get agents h)) (λ is. both_ways (has_pair heads point h) (are h point is) none)
-
-pub past_headed : (agents : List Agent) (point h : ℕ) → length agents ≤ h → is_headed point (slice_get agents h) ≡ false
-past_headed agents point h past = ap (is_headed point) (slice_get_past agents h past)
-
--- the marks after one step
-pub marked_on : (agents : List Agent) (unreleased : List ℕ) (heads : List (ℕ × ℕ)) (marks : List Bool) (point from g : ℕ) → HaveHeads agents heads → from ≤ g → g < length agents → length marks ≡ length agents
-    → ((b : ℕ) → from ≤ b → b < g → has_pair heads point b ≡ false)
-    → ((h : ℕ) → (from ≤ h → is_headed point (slice_get agents h) ≡ false) → is_set marks h ≡ is_ready_if_here unreleased (slice_get agents h))
-    → (h : ℕ) → (g + 1 ≤ h → is_headed point (slice_get agents h) ≡ false) → is_set (slice_set marks g (is_ready_if_here unreleased (slice_get agents g))) h ≡ is_ready_if_here unreleased (slice_get agents h)
-marked_on agents unreleased heads marks point from g are upto here count none marked h behind = by (cases_eq h g) where
-  by : (h ≡ g) ⊎ (h ≡ g → ⊥) → is_set (slice_set marks g (is_ready_if_here unreleased (slice_get agents g))) h ≡ is_ready_if_here unreleased (slice_get agents h)
-  by (inl same) =
-      let at : g < length marks = omega (arith, here, count) in
-      ap (is_set (slice_set marks g (is_ready_if_here unreleased (slice_get agents g)))) same ∙ get_or-set_same marks g (is_ready_if_here unreleased (slice_get agents g)) false at
-      ∙ ap (λ k. is_ready_if_here unreleased (slice_get agents k)) (sym same)
-  by (inr other) =
-      get_or-set_other marks g h (is_ready_if_here unreleased (slice_get agents g)) false other
-      ∙ marked h (λ from_h. apart from_h (cases_lt h g)) where
-        apart : from ≤ h → (h < g) ⊎ (g ≤ h) → is_headed point (slice_get agents h) ≡ false
-        apart from_h (inl below) = not_headed agents heads point h are (none h from_h below)
-        apart from_h (inr above) = behind (omega (arith, above, other))
-
--- ---- the next agent that is ready
-
-pub next_found : (seen : IndexedSeen) (marks : List Bool) (first g : ℕ) → AreMarked seen.items seen.unreleased marks → is_set marks g ≡ true → first ≤ g → AreClear marks first g → IsNext seen first g
-next_found seen marks first g are is from clear = record {
-  ready = sym (are.1 g) ∙ is;
-  turn = λ h upto below. sym (are.1 h) ∙ clear h upto (below from);
-  round = λ before. absurd (omega (arith, before, from));
-}
-
-pub next_round : (seen : IndexedSeen) (marks : List Bool) (first g : ℕ) → AreMarked seen.items seen.unreleased marks → is_set marks g ≡ true → AreClear marks 0 g → ((h : ℕ) → first ≤ h → is_set marks h ≡ false) → IsNext seen first g
-next_round seen marks first g are is clear none = record {
-  ready = sym (are.1 g) ∙ is;
-  turn = λ h upto below. sym (are.1 h) ∙ none h upto;
-  round = λ before h below. sym (are.1 h) ∙ clear h (omega arith) below;
-}
-
-pub no_next : (seen : IndexedSeen) (marks : List Bool) → AreMarked seen.items seen.unreleased marks → ((h : ℕ) → 0 ≤ h → is_set marks h ≡ false) → (g : ℕ) → is_ready_if_here seen.unreleased (slice_get seen.items g) ≡ false
-no_next seen marks are none g = sym (are.1 g) ∙ none g (omega arith)

@@ -2,7 +2,7 @@ use Rattle.std.proofs.Common.{ℕ, Bool, ◌≡◌, if◌then◌else◌, true, f
 use Rattle.std.proofs.lemmas.List.{take_all}
 use Rattle.ref_refs.specs.Commit.{alien_ref, differs_at, first_protected}
 use Rattle.ref_refs.specs.Smaller.{smaller}
-use Rattle.ref_refs.proofs.Smallest.{IsFirst, first_protected_is, next_first, protecting}
+use Rattle.ref_refs.proofs.Smallest.{IsFirst, IsKnown, first_protected_is, next_known, next_new, protecting}
 use Rattle.ref_refs.proofs.checking.first_differing.Goals.{else-protects_differing, then-protects_differing}
 use Rattle.ref_refs.proofs.checking.first_differing.Goals as goal
 
@@ -13,11 +13,14 @@ loop-done-preserved g c =
     let d = c.done-item.result in
     let holds : ℕ → Bool = differs_at c.args.refs.now.values c.began-began.result.now.values in
     let next : (b : Bool) → b ≡ c.protects_differing.result → IsFirst holds (protecting (take (i + 1) ds)) (if b then Some (smaller c.loop-done.first d.r) else c.loop-done.first) =
-    λ b is. next_first holds ds i d c.loop-done.first b c.loop-done-test.true c.done-item.is c.loop-done.invariant (is ∙ c.protects_differing.ensures) in
-    elim c.if-protects_differing.branch [
-      | then-protects_differing w ↦ subst (IsFirst holds (protecting (take (i + 1) ds))) (ap Some (sym w.smaller.ensures) ∙ sym w.first-is) (next true (sym w.if-protects_differing.true))
-      | else-protects_differing w ↦ subst (IsFirst holds (protecting (take (i + 1) ds))) (sym w.first-is) (next false (sym w.if-protects_differing.false))
-    ]
+    λ b is. next_new holds ds i d c.loop-done.first c.loop-done.known b c.loop-done-test.true c.done-item.is c.loop-done.invariant.first c.loop-done.invariant.known (is ∙ c.protects_differing.ensures) in
+    record {
+      first = elim c.if-protects_differing.branch [
+        | then-protects_differing w ↦ subst (IsFirst holds (protecting (take (i + 1) ds))) (ap Some (sym w.smaller.ensures) ∙ sym w.first-is) (next true (sym w.if-protects_differing.true))
+        | else-protects_differing w ↦ subst (IsFirst holds (protecting (take (i + 1) ds))) (sym w.first-is) (next false (sym w.if-protects_differing.false))
+      ];
+      known = subst (IsKnown (protecting (take (i + 1) ds))) (sym c.known_after-known.ensures) (next_known ds i d c.loop-done.known c.loop-done-test.true c.done-item.is c.loop-done.invariant.known);
+    }
 
 pub returns : goal.returns
 returns g c =

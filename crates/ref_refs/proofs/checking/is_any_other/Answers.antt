@@ -1,8 +1,8 @@
-use Rattle.std.proofs.Common.{ℕ, Bool, ◌||◌, false, None, ap, subst, sym, ◌∙◌}
+use Rattle.std.proofs.Common.{ℕ, Bool, ◌||◌, false, None, ap, subst, sym, take, ◌+◌, ◌∙◌}
 use Rattle.std.proofs.lemmas.Bool.{or_left, or_right}
 use Rattle.std.proofs.lemmas.List.{take_all}
 use Rattle.ref_refs.specs.Commit.{alien_ref, changed_after, differs_at, first_protected}
-use Rattle.ref_refs.proofs.Smallest.{IsFirst, first_protected_is, next_first, none_of, protecting}
+use Rattle.ref_refs.proofs.Smallest.{IsFirst, IsKnown, first_protected_is, next_known, next_new, none_of, protecting}
 use Rattle.ref_refs.proofs.checking.is_any_other.Goals as goal
 
 pub loop-done-preserved : goal.loop-done-preserved
