@@ -8,7 +8,7 @@ use Rattle.ref_value.specs.Edn.{Edn}
 use Rattle.ref_log.specs.Replay.{is_commute, is_protected}
 use Rattle.ref_log.specs.declared.operations.Done.{Done}
 use Rattle.ref_refs.specs.Commit.{alien_ref, first_protected}
-use Rattle.ref_refs.specs.Smaller.{smaller}
+use Rattle.ref_refs.specs.Smaller.{is_new, is_this, known_after, smaller}
 use Rattle.ref_refs.proofs.Refs.{all_here, among, among_more}
 
 -- whether a number was found that isn't greater
@@ -195,3 +195,49 @@ none_of holds more rs implies is = record {
 
 pub none_yet : (holds : ℕ → Bool) → IsFirst holds [] None
 none_yet holds = record { found = tt; least = λ q w. absurd cc }
+
+-- ---- where a ref that is known isn't looked at again
+
+abbrev pub IsKnown : List ℕ → Option ℕ → Type 0
+IsKnown rs None = Unit {0}
+IsKnown rs (Some r) = among rs r ≡ true
+
+-- one that is among them already
+first_again : (holds : ℕ → Bool) (rs : List ℕ) (x : ℕ) (first : Option ℕ) → IsFirst holds rs first → among rs x ≡ true → IsFirst holds (rs ++ x ∷ []) first
+first_again holds rs x first is here = record {
+  found = stays first is.found;
+  least = λ q w. is.least q (by q (came holds rs x q w));
+} where
+  stays : (o : Option ℕ) → MatchOption o (Unit {0}) (λ m. wanted holds rs m ≡ true) → MatchOption o (Unit {0}) (λ m. wanted holds (rs ++ x ∷ []) m ≡ true)
+  stays None f = tt
+  stays (Some m) f = still holds rs x m f
+
+  by : (q : ℕ) → (wanted holds rs q ≡ true) ⊎ ((x ≡ q) × (holds x ≡ true)) → wanted holds rs q ≡ true
+  by q (inl before) = before
+  by q (inr on) = and_from (among rs q) (holds q) (ap (among rs) (sym on.0) ∙ here) (ap holds (sym on.0) ∙ on.1)
+
+this_is : (rs : List ℕ) (known : Option ℕ) (r : ℕ) → IsKnown rs known → is_this known r ≡ true → among rs r ≡ true
+this_is rs None r is same = absurd (both_ways false refl same)
+this_is rs (Some k) r is same = ap (among rs) (sym (eqb-true k r same)) ∙ is
+
+-- after one operation more
+pub next_new : (holds : ℕ → Bool) (ds : List Done) (i : ℕ) (d : Done) (first known : Option ℕ) (b : Bool) → i < length ds → d ≡ get_or ds i d → IsFirst holds (protecting (take i ds)) first
+    → IsKnown (protecting (take i ds)) known → b ≡ (is_new known d && holds d.r) → IsFirst holds (protecting (take (i + 1) ds)) (if b then Some (smaller first d.r) else first)
+next_new holds ds i d first known b below at is known_is tested =
+    subst (λ l. IsFirst holds l (if b then Some (smaller first d.r) else first)) (sym (protecting_next ds i d below at)) (by (is_commute d.op) (is_this known d.r) (holds d.r) refl refl b tested)
+  where
+    by : (commutes same it : Bool) → is_this known d.r ≡ same → holds d.r ≡ it → (test : Bool) → test ≡ ((not commutes && not same) && it) → IsFirst holds (if commutes then protecting (take i ds) else protecting (take i ds) ++ d.r ∷ []) (if test then Some (smaller first d.r) else first)
+    by true same it this e true t = absurd cc
+    by true same it this e false t = is
+    by false true it this e true t = absurd cc
+    by false true it this e false t = first_again holds (protecting (take i ds)) d.r first is (this_is (protecting (take i ds)) known d.r known_is this)
+    by false false true this e true t = first_takes holds (protecting (take i ds)) d.r first is e
+    by false false true this e false t = absurd cc
+    by false false false this e true t = absurd cc
+    by false false false this e false t = first_stays holds (protecting (take i ds)) d.r first is e
+
+pub next_known : (ds : List Done) (i : ℕ) (d : Done) (known : Option ℕ) → i < length ds → d ≡ get_or ds i d → IsKnown (protecting (take i ds)) known → IsKnown (protecting (take (i + 1) ds)) (known_after known d)
+next_known ds i d known below at is = subst (λ l. IsKnown l (known_after known d)) (sym (protecting_next ds i d below at)) (by (is_commute d.op)) where
+  by : (b : Bool) → IsKnown (if b then protecting (take i ds) else protecting (take i ds) ++ d.r ∷ []) (if b then known else Some d.r)
+  by true = is
+  by false = among_more (protecting (take i ds)) d.r d.r ∙ or_right (among (protecting (take i ds)) d.r) (d.r == d.r) (eq-eqb d.r d.r refl)

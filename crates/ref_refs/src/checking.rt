@@ -6,7 +6,7 @@ ghost use Rattle.ref_log.specs.Tally.{fit_tally, is_count, moved_by_dones};
 ghost use Rattle.ref_refs.specs.Commit.{alien_agent, alien_ref, changed_after, differs, differs_at, first_protected, lacking};
 ghost use Rattle.ref_refs.specs.declared.faults.CommitFault.TheVariants.{Memory};
 ghost use Rattle.ref_refs.specs.Seen.{are_unchanged_since};
-ghost use Rattle.ref_refs.specs.Smaller.{smaller};
+ghost use Rattle.ref_refs.specs.Smaller.{is_new, known_after, smaller};
 
 use crate::current::Refs;
 use crate::faults::{Alien, CommitFault};
@@ -76,8 +76,8 @@ pub fn check_served<M: Meaning, F: Functions<M>>(
     Ok(())
 }
 
-// Whether somebody else changed a ref that the transaction protects, or one of these has another value than in the beginning. Each
-// operation costs one look-up here and one in the beginning.
+// Whether somebody else changed a ref that the transaction protects, or one of these has another value than in the beginning. A ref
+// costs one look-up here, one in the beginning, and a comparison; so do several operations in a row that protect it.
 pub(crate) fn is_any_other<M: Meaning>(refs: &Refs, tx: &Tx<M>) -> bool
     requires { alien_ref refs.now.values tx.now.dones ≡ None }
     ensures unchanged { result ≡ false
@@ -87,20 +87,53 @@ pub(crate) fn is_any_other<M: Meaning>(refs: &Refs, tx: &Tx<M>) -> bool
 {
     let (began, read_point) = (tx.began(), tx.read_point());
     let dones = tx.dones();
+    let mut known = None;
     for done in dones {
-        if protects_other(refs, began, read_point, done) {
+        if protects_other(refs, began, read_point, known, done) {
             return true;
         }
+        known = known_after(known, done);
     }
     false
 }
 
-// Whether an operation protects a ref that has changed after a point, or has another value than in the beginning.
-fn protects_other(refs: &Refs, began: &Snapshot, read_point: u64, done: &Done) -> bool
-    ensures { result ≡ (not (is_commute done.now.op) && (changed_after refs.now.lasts read_point done.now.r
+// Whether an operation protects a ref, other than the known one, that has changed after a point or has another value than in the
+// beginning.
+fn protects_other(
+    refs: &Refs,
+    began: &Snapshot,
+    read_point: u64,
+    known: Option<u32>,
+    done: &Done,
+) -> bool
+    ensures { result ≡ (is_new known done.now && (changed_after refs.now.lasts read_point done.now.r
         || differs_at refs.now.values began.now.values done.now.r)) }
 {
-    !done.op.is_commute() && is_other(refs, began, read_point, done.r)
+    is_new(known, done) && is_other(refs, began, read_point, done.r)
+}
+
+// Whether an operation protects a ref, and another one than this, which is known.
+fn is_new(known: Option<u32>, done: &Done) -> bool
+    ensures { result ≡ is_new known done.now }
+{
+    if done.op.is_commute() {
+        return false;
+    }
+    match known {
+        Some(known) => known != done.r,
+        None => true,
+    }
+}
+
+// The ref that is known after an operation: the one that it protects, if it protects one.
+fn known_after(known: Option<u32>, done: &Done) -> Option<u32>
+    ensures { result ≡ known_after known done.now }
+{
+    if done.op.is_commute() {
+        known
+    } else {
+        Some(done.r)
+    }
 }
 
 // Whether a ref has changed after a point, or has another value than in the beginning.
@@ -132,18 +165,20 @@ pub(crate) fn first_changed<M: Meaning>(refs: &Refs, tx: &Tx<M>) -> Option<u32>
     first
 }
 
-// The smallest protected ref whose value isn't the one that the transaction began with.
+// The smallest protected ref whose value isn't the one that the transaction began with. Several operations in a row that protect a ref
+// compare it once.
 pub(crate) fn first_differing<M: Meaning>(refs: &Refs, tx: &Tx<M>) -> Option<u32>
     requires { alien_ref refs.now.values tx.now.dones ≡ None }
     ensures { result ≡ first_protected refs.now.values tx.now.dones (differs_at refs.now.values tx.now.began) }
 {
     let began = tx.began();
     let dones = tx.dones();
-    let mut first = None;
+    let (mut first, mut known) = (None, None);
     for done in dones {
-        if protects_differing(refs, began, done) {
+        if protects_differing(refs, began, known, done) {
             first = Some(smaller(first, done.r));
         }
+        known = known_after(known, done);
     }
     first
 }
@@ -155,11 +190,11 @@ fn protects_changed(refs: &Refs, done: &Done, point: u64) -> bool
     !done.op.is_commute() && is_changed(refs, done.r, point)
 }
 
-// Whether an operation protects a ref that has another value than in the beginning.
-fn protects_differing(refs: &Refs, began: &Snapshot, done: &Done) -> bool
-    ensures { result ≡ (not (is_commute done.now.op) && differs_at refs.now.values began.now.values done.now.r) }
+// Whether an operation protects a ref, other than the known one, that has another value than in the beginning.
+fn protects_differing(refs: &Refs, began: &Snapshot, known: Option<u32>, done: &Done) -> bool
+    ensures { result ≡ (is_new known done.now && differs_at refs.now.values began.now.values done.now.r) }
 {
-    !done.op.is_commute() && differs_at(refs, began, done.r)
+    is_new(known, done) && differs_at(refs, began, done.r)
 }
 
 // Whether no ref has changed after a point.

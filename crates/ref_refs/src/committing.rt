@@ -68,8 +68,8 @@ impl<M: Meaning> RefStore<M> {
     /// functions and predicates that the table lacks, the conflict, a foreign value, a refusal over the latest values, a
     /// rule that doesn't accept, the end of points, a full book.
     /// Each operation costs time logarithmic in the number of refs. A protected ref costs a comparison of its value with the one
-    /// of the beginning, which is linear in its size; a `commute` of another ref costs its function, each changed ref the test
-    /// of its rule and a notice for each of its watches.
+    /// of the beginning, which is linear in its size, once for several operations in a row; a `commute` of another ref costs its
+    /// function, each changed ref the test of its rule and a notice for each of its watches.
     pub fn commit<F: Functions<M>>(
         &mut self,
         alloc: Global,

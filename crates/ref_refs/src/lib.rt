@@ -22,7 +22,8 @@
 //! **Costs.** `begin` takes constant time and no memory, whatever the number of refs. A commit takes time logarithmic in that number for
 //! each operation, and as much memory where another transaction still reads the refs as they were, else a block for each changed ref. An
 //! `ensure` changes no ref; for each send it takes a step. The entry shares operations and sends with the transaction. For each set, alter
-//! and ensure the value of its ref is compared with that of the beginning, in time linear in its size. Each `commute` on another ref
+//! and ensure the value of its ref is compared with that of the beginning, in time linear in its size; several in a row on one ref,
+//! commutes between them left aside, compare it once. Each `commute` on another ref
 //! costs its function, and each ref that is changed the test of its rule and a notice for each of its watches. `value_of` is logarithmic;
 //! `are_unchanged_since` and `are_rules_known` go over all refs, `add_watch` and `remove_watch` over the watches of one.
 //!

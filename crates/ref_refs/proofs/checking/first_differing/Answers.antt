@@ -27,7 +27,7 @@ returns g c =
     let ds = c.dones-dones.result.now in
     let holds : ℕ → Bool = differs_at c.args.refs.now.values c.args.tx.now.began in
     let first = c.loop-done.first in
-    let all : IsFirst (differs_at c.args.refs.now.values c.began-began.result.now.values) (protecting ds) first = subst (λ l. IsFirst (differs_at c.args.refs.now.values c.began-began.result.now.values) (protecting l) first) (take_all c.loop-done.done-index ds c.loop-done-test.false) c.loop-done.invariant in
+    let all : IsFirst (differs_at c.args.refs.now.values c.began-began.result.now.values) (protecting ds) first = subst (λ l. IsFirst (differs_at c.args.refs.now.values c.began-began.result.now.values) (protecting l) first) (take_all c.loop-done.done-index ds c.loop-done-test.false) c.loop-done.invariant.first in
     let is : IsFirst holds (protecting ds) first = subst (λ h. IsFirst h (protecting ds) first) (ap (differs_at c.args.refs.now.values) c.began-began.ensures) all in
     first_protected_is c.args.refs.now.values ds holds first (ap (alien_ref c.args.refs.now.values) c.dones-dones.ensures.value ∙ c.requires) is
     ∙ ap (λ l. first_protected c.args.refs.now.values l holds) c.dones-dones.ensures.value
