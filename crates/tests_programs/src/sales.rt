@@ -1,5 +1,5 @@
 //! Three workers sell, and two helpers run what they send to two tills, which are agents.
-ghost use Rattle.std.specs.Prelude.{◌≡◌, ◌≤◌, ◌+◌, ◌×◌, ℕ, Option, IfOk, OnOk};
+ghost use Rattle.std.specs.Prelude.{◌≡◌, ◌≤◌, ◌+◌, ℕ, Option, IfOk, OnOk};
 ghost use Rattle.ref_log.specs.Tally.{moved_by_dones};
 ghost use Rattle.ref_log.specs.declared.counting.Side.TheVariants.{Added, Taken};
 
