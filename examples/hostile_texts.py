@@ -696,7 +696,39 @@ def plays():
     yield Case("an actor past 32 bits", events("[4294967296 :begin]"), {"play": refused("BadEvent 0")})
 
 
+def many_agents():
+    """Lists of events, and a run, with many agents that aren't ready or whose queues are long, and with many references."""
+    n = scaled(EVENTS) // 4
+    numbered = range(1, n + 1)
+    parts = ("[0 :make-agent 0]", "[0 :send [:agent {}] inc]", "[{} :take]", "[0 :take]")
+    told = ("0 :make-agent 0 -> agent {}", "0 :send [:agent {}] inc -> ok", "{} :take -> job {} 0", "0 :take -> none")
+    text = [each(lambda i, p=part: p.format(numbered[i]), n) for part in parts]
+    lines = [each(lambda i, k=k, t=t: f"{k * n + i} " + t.replace("{}", str(numbered[i])) + "\n", n) for k, t in enumerate(told)]
+    yield Case(f"{n:,} agents whose jobs are out, and {n:,} idle takes", events(text), played(lines), 64)
+    n = scaled(EVENTS) // 5
+    turn = (("take", "job 0 {}"), ("run", "ok"), ("finish", "changed"), ("release-carried g", "true"))
+    text = ["[0 :make-agent 0][1 :send [:agent 1] inc][1 :take]", repeat("[0 :send-carry g [inc] [[:agent 1] inc]]", n - 1),
+            repeat("".join(f"[0 :{act}]" for act, _ in turn), n - 1)]
+    lines = ["0 0 :make-agent 0 -> agent 1\n1 1 :send [:agent 1] inc -> ok\n2 1 :take -> job 1 0\n",
+             each(lambda i: f"{i + 3} 0 :send-carry g [inc] [[:agent 1] inc] -> ok\n", n - 1),
+             each(lambda i: "".join(f"{n + 2 + 4 * i + k} 0 :{act} -> {reply.format(i)}\n" for k, (act, reply) in enumerate(turn)), n - 1)]
+    yield Case(f"{n - 1:,} releases of what was carried to a long queue", events(text), played(lines, g=n - 1), 64)
+    n = scaled(EVENTS) // 2
+    text = [repeat("[0 :make-ref 0]", n), repeat(f"[0 :checkpoint {n}]", n)]
+    lines = [each(lambda i: f"{i} 0 :make-ref 0 -> ref {i + 1}\n", n),
+             each(lambda i: f"{n + i} 0 :checkpoint {n} -> folded {n if i == 0 else 0}\n", n)]
+    yield Case(f"{n:,} checkpoints of {n:,} refs", events(text), played(lines), 64)
+    count, agents = scaled(STEPS), scaled(REFERENCES)
+    failing = each(lambda i: f"[:tx [:send g{i} inc] [:send g{i} inc]]", agents - 1)
+    first = ["[", failing, repeat("[:send h inc]", count - agents + 1), "]"]
+    text = workload(":agents [", each(lambda i: f"[g{i} :k]", agents - 1), "[h 0]] :workers [", first,
+                    [listed("[:send h inc]", count)] * (WORKERS - 1), "]")
+    sent = WORKERS * count - agents + 1
+    lines = [each(lambda i: f"agent g{i} :k failed\n", agents - 1), f"agent h {sent} ready\ncommits {agents - 1}\naudit ok\n"]
+    yield Case(f"{sent:,} sends beside {agents - 1:,} failed agents with actions that wait", text, {RUN: printed(lines)}, 64)
+
+
 GROUPS = (
     nesting, strings, names, integers, vectors, maps, blanks, brackets, values, long_names, too_many, steps, operations, dumps,
-    long_values, growing, plays,
+    long_values, growing, plays, many_agents,
 )  # fmt: skip
