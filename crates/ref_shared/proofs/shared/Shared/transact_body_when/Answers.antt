@@ -107,6 +107,7 @@ returns-in_default-fault g c =
       same = search rules;
       told = tt;
       untold = search rules;
+      may = c.in-Ok-run.ensures.may;
     }
 
 pub loop-preserved : goal.loop-preserved
