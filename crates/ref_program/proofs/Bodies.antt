@@ -10,46 +10,46 @@ use Rattle.ref_shared.specs.Waits.{Landed, WaitFails}
 use Rattle.ref_shared.specs.declared.faults.TransactFault.{TransactFault}
 use Rattle.ref_shared.specs.declared.faults.WaitFault.{WaitFault}
 
-pub if_committed : {W B T E : Type 0} (inner : W → B) (does : Doing B (Result T E)) (first last : W) (body : B) (tries : ℕ) (stamp : Stamp) (old new : ShareSeen) (r : Result T (TransactFault E))
-    → inner first ≡ body → IfOk r (λ t. (point : ℕ) × Committed (within inner does) first last tries (Ok t) stamp point old new)
-    → IfOk r (λ t. (after : B) × (point : ℕ) × Committed does body after tries (Ok t) stamp point old new)
-if_committed {B = B} inner does first last body tries stamp old new r is so =
-    subst (λ (b : B). IfOk r (λ t. (after : B) × (point : ℕ) × Committed does b after tries (Ok t) stamp point old new)) is
+pub if_committed : {W B T E : Type 0} (inner : W → B) (does : Doing B (Result T E)) (first last : W) (body : B) (tries : ℕ) (stamp : Stamp) (point : ℕ) (old new : ShareSeen) (r : Result T (TransactFault E))
+    → inner first ≡ body → IfOk r (λ t. Committed (within inner does) first last tries (Ok t) stamp point old new)
+    → IfOk r (λ t. (after : B) × Committed does body after tries (Ok t) stamp point old new)
+if_committed {B = B} inner does first last body tries stamp point old new r is so =
+    subst (λ (b : B). IfOk r (λ t. (after : B) × Committed does b after tries (Ok t) stamp point old new)) is
     (IfOk-weaker r
-    (λ t. (point : ℕ) × Committed (within inner does) first last tries (Ok t) stamp point old new)
-    (λ t. (after : B) × (point : ℕ) × Committed does (inner first) after tries (Ok t) stamp point old new)
-    (λ t h. (inner last, h.0, committed inner does first last tries (Ok t) stamp h.0 old new h.1))
+    (λ t. Committed (within inner does) first last tries (Ok t) stamp point old new)
+    (λ t. (after : B) × Committed does (inner first) after tries (Ok t) stamp point old new)
+    (λ t h. (inner last, committed inner does first last tries (Ok t) stamp point old new h))
     so)
 
-pub if_fault_comes : {W B T E : Type 0} (P : Type 0) (inner : W → B) (does : Doing B (Result T E)) (first last : W) (body : B) (tries : ℕ) (r : Result T (TransactFault E))
-    → inner first ≡ body → IfErr r (λ f. P ⊎ FaultComes (within inner does) first last tries f)
-    → IfErr r (λ f. P ⊎ (after : B) × FaultComes does body after tries f)
-if_fault_comes {B = B} P inner does first last body tries r is so =
-    subst (λ (b : B). IfErr r (λ f. P ⊎ (after : B) × FaultComes does b after tries f)) is
+pub if_fault_comes : {W B T E : Type 0} (P Q : TransactFault E → Type 0) (inner : W → B) (does : Doing B (Result T E)) (first last : W) (body : B) (tries : ℕ) (r : Result T (TransactFault E))
+    → ((f : TransactFault E) → P f → Q f) → inner first ≡ body → IfErr r (λ f. P f ⊎ FaultComes (within inner does) first last tries f)
+    → IfErr r (λ f. Q f ⊎ (after : B) × FaultComes does body after tries f)
+if_fault_comes {B = B} P Q inner does first last body tries r weaker is so =
+    subst (λ (b : B). IfErr r (λ f. Q f ⊎ (after : B) × FaultComes does b after tries f)) is
     (IfErr-weaker r
-    (λ f. P ⊎ FaultComes (within inner does) first last tries f)
-    (λ f. P ⊎ (after : B) × FaultComes does (inner first) after tries f)
-    (λ f h. ⊎_elim (λ p. inl p) (λ q. inr (inner last, fault_comes inner does first last tries f q)) h)
+    (λ f. P f ⊎ FaultComes (within inner does) first last tries f)
+    (λ f. Q f ⊎ (after : B) × FaultComes does (inner first) after tries f)
+    (λ f h. ⊎_elim (λ p. inl (weaker f p)) (λ q. inr (inner last, fault_comes inner does first last tries f q)) h)
     so)
 
-pub if_landed : {W B T E : Type 0} (inner : W → B) (does : Doing B (Result (Option T) E)) (first last : W) (body : B) (tries : ℕ) (stamp : Stamp) (old new : ShareSeen) (r : Result T (WaitFault E))
-    → inner first ≡ body → IfOk r (λ t. (point : ℕ) × Landed (within inner does) first last tries t stamp point old new)
-    → IfOk r (λ t. (after : B) × (point : ℕ) × Landed does body after tries t stamp point old new)
-if_landed {B = B} inner does first last body tries stamp old new r is so =
-    subst (λ (b : B). IfOk r (λ t. (after : B) × (point : ℕ) × Landed does b after tries t stamp point old new)) is
+pub if_landed : {W B T E : Type 0} (inner : W → B) (does : Doing B (Result (Option T) E)) (first last : W) (body : B) (tries : ℕ) (stamp : Stamp) (point : ℕ) (old new : ShareSeen) (r : Result T (WaitFault E))
+    → inner first ≡ body → IfOk r (λ t. Landed (within inner does) first last tries t stamp point old new)
+    → IfOk r (λ t. (after : B) × Landed does body after tries t stamp point old new)
+if_landed {B = B} inner does first last body tries stamp point old new r is so =
+    subst (λ (b : B). IfOk r (λ t. (after : B) × Landed does b after tries t stamp point old new)) is
     (IfOk-weaker r
-    (λ t. (point : ℕ) × Landed (within inner does) first last tries t stamp point old new)
-    (λ t. (after : B) × (point : ℕ) × Landed does (inner first) after tries t stamp point old new)
-    (λ t h. (inner last, h.0, landed inner does first last tries t stamp h.0 old new h.1))
+    (λ t. Landed (within inner does) first last tries t stamp point old new)
+    (λ t. (after : B) × Landed does (inner first) after tries t stamp point old new)
+    (λ t h. (inner last, landed inner does first last tries t stamp point old new h))
     so)
 
-pub if_wait_fails : {W B T E : Type 0} (P : Type 0) (inner : W → B) (does : Doing B (Result (Option T) E)) (first last : W) (body : B) (tries : ℕ) (r : Result T (WaitFault E))
-    → inner first ≡ body → IfErr r (λ f. P ⊎ WaitFails (within inner does) first last tries f)
-    → IfErr r (λ f. P ⊎ (after : B) × WaitFails does body after tries f)
-if_wait_fails {B = B} P inner does first last body tries r is so =
-    subst (λ (b : B). IfErr r (λ f. P ⊎ (after : B) × WaitFails does b after tries f)) is
+pub if_wait_fails : {W B T E : Type 0} (P Q : WaitFault E → Type 0) (inner : W → B) (does : Doing B (Result (Option T) E)) (first last : W) (body : B) (tries : ℕ) (r : Result T (WaitFault E))
+    → ((f : WaitFault E) → P f → Q f) → inner first ≡ body → IfErr r (λ f. P f ⊎ WaitFails (within inner does) first last tries f)
+    → IfErr r (λ f. Q f ⊎ (after : B) × WaitFails does body after tries f)
+if_wait_fails {B = B} P Q inner does first last body tries r weaker is so =
+    subst (λ (b : B). IfErr r (λ f. Q f ⊎ (after : B) × WaitFails does b after tries f)) is
     (IfErr-weaker r
-    (λ f. P ⊎ WaitFails (within inner does) first last tries f)
-    (λ f. P ⊎ (after : B) × WaitFails does (inner first) after tries f)
-    (λ f h. ⊎_elim (λ p. inl p) (λ q. inr (inner last, wait_fails inner does first last tries f q)) h)
+    (λ f. P f ⊎ WaitFails (within inner does) first last tries f)
+    (λ f. Q f ⊎ (after : B) × WaitFails does (inner first) after tries f)
+    (λ f h. ⊎_elim (λ p. inl (weaker f p)) (λ q. inr (inner last, wait_fails inner does first last tries f q)) h)
     so)

@@ -1,7 +1,10 @@
 -- What the workers of a run have done, one after the other.
 use Rattle.std.proofs.Common.{zero, suc, true, is_ok, Result, Ok, Err, OnOk, ◌≡◌, ◌<◌, ◌+◌, ◌*◌, ℕ, List, [], ◌∷◌, ◌++◌, length, subst, sym, ap, ◌∙◌, add-one, arith}
 use Rattle.std.proofs.Math.Nat.{suc-mul, zero-mul}
-use Rattle.ref_program.specs.Done.{AreLeft, AreNumbers, HaveDone, IsEach, totals_of}
+use Rattle.ref_program.specs.Done.{AreLeft, AreNumbers, AreTogether, HaveDone, HaveRun, IsEach}
+use Rattle.ref_program.specs.Seen.{HasDoneNothing}
+use Rattle.ref_log.specs.declared.entries.Entry.{Entry}
+use Rattle.ref_shared.specs.Gather.{InOrder, ReceiptsMatch}
 use Rattle.ref_world.specs.Seen.{ShareSeen}
 use Rattle.ref_world.specs.Shares.{joined}
 use Rattle.ref_world.specs.declared.worlds.Totals.{Totals}
@@ -24,36 +27,52 @@ joined_parts old new s both = ap (λ t. t.parts) both
 
 -- A worker more has done its work, and its share was joined.
 pub have_joined : (did : ℕ → ShareSeen → Type 0) (n : ℕ) (old new s : ShareSeen)
-    → new ≡ joined old s → HaveDone did n (totals_of old) → did n s → HaveDone did (n + 1) (totals_of new)
+    → new ≡ joined old s → HaveDone did n old → did n s → HaveDone did (n + 1) new
 have_joined did n old new s both h one =
-    subst (λ m. HaveDone did m (totals_of new)) (sym (add-one n))
-    (s, totals_of old, h, one, ap (λ t. t.commits) both, ap (λ t. t.added) both, ap (λ t. t.taken) both)
+    subst (λ m. HaveDone did m new) (sym (add-one n)) (
+      s,
+      old,
+      h,
+      one,
+      record { commits = ap (λ t. t.commits) both; added = ap (λ t. t.added) both; taken = ap (λ t. t.taken) both; receipts = ap (λ t. t.receipts) both },
+    )
 
-pub as_totals : (did : ℕ → ShareSeen → Type 0) (n : ℕ) (share : ShareSeen) (totals : Totals) → HaveDone did n (totals_of share)
-    → (totals.commits ≡ share.commits) × (totals.added ≡ share.added) × (totals.taken ≡ share.taken) → HaveDone did n totals
-as_totals did zero share totals h same = (same.0 ∙ h.0, same.1 ∙ h.1, same.2 ∙ h.2)
-as_totals did (suc n) share totals h same = (h.0, h.1, h.2, h.3, same.0 ∙ h.4, same.1 ∙ h.5, same.2 ∙ h.6)
+-- The totals and the log of a world that was taken out, where all workers have done what this share has.
+pub as_run : (did : ℕ → ShareSeen → Type 0) (n : ℕ) (share : ShareSeen) (totals : Totals) (base : ℕ) (log : List Entry) → HaveDone did n share
+    → ((totals.commits ≡ share.commits) × (totals.added ≡ share.added) × (totals.taken ≡ share.taken))
+    × ReceiptsMatch base log share.receipts × InOrder base log
+    → HaveRun did n totals base log
+as_run did n share totals base log done fits = record { all = share; done = done; sums = fits.0; receipts = fits.1; order = fits.2 }
 
 -- ---- where each has done as much
 
 more_times : (n k before mine all : ℕ) → all ≡ before + mine → before ≡ n * k → mine ≡ k → all ≡ suc n * k
 more_times n k before mine all sum one other = omega (arith, sum, one, other, suc-mul n k)
 
+-- A part of a share that is 0 where nothing was done, and adds up.
+pub record AddsUp (part : ShareSeen → ℕ) : Type 0 where
+  pub none : (all : ShareSeen) → HasDoneNothing all → part all ≡ 0
+  pub sum : (one other all : ShareSeen) → AreTogether one other all → part all ≡ part one + part other
+
+pub commits_add_up : AddsUp (λ s. s.commits)
+commits_add_up = record { none = λ all h. h.0; sum = λ one other all h. h.commits }
+
+pub added_adds_up : AddsUp (λ s. s.added)
+added_adds_up = record { none = λ all h. h.1; sum = λ one other all h. h.added }
+
+pub taken_adds_up : AddsUp (λ s. s.taken)
+taken_adds_up = record { none = λ all h. h.2; sum = λ one other all h. h.taken }
+
 fewer : (did : ℕ → ShareSeen → Type 0) (n k : ℕ) (part : ShareSeen → ℕ)
     → ((i : ℕ) (s : ShareSeen) → i < suc n → did i s → part s ≡ k) → (i : ℕ) (s : ShareSeen) → i < n → did i s → part s ≡ k
 fewer did n k part same i s below done = same i s (omega (arith, below)) done
 
-pub each_commits : (did : ℕ → ShareSeen → Type 0) (workers : ℕ) (totals : Totals) → HaveDone did workers totals → IsEach did workers (λ s. s.commits) totals.commits
-each_commits did zero totals h k same = h.0 ∙ sym (zero-mul k)
-each_commits did (suc n) totals h k same =
-    more_times n k h.1.commits h.0.commits totals.commits h.4 (each_commits did n h.1 h.2 k (fewer did n k (λ s. s.commits) same)) (same n h.0 (omega arith) h.3)
+each_of : (did : ℕ → ShareSeen → Type 0) (workers : ℕ) (all : ShareSeen) (part : ShareSeen → ℕ) → AddsUp part → HaveDone did workers all
+    → IsEach did workers part (part all)
+each_of did zero all part adds h k same = adds.none all h ∙ sym (zero-mul k)
+each_of did (suc n) all part adds h k same =
+    more_times n k (part h.1) (part h.0) (part all) (adds.sum h.1 h.0 all h.4) (each_of did n h.1 part adds h.2 k (fewer did n k part same)) (same n h.0 (omega arith) h.3)
 
-pub each_added : (did : ℕ → ShareSeen → Type 0) (workers : ℕ) (totals : Totals) → HaveDone did workers totals → IsEach did workers (λ s. s.added) totals.added
-each_added did zero totals h k same = h.1 ∙ sym (zero-mul k)
-each_added did (suc n) totals h k same =
-    more_times n k h.1.added h.0.added totals.added h.5 (each_added did n h.1 h.2 k (fewer did n k (λ s. s.added) same)) (same n h.0 (omega arith) h.3)
-
-pub each_taken : (did : ℕ → ShareSeen → Type 0) (workers : ℕ) (totals : Totals) → HaveDone did workers totals → IsEach did workers (λ s. s.taken) totals.taken
-each_taken did zero totals h k same = h.2 ∙ sym (zero-mul k)
-each_taken did (suc n) totals h k same =
-    more_times n k h.1.taken h.0.taken totals.taken h.6 (each_taken did n h.1 h.2 k (fewer did n k (λ s. s.taken) same)) (same n h.0 (omega arith) h.3)
+pub each_total : (did : ℕ → ShareSeen → Type 0) (workers total : ℕ) (all : ShareSeen) (part : ShareSeen → ℕ) → AddsUp part → HaveDone did workers all
+    → total ≡ part all → IsEach did workers part total
+each_total did workers total all part adds h is k same = is ∙ each_of did workers all part adds h k same

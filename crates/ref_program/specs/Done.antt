@@ -1,16 +1,32 @@
 -- What the workers of a run have done, taken together.
-use Rattle.std.specs.Prelude.{◌≡◌, ◌<◌, ◌+◌, ◌*◌, ℕ, zero, suc, List, [], ◌∷◌}
+use Rattle.std.specs.Prelude.{◌≡◌, ◌<◌, ◌+◌, ◌*◌, ◌++◌, ℕ, zero, suc, List, [], ◌∷◌}
 use Rattle.std.specs.List.{All}
+use Rattle.ref_log.specs.declared.entries.Entry.{Entry}
 use Rattle.ref_program.specs.Seen.{HasDoneNothing}
+use Rattle.ref_shared.specs.Gather.{InOrder, ReceiptsMatch}
 use Rattle.ref_world.specs.Seen.{ShareSeen}
 use Rattle.ref_world.specs.declared.worlds.Totals.{Totals}
 
--- The workers of the numbers below this one have done this, each by a share, and the totals are the sums of these shares.
-abbrev pub HaveDone : (ℕ → ShareSeen → Type 0) → ℕ → Totals → Type 0
-HaveDone did zero totals = (totals.commits ≡ 0) × (totals.added ≡ 0) × (totals.taken ≡ 0)
-HaveDone did (suc n) totals =
-    (s : ShareSeen) × (before : Totals) × HaveDone did n before × did n s × (totals.commits ≡ before.commits + s.commits)
-    × (totals.added ≡ before.added + s.added) × (totals.taken ≡ before.taken + s.taken)
+-- What was done with two shares is what was done with this one.
+pub record AreTogether (one other all : ShareSeen) : Type 0 where
+  pub commits : all.commits ≡ one.commits + other.commits
+  pub added : all.added ≡ one.added + other.added
+  pub taken : all.taken ≡ one.taken + other.taken
+  pub receipts : all.receipts ≡ one.receipts ++ other.receipts
+
+-- The workers of the numbers below this one have done this, each by a share, and together what was done with this share.
+abbrev pub HaveDone : (ℕ → ShareSeen → Type 0) → ℕ → ShareSeen → Type 0
+HaveDone did zero all = HasDoneNothing all
+HaveDone did (suc n) all = (s : ShareSeen) × (before : ShareSeen) × HaveDone did n before × did n s × AreTogether before s all
+
+-- What comes of a run: what all workers have done together is what the totals say, and its receipts are just those of the entries after the
+-- base, whole, each once. The steps of each number rise along the log, and each transaction began when the one before it was there.
+pub record HaveRun (did : ℕ → ShareSeen → Type 0) (workers : ℕ) (totals : Totals) (base : ℕ) (log : List Entry) : Type 0 where
+  pub all : ShareSeen
+  pub done : HaveDone did workers all
+  pub sums : (totals.commits ≡ all.commits) × (totals.added ≡ all.added) × (totals.taken ≡ all.taken)
+  pub receipts : ReceiptsMatch base log all.receipts
+  pub order : InOrder base log
 
 -- Where each worker does as much, all do so many times as much.
 abbrev pub IsEach : (ℕ → ShareSeen → Type 0) → ℕ → (ShareSeen → ℕ) → ℕ → Type 0
@@ -32,7 +48,3 @@ AreNumbers first (n ∷ numbers) = (n ≡ first) × AreNumbers (first + 1) numbe
 abbrev pub AreLeft : (ℕ → ShareSeen → Type 0) → ℕ → List ShareSeen → Type 0
 AreLeft did number [] = Unit {0}
 AreLeft did number (s ∷ shares) = (did number s × (s.parts ≡ 1)) × AreLeft did (number + 1) shares
-
--- what a share has of the books
-abbrev pub totals_of : ShareSeen → Totals
-totals_of share = record { commits = share.commits; added = share.added; taken = share.taken }

@@ -1,8 +1,9 @@
 //! A whole program: its world is made, its workers work, and its world is taken out.
-ghost use Rattle.std.specs.Prelude.{◌≡◌, ◌+◌, ◌-◌, ◌<◌, ◌^◌, true, [], ◌∷◌, ◌++◌, map, vec_len, Ok, IfOk, OnOk, is_ok};
+ghost use Rattle.std.specs.Prelude.{◌≡◌, ◌+◌, ◌-◌, ◌<◌, ◌^◌, true, [], ◌∷◌, ◌++◌, map, max, vec_len, Ok, IfOk, OnOk, is_ok};
 ghost use Rattle.std.specs.Thread.{IsSend, IsSync};
-ghost use Rattle.ref_program.specs.Done.{AreFresh, AreLeft, AreNumbers, HaveDone, IsEach, totals_of};
+ghost use Rattle.ref_program.specs.Done.{AreFresh, AreLeft, AreNumbers, HaveDone, HaveRun, IsEach};
 ghost use Rattle.ref_program.specs.Seen.{HasDoneNothing};
+ghost use Rattle.ref_shared.specs.Gather.{InOrder, ReceiptsMatch};
 ghost use Rattle.ref_world.specs.Shares.{AreBlanks, all_parts, whole};
 
 use crate::declared::{Declared, Watch};
@@ -31,7 +32,7 @@ pub fn run<P: Program + Sync, R: AllocGlobal + Threads + Wait + Sync>(
     program: &P,
     crew: Crew,
 ) -> Result<Ended, Fault>
-    ensures did { IfOk result (λ end. HaveDone P.did crew.workers end.totals) }
+    ensures did { IfOk result (λ end. HaveRun P.did crew.workers end.totals end.world.base.point end.world.log) }
     ensures commits { IfOk result (λ end. IsEach P.did crew.workers (λ s. s.commits) end.totals.commits) }
     ensures added { IfOk result (λ end. IsEach P.did crew.workers (λ s. s.added) end.totals.added) }
     ensures taken { IfOk result (λ end. IsEach P.did crew.workers (λ s. s.taken) end.totals.taken) }
@@ -45,7 +46,7 @@ pub fn run_custom<P: CustomProgram + Sync, R: AllocGlobal + Threads + Wait + Syn
     program: &P,
     crew: Crew,
 ) -> Result<Ended<P::Meaning, P::Sink>, Fault>
-    ensures did { IfOk result (λ end. HaveDone P.did crew.workers end.totals) }
+    ensures did { IfOk result (λ end. HaveRun P.did crew.workers end.totals end.world.base.point end.world.log) }
     ensures commits { IfOk result (λ end. IsEach P.did crew.workers (λ s. s.commits) end.totals.commits) }
     ensures added { IfOk result (λ end. IsEach P.did crew.workers (λ s. s.added) end.totals.added) }
     ensures taken { IfOk result (λ end. IsEach P.did crew.workers (λ s. s.taken) end.totals.taken) }
@@ -63,7 +64,7 @@ fn run_booked<
     R: AllocGlobal + Threads + Wait + Sync,
 >(rt: &R, program: &P, crew: Crew, blanks: Blanks) -> Result<Ended<P::Meaning, P::Sink>, Fault>
     requires { AreBlanks blanks L.commits L.added L.taken }
-    ensures { IfOk result (λ end. HaveDone P.did crew.workers end.totals) }
+    ensures { IfOk result (λ end. HaveRun P.did crew.workers end.totals end.world.base.point end.world.log) }
 {
     let alloc = rt.alloc();
     let (hall, mut share) = open::<L, P>(alloc, program, crew, blanks)?;
@@ -164,7 +165,7 @@ fn work_all<
     R: AllocGlobal + Threads + Wait + Sync,
 >(rt: &R, hall: &HallOf<'_, P, L>, share: &mut Share<L>) -> Result<Vec<P::Sink>, Fault>
     requires { share.old ≡ whole }
-    ensures done { OnOk result (HaveDone P.did hall.now.crew.workers (totals_of share.new)) }
+    ensures done { OnOk result (HaveDone P.did hall.now.crew.workers share.new) }
     ensures parts { OnOk result (share.new.parts ≡ all_parts) }
 {
     let parts = parts(hall.alloc, hall.crew.workers, share)?;
@@ -334,18 +335,7 @@ fn work_in<L: Books, P: CustomProgram, R: Wait>(
     requires { HasDoneNothing share × (share.parts ≡ 1) }
     ensures { IfOk result (λ left. P.did number left.share × (left.share.parts ≡ 1)) }
 {
-    let mut worker = Worker {
-        rt,
-        alloc: hall.alloc,
-        shared: &hall.shared,
-        funs: hall.funs,
-        number,
-        stamps: Stamps::of(number, hall.crew.workers),
-        tries: hall.crew.tries.max(1),
-        point: 0,
-        share,
-        sink: hall.program.sink(),
-    };
+    let mut worker = worker_of(rt, hall, number, share);
     match hall.program.work(&mut worker) {
         Ok(()) => {
             let Worker { share, sink, .. } = worker;
@@ -356,6 +346,38 @@ fn work_in<L: Books, P: CustomProgram, R: Wait>(
             hall.shared.close(rt);
             Err(fault)
         }
+    }
+}
+
+// The worker of a number, as it begins.
+fn worker_of<'h, L: Books, P: CustomProgram, R: Wait>(
+    rt: &'h R,
+    hall: &'h HallOf<'_, P, L>,
+    number: u32,
+    share: Share<L>,
+) -> Worker<'h, L, R, P::Meaning, P::Functions, P::Sink>
+    requires { share.parts ≡ 1 }
+    ensures { result ≡ record {
+      number = number;
+      next = record { worker = number; step = 0 };
+      workers = hall.now.crew.workers;
+      tries = max hall.now.crew.tries 1;
+      point = 0;
+      share = share;
+      sink = result.sink;
+    } }
+{
+    Worker {
+        rt,
+        alloc: hall.alloc,
+        shared: &hall.shared,
+        funs: hall.funs,
+        number,
+        stamps: Stamps::of(number, hall.crew.workers),
+        tries: hall.crew.tries.max(1),
+        point: 0,
+        share,
+        sink: hall.program.sink(),
     }
 }
 
@@ -424,7 +446,7 @@ fn join_all<L: Books, P: CustomProgram>(
     requires left { AreLeft P.did 0 (map (λ left. left.share) left.items) }
     requires rest { share.old ≡ record whole { parts = all_parts - vec_len left } }
     requires few { vec_len left < all_parts }
-    ensures done { OnOk result (HaveDone P.did (vec_len left) (totals_of share.new)) }
+    ensures done { OnOk result (HaveDone P.did (vec_len left) share.new) }
     ensures parts { OnOk result (share.new.parts ≡ all_parts) }
 {
     let mut sinks = Vec::with_capacity(alloc, left.len())?;
@@ -451,8 +473,9 @@ fn finish<L: Books, P: CustomProgram>(
     sinks: Vec<P::Sink>,
 ) -> Result<Ended<P::Meaning, P::Sink>, Fault>
     requires { share.parts ≡ all_parts }
-    ensures { IfOk result (λ end. (end.totals.commits ≡ share.commits) × (end.totals.added ≡ share.added)
-        × (end.totals.taken ≡ share.taken)) }
+    ensures { IfOk result (λ end. ((end.totals.commits ≡ share.commits) × (end.totals.added ≡ share.added)
+        × (end.totals.taken ≡ share.taken)) × ReceiptsMatch end.world.base.point end.world.log share.receipts
+        × InOrder end.world.base.point end.world.log) }
 {
     match shared.finish(alloc, share) {
         Ok((world, totals)) => Ok(Ended {

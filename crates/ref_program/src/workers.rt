@@ -8,11 +8,15 @@ ghost use Rattle.ref_log.specs.declared.notices.Who.TheVariants as who;
 ghost use Rattle.ref_log.specs.declared.operations.Op.TheVariants.{Alter, Set};
 ghost use Rattle.ref_program.specs.Seen.{IsSameWorker};
 ghost use Rattle.ref_program.specs.Stamps.{HasNoStamp, IsNext, IsNoEarlier};
+ghost use Rattle.ref_refs.specs.declared.faults.CommitFault.TheVariants as commits;
 ghost use Rattle.ref_shared.specs.Bodies.{Committed, FaultComes, calls_of};
 ghost use Rattle.ref_shared.specs.Commits.{AreNotices, HasReceipt};
 ghost use Rattle.ref_shared.specs.Sinks.{TakesAll};
-ghost use Rattle.ref_shared.specs.Waits.{Landed, WaitFails};
+ghost use Rattle.ref_shared.specs.Waits.{Landed, NamesOneOf, WaitFails};
+ghost use Rattle.ref_shared.specs.declared.faults.TransactFault.TheVariants as transacts;
+ghost use Rattle.ref_shared.specs.declared.faults.WaitFault.TheVariants as waits;
 ghost use Rattle.ref_value.specs.Edn.{Edn};
+ghost use Rattle.ref_world.specs.Shares.{forgotten};
 
 use crate::stamps::Stamps;
 use ref_agents::SendFault;
@@ -71,6 +75,7 @@ impl<'a, L: Books, R: Wait, M: Meaning, F: Functions<M>, S: WatchSink> Model
       next = w.stamps.next;
       workers = w.stamps.workers;
       tries = w.tries;
+      point = w.point;
       share = w.share;
       sink = w.sink;
     } };
@@ -113,7 +118,9 @@ impl<'a, L: Books, R: Wait, M: Meaning, F: Functions<M>, S: WatchSink> Worker<'a
     }
 
     /// The point of the latest transaction that this worker committed; 0 before the first.
-    pub fn point(&self) -> u64 {
+    pub fn point(&self) -> u64
+        ensures { result ≡ self.now.point }
+    {
         self.point
     }
 
@@ -123,11 +130,13 @@ impl<'a, L: Books, R: Wait, M: Meaning, F: Functions<M>, S: WatchSink> Worker<'a
         body: &mut B,
     ) -> Result<B::Answer, TransactFault<B::Fault>>
         requires { B.may body.old }
-        ensures ok { IfOk result (λ t. (point : _) × Committed B.does body.old body.new self.old.tries (Ok t)
-            self.old.next point self.old.share self.new.share) }
+        ensures ok { IfOk result (λ t. Committed B.does body.old body.new self.old.tries (Ok t)
+            self.old.next self.new.point self.old.share self.new.share) }
         ensures fault { IfErr result (λ f. HasNoStamp self.old.next self.old.workers
+            × (f ≡ transacts.Commit commits.PointLimit) × (body.new ≡ body.old)
             ⊎ FaultComes B.does body.old body.new self.old.tries f) }
-        ensures same { OnErr result ((self.new.share ≡ self.old.share) × (self.new.sink ≡ self.old.sink)) }
+        ensures same { OnErr result ((self.new.share ≡ self.old.share) × (self.new.sink ≡ self.old.sink)
+            × (self.new.point ≡ self.old.point)) }
         ensures told { OnOk result ((notices : List Notice) × TakesAll S.takes self.old.sink notices self.new.sink) }
         ensures stamp { OnOk result (IsNext self.old.workers self.old.next self.new.next) }
         ensures stamps { IsNoEarlier self.old.workers self.old.next self.new.next }
@@ -162,11 +171,13 @@ impl<'a, L: Books, R: Wait, M: Meaning, F: Functions<M>, S: WatchSink> Worker<'a
         body: &mut B,
     ) -> Result<T, WaitFault<B::Fault>>
         requires { B.may body.old }
-        ensures ok { IfOk result (λ t. (point : _) × Landed B.does body.old body.new self.old.tries t
-            self.old.next point self.old.share self.new.share) }
+        ensures ok { IfOk result (λ t. Landed B.does body.old body.new self.old.tries t
+            self.old.next self.new.point self.old.share self.new.share) }
         ensures fault { IfErr result (λ f. HasNoStamp self.old.next self.old.workers
+            × (f ≡ waits.Transact (transacts.Commit commits.PointLimit)) × (body.new ≡ body.old)
             ⊎ WaitFails B.does body.old body.new self.old.tries f) }
-        ensures same { OnErr result ((self.new.share ≡ self.old.share) × (self.new.sink ≡ self.old.sink)) }
+        ensures same { OnErr result ((self.new.share ≡ self.old.share) × (self.new.sink ≡ self.old.sink)
+            × (self.new.point ≡ self.old.point)) }
         ensures told { OnOk result ((notices : List Notice) × TakesAll S.takes self.old.sink notices self.new.sink) }
         ensures stamp { OnOk result (IsNext self.old.workers self.old.next self.new.next) }
         ensures stamps { IsNoEarlier self.old.workers self.old.next self.new.next }
@@ -203,7 +214,7 @@ impl<'a, L: Books, R: Wait, M: Meaning, F: Functions<M>, S: WatchSink> Worker<'a
         ensures told { IfOk result (λ s. AreNotices (who.Atom a) s.old s.new s.notices.items
             × TakesAll S.takes self.old.sink s.notices.items self.new.sink) }
         ensures same { OnErr result (self.new ≡ self.old) }
-        ensures worker { IsSameWorker self.old self.new × (self.new.next ≡ self.old.next) }
+        ensures rest { self.new ≡ record self.old { share = self.new.share; sink = self.new.sink } }
     {
         let args = args.into_args(self.alloc)?;
         let swapped = self.shared.swap(
@@ -226,7 +237,7 @@ impl<'a, L: Books, R: Wait, M: Meaning, F: Functions<M>, S: WatchSink> Worker<'a
         ensures told { IfOk result (λ s. AreNotices (who.Atom a) s.old s.new s.notices.items
             × TakesAll S.takes self.old.sink s.notices.items self.new.sink) }
         ensures same { OnErr result (self.new ≡ self.old) }
-        ensures worker { IsSameWorker self.old self.new × (self.new.next ≡ self.old.next) }
+        ensures rest { self.new ≡ record self.old { share = self.new.share; sink = self.new.sink } }
     {
         let value = value.into_value(self.alloc)?;
         let swapped = self
@@ -249,7 +260,7 @@ impl<'a, L: Books, R: Wait, M: Meaning, F: Functions<M>, S: WatchSink> Worker<'a
             × TakesAll S.takes self.old.sink notices self.new.sink) }
         ensures undone { IfOk result (λ done. done ≡ false → self.new ≡ self.old) }
         ensures same { OnErr result (self.new ≡ self.old) }
-        ensures worker { IsSameWorker self.old self.new × (self.new.next ≡ self.old.next) }
+        ensures rest { self.new ≡ record self.old { share = self.new.share; sink = self.new.sink } }
     {
         let new = new.into_value(self.alloc)?;
         let compared = self.shared.compare_and_set(
@@ -283,13 +294,17 @@ impl<'a, L: Books, R: Wait, M: Meaning, F: Functions<M>, S: WatchSink> Worker<'a
 
     /// Waits until these agents have done what was sent to them by now: Clojure's `await`. A crew without helpers runs nothing: there it waits
     /// for ever, or until a fault of another worker ends the run.
-    pub fn await_agents(&self, agents: &[u32]) -> Result<(), AwaitFault> {
+    pub fn await_agents(&self, agents: &[u32]) -> Result<(), AwaitFault>
+        // It fails with an agent only if that is one of these.
+        ensures fault { IfErr result (λ f. NamesOneOf agents.now f) }
+    {
         self.shared.await_agents(self.rt, self.alloc, agents)
     }
 
     /// Drops the receipts of entries that a checkpoint has folded.
     pub fn forget(&mut self)
-        ensures worker { IsSameWorker self.old self.new × (self.new.next ≡ self.old.next) × (self.new.sink ≡ self.old.sink) }
+        ensures rest { self.new ≡ record self.old { share = self.new.share } }
+        ensures share { (point : _) × (self.new.share ≡ forgotten self.old.share point) }
         ensures books { (self.new.share.commits ≡ self.old.share.commits) × (self.new.share.added ≡ self.old.share.added)
             × (self.new.share.taken ≡ self.old.share.taken) }
     {
@@ -321,11 +336,13 @@ impl<'a, L: Books, R: Wait, S: WatchSink> Worker<'a, L, R, Core, CoreFunctions, 
         body: D,
     ) -> Result<T, TransactFault<E>>
         requires { D.IsAlwaysCallable body }
-        ensures ok { IfOk result (λ t. (last : D) × (point : _) × Committed (calls_of D.FnMut) body last self.old.tries (Ok t)
-            self.old.next point self.old.share self.new.share) }
+        ensures ok { IfOk result (λ t. (last : D) × Committed (calls_of D.FnMut) body last self.old.tries (Ok t)
+            self.old.next self.new.point self.old.share self.new.share) }
         ensures fault { IfErr result (λ f. HasNoStamp self.old.next self.old.workers
+            × (f ≡ transacts.Commit commits.PointLimit)
             ⊎ (last : D) × FaultComes (calls_of D.FnMut) body last self.old.tries f) }
-        ensures same { OnErr result ((self.new.share ≡ self.old.share) × (self.new.sink ≡ self.old.sink)) }
+        ensures same { OnErr result ((self.new.share ≡ self.old.share) × (self.new.sink ≡ self.old.sink)
+            × (self.new.point ≡ self.old.point)) }
         ensures told { OnOk result ((notices : List Notice) × TakesAll S.takes self.old.sink notices self.new.sink) }
         ensures stamp { OnOk result (IsNext self.old.workers self.old.next self.new.next) }
         ensures stamps { IsNoEarlier self.old.workers self.old.next self.new.next }
@@ -343,11 +360,13 @@ impl<'a, L: Books, R: Wait, S: WatchSink> Worker<'a, L, R, Core, CoreFunctions, 
         body: D,
     ) -> Result<T, WaitFault<E>>
         requires { D.IsAlwaysCallable body }
-        ensures ok { IfOk result (λ t. (last : D) × (point : _) × Landed (calls_of D.FnMut) body last self.old.tries t
-            self.old.next point self.old.share self.new.share) }
+        ensures ok { IfOk result (λ t. (last : D) × Landed (calls_of D.FnMut) body last self.old.tries t
+            self.old.next self.new.point self.old.share self.new.share) }
         ensures fault { IfErr result (λ f. HasNoStamp self.old.next self.old.workers
+            × (f ≡ waits.Transact (transacts.Commit commits.PointLimit))
             ⊎ (last : D) × WaitFails (calls_of D.FnMut) body last self.old.tries f) }
-        ensures same { OnErr result ((self.new.share ≡ self.old.share) × (self.new.sink ≡ self.old.sink)) }
+        ensures same { OnErr result ((self.new.share ≡ self.old.share) × (self.new.sink ≡ self.old.sink)
+            × (self.new.point ≡ self.old.point)) }
         ensures told { OnOk result ((notices : List Notice) × TakesAll S.takes self.old.sink notices self.new.sink) }
         ensures stamp { OnOk result (IsNext self.old.workers self.old.next self.new.next) }
         ensures stamps { IsNoEarlier self.old.workers self.old.next self.new.next }
@@ -365,6 +384,7 @@ impl<'a, L: Books, R: Wait, S: WatchSink> Worker<'a, L, R, Core, CoreFunctions, 
     ) -> Result<(), TransactFault<E>>
         requires { D.IsAlwaysCallable body }
         ensures commits { OnOk result (self.new.share.commits ≡ self.old.share.commits + times) }
+        ensures few { OnErr result (self.new.share.commits < self.old.share.commits + times) }
         ensures worker { IsSameWorker self.old self.new }
     {
         let mut body = OnDosync::of(body);

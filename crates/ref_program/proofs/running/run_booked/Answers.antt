@@ -1,9 +1,10 @@
 use Rattle.std.proofs.lemmas.Result.{IfOk-weaker}
-use Rattle.ref_program.proofs.Sums.{as_totals}
+use Rattle.ref_program.proofs.Sums.{as_run}
 use Rattle.ref_program.specs.declared.programs.Ended.{Ended}
 use Rattle.ref_program.proofs.running.run_booked.Goals as goal
 
 pub returns-in-Ok : goal.returns-in-Ok
 returns-in-Ok g c =
     let done = rw c.in_ok-hall.ensures.crew at c.in-Ok.ensures.done in
-    IfOk-weaker _ _ _ (λ (end : Ended g.row.P-Meaning.Denot g.row.P-Sink.Denot g.P.Meaning.Meaning g.P.Sink.WatchSink). as_totals g.P.CustomProgram.did c.args.crew.workers c.work_all.new.share end.totals done) c.finish.ensures
+    IfOk-weaker _ _ _ (λ (end : Ended g.row.P-Meaning.Denot g.row.P-Sink.Denot g.P.Meaning.Meaning g.P.Sink.WatchSink).
+        as_run g.P.CustomProgram.did c.args.crew.workers c.work_all.new.share end.totals end.world.base.point end.world.log done) c.finish.ensures
