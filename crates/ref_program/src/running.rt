@@ -24,6 +24,9 @@ use std::thread::{JoinHandle, Promise, PromisedHandle, Scope, Threads};
 /// Runs a program with so many workers and helpers, each a thread of its own, and returns the world and what all workers did. Once all
 /// workers are done the helpers do what is left.
 ///
+/// The log of the world that is returned has just the entries of which the workers have receipts, from its base on, in the order of each
+/// worker's steps: see [`ref_shared::match_receipts`], also for what the comparison costs.
+///
 /// A fault of a worker or a helper ends the run: who waits is woken, the others go on to their ends, and the first fault is returned, that
 /// of a worker before that of a helper; one that says that the run was over ([`Fault::Closed`]) only if there is no other. The world is
 /// dropped then. Where a thread can't be made it is [`Fault::Memory`].
