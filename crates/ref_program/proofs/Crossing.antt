@@ -15,7 +15,7 @@ use Rattle.ref_program.specs.contracts.running.Left as Left
 ruleset plain = (std.crosses, sendable)
 
 pub fault_send : IsSend Fault.the_row
-fault_send = variants_send Fault.enum (tt, ((search plain depth 60, tt), ((search plain depth 60, tt), ((search plain depth 60, (search plain depth 60, tt)), ((search plain depth 60, tt), ((search plain depth 60, tt), ((search plain depth 60, tt), (tt, ((search plain depth 60, tt), ((search plain depth 60, (search plain depth 60, tt)), ((search plain depth 60, tt), ((search plain depth 60, tt), ((search plain depth 60, tt), ((search plain depth 60, tt), ((search plain depth 60, tt), (tt, (tt, ((search plain depth 60, tt), tt))))))))))))))))))
+fault_send = variants_send Fault.enum (tt, ((search plain depth 60, tt), ((search plain depth 60, tt), ((search plain depth 60, (search plain depth 60, tt)), ((search plain depth 60, tt), ((search plain depth 60, tt), ((search plain depth 60, tt), (tt, ((search plain depth 60, tt), ((search plain depth 60, (search plain depth 60, tt)), ((search plain depth 60, tt), ((search plain depth 60, tt), ((search plain depth 60, tt), ((search plain depth 60, tt), ((search plain depth 60, tt), ((search plain depth 60, tt), ((search plain depth 60, tt), ((search plain depth 60, tt), ((search plain depth 60, tt), (tt, (tt, (tt, ((search plain depth 60, tt), tt)))))))))))))))))))))))
 
 module _ (L S : RattleType) (gL : Books.Ghosts L.Denot) where
   pub left_send : IsSend S → IsSend (Left.the_row L S gL)

@@ -1,3 +1,4 @@
 pub mod Bodies
 pub mod Crossing
+pub mod Members
 pub mod Sums

@@ -1,4 +1,5 @@
--- To be read and believed: Stamps, Seen and Done.
+-- To be read and believed: Stamps, Seen, Done and Values.
 pub mod Done
 pub mod Seen
 pub mod Stamps
+pub mod Values

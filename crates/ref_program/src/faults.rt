@@ -1,8 +1,8 @@
 //! Why a call of a program was refused.
-use ref_agents::SendFault;
+use ref_agents::{ModeFault, RestartFault, SendFault};
 use ref_atoms::AtomFault;
 use ref_edn::ReadFault;
-use ref_log::{MakeFault, WatchFault, Who};
+use ref_log::{MakeFault, RuleFault, WatchFault, Who};
 use ref_refs::{CommitFault, Conflict};
 use ref_shared::{AwaitFault, GatherFault, TransactFault, WaitFault, WorkFault};
 use ref_tx::TxFault;
@@ -43,12 +43,24 @@ pub enum Fault {
     /// A reference that is declared can't be made.
     #[error("{0:?}: {1}")]
     Make(Who, MakeFault),
+    /// A reference that a worker makes can't be made.
+    #[error("{0}")]
+    NotMade(MakeFault),
     /// There is no such reference.
     #[error("there is no {0:?}")]
     NoSuch(Who),
     /// A reference can't be watched.
     #[error("{0}")]
     Watch(WatchFault),
+    /// A reference can't be given another rule.
+    #[error("{0}")]
+    Rule(RuleFault),
+    /// An agent can't be given another error mode.
+    #[error("{0}")]
+    Mode(ModeFault),
+    /// An agent can't be restarted.
+    #[error("{0}")]
+    Restart(RestartFault),
     #[error("{0}")]
     Checkpoint(CheckpointFault),
     /// The log and what the workers did differ. A right program never meets this.
@@ -60,9 +72,12 @@ pub enum Fault {
     /// A text is no name of a keyword.
     #[error("no name of a keyword")]
     BadName,
-    /// Nothing could be written.
+    /// A formatter refused.
     #[error("nothing can be written")]
     Unwritten,
+    /// A call of input or output failed.
+    #[error("nothing can be read or written")]
+    Io,
     /// A reason of the program's own.
     #[error("{0}")]
     Own(&'static str),
@@ -87,8 +102,12 @@ impl From<fmt::Error> for Fault {
 }
 
 impl From<io::Error> for Fault {
-    fn from(_e: io::Error) -> Fault {
-        Fault::Unwritten
+    fn from(e: io::Error) -> Fault {
+        if e.kind() == io::ErrorKind::OutOfMemory {
+            Fault::Memory
+        } else {
+            Fault::Io
+        }
     }
 }
 
@@ -156,6 +175,39 @@ impl From<WatchFault> for Fault {
     }
 }
 
+impl From<RuleFault> for Fault {
+    fn from(e: RuleFault) -> Fault {
+        match e {
+            RuleFault::Memory => Fault::Memory,
+            fault => Fault::Rule(fault),
+        }
+    }
+}
+
+impl From<ModeFault> for Fault {
+    fn from(e: ModeFault) -> Fault {
+        Fault::Mode(e)
+    }
+}
+
+impl From<RestartFault> for Fault {
+    fn from(e: RestartFault) -> Fault {
+        match e {
+            RestartFault::Memory => Fault::Memory,
+            fault => Fault::Restart(fault),
+        }
+    }
+}
+
+impl From<MakeFault> for Fault {
+    fn from(e: MakeFault) -> Fault {
+        match e {
+            MakeFault::Memory => Fault::Memory,
+            fault => Fault::NotMade(fault),
+        }
+    }
+}
+
 impl From<CheckpointFault> for Fault {
     fn from(e: CheckpointFault) -> Fault {
         match e {
@@ -176,7 +228,10 @@ impl From<GatherFault> for Fault {
 
 impl From<ReadFault> for Fault {
     fn from(e: ReadFault) -> Fault {
-        Fault::Read(e)
+        match e {
+            ReadFault::Memory => Fault::Memory,
+            fault => Fault::Read(fault),
+        }
     }
 }
 
@@ -185,7 +240,18 @@ impl From<TransactFault<Fault>> for Fault {
         match e {
             TransactFault::GaveUp { tries, conflict } => Fault::GaveUp { tries, conflict },
             TransactFault::Body(fault) => fault,
-            TransactFault::Commit(fault) => Fault::Commit(fault),
+            TransactFault::Commit(fault) => Fault::from(fault),
+            TransactFault::Memory => Fault::Memory,
+        }
+    }
+}
+
+impl From<TransactFault<TxFault>> for Fault {
+    fn from(e: TransactFault<TxFault>) -> Fault {
+        match e {
+            TransactFault::GaveUp { tries, conflict } => Fault::GaveUp { tries, conflict },
+            TransactFault::Body(fault) => Fault::from(fault),
+            TransactFault::Commit(fault) => Fault::from(fault),
             TransactFault::Memory => Fault::Memory,
         }
     }
@@ -193,6 +259,15 @@ impl From<TransactFault<Fault>> for Fault {
 
 impl From<WaitFault<Fault>> for Fault {
     fn from(e: WaitFault<Fault>) -> Fault {
+        match e {
+            WaitFault::Closed => Fault::Closed,
+            WaitFault::Transact(fault) => Fault::from(fault),
+        }
+    }
+}
+
+impl From<WaitFault<TxFault>> for Fault {
+    fn from(e: WaitFault<TxFault>) -> Fault {
         match e {
             WaitFault::Closed => Fault::Closed,
             WaitFault::Transact(fault) => Fault::from(fault),

@@ -1,31 +1,8 @@
 //! What the calls of a worker do besides transactions: changes of atoms, of which the worker's sink hears, and what is folded.
+use crate::ears::Ear;
 use crate::same::same;
-use ref_log::Notice;
 use ref_program::prelude::*;
-use ref_shared::WatchSink;
-use std::alloc::AllocError;
 use std::test::Fail;
-
-// A sink that stores as text what it hears, up to where there is no memory.
-#[derive(Drop)]
-struct Ear {
-    alloc: Global,
-    heard: String,
-}
-
-impl Ear {
-    fn hear(&mut self, notice: &Notice) -> Result<(), AllocError> {
-        let (before, after) = (int_of(&notice.before), int_of(&notice.after));
-        let item = format!(in self.alloc; "{:?} {before:?} {after:?}; ", notice.who)?;
-        self.heard.push_str(&item)
-    }
-}
-
-impl WatchSink for Ear {
-    fn told(&mut self, notice: &Notice) {
-        let _ = self.hear(notice);
-    }
-}
 
 // One worker makes all changes, each of a reference that has a watch.
 #[derive(Drop)]
@@ -45,10 +22,7 @@ impl CustomProgram for Changes {
     }
 
     fn sink(&self) -> Ear {
-        Ear {
-            alloc: self.alloc,
-            heard: String::new(self.alloc),
-        }
+        Ear::new(self.alloc)
     }
 
     fn start(&self, world: &mut Declared) -> Result<(), Fault> {
@@ -97,8 +71,8 @@ fn change_others(tx: &mut Dosync) -> Result<(), Fault> {
 
 // What each sink heard: the worker's of what the worker changed, and then the helper's of the agent.
 const HEARD: &[&str] = &[
-    "Atom(0) Some(1) Some(2); Atom(0) Some(2) Some(7); Atom(0) Some(7) Some(8); Ref(0) Some(0) Some(5); ",
-    "Agent(0) Some(3) Some(4); ",
+    "Atom(0) :k Some(1) Some(2); Atom(0) :k Some(2) Some(7); Atom(0) :k Some(7) Some(8); Ref(0) :k Some(0) Some(5); ",
+    "Agent(0) :k Some(3) Some(4); ",
 ];
 
 #[test]

@@ -29,9 +29,17 @@ enum Wrong {
     Await,
     Point,
     Closed,
+    // In a call of the shared world
+    Rule,
+    Mode,
+    Restart,
+    NotMade,
     // In a transaction and at its commit
     Ref,
     Commit,
+    // In a body of one call
+    One,
+    OneWhen,
     // An agent that fails before another action that a worker waits for
     Agent,
 }
@@ -52,6 +60,9 @@ impl Program for Going {
     fn work<L: Books, R: Wait>(&self, worker: &mut Worker<'_, L, R>) -> Result<(), Fault> {
         match self.wrong {
             Wrong::Ref | Wrong::Commit | Wrong::Agent => transact(worker, self.wrong),
+            Wrong::Rule | Wrong::Mode | Wrong::Restart | Wrong::NotMade => {
+                call_shared(worker, self.wrong)
+            }
             _ => call(worker, self.wrong),
         }
     }
@@ -77,7 +88,27 @@ fn call<L: Books, R: Wait>(worker: &mut Worker<'_, L, R>, wrong: Wrong) -> Resul
         Wrong::Await => Ok(worker.await_agents(&[G, NONE])?),
         Wrong::Point => Ok(worker.checkpoint(9, 1).map(drop)?),
         Wrong::Closed => Err(Fault::Closed),
+        Wrong::One => Ok(worker.transact(|tx| tx.alter(NONE, INC, ())).map(drop)?),
+        Wrong::OneWhen => {
+            let altered = worker.transact_when(|tx| tx.alter(NONE, INC, ()).map(Some));
+            Ok(altered.map(drop)?)
+        }
         _ => Ok(()),
+    }
+}
+
+// A call that only the shared world has.
+fn call_shared<L: Books, R: Wait>(worker: &Worker<'_, L, R>, wrong: Wrong) -> Result<(), Fault> {
+    let (rt, alloc, shared) = (worker.rt(), worker.alloc(), worker.shared());
+    match wrong {
+        Wrong::Rule => Ok(shared.set_validator(rt, &CoreFunctions, Who::Atom(NONE), None)?),
+        Wrong::Mode => Ok(shared.set_error_mode(rt, NONE, ErrorMode::Continue)?),
+        Wrong::Restart => Ok(shared.restart(rt, &CoreFunctions, G, edn(alloc, "1")?, false)?),
+        _ => {
+            let value = edn(alloc, "-1")?;
+            let made = shared.make_ref(rt, alloc, &CoreFunctions, value, None, true);
+            Ok(made.map(drop)?)
+        }
     }
 }
 
@@ -122,7 +153,16 @@ const ROWS: &[(Wrong, &str)] = &[
     (Wrong::Await, "there is no agent 9"),
     (Wrong::Point, "there is no such point in the log"),
     (Wrong::Closed, "closed before it was ready"),
+    (Wrong::Rule, "there is no such reference"),
+    (Wrong::Mode, "there is no such agent"),
+    (Wrong::Restart, "the agent is not failed"),
+    (
+        Wrong::NotMade,
+        "a tally has to be the only one, and to start with an integer of 0 or more",
+    ),
     (Wrong::Ref, "no such ref"),
+    (Wrong::One, "no such ref"),
+    (Wrong::OneWhen, "no such ref"),
     (Wrong::Commit, "the rule of ref 0 doesn't accept its value"),
     (Wrong::Agent, "agent 0 is failed"),
 ];
