@@ -2,7 +2,7 @@
 use crate::acts::{ADD, Acts, BoxOffice, CLOSE, IS_LEFT, SELL};
 use ref_log::Stamp;
 use ref_program::prelude::*;
-use ref_shared::{Body, Quiet};
+use ref_shared::{Body, Quiet, TransactFault};
 use ref_world::World;
 
 // The refs: how many tickets are left for the first evening, and for the second, and how many are sold, the tally.
@@ -65,11 +65,11 @@ fn serve<L: Books, R: Wait>(
     sale: Sale,
 ) -> Result<(), Fault> {
     let mut sale = sale;
-    let missed = match worker.transact_body(&mut sale).map_err(Fault::from) {
+    let missed = match worker.transact_body(&mut sale) {
         Ok(()) => return Ok(()),
-        Err(Fault::Commit(CommitFault::Invalid(_))) => TOO_LATE,
-        Err(Fault::Tx(TxFault::Refused(_))) => TOO_LARGE,
-        Err(fault) => return Err(fault),
+        Err(TransactFault::Commit(CommitFault::Invalid(_))) => TOO_LATE,
+        Err(TransactFault::Body(TxFault::Refused(_))) => TOO_LARGE,
+        Err(_) => return Err(Fault::Own("a sale went wrong")),
     };
     let _ = worker.swap(missed, ADD, 1)?;
     Ok(())
