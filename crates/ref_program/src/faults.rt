@@ -246,28 +246,8 @@ impl From<TransactFault<Fault>> for Fault {
     }
 }
 
-impl From<TransactFault<TxFault>> for Fault {
-    fn from(e: TransactFault<TxFault>) -> Fault {
-        match e {
-            TransactFault::GaveUp { tries, conflict } => Fault::GaveUp { tries, conflict },
-            TransactFault::Body(fault) => Fault::from(fault),
-            TransactFault::Commit(fault) => Fault::from(fault),
-            TransactFault::Memory => Fault::Memory,
-        }
-    }
-}
-
 impl From<WaitFault<Fault>> for Fault {
     fn from(e: WaitFault<Fault>) -> Fault {
-        match e {
-            WaitFault::Closed => Fault::Closed,
-            WaitFault::Transact(fault) => Fault::from(fault),
-        }
-    }
-}
-
-impl From<WaitFault<TxFault>> for Fault {
-    fn from(e: WaitFault<TxFault>) -> Fault {
         match e {
             WaitFault::Closed => Fault::Closed,
             WaitFault::Transact(fault) => Fault::from(fault),

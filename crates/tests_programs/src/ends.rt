@@ -37,9 +37,6 @@ enum Wrong {
     // In a transaction and at its commit
     Ref,
     Commit,
-    // In a body of one call
-    One,
-    OneWhen,
     // An agent that fails before another action that a worker waits for
     Agent,
 }
@@ -88,11 +85,6 @@ fn call<L: Books, R: Wait>(worker: &mut Worker<'_, L, R>, wrong: Wrong) -> Resul
         Wrong::Await => Ok(worker.await_agents(&[G, NONE])?),
         Wrong::Point => Ok(worker.checkpoint(9, 1).map(drop)?),
         Wrong::Closed => Err(Fault::Closed),
-        Wrong::One => Ok(worker.transact(|tx| tx.alter(NONE, INC, ())).map(drop)?),
-        Wrong::OneWhen => {
-            let altered = worker.transact_when(|tx| tx.alter(NONE, INC, ()).map(Some));
-            Ok(altered.map(drop)?)
-        }
         _ => Ok(()),
     }
 }
@@ -161,8 +153,6 @@ const ROWS: &[(Wrong, &str)] = &[
         "a tally has to be the only one, and to start with an integer of 0 or more",
     ),
     (Wrong::Ref, "no such ref"),
-    (Wrong::One, "no such ref"),
-    (Wrong::OneWhen, "no such ref"),
     (Wrong::Commit, "the rule of ref 0 doesn't accept its value"),
     (Wrong::Agent, "agent 0 is failed"),
 ];
