@@ -56,6 +56,7 @@ WORDS = (
     ("`IfOk r (λ x. p)`, `IfErr r (λ e. p)`", "if the result is `Ok x`, then `p`; if it is `Err e`, then `p`"),
     ("`OnOk r p`, `OnErr r p`", "if the result is `Ok`, then `p`; if it is `Err`, then `p`"),
     ("`[]`, `x ∷ xs`, `xs ++ ys`", "the empty list; a first item and the others; one list and then the other"),
+    ("`IsPrefix xs ys`", "a list begins with another: `ys` is `xs` and then others, or nothing"),
     ("`length xs`, `vec_len v`", "how many items a list has, and a `Vec`"),
     ("`slice_get xs i`, `slice_index_or xs i x`", "the item at place `i`, if there is one; the same, or else `x`"),
     ("`slice_set xs i x`", "the list with `x` at place `i`"),
