@@ -26,16 +26,19 @@ fn faults_of_functions_say_what_they_are(rt: HostRuntime) -> Result<(), Fail> {
     let refused = FunFault::Refused(Cause::Overflow);
     says(&rt, &refused, "refused: integer overflow")?;
     says(&rt, &CallFault::NoSuchFun(7), "no function has code 7")?;
+    says(&rt, &CallFault::Memory, "out of memory")?;
     let refused = CallFault::Refused(Cause::TooDeep);
     says(&rt, &refused, "refused: nested too deep")?;
     says(&rt, &AddFault::Taken, "the code is taken")?;
-    says(&rt, &AddFault::Full, "the table is full")
+    says(&rt, &AddFault::Full, "the table is full")?;
+    says(&rt, &AddFault::Memory, "out of memory")
 }
 
 #[test]
 fn faults_of_streams_and_dumps_say_what_they_are(rt: HostRuntime) -> Result<(), Fail> {
     says(&rt, &InputFault::Read, "the input could not be read")?;
     says(&rt, &InputFault::TooLong, "the input is too long")?;
+    says(&rt, &InputFault::Memory, "out of memory")?;
     says(&rt, &Failed, "a read or a write failed")?;
     says(&rt, &DumpFault::NotDump, "not a dump")?;
     let version = "a version that isn't that of the keys";
@@ -43,8 +46,10 @@ fn faults_of_streams_and_dumps_say_what_they_are(rt: HostRuntime) -> Result<(), 
     let part = DumpFault::BadPart(Key::BaseRefs);
     says(&rt, &part, "the part :base-refs has a wrong form")?;
     says(&rt, &DumpFault::BadEntry(2), "entry 2 has a wrong form")?;
+    says(&rt, &DumpFault::Memory, "out of memory")?;
     says(&rt, &DumpMakeFault::TooDeep, "the dump is nested too deep")?;
-    says(&rt, &DumpMakeFault::Unnamed(50), "no function has code 50")
+    says(&rt, &DumpMakeFault::Unnamed(50), "no function has code 50")?;
+    says(&rt, &DumpMakeFault::Memory, "out of memory")
 }
 
 #[test]
@@ -72,7 +77,8 @@ fn faults_of_plans_say_what_they_are(rt: HostRuntime) -> Result<(), Fail> {
     let fun = PlanFault::UnknownFun { worker, step };
     says(&rt, &fun, "step 3 of worker 60 names an unknown function")?;
     let many = "too many references, workers or steps, or a pool out of range";
-    says(&rt, &PlanFault::TooMany, many)
+    says(&rt, &PlanFault::TooMany, many)?;
+    says(&rt, &PlanFault::Memory, "out of memory")
 }
 
 // Nobody makes as many commits as there are points.

@@ -18,3 +18,5 @@ mod runs;
 #[cfg(test)]
 mod same;
 pub mod tables;
+#[cfg(test)]
+mod tries;
