@@ -1,5 +1,5 @@
 -- What the sides of a fork hold together. A tree is seen as its entries and its height.
-use Rattle.std.specs.Prelude.{◌≡◌, ℕ, ◌+◌, ◌/◌, ◌^◌, List, [], ◌∷◌, length, get_or, slice_set, None}
+use Rattle.std.specs.Prelude.{◌≡◌, ℕ, ◌+◌, ◌/◌, ◌^◌, List, [], ◌∷◌, length, get_or, None}
 use Rattle.std.specs.Ordering.{nat_cmp}
 use Rattle.std.specs.FinMap.{FinMap, get, empty}
 use Rattle.std.proofs.Math.ListN.{replicate}
@@ -28,7 +28,3 @@ module _ {V : Type 0} where
   pub record IsFork (block : Block) (ts : List (FinMap nat_cmp V × ℕ)) : Type 0 where
     pub count : length ts ≡ 16
     pub apart : (i q : ℕ) → (q / 2 ^ block.shift ≡ block.first + i → ⊥) → get (side_map ts i) q ≡ None
-
-  -- the sides are the same but that one
-  abbrev pub IsSameBut : ℕ → List (FinMap nat_cmp V × ℕ) → List (FinMap nat_cmp V × ℕ) → Type 0
-  IsSameBut i ts us = (t : FinMap nat_cmp V × ℕ) → slice_set ts i t ≡ slice_set us i t

@@ -1,9 +1,9 @@
 //! Trees of entries.
-ghost use Rattle.std.specs.Prelude.{◌≡◌, ℕ, ◌+◌, ◌/◌, ◌^◌, ◌<◌, ◌≤◌, ◌++◌, IfOk, OnErr, OnOk, IsTrue, MatchOption, length};
+ghost use Rattle.std.specs.Prelude.{◌≡◌, ℕ, ◌+◌, ◌/◌, ◌^◌, ◌<◌, ◌≤◌, ◌++◌, IfOk, OnErr, OnOk, IsTrue, MatchOption};
 ghost use Rattle.std.specs.Option.{option_copied};
 ghost use Rattle.std.specs.FinMap as map;
 ghost use Rattle.ref_pmap.specs.Joined.{single};
-ghost use Rattle.ref_pmap.specs.Trees.{IsFork, IsSameBut, all_joined, height, no_sides, side_map};
+ghost use Rattle.ref_pmap.specs.Trees.{IsFork, all_joined, height, no_sides, side_map};
 ghost use Rattle.ref_pmap.specs.Whole.{shown};
 
 use crate::blocks::{Block, Parting, SIDES, parting_of};
@@ -14,6 +14,7 @@ use std::{array, mem};
 
 /// A tree of entries. Contracts see the entries as a map, and the height.
 #[cycle(tree)]
+#[derive(Drop)]
 pub(crate) struct Tree<V> {
     node: Node<V>,
 }
@@ -62,21 +63,6 @@ impl<V> Model for Tree<V> {
     ghost size_decreases = { λ a h. falls a.node };
 }
 
-// A derived one would be written out at each side of a fork.
-impl<V: Drop> Drop for Tree<V> {
-    fn drop(self) {
-        let Tree { node } = self;
-        match node {
-            Node::Empty => {}
-            Node::Leaf(entry) => drop(entry),
-            Node::Fork(branch) => drop_fork(branch),
-        }
-    }
-}
-
-#[inline(never)]
-fn drop_fork<V: Drop>(_branch: Arc<Branch<V>>) {}
-
 impl<V: Drop> Branch<V> {
     // A fork without entries. It is no tree yet.
     fn bare(block: Block) -> Branch<V>
@@ -88,19 +74,16 @@ impl<V: Drop> Branch<V> {
         }
     }
 
-    // Shares each side of another fork but that one.
-    fn share_others(&mut self, other: &Branch<V>, side: usize) -> Result<(), AllocError>
-        requires own { length self.old.sides ≡ 16 }
-        requires count { length other.now.sides ≡ 16 }
-        ensures block { self.new.block ≡ self.old.block }
-        ensures sides { OnOk result (IsSameBut side self.new.sides other.now.sides) }
+    // The same fork once more, which shares the sides.
+    fn copied(&self) -> Result<Branch<V>, AllocError>
+        requires { IsFork self.now.block self.now.sides }
+        ensures { IfOk result (λ branch. branch ≡ self.now) }
     {
+        let mut copy = Branch::bare(self.block);
         for i in 0..SIDES {
-            if i != side {
-                self.sides[i] = other.sides[i].share()?;
-            }
+            copy.sides[i] = self.sides[i].share()?;
         }
-        Ok(())
+        Ok(copy)
     }
 
     // A side such that all others are empty, if there is one.
@@ -177,23 +160,24 @@ impl<V: Drop> Tree<V> {
         Ok(Tree { node })
     }
 
+    #[tactic(auto, using(crate::proofs::Sides::get_here, crate::proofs::Sides::get_outside, crate::proofs::Joins::get_single))]
     pub(crate) fn get(&self, key: u32) -> Option<&V>
         ensures { option_copied result ≡ map.get self.now.0 key }
     {
-        let mut tree = self;
-        loop {
-            match &tree.node {
-                Node::Empty => return None,
-                Node::Leaf(entry) => {
-                    let entry = &**entry;
-                    return if entry.key == key { Some(&entry.value) } else { None };
+        match &self.node {
+            Node::Empty => None,
+            Node::Leaf(entry) => {
+                if entry.key == key {
+                    Some(&entry.value)
+                } else {
+                    None
                 }
-                Node::Fork(branch) => {
-                    let branch = &**branch;
-                    match branch.block.side_of(key) {
-                        Some(side) => tree = &branch.sides[side],
-                        None => return None,
-                    }
+            }
+            Node::Fork(branch) => {
+                let branch = &**branch;
+                match branch.block.side_of(key) {
+                    Some(side) => branch.sides[side].get(key),
+                    None => None,
                 }
             }
         }
@@ -218,72 +202,39 @@ impl<V: Drop> Tree<V> {
         fork(alloc, branch)
     }
 
-    /// The tree with this value at the key.
-    #[cycle(with)]
-    pub(crate) fn with(&self, alloc: Global, key: u32, value: V) -> Result<Tree<V>, AllocError>
-        ensures { IfOk result (λ t. t.0 ≡ map.insert self.now.0 key value) }
-    {
-        match &self.node {
-            Node::Empty => leaf(alloc, key, value),
-            Node::Leaf(entry) => {
-                let old = entry.key;
-                if old == key {
-                    leaf(alloc, key, value)
-                } else {
-                    self.widened(alloc, parting_of(0, old, key), key, value)
-                }
-            }
-            Node::Fork(branch) => {
-                let branch = &**branch;
-                match branch.block.side_of(key) {
-                    Some(side) => branch.with_in_side(alloc, side, key, value),
-                    None => self.widened(alloc, branch.block.parting_from(key), key, value),
-                }
-            }
-        }
-    }
-
     /// Puts this value at the key. On its way there, what has other owners is copied, and the rest changed in place.
+    #[cycle(put)]
     pub(crate) fn put(&mut self, alloc: Global, key: u32, value: V) -> Result<(), AllocError>
         ensures ok { OnOk result (self.new.0 ≡ map.insert self.old.0 key value) }
         ensures err { OnErr result (self.new ≡ self.old) }
     {
         match &mut self.node {
-            Node::Empty => self.renew(alloc, key, value),
+            Node::Empty => {
+                *self = leaf(alloc, key, value)?;
+            }
             Node::Leaf(entry) => {
-                if entry.key != key {
-                    return self.renew(alloc, key, value);
+                let old = entry.key;
+                if old != key {
+                    let parting = parting_of(0, old, key);
+                    *self = self.widened(alloc, parting, key, value)?;
+                    return Ok(());
                 }
-                let Some(own) = Arc::get_mut(entry) else {
-                    return self.renew(alloc, key, value);
-                };
-                own.value = value;
-                Ok(())
+                put_value(entry, alloc, value)?;
             }
             Node::Fork(branch) => {
-                let Some(side) = branch.block.side_of(key) else {
-                    return self.renew(alloc, key, value);
+                let block = branch.block;
+                let Some(side) = block.side_of(key) else {
+                    let parting = block.parting_from(key);
+                    *self = self.widened(alloc, parting, key, value)?;
+                    return Ok(());
                 };
-                let Some(own) = Arc::get_mut(branch) else {
-                    return self.renew(alloc, key, value);
-                };
-                own.sides[side].put(alloc, key, value)
+                put_in_side(branch, alloc, side, key, value)?;
             }
         }
-    }
-
-    // The same by a copy of all that is on the way.
-    #[inline(never)]
-    fn renew(&mut self, alloc: Global, key: u32, value: V) -> Result<(), AllocError>
-        ensures ok { OnOk result (self.new.0 ≡ map.insert self.old.0 key value) }
-        ensures err { OnErr result (self.new ≡ self.old) }
-    {
-        *self = self.with(alloc, key, value)?;
         Ok(())
     }
 
     /// The tree without the key.
-    #[cycle(without)]
     pub(crate) fn without(&self, alloc: Global, key: u32) -> Result<Tree<V>, AllocError>
         ensures { IfOk result (λ t. t.0 ≡ map.remove self.now.0 key) }
     {
@@ -298,45 +249,55 @@ impl<V: Drop> Tree<V> {
             }
             Node::Fork(branch) => {
                 let branch = &**branch;
-                match branch.block.side_of(key) {
-                    Some(side) => branch.without_in_side(alloc, side, key),
-                    None => self.share(),
-                }
+                let Some(side) = branch.block.side_of(key) else {
+                    return self.share();
+                };
+                let rest = branch.sides[side].without(alloc, key)?;
+                let mut copy = branch.copied()?;
+                copy.sides[side] = rest;
+                copy.into_tree(alloc)
             }
         }
     }
 }
 
-impl<V: Drop> Branch<V> {
-    // A fork with this value at a key that belongs to this side.
-    #[cycle(with)]
-    fn with_in_side(&self, alloc: Global, side: usize, key: u32, value: V) -> Result<Tree<V>, AllocError>
-        requires fork { IsFork self.now.block self.now.sides }
-        requires within { side < 16 }
-        requires place { key / 2 ^ self.now.block.shift ≡ self.now.block.first + side }
-        ensures { IfOk result (λ t. t.0 ≡ map.insert (all_joined self.now.sides) key value) }
-    {
-        let tree = self.sides[side].with(alloc, key, value)?;
-        let mut copy = Branch::bare(self.block);
-        copy.share_others(self, side)?;
-        copy.sides[side] = tree;
-        fork(alloc, copy)
+// Puts another value into an entry.
+fn put_value<V: Drop>(entry: &mut Arc<Entry<V>>, alloc: Global, value: V) -> Result<(), AllocError>
+    ensures ok { OnOk result (entry.new.value ≡ record { key = entry.old.value.key; value = value }) }
+    ensures err { OnErr result (entry.new.value ≡ entry.old.value) }
+{
+    if let Some(own) = Arc::get_mut(entry) {
+        own.value = value;
+        return Ok(());
     }
+    let key = entry.key;
+    *entry = Arc::new(alloc, Entry { key, value })?;
+    Ok(())
+}
 
-    // The tree without a key that belongs to this side.
-    #[cycle(without)]
-    fn without_in_side(&self, alloc: Global, side: usize, key: u32) -> Result<Tree<V>, AllocError>
-        requires fork { IsFork self.now.block self.now.sides }
-        requires within { side < 16 }
-        requires place { key / 2 ^ self.now.block.shift ≡ self.now.block.first + side }
-        ensures { IfOk result (λ t. t.0 ≡ map.remove (all_joined self.now.sides) key) }
-    {
-        let tree = self.sides[side].without(alloc, key)?;
-        let mut copy = Branch::bare(self.block);
-        copy.share_others(self, side)?;
-        copy.sides[side] = tree;
-        copy.into_tree(alloc)
+// Puts a value at a key that belongs to this side of a fork.
+#[cycle(put)]
+fn put_in_side<V: Drop>(
+    branch: &mut Arc<Branch<V>>,
+    alloc: Global,
+    side: usize,
+    key: u32,
+    value: V,
+) -> Result<(), AllocError>
+    requires fork { IsFork branch.old.value.block branch.old.value.sides }
+    requires within { side < 16 }
+    requires place { key / 2 ^ branch.old.value.block.shift ≡ branch.old.value.block.first + side }
+    ensures fork { IsFork branch.new.value.block branch.new.value.sides }
+    ensures ok { OnOk result (all_joined branch.new.value.sides ≡ map.insert (all_joined branch.old.value.sides) key value) }
+    ensures err { OnErr result (branch.new.value ≡ branch.old.value) }
+{
+    if let Some(own) = Arc::get_mut(branch) {
+        return own.sides[side].put(alloc, key, value);
     }
+    let mut copy = branch.copied()?;
+    copy.sides[side].put(alloc, key, value)?;
+    *branch = Arc::new(alloc, copy)?;
+    Ok(())
 }
 
 /// Puts the tree's entries, in the order of their keys, behind those that are there.
