@@ -66,7 +66,7 @@ impl<V: Drop> PMap<V> {
         })
     }
 
-    /// The value at a key, or `None` if there is none, in as many steps as the tree is deep: 32 at most.
+    /// The value at a key, or `None` if there is none, in as many steps as the tree is deep: 8 forks at most.
     #[tactic(auto, using(crate::proofs::WholeMaps::maps))]
     pub fn get(&self, key: u32) -> Option<&V>
         ensures { option_copied result ≡ map.get self.now key }
