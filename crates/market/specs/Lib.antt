@@ -1,2 +1,3 @@
--- To be read and believed: Acts.
+-- To be read and believed: Acts and Sales.
 pub mod Acts
+pub mod Sales

@@ -1,4 +1,7 @@
 //! A box office, whose functions are its own: two clerks sell tickets for two evenings.
+ghost use Rattle.std.specs.Prelude.{OnOk};
+ghost use Rattle.market.specs.Sales.{IsSold};
+
 use crate::acts::{ADD, Acts, BoxOffice, CLOSE, IS_LEFT, SELL};
 use ref_log::Stamp;
 use ref_program::prelude::*;
@@ -93,13 +96,15 @@ impl Body for Sale {
 
     ghost may = { λ _. Unit {0} };
 
-    ghost does = { λ _ _ _ _ _. Unit {0} };
+    ghost does = { λ sale began answer left _. OnOk answer (IsSold sale.evening sale.group began left) };
 
     fn functions(&self) -> Acts {
         Acts
     }
 
-    fn run(&mut self, tx: &mut Dosync<BoxOffice, Acts>) -> Result<(), TxFault> {
+    fn run(&mut self, tx: &mut Dosync<BoxOffice, Acts>) -> Result<(), TxFault>
+        ensures does { OnOk result (IsSold self.old.evening self.old.group tx.old tx.new) }
+    {
         tx.alter(self.evening, SELL, self.group)?;
         tx.commute(SOLD, ADD, self.group)?;
         Ok(())
