@@ -22,9 +22,6 @@ use Rattle.ref_forms.specs.Names.{NamesSeen}
 abbrev pub space : List ℕ
 space = 32 ∷ []
 
-abbrev pub newline : List ℕ
-newline = 10 ∷ []
-
 abbrev pub arrow : List ℕ
 arrow = codes " -> "
 

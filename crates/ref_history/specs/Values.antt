@@ -11,7 +11,8 @@ use Rattle.ref_log.specs.declared.faults.AuditFault.{AuditFault}
 use Rattle.ref_log.specs.declared.states.PlainState.{PlainState}
 use Rattle.ref_forms.specs.Names.{NamesSeen}
 use Rattle.ref_verdict.specs.declared.reading.dumps.Dump.{Dump}
-use Rattle.ref_history.specs.Shown.{newline, space}
+use Rattle.ref_history.specs.Shown.{space}
+use Rattle.ref_history.specs.Visible.{line}
 
 -- whether the base or an entry has this point
 abbrev pub has_point : Dump → ℕ → Bool
@@ -23,7 +24,7 @@ values_at dump point = replay core_means dump.base (take (point - dump.base.poin
 
 -- a line of a report
 abbrev pub value_line : List ℕ → List (List ℕ) → ℕ → Edn → List ℕ
-value_line kind names n v = kind ++ space ++ unwrap_or (slice_get names n) (decimal n) ++ space ++ printed v ++ newline
+value_line kind names n v = line (kind ++ space ++ unwrap_or (slice_get names n) (decimal n) ++ space ++ printed v)
 
 -- those of all values of a kind, the first of which has this number
 abbrev pub value_lines : List ℕ → List (List ℕ) → ℕ → List Edn → List ℕ

@@ -6,6 +6,7 @@ ghost use Rattle.ref_verdict.specs.OfCore.{IsOfCore};
 ghost use Rattle.ref_history.specs.Values.{has_point, value_line, value_lines, values_at, values_text};
 
 use crate::shown::append_number;
+use crate::visible::append_visible_line;
 use ref_edn::print;
 use ref_forms::Names;
 use ref_fun::{Core, Functions};
@@ -91,12 +92,13 @@ fn append_value(
 ) -> Result<(), AllocError>
     ensures { OnOk result (out.new.items ≡ out.old.items ++ value_line kind.now names.now n value.now) }
 {
-    out.extend_from_slice(kind.as_bytes())?;
-    out.extend_from_slice(b" ")?;
-    append_name(names, n, out)?;
-    out.extend_from_slice(b" ")?;
-    print(alloc, value, out)?;
-    out.extend_from_slice(b"\n")
+    let mut text = Vec::new(alloc);
+    text.extend_from_slice(kind.as_bytes())?;
+    text.extend_from_slice(b" ")?;
+    append_name(names, n, &mut text)?;
+    text.extend_from_slice(b" ")?;
+    print(alloc, value, &mut text)?;
+    append_visible_line(alloc, &text, out)
 }
 
 // A name, or the number where there is none.
