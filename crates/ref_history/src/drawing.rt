@@ -8,6 +8,7 @@ use crate::drawing::boxes::{append_picture, colour};
 use crate::drawing::escaping::append_escaped;
 use crate::drawing::frames::{Frame, MOST_DRAWN, Part};
 use crate::drawing::tallies::{Tally, tallies_of};
+use crate::shown::append_name;
 use crate::visible::visible_text;
 use ref_forms::Names;
 use ref_verdict::reading::dumps::Dump;
@@ -134,9 +135,16 @@ fn append_row(
     let begin = format!(in alloc; "<tr><td class=\"{class}\">r{r}</td><td class=\"name\">")?;
     out.extend_from_slice(begin.as_bytes())?;
     if let Some(name) = names.refs().get(r as usize) {
-        append_escaped(visible_text(alloc, name.as_bytes())?.as_bytes(), out)?;
+        append_escaped_name(alloc, name.as_bytes(), out)?;
     }
     let Tally { changes, last } = tally;
     let end = format!(in alloc; "</td><td>{changes}</td><td>{last}</td></tr>\n")?;
     out.extend_from_slice(end.as_bytes())
+}
+
+// A name as it is shown.
+fn append_escaped_name(alloc: Global, name: &[u8], out: &mut Vec<u8>) -> Result<(), AllocError> {
+    let mut shown = Vec::new(alloc);
+    append_name(name, &mut shown)?;
+    append_escaped(visible_text(alloc, &shown)?.as_bytes(), out)
 }

@@ -35,5 +35,6 @@ pub use drawing::page;
 pub use entry_lines::history;
 pub use looks::{Look, looked_is_visible, text_of};
 pub use places::{Choice, Place};
+pub use shown::MOST_OF_NAME;
 pub use values::{has_point, values_at, values_text};
 pub use visible::{visible_char, visible_text};

@@ -1,11 +1,11 @@
 //! The values at a point.
-ghost use Rattle.std.specs.Prelude.{◌≡◌, ◌≢◌, ◌<◌, ◌^◌, ◌++◌, Ok, Err, IfOk, IfErr, OnOk, decimal, slice_get, unwrap_or};
+ghost use Rattle.std.specs.Prelude.{◌≡◌, ◌≢◌, ◌<◌, ◌^◌, ◌++◌, Ok, Err, IfOk, IfErr, OnOk, slice_get};
 ghost use Rattle.ref_fun.specs.Calls.{HasCore};
 ghost use Rattle.ref_log.specs.Replay.{point_after};
 ghost use Rattle.ref_verdict.specs.OfCore.{IsOfCore};
-ghost use Rattle.ref_history.specs.Values.{has_point, value_line, value_lines, values_at, values_text};
+ghost use Rattle.ref_history.specs.Values.{has_point, name_or_number, value_line, value_lines, values_at, values_text};
 
-use crate::shown::append_number;
+use crate::shown::{append_name, append_number};
 use crate::visible::append_visible_line;
 use ref_edn::print;
 use ref_forms::Names;
@@ -95,18 +95,18 @@ fn append_value(
     let mut text = Vec::new(alloc);
     text.extend_from_slice(kind.as_bytes())?;
     text.extend_from_slice(b" ")?;
-    append_name(names, n, &mut text)?;
+    append_name_or_number(names, n, &mut text)?;
     text.extend_from_slice(b" ")?;
     print(alloc, value, &mut text)?;
     append_visible_line(alloc, &text, out)
 }
 
 // A name, or the number where there is none.
-fn append_name(names: &[Text], n: usize, out: &mut Vec<u8>) -> Result<(), AllocError>
-    ensures { OnOk result (out.new.items ≡ out.old.items ++ unwrap_or (slice_get names.now n) (decimal n)) }
+fn append_name_or_number(names: &[Text], n: usize, out: &mut Vec<u8>) -> Result<(), AllocError>
+    ensures { OnOk result (out.new.items ≡ out.old.items ++ name_or_number n (slice_get names.now n)) }
 {
     match names.get(n) {
-        Some(name) => out.extend_from_slice(name.as_bytes()),
+        Some(name) => append_name(name.as_bytes(), out),
         None => append_number(n as u64, out),
     }
 }
