@@ -13,7 +13,7 @@ use Rattle.ref_history.specs.Changes.{change_line, changes_from, changes_text, l
 use Rattle.ref_history.specs.History.{chosen_from, count_line, entry_line, history_text, lines_from}
 use Rattle.ref_history.specs.Looks.{looked, values_said}
 use Rattle.ref_history.specs.Places.{first_place, is_chosen, place_after}
-use Rattle.ref_history.specs.Values.{value_line, value_lines, values_at, values_text}
+use Rattle.ref_history.specs.Values.{end_line, value_line, value_lines, values_at, values_text}
 use Rattle.ref_history.specs.Visible.{is_visible}
 use Rattle.ref_history.specs.declared.looks.Look.{Look}
 use Rattle.ref_history.specs.declared.looks.Look.TheVariants.{History, Changes, At}
@@ -51,12 +51,14 @@ fine_after : (state : Result PlainState AuditFault) (said text : List ℕ) → I
 fine_after (Ok state) said text fine is = fine_said said text fine is
 fine_after (Err fault) said text fine is = absurd cc
 
-fine_state : (names : NamesSeen) (state : Result PlainState AuditFault) (text : List ℕ) → values_said names state ≡ Ok text → is_visible text ≡ true
-fine_state names (Ok state) text is =
-    fine_said (values_text names state) text
-    (fine_append (value_lines (codes "ref") names.refs 0 state.refs) (value_lines (codes "atom") names.atoms 0 state.atoms) (fine_values _ _ _ _) (fine_values _ _ _ _))
+fine_state : (names : NamesSeen) (point : ℕ) (state : Result PlainState AuditFault) (text : List ℕ) → values_said names point state ≡ Ok text → is_visible text ≡ true
+fine_state names point (Ok state) text is =
+    let refs = value_lines (codes "ref") names.refs 0 state.refs in
+    let atoms = value_lines (codes "atom") names.atoms 0 state.atoms in
+    fine_said (values_text names point state) text
+    (fine_append refs (atoms ++ end_line point) (fine_values _ _ _ _) (fine_append atoms (end_line point) (fine_values _ _ _ _) (fine_line _)))
     is
-fine_state names (Err fault) text is = absurd cc
+fine_state names point (Err fault) text is = absurd cc
 
 pub fine_look : (names : NamesSeen) (look : Look) (dump : Dump) (text : List ℕ) → looked names look dump ≡ Ok text → is_visible text ≡ true
 fine_look names (History choice) dump text is =
@@ -69,4 +71,4 @@ fine_look names (Changes choice) dump text is =
     fine_after (replay core_means dump.base dump.entries) (lines ++ count) text
     (fine_append lines count (fine_changes names choice (first_place dump.base) dump.entries (Ok (state_of dump.base))) (fine_line _))
     is
-fine_look names (At point) dump text is = fine_state names (values_at dump point) text is
+fine_look names (At point) dump text is = fine_state names point (values_at dump point) text is

@@ -2,6 +2,7 @@
 --
 --   ref NAME VALUE      for each ref, then
 --   atom NAME VALUE     for each atom, by number; the number stands for a name where it has none
+--   at POINT ok         the end
 use Rattle.std.specs.Prelude.{ℕ, ◌+◌, ◌-◌, nat_le, Bool, ◌&&◌, List, [], ◌∷◌, ◌++◌, take, Option, None, Some, slice_get, Result, codes, decimal}
 use Rattle.ref_value.specs.Edn.{Edn}
 use Rattle.ref_edn.specs.Printed.{printed}
@@ -36,5 +37,8 @@ abbrev pub value_lines : List ℕ → List (List ℕ) → ℕ → List Edn → L
 value_lines kind names n [] = []
 value_lines kind names n (v ∷ vs) = value_line kind names n v ++ value_lines kind names (n + 1) vs
 
-abbrev pub values_text : NamesSeen → PlainState → List ℕ
-values_text names state = value_lines (codes "ref") names.refs 0 state.refs ++ value_lines (codes "atom") names.atoms 0 state.atoms
+abbrev pub end_line : ℕ → List ℕ
+end_line point = line (codes "at " ++ decimal point ++ codes " ok")
+
+abbrev pub values_text : NamesSeen → ℕ → PlainState → List ℕ
+values_text names point state = value_lines (codes "ref") names.refs 0 state.refs ++ value_lines (codes "atom") names.atoms 0 state.atoms ++ end_line point

@@ -47,7 +47,7 @@ pub fn text_of<F: Functions<Core>>(
         Look::History(choice) => Ok(history(alloc, names, &choice, dump)?),
         Look::Changes(choice) => changes(alloc, funs, names, &choice, dump),
         Look::At(point) => match values_at(alloc, funs, dump, point) {
-            Ok(state) => Ok(values_text(alloc, names, &state)?),
+            Ok(state) => Ok(values_text(alloc, names, point, &state)?),
             Err(fault) => Err(fault),
         },
     }

@@ -3,7 +3,7 @@ ghost use Rattle.std.specs.Prelude.{◌≡◌, ◌≢◌, ◌<◌, ◌^◌, ◌+
 ghost use Rattle.ref_fun.specs.Calls.{HasCore};
 ghost use Rattle.ref_log.specs.Replay.{point_after};
 ghost use Rattle.ref_verdict.specs.OfCore.{IsOfCore};
-ghost use Rattle.ref_history.specs.Values.{has_point, name_or_number, value_line, value_lines, values_at, values_text};
+ghost use Rattle.ref_history.specs.Values.{end_line, has_point, name_or_number, value_line, value_lines, values_at, values_text};
 
 use crate::shown::{append_name, append_number};
 use crate::visible::append_visible_line;
@@ -49,20 +49,33 @@ pub fn values_at<F: Functions<Core>>(
     }
 }
 
-/// The lines of values, as a report has them: each with a name, or with its number where there is none. Linear in the text.
-pub fn values_text(alloc: Global, names: &Names, state: &PlainState) -> Result<Vec<u8>, AllocError>
-    ensures { IfOk result (λ text. text.items ≡ values_text names.now state.now) }
+/// The lines of values at a point, as a report has them: each with a name, or with its number where there is none. A last line says that
+/// these are all. Linear in the text.
+pub fn values_text(
+    alloc: Global,
+    names: &Names,
+    point: u64,
+    state: &PlainState,
+) -> Result<Vec<u8>, AllocError>
+    ensures { IfOk result (λ text. text.items ≡ values_text names.now point state.now) }
+{
+    let (refs, atoms) = (state.refs.as_slice(), state.atoms.as_slice());
+    let mut text = Vec::new(alloc);
+    append_values(alloc, "ref", names.refs(), refs, &mut text)?;
+    append_values(alloc, "atom", names.atoms(), atoms, &mut text)?;
+    append_end(alloc, point, &mut text)?;
+    Ok(text)
+}
+
+// The line behind all values.
+fn append_end(alloc: Global, point: u64, out: &mut Vec<u8>) -> Result<(), AllocError>
+    ensures { OnOk result (out.new.items ≡ out.old.items ++ end_line point) }
 {
     let mut text = Vec::new(alloc);
-    append_values(alloc, "ref", names.refs(), state.refs.as_slice(), &mut text)?;
-    append_values(
-        alloc,
-        "atom",
-        names.atoms(),
-        state.atoms.as_slice(),
-        &mut text,
-    )?;
-    Ok(text)
+    text.extend_from_slice(b"at ")?;
+    append_number(point, &mut text)?;
+    text.extend_from_slice(b" ok")?;
+    append_visible_line(alloc, &text, out)
 }
 
 // The lines of all values of a kind.
