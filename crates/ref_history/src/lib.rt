@@ -30,8 +30,8 @@ pub mod visible;
 
 pub use change_lines::changes;
 pub use drawing::escaping::escaped_is_plain;
-pub use drawing::frames::{MOST_DRAWN, Part};
-pub use drawing::page;
+pub use drawing::frames::{MOST_DRAWN, MOST_WIDE_DRAWN, Part};
+pub use drawing::{MOST_ROWS, page};
 pub use entry_lines::history;
 pub use looks::{Look, looked_is_visible, text_of};
 pub use places::{Choice, Place};

@@ -14,7 +14,7 @@ const NUMBERED: usize = 5;
 // How many lines to others a box has at most: to those that overtook it last.
 const MOST_LINES: u64 = 16;
 
-/// Appends the picture.
+/// Appends the picture: the names of the lanes, which stay where they are when the rest is moved sideways, and the rest.
 pub(crate) fn append_picture(
     alloc: Global,
     names: &Names,
@@ -22,11 +22,11 @@ pub(crate) fn append_picture(
     dump: &Dump,
     out: &mut Vec<u8>,
 ) -> Result<(), AllocError> {
-    let (width, height) = (frame.width(), frame.height());
-    let head = format!(in alloc;
-        "<svg xmlns=\"http://www.w3.org/2000/svg\" role=\"img\" width=\"{width}\" height=\"{height}\" viewBox=\"0 0 {width} {height}\">\n"
-    )?;
-    out.extend_from_slice(head.as_bytes())?;
+    let (left, right) = (frame.left(), frame.right());
+    append_head(alloc, frame, "names", 0, left, out)?;
+    append_lane_names(alloc, frame, out)?;
+    out.extend_from_slice(b"</svg>\n")?;
+    append_head(alloc, frame, "entries", left, right, out)?;
     append_lanes(alloc, frame, out)?;
     append_points(alloc, frame, out)?;
     append_entries(alloc, names, frame, dump, true, out)?;
@@ -34,27 +34,51 @@ pub(crate) fn append_picture(
     out.extend_from_slice(b"</svg>\n")
 }
 
-fn append_lanes(alloc: Global, frame: &Frame, out: &mut Vec<u8>) -> Result<(), AllocError> {
-    for (lane, worker) in frame.workers.iter().enumerate() {
-        let name = format!(in alloc; "worker {worker}")?;
-        append_lane(alloc, frame, lane as u64, name.as_str(), out)?;
-    }
-    append_lane(alloc, frame, frame.last_lane(), "atoms, made", out)
+// The beginning of a part of the picture, from `left` to `right`.
+fn append_head(
+    alloc: Global,
+    frame: &Frame,
+    class: &str,
+    left: u64,
+    right: u64,
+    out: &mut Vec<u8>,
+) -> Result<(), AllocError> {
+    let (width, height) = (right.saturating_sub(left), frame.height());
+    let head = format!(in alloc;
+        "<svg xmlns=\"http://www.w3.org/2000/svg\" role=\"img\" class=\"{class}\" width=\"{width}\" height=\"{height}\" viewBox=\"{left} 0 {width} {height}\">\n"
+    )?;
+    out.extend_from_slice(head.as_bytes())
 }
 
-fn append_lane(
+fn append_lane_names(alloc: Global, frame: &Frame, out: &mut Vec<u8>) -> Result<(), AllocError> {
+    for (lane, worker) in frame.workers.iter().enumerate() {
+        let name = format!(in alloc; "worker {worker}")?;
+        append_lane_name(alloc, frame, lane as u64, name.as_str(), out)?;
+    }
+    append_lane_name(alloc, frame, frame.last_lane(), "atoms, made", out)
+}
+
+fn append_lane_name(
     alloc: Global,
     frame: &Frame,
     lane: u64,
     name: &str,
     out: &mut Vec<u8>,
 ) -> Result<(), AllocError> {
-    let (y, left, width) = (frame.middle(lane), frame.left(), frame.width());
-    let text_y = y.saturating_add(4);
-    let lane = format!(in alloc;
-        "<line class=\"lane\" x1=\"{left}\" y1=\"{y}\" x2=\"{width}\" y2=\"{y}\"/>\n<text x=\"4\" y=\"{text_y}\">{name}</text>\n"
-    )?;
-    out.extend_from_slice(lane.as_bytes())
+    let y = frame.middle(lane).saturating_add(4);
+    let text = format!(in alloc; "<text x=\"4\" y=\"{y}\">{name}</text>\n")?;
+    out.extend_from_slice(text.as_bytes())
+}
+
+fn append_lanes(alloc: Global, frame: &Frame, out: &mut Vec<u8>) -> Result<(), AllocError> {
+    for lane in 0..frame.last_lane().saturating_add(1) {
+        let (y, left, right) = (frame.middle(lane), frame.left(), frame.right());
+        let line = format!(in alloc;
+            "<line class=\"lane\" x1=\"{left}\" y1=\"{y}\" x2=\"{right}\" y2=\"{y}\"/>\n"
+        )?;
+        out.extend_from_slice(line.as_bytes())?;
+    }
+    Ok(())
 }
 
 fn append_points(alloc: Global, frame: &Frame, out: &mut Vec<u8>) -> Result<(), AllocError> {
@@ -66,15 +90,17 @@ fn append_points(alloc: Global, frame: &Frame, out: &mut Vec<u8>) -> Result<(), 
     Ok(())
 }
 
+// A point, with its number above the lanes and below them.
 fn append_point(
     alloc: Global,
     frame: &Frame,
     point: u64,
     out: &mut Vec<u8>,
 ) -> Result<(), AllocError> {
-    let (x, height) = (frame.x(point), frame.height());
+    let (x, bottom) = (frame.x(point), frame.bottom());
+    let below = bottom.saturating_add(12);
     let mark = format!(in alloc;
-        "<line class=\"point\" x1=\"{x}\" y1=\"18\" x2=\"{x}\" y2=\"{height}\"/>\n<text class=\"point\" x=\"{x}\" y=\"14\">{point}</text>\n"
+        "<line class=\"point\" x1=\"{x}\" y1=\"18\" x2=\"{x}\" y2=\"{bottom}\"/>\n<text class=\"point\" x=\"{x}\" y=\"14\">{point}</text>\n<text class=\"point\" x=\"{x}\" y=\"{below}\">{point}</text>\n"
     )?;
     out.extend_from_slice(mark.as_bytes())
 }
