@@ -5,3 +5,4 @@ pub mod Sends
 pub mod Touched
 pub mod Turns
 pub mod Escapes
+pub mod Looked

@@ -1,15 +1,18 @@
 //! The values at a point.
 ghost use Rattle.std.specs.Prelude.{◌≡◌, ◌≢◌, ◌<◌, ◌^◌, ◌++◌, Ok, Err, IfOk, IfErr, OnOk, decimal, slice_get, unwrap_or};
+ghost use Rattle.std.specs.Io.KnownBytes.{Appends};
+ghost use Rattle.ref_output.specs.Pieces.{BreaksOff, CountsWrites, Remains};
 ghost use Rattle.ref_fun.specs.Calls.{HasCore};
 ghost use Rattle.ref_log.specs.Replay.{point_after};
 ghost use Rattle.ref_verdict.specs.OfCore.{IsOfCore};
 ghost use Rattle.ref_history.specs.Values.{has_point, value_line, value_lines, values_at, values_text};
 
 use crate::shown::append_number;
-use ref_edn::print;
+use ref_edn::{Sink, print};
 use ref_forms::Names;
 use ref_fun::{Core, Functions};
 use ref_log::{AuditFault, PlainState, replay_plain};
+use ref_output::{OutputFault, write_piece, write_rest};
 use ref_value::{Text, Value};
 use ref_verdict::reading::dumps::Dump;
 use std::alloc::{AllocError, Global};
@@ -48,35 +51,49 @@ pub fn values_at<F: Functions<Core>>(
     }
 }
 
-/// The lines of values, as a report has them: each with a name, or with its number where there is none. Linear in the text.
-pub fn values_text(alloc: Global, names: &Names, state: &PlainState) -> Result<Vec<u8>, AllocError>
-    ensures { IfOk result (λ text. text.items ≡ values_text names.now state.now) }
+/// Writes the lines of values, as a report has them: each with a name, or with its number where there is none. Linear in the text.
+pub fn write_values<W: Sink>(
+    alloc: Global,
+    names: &Names,
+    state: &PlainState,
+    writer: &mut W,
+) -> Result<(), OutputFault>
+    ensures ok { OnOk result (Appends (W.written writer.old) (W.written writer.new) (values_text names.now state.now)) }
+    ensures err { IfErr result (λ f. BreaksOff f (W.written writer.old) (W.written writer.new)
+        (values_text names.now state.now)) }
+    ensures writes { CountsWrites (W.failures writer.old) (W.failures writer.new) result }
 {
     let mut text = Vec::new(alloc);
-    append_values(alloc, "ref", names.refs(), state.refs.as_slice(), &mut text)?;
-    append_values(
+    write_kind(alloc, "ref", names.refs(), state.refs.as_slice(), writer, &mut text)?;
+    write_kind(
         alloc,
         "atom",
         names.atoms(),
         state.atoms.as_slice(),
+        writer,
         &mut text,
     )?;
-    Ok(text)
+    write_rest(writer, &mut text)
 }
 
-// The lines of all values of a kind.
-#[tactic(auto, using(crate::proofs::Lines::value_lines_at))]
-fn append_values(
+// Writes the lines of all values of a kind, behind what waits.
+fn write_kind<W: Sink>(
     alloc: Global,
     kind: &str,
     names: &[Text],
     values: &[Value],
-    out: &mut Vec<u8>,
-) -> Result<(), AllocError>
-    ensures { OnOk result (out.new.items ≡ out.old.items ++ value_lines kind.now names.now 0 values.now) }
+    writer: &mut W,
+    waiting: &mut Vec<u8>,
+) -> Result<(), OutputFault>
+    ensures ok { OnOk result (Remains (W.written writer.old) (W.written writer.new)
+        (waiting.old.items ++ value_lines kind.now names.now 0 values.now) waiting.new.items) }
+    ensures err { IfErr result (λ f. BreaksOff f (W.written writer.old) (W.written writer.new)
+        (waiting.old.items ++ value_lines kind.now names.now 0 values.now)) }
+    ensures writes { CountsWrites (W.failures writer.old) (W.failures writer.new) result }
 {
     for (n, value) in values.iter().enumerate() {
-        append_value(alloc, kind, names, n, value, out)?;
+        append_value(alloc, kind, names, n, value, waiting)?;
+        write_piece(writer, waiting)?;
     }
     Ok(())
 }
