@@ -11,7 +11,7 @@ use std::alloc::{AllocError, Global};
 // Each point of this many has its number.
 const NUMBERED: usize = 5;
 
-// How many lines to others a box has at most: to those that overtook it last.
+// How many lines to others a box has at most: to the transactions that overtook it last.
 const MOST_LINES: u64 = 16;
 
 /// Appends the picture: the names of the lanes, which stay where they are when the rest is moved sideways, and the rest.
@@ -128,7 +128,7 @@ fn append_entries(
     Ok(())
 }
 
-// The lines of a transaction to those that committed between its read point and its commit.
+// The lines of a transaction to the last of those of other workers that were committed between its read point and its commit.
 fn append_overtakers(
     alloc: Global,
     frame: &Frame,
@@ -140,43 +140,40 @@ fn append_overtakers(
     let Entry::Trans(transaction) = entry else {
         return Ok(());
     };
-    let from = transaction
-        .read_point
-        .saturating_add(1)
-        .max(frame.first)
-        .max(point.saturating_sub(MOST_LINES));
-    let skipped = from.saturating_sub(dump.base.point).saturating_sub(1);
-    for index in skipped as usize..point
-        .saturating_sub(dump.base.point)
-        .saturating_sub(1) as usize
-    {
-        if let Some(Entry::Trans(other)) = dump.entries.get(index) {
-            let at = dump
-                .base
-                .point
-                .saturating_add(1)
-                .saturating_add(index as u64);
-            append_line_to(alloc, frame, transaction, other, at, out)?;
+    let from = transaction.read_point.saturating_add(1).max(frame.first);
+    let mut lines = 0;
+    for at in (from..point).rev() {
+        if lines == MOST_LINES {
+            break;
+        }
+        if let Some(worker) = other_worker(dump, at, transaction.stamp.worker) {
+            append_line_to(alloc, frame, transaction, worker, at, out)?;
+            lines += 1;
         }
     }
     Ok(())
+}
+
+// Who committed the transaction at a point, if there is one and it was another worker.
+fn other_worker(dump: &Dump, point: u64, worker: u32) -> Option<u32> {
+    let index = point.saturating_sub(dump.base.point).saturating_sub(1);
+    match dump.entries.get(index as usize) {
+        Some(Entry::Trans(other)) if other.stamp.worker != worker => Some(other.stamp.worker),
+        _ => None,
+    }
 }
 
 fn append_line_to(
     alloc: Global,
     frame: &Frame,
     transaction: &Transaction,
-    other: &Transaction,
+    other: u32,
     at: u64,
     out: &mut Vec<u8>,
 ) -> Result<(), AllocError> {
-    let worker = transaction.stamp.worker;
-    if other.stamp.worker == worker {
-        return Ok(());
-    }
     let (x1, x2) = (frame.x(transaction.read_point), frame.x(at));
-    let y1 = frame.middle(lane_of_worker(frame, worker));
-    let y2 = frame.middle(lane_of_worker(frame, other.stamp.worker));
+    let y1 = frame.middle(lane_of_worker(frame, transaction.stamp.worker));
+    let y2 = frame.middle(lane_of_worker(frame, other));
     let line = format!(in alloc;
         "<line class=\"over\" x1=\"{x1}\" y1=\"{y1}\" x2=\"{x2}\" y2=\"{y2}\"/>\n"
     )?;
