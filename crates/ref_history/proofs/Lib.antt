@@ -5,4 +5,6 @@ pub mod Sends
 pub mod Touched
 pub mod Turns
 pub mod Escapes
+pub mod Characters
+pub mod Shows
 pub mod Looked

@@ -11,6 +11,7 @@
 //! | [`write_values`] | writes their lines, as a report has them |
 //! | [`write_page`] | writes a page in HTML: a picture of the entries of a [`Part`], and a table of the refs |
 //! | [`write_look`] | writes each of these but a page, by a [`Look`] |
+//! | [`visible_text`], [`visible_char`] | a text, and a character, as people are shown it: a terminal and a page do nothing else with it |
 //!
 //! What is written is written in pieces while it is made (`ref_output`), so a long text needs little memory.
 //! References are printed by the [`Names`](ref_forms::Names) that a caller has, or as `ref 3`. All are linear in the dump and in what is
@@ -27,13 +28,16 @@ pub mod places;
 mod shown;
 mod steps;
 pub mod values;
+pub mod visible;
 
 pub use change_lines::write_changes;
 pub use drawing::escaping::escaped_is_plain;
-pub use drawing::frames::{MOST_DRAWN, Part};
-pub use drawing::write_page;
+pub use drawing::frames::{MOST_DRAWN, MOST_WIDE_DRAWN, Part};
+pub use drawing::{MOST_ROWS, write_page};
 pub use entry_lines::write_history;
 pub use faults::LookFault;
-pub use looks::{Look, write_look};
+pub use looks::{Look, looked_is_visible, write_look};
 pub use places::{Choice, Place};
+pub use shown::MOST_OF_NAME;
 pub use values::{has_point, values_at, write_values};
+pub use visible::{visible_char, visible_text};

@@ -1,11 +1,14 @@
 //! What can be shown of a dump.
-ghost use Rattle.std.specs.Prelude.{◌<◌, ◌^◌, IfErr, OnOk};
+ghost use Rattle.std.specs.Prelude.{◌≡◌, ◌<◌, ◌^◌, ℕ, List, Ok, IfErr, OnOk, true};
 ghost use Rattle.ref_fun.specs.Calls.{HasCore};
 ghost use Rattle.ref_log.specs.Replay.{point_after};
+ghost use Rattle.ref_forms.specs.Names.{NamesSeen};
 ghost use Rattle.ref_verdict.specs.OfCore.{IsOfCore};
+ghost use Rattle.ref_verdict.specs.declared.reading.dumps.Dump.{Dump};
 ghost use Rattle.ref_output.specs.Pieces.{WritesOne};
 ghost use Rattle.ref_history.specs.Looks.{looked, values_said};
 ghost use Rattle.ref_history.specs.Values.{values_at};
+ghost use Rattle.ref_history.specs.Visible.{is_visible};
 ghost use Rattle.ref_history.specs.Written.{CountsLook, IsLeft, IsLooked};
 
 use crate::change_lines::write_changes;
@@ -70,17 +73,23 @@ fn write_at<F: Functions<Core>, W: Sink>(
     requires core { HasCore (F.knows funs.now) }
     requires dump { IsOfCore dump.now }
     requires points { point_after dump.now.base dump.now.entries < 2 ^ 64 }
-    ensures ok { OnOk result (WritesOne (IsLooked (values_said names.now (values_at dump.now point)))
+    ensures ok { OnOk result (WritesOne (IsLooked (values_said names.now point (values_at dump.now point)))
         (W.written writer.old) (W.written writer.new)) }
-    ensures err { IfErr result (λ f. IsLeft (values_said names.now (values_at dump.now point)) f
+    ensures err { IfErr result (λ f. IsLeft (values_said names.now point (values_at dump.now point)) f
         (W.written writer.old) (W.written writer.new)) }
     ensures writes { CountsLook (W.failures writer.old) (W.failures writer.new) result }
 {
     match values_at(alloc, funs, dump, point) {
-        Ok(state) => match write_values(alloc, names, &state, writer) {
+        Ok(state) => match write_values(alloc, names, point, &state, writer) {
             Ok(()) => Ok(()),
             Err(fault) => Err(LookFault::Output(fault)),
         },
         Err(fault) => Err(LookFault::of_replay(fault)),
     }
 }
+
+/// What is shown has no hidden character, whatever stands in the dump and in the names: a terminal shows it, and does nothing else.
+pub fn looked_is_visible()
+    ensures { (names : NamesSeen) (look : Look) (dump : Dump) (text : List ℕ)
+        → looked names look dump ≡ Ok text → is_visible text ≡ true }
+{}

@@ -10,50 +10,61 @@ pub struct Tally {
     pub last: u64,
 }
 
+// The tallies so far, and by the same numbers the point of the entry that each ref was counted for last, 0 for none. A tally doesn't say
+// that: its point may be the base's, and that of a wrong dump is any number.
+#[derive(Drop)]
+struct Count {
+    tallies: Vec<Tally>,
+    counted: Vec<u64>,
+}
+
 /// The tally of each ref, by number. Linear in the dump.
 pub fn tallies_of(alloc: Global, dump: &Dump) -> Result<Vec<Tally>, AllocError> {
-    let mut tallies = Vec::new(alloc);
+    let mut count = Count {
+        tallies: Vec::new(alloc),
+        counted: Vec::new(alloc),
+    };
     for last in dump.base.last.as_slice() {
-        tallies.push(Tally {
-            changes: 0,
-            last: *last,
-        })?;
+        count.add_ref(0, *last)?;
     }
     let mut point = dump.base.point;
     for entry in &dump.entries {
         point = point.saturating_add(1);
         match entry {
-            Entry::Trans(transaction) => {
-                count_dones(point, transaction.dones.as_slice(), &mut tallies)
-            }
-            Entry::MadeRef(_) => tallies.push(Tally {
-                changes: 1,
-                last: point,
-            })?,
+            Entry::Trans(transaction) => count.add_dones(point, transaction.dones.as_slice()),
+            Entry::MadeRef(_) => count.add_ref(1, point)?,
             Entry::Atom(_, _, _) | Entry::MadeAtom(_) => {}
         }
     }
-    Ok(tallies)
+    Ok(count.tallies)
 }
 
-// A ref that is touched twice in an entry is counted once.
-fn count_dones(point: u64, dones: &[Done], tallies: &mut Vec<Tally>) {
-    for done in dones {
-        if !done.op.is_ensure() {
-            count_one(point, done.r as usize, tallies);
+impl Count {
+    // One more ref.
+    fn add_ref(&mut self, changes: u64, last: u64) -> Result<(), AllocError> {
+        self.tallies.push(Tally { changes, last })?;
+        self.counted.push(0)?;
+        Ok(())
+    }
+
+    // A ref that is touched twice in an entry is counted once.
+    fn add_dones(&mut self, point: u64, dones: &[Done]) {
+        for done in dones {
+            if !done.op.is_ensure() {
+                self.add_one(point, done.r as usize);
+            }
         }
     }
-}
 
-fn count_one(point: u64, r: usize, tallies: &mut Vec<Tally>) {
-    if r >= tallies.len() {
-        return;
-    }
-    let tally = tallies[r];
-    if tally.last != point {
-        tallies[r] = Tally {
-            changes: tally.changes.saturating_add(1),
+    fn add_one(&mut self, point: u64, r: usize) {
+        if r >= self.tallies.len() || r >= self.counted.len() || self.counted[r] == point {
+            return;
+        }
+        let changes = self.tallies[r].changes.saturating_add(1);
+        self.tallies[r] = Tally {
+            changes,
             last: point,
         };
+        self.counted[r] = point;
     }
 }
