@@ -13,8 +13,8 @@ use Rattle.ref_history.specs.Written.{CountsLook, Draws, DrawsPart, IsLeft, repl
 use Rattle.ref_history.specs.declared.faults.LookFault.TheVariants.{Output}
 
 pub look_left : (f : OutputFault) (looked : Result (List ℕ) AuditFault) (text : List ℕ) (a b : Option (List ℕ)) → looked ≡ Ok text → BreaksOff f a b text → IsLeft looked (Output f) a b
-look_left Write looked text a b is w = (text, is, w)
-look_left Memory looked text a b is w = inr (text, is, w)
+look_left Write looked text a b is w = record { output = text; is_one = is; written = w }
+look_left Memory looked text a b is w = inr (record { output = text; is_one = is; written = w })
 
 pub replay_left : (f : AuditFault) (looked : Result (List ℕ) AuditFault) (a : Option (List ℕ)) → (f ≢ replays.Memory → looked ≡ Err f) → IsLeft looked (replay_fault_of f) a a
 replay_left replays.Memory looked a why = inl refl

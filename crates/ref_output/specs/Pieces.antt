@@ -20,17 +20,23 @@ abbrev pub BreaksOff : OutputFault → Option (List ℕ) → Option (List ℕ) �
 BreaksOff Write old new output = AppendsPart old new output
 BreaksOff Memory old new output = AppendsFront old new output
 
--- An output of this kind was written.
+-- An output of this kind was written in this way.
+pub record WritesIn (Writes : Option (List ℕ) → Option (List ℕ) → List ℕ → Type 0) (IsOne : List ℕ → Type 0) (old new : Option (List ℕ)) : Type 0 where
+  pub output : List ℕ
+  pub is_one : IsOne output
+  pub written : Writes old new output
+
+-- All of it was written.
 abbrev pub WritesOne : (List ℕ → Type 0) → Option (List ℕ) → Option (List ℕ) → Type 0
-WritesOne IsOne old new = (output : List ℕ) × IsOne output × Appends old new output
+WritesOne IsOne old new = WritesIn Appends IsOne old new
 
--- Of an output of this kind a part was written, from its start on, but not all of it.
+-- A part of it was written, from its start on, but not all of it.
 abbrev pub WritesPart : (List ℕ → Type 0) → Option (List ℕ) → Option (List ℕ) → Type 0
-WritesPart IsOne old new = (output : List ℕ) × IsOne output × AppendsPart old new output
+WritesPart IsOne old new = WritesIn AppendsPart IsOne old new
 
--- Nothing was written, or a beginning of an output of this kind.
+-- Nothing was written, or a beginning of it.
 abbrev pub WritesFront : (List ℕ → Type 0) → Option (List ℕ) → Option (List ℕ) → Type 0
-WritesFront IsOne old new = (new ≡ old) ⊎ ((output : List ℕ) × IsOne output × AppendsFront old new output)
+WritesFront IsOne old new = (new ≡ old) ⊎ WritesIn AppendsFront IsOne old new
 
 -- Write alone reports a write that failed.
 abbrev pub CountsWrites : {T : Type 0} → ℕ → ℕ → Result T OutputFault → Type 0

@@ -3,7 +3,7 @@ use Rattle.std.proofs.Common.{◌≡◌, ◌≤◌, ◌⊎◌, ℕ, Bool, true, 
 use Rattle.std.specs.Prelude.{◌≢◌, Result, Ok, Err, IfErr, IfSome, IsErrAnd, OnErr, OnOk}
 use Rattle.std.specs.Io.KnownBytes.{Appends, IsAtEnd}
 use Rattle.ref_edn.specs.Streams.{AppendsPart}
-use Rattle.ref_output.specs.Pieces.{BreaksOff, WritesFront, WritesOne, WritesPart}
+use Rattle.ref_output.specs.Pieces.{BreaksOff, WritesFront, WritesIn, WritesOne, WritesPart}
 use Rattle.ref_output.specs.declared.faults.OutputFault.{OutputFault}
 use Rattle.ref_output.specs.declared.faults.OutputFault.TheVariants as outputs
 use Rattle.ref_value.specs.Edn.{Edn}
@@ -82,10 +82,13 @@ shown_is false names world d is = ap (end_text names world) is
 
 -- an output of one kind is one of another
 module _ (P Q : List ℕ → Type 0) (a b : Option (List ℕ)) (h : (output : List ℕ) → P output → Q output) where
+  as_other : {Writes : Option (List ℕ) → Option (List ℕ) → List ℕ → Type 0} → WritesIn Writes P a b → WritesIn Writes Q a b
+  as_other w = record { output = w.output; is_one = h w.output w.is_one; written = w.written }
+
   left_as : (f : RunFault) → IsLeft P f a b → IsLeft Q f a b
-  left_as runs.Write w = (w.0, h w.0 w.1, w.2)
+  left_as runs.Write w = (as_other w)
   left_as runs.Memory (inl same) = inl same
-  left_as runs.Memory (inr w) = inr (w.0, h w.0 w.1, w.2)
+  left_as runs.Memory (inr w) = inr (as_other w)
   left_as runs.Read same = same
   left_as runs.InputTooLong same = same
   left_as (runs.NotEdn fault) same = same
@@ -93,7 +96,7 @@ module _ (P Q : List ℕ → Type 0) (a b : Option (List ℕ)) (h : (output : Li
   left_as runs.Internal same = same
 
   pub wrote_told : {T E : Type 0} (r : Result T E) → OnOk r (WritesOne P a b) → OnOk r (WritesOne Q a b)
-  wrote_told (Ok x) w = (w.0, h w.0 w.1, w.2)
+  wrote_told (Ok x) w = (as_other w)
   wrote_told (Err f) w = tt
 
   pub left_told : {T : Type 0} (r : Result T RunFault) → IfErr r (λ f. IsLeft P f a b) → IfErr r (λ f. IsLeft Q f a b)
@@ -106,16 +109,16 @@ module _ (P Q : List ℕ → Type 0) (a b : Option (List ℕ)) (h : (output : Li
 -- this output is of the kind
 module _ (P : List ℕ → Type 0) (a b : Option (List ℕ)) (output : List ℕ) (is : P output) where
   pub wrote_one : {T E : Type 0} (r : Result T E) → OnOk r (Appends a b output) → OnOk r (WritesOne P a b)
-  wrote_one (Ok x) w = (output, is, w)
+  wrote_one (Ok x) w = (record { output = output; is_one = is; written = w })
   wrote_one (Err f) w = tt
 
   pub left_by_output : (f : OutputFault) → BreaksOff f a b output → IsLeft P (output_fault_of f) a b
-  left_by_output outputs.Write w = (output, is, w)
-  left_by_output outputs.Memory w = inr (output, is, w)
+  left_by_output outputs.Write w = (record { output = output; is_one = is; written = w })
+  left_by_output outputs.Memory w = inr (record { output = output; is_one = is; written = w })
 
   pub left_by_write : {T : Type 0} (r : Result T RunFault) → IfErr r (λ f. f ≡ runs.Write) → OnErr r (AppendsPart a b output) → IfErr r (λ f. IsLeft P f a b)
   left_by_write (Ok x) is_write w = tt
-  left_by_write (Err f) is_write w = rw is_write (output, is, w)
+  left_by_write (Err f) is_write w = rw is_write (record { output = output; is_one = is; written = w })
 
 -- Nothing is written before a play has ended.
 pub left_before : (P : List ℕ → Type 0) (f : RunFault) (a : Option (List ℕ)) → IsOfPlan f → IsLeft P f a a
@@ -141,7 +144,7 @@ left_by_script P (Err g) f a told = rw told refl
 
 module _ (Gives : List ℕ → List ℕ → Type 0) (before after old new : Option (List ℕ)) (text : List ℕ) (whole : IfSome before (λ all. text ≡ all)) (at_end : IsAtEnd after) (short : length text ≤ most_input) where
   pub has_written : {T E : Type 0} (r : Result T E) → OnOk r (WritesOne (Gives text) old new) → OnOk r (HasWritten Gives before after old new)
-  has_written (Ok x) w = record { text = text; output = w.0; whole = whole; at_end = at_end; short = short; gives = w.1; written = w.2 }
+  has_written (Ok x) w = record { text = text; output = w.output; whole = whole; at_end = at_end; short = short; gives = w.is_one; written = w.written }
   has_written (Err f) w = tt
 
   pub has_broken_off : {T : Type 0} (r : Result T PlayFault) → IfErr r (λ f. IsLeftByPlay (Gives text) f old new)
@@ -149,11 +152,11 @@ module _ (Gives : List ℕ → List ℕ → Type 0) (before after old new : Opti
   has_broken_off (Ok x) left = tt
   has_broken_off (Err f) left e =
       let w : WritesPart (Gives text) old new = subst (λ g. IsLeftByPlay (Gives text) g old new) e left in
-      record { text = text; output = w.0; whole = whole; at_end = at_end; short = short; gives = w.1; written = w.2 }
+      record { text = text; output = w.output; whole = whole; at_end = at_end; short = short; gives = w.is_one; written = w.written }
 
   begun : WritesFront (Gives text) old new → (new ≡ old) ⊎ HasBegun Gives before after old new
   begun (inl same) = inl same
-  begun (inr w) = inr (record { text = text; output = w.0; whole = whole; at_end = at_end; short = short; gives = w.1; written = w.2 })
+  begun (inr w) = inr (record { text = text; output = w.output; whole = whole; at_end = at_end; short = short; gives = w.is_one; written = w.written })
 
   pub has_begun : {T : Type 0} (r : Result T PlayFault) → IfErr r (λ f. IsLeftByPlay (Gives text) f old new)
       → IfErr r (λ f. f ≡ plays.Run runs.Memory → (new ≡ old) ⊎ HasBegun Gives before after old new)

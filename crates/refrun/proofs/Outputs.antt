@@ -2,7 +2,7 @@
 use Rattle.std.proofs.Common.{◌≡◌, ◌≤◌, ◌⊎◌, ℕ, List, Option, inl, inr, length, refl, subst}
 use Rattle.std.specs.Prelude.{◌≢◌, Result, Ok, Err, IfErr, IfOk, IfSome, OnOk}
 use Rattle.std.specs.Io.KnownBytes.{IsAtEnd}
-use Rattle.ref_output.specs.Pieces.{BreaksOff, WritesFront, WritesOne, WritesPart}
+use Rattle.ref_output.specs.Pieces.{BreaksOff, WritesFront, WritesIn, WritesOne, WritesPart}
 use Rattle.ref_output.specs.declared.faults.OutputFault.{OutputFault}
 use Rattle.ref_output.specs.declared.faults.OutputFault.TheVariants as outputs
 use Rattle.ref_player.specs.Faults as players
@@ -17,13 +17,13 @@ use Rattle.refrun.specs.declared.faults.AuditRunFault.TheVariants as audits
 -- ---- an output of one kind is one of another
 
 module _ (P Q : List ℕ → Type 0) (a b : Option (List ℕ)) (h : (output : List ℕ) → P output → Q output) where
-  pub writes_as : WritesOne P a b → WritesOne Q a b
-  writes_as w = (w.0, h w.0 w.1, w.2)
+  pub writes_as : {Writes : Option (List ℕ) → Option (List ℕ) → List ℕ → Type 0} → WritesIn Writes P a b → WritesIn Writes Q a b
+  writes_as w = record { output = w.output; is_one = h w.output w.is_one; written = w.written }
 
   pub left_as : (f : AuditRunFault) → IsLeftOf P f a b → IsLeftOf Q f a b
-  left_as audits.Write w = (w.0, h w.0 w.1, w.2)
+  left_as audits.Write w = (writes_as w)
   left_as audits.Memory (inl same) = inl same
-  left_as audits.Memory (inr w) = inr (w.0, h w.0 w.1, w.2)
+  left_as audits.Memory (inr w) = inr (writes_as w)
   left_as audits.Read same = same
   left_as audits.InputTooLong same = same
   left_as (audits.NotEdn fault) same = same
@@ -34,32 +34,32 @@ module _ (P Q : List ℕ → Type 0) (a b : Option (List ℕ)) (h : (output : Li
 
 module _ (P : List ℕ → Type 0) (a b : Option (List ℕ)) (output : List ℕ) (is : P output) where
   pub left_by_output : (f : OutputFault) → BreaksOff f a b output → IsLeftOf P (output_fault_of f) a b
-  left_by_output outputs.Write w = (output, is, w)
-  left_by_output outputs.Memory w = inr (output, is, w)
+  left_by_output outputs.Write w = (record { output = output; is_one = is; written = w })
+  left_by_output outputs.Memory w = inr (record { output = output; is_one = is; written = w })
 
   pub run_left_by_output : (f : OutputFault) → BreaksOff f a b output → plays.IsLeft P (players.output_fault_of f) a b
-  run_left_by_output outputs.Write w = (output, is, w)
-  run_left_by_output outputs.Memory w = inr (output, is, w)
+  run_left_by_output outputs.Write w = (record { output = output; is_one = is; written = w })
+  run_left_by_output outputs.Memory w = inr (record { output = output; is_one = is; written = w })
 
 -- ---- a command, from its reader to its writer
 
 module _ (most : ℕ) (before after old new : Option (List ℕ)) (text : List ℕ) (whole : IfSome before (λ all. text ≡ all)) (at_end : IsAtEnd after) (short : length text ≤ most) where
   pub look_written : {V E : Type 0} (Gives : V → List ℕ → List ℕ → Type 0) (r : Result V E) → IfOk r (λ v. WritesOne (Gives v text) old new)
       → IfOk r (λ v. HasWritten most (Gives v) before after old new)
-  look_written Gives (Ok v) w = record { text = text; output = w.0; whole = whole; at_end = at_end; short = short; gives = w.1; written = w.2 }
+  look_written Gives (Ok v) w = record { text = text; output = w.output; whole = whole; at_end = at_end; short = short; gives = w.is_one; written = w.written }
   look_written Gives (Err f) w = tt
 
   pub all_written : {V E : Type 0} (Gives : List ℕ → List ℕ → Type 0) (r : Result V E) → OnOk r (WritesOne (Gives text) old new) → OnOk r (HasWritten most Gives before after old new)
-  all_written Gives (Ok v) w = record { text = text; output = w.0; whole = whole; at_end = at_end; short = short; gives = w.1; written = w.2 }
+  all_written Gives (Ok v) w = record { text = text; output = w.output; whole = whole; at_end = at_end; short = short; gives = w.is_one; written = w.written }
   all_written Gives (Err f) w = tt
 
   module _ (Gives : List ℕ → List ℕ → Type 0) where
     part : WritesPart (Gives text) old new → HasBrokenOff most Gives before after old new
-    part w = record { text = text; output = w.0; whole = whole; at_end = at_end; short = short; gives = w.1; written = w.2 }
+    part w = record { text = text; output = w.output; whole = whole; at_end = at_end; short = short; gives = w.is_one; written = w.written }
 
     begun : WritesFront (Gives text) old new → (new ≡ old) ⊎ HasBegun most Gives before after old new
     begun (inl same) = inl same
-    begun (inr w) = inr (record { text = text; output = w.0; whole = whole; at_end = at_end; short = short; gives = w.1; written = w.2 })
+    begun (inr w) = inr (record { text = text; output = w.output; whole = whole; at_end = at_end; short = short; gives = w.is_one; written = w.written })
 
     -- of commands that read dumps
     pub dump_broken : {T : Type 0} (r : Result T AuditRunFault) → IfErr r (λ f. IsLeftOf (Gives text) f old new)
