@@ -39,8 +39,7 @@ module _ (names : NamesSeen) (choice : Choice) (place : Place) (e : Entry) (es r
 
 -- ---- lines of changes
 
-module _ (names : NamesSeen) (choice : Choice) (place : Place) (e : Entry) (es rest : List Entry) (old new : PlainState) (is : rest ≡ e ∷ es)
-    (stepped : step core_means place.point e old ≡ Ok new) (a b c : Option (List ℕ)) (output waiting waits : List ℕ) where
+module _ (names : NamesSeen) (choice : Choice) (place : Place) (e : Entry) (es rest : List Entry) (old new : PlainState) (is : rest ≡ e ∷ es) (stepped : step core_means place.point e old ≡ Ok new) (a b c : Option (List ℕ)) (output waiting waits : List ℕ) where
   first : changes_from names choice place rest (Ok old)
       ≡ (if is_chosen choice place e then change_line names place e old new else []) ++ changes_from names choice (place_after e place) es (Ok new)
   first = ap (λ es. changes_from names choice place es (Ok old)) is

@@ -122,13 +122,13 @@ module _ (P : List ℕ → Type 0) (a b : Option (List ℕ)) (output : List ℕ)
 
 -- Nothing is written before a play has ended.
 pub left_before : (P : List ℕ → Type 0) (f : RunFault) (a : Option (List ℕ)) → IsOfPlan f → IsLeft P f a a
-left_before P runs.Memory a of = inl refl
-left_before P runs.Internal a of = refl
-left_before P f a of = absurd of
+left_before P runs.Memory a is_of = inl refl
+left_before P runs.Internal a is_of = refl
+left_before P f a is_of = absurd is_of
 
 pub left_before_told : {T : Type 0} (P : List ℕ → Type 0) (r : Result T RunFault) (f : RunFault) (a : Option (List ℕ)) → IsErrAnd r (λ g. g ≡ f) → IsOfPlan f → IfErr r (λ g. IsLeft P g a a)
-left_before_told P (Ok x) f a told of = tt
-left_before_told P (Err g) f a told of = rw told (left_before P f a of)
+left_before_told P (Ok x) f a told is_of = tt
+left_before_told P (Err g) f a told is_of = rw told (left_before P f a is_of)
 
 pub left_by_text : {T : Type 0} (P : List ℕ → Type 0) (r : Result T PlayFault) (f : ReadFault) (a : Option (List ℕ)) → IsErrAnd r (λ g. g ≡ text_fault_of f) → IfErr r (λ g. IsLeftByPlay P g a a)
 left_by_text P (Ok x) f a told = tt

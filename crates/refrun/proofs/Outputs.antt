@@ -53,54 +53,55 @@ module _ (most : ℕ) (before after old new : Option (List ℕ)) (text : List �
   all_written Gives (Ok v) w = record { text = text; output = w.output; whole = whole; at_end = at_end; short = short; gives = w.is_one; written = w.written }
   all_written Gives (Err f) w = tt
 
-  module _ (Gives : List ℕ → List ℕ → Type 0) where
-    part : WritesPart (Gives text) old new → HasBrokenOff most Gives before after old new
-    part w = record { text = text; output = w.output; whole = whole; at_end = at_end; short = short; gives = w.is_one; written = w.written }
+-- the same of one kind of output
+module _ (Gives : List ℕ → List ℕ → Type 0) (most : ℕ) (before after old new : Option (List ℕ)) (text : List ℕ) (whole : IfSome before (λ all. text ≡ all)) (at_end : IsAtEnd after) (short : length text ≤ most) where
+  part : WritesPart (Gives text) old new → HasBrokenOff most Gives before after old new
+  part w = record { text = text; output = w.output; whole = whole; at_end = at_end; short = short; gives = w.is_one; written = w.written }
 
-    begun : WritesFront (Gives text) old new → (new ≡ old) ⊎ HasBegun most Gives before after old new
-    begun (inl same) = inl same
-    begun (inr w) = inr (record { text = text; output = w.output; whole = whole; at_end = at_end; short = short; gives = w.is_one; written = w.written })
+  begun : WritesFront (Gives text) old new → (new ≡ old) ⊎ HasBegun most Gives before after old new
+  begun (inl same) = inl same
+  begun (inr w) = inr (record { text = text; output = w.output; whole = whole; at_end = at_end; short = short; gives = w.is_one; written = w.written })
 
-    -- of commands that read dumps
-    pub dump_broken : {T : Type 0} (r : Result T AuditRunFault) → IfErr r (λ f. IsLeftOf (Gives text) f old new)
-        → IfErr r (λ f. f ≡ audits.Write → HasBrokenOff most Gives before after old new)
-    dump_broken (Ok x) left = tt
-    dump_broken (Err f) left e = part (subst (λ g. IsLeftOf (Gives text) g old new) e left)
+  -- of commands that read dumps
+  pub dump_broken : {T : Type 0} (r : Result T AuditRunFault) → IfErr r (λ f. IsLeftOf (Gives text) f old new)
+      → IfErr r (λ f. f ≡ audits.Write → HasBrokenOff most Gives before after old new)
+  dump_broken (Ok x) left = tt
+  dump_broken (Err f) left e = part (subst (λ g. IsLeftOf (Gives text) g old new) e left)
 
-    pub dump_begun : {T : Type 0} (r : Result T AuditRunFault) → IfErr r (λ f. IsLeftOf (Gives text) f old new)
-        → IfErr r (λ f. f ≡ audits.Memory → (new ≡ old) ⊎ HasBegun most Gives before after old new)
-    dump_begun (Ok x) left = tt
-    dump_begun (Err f) left e = begun (subst (λ g. IsLeftOf (Gives text) g old new) e left)
+  pub dump_begun : {T : Type 0} (r : Result T AuditRunFault) → IfErr r (λ f. IsLeftOf (Gives text) f old new)
+      → IfErr r (λ f. f ≡ audits.Memory → (new ≡ old) ⊎ HasBegun most Gives before after old new)
+  dump_begun (Ok x) left = tt
+  dump_begun (Err f) left e = begun (subst (λ g. IsLeftOf (Gives text) g old new) e left)
 
-    pub dump_silent : {T : Type 0} (r : Result T AuditRunFault) → IfErr r (λ f. IsLeftOf (Gives text) f old new)
-        → IfErr r (λ f. f ≢ audits.Write → f ≢ audits.Memory → new ≡ old)
-    dump_silent (Ok x) left = tt
-    dump_silent (Err audits.Write) left no_write no_memory = absurd (no_write refl)
-    dump_silent (Err audits.Memory) left no_write no_memory = absurd (no_memory refl)
-    dump_silent (Err audits.Read) left no_write no_memory = left
-    dump_silent (Err audits.InputTooLong) left no_write no_memory = left
-    dump_silent (Err (audits.NotEdn fault)) left no_write no_memory = left
-    dump_silent (Err (audits.Dump fault)) left no_write no_memory = left
-    dump_silent (Err (audits.NoPoint point)) left no_write no_memory = left
+  pub dump_silent : {T : Type 0} (r : Result T AuditRunFault) → IfErr r (λ f. IsLeftOf (Gives text) f old new)
+      → IfErr r (λ f. f ≢ audits.Write → f ≢ audits.Memory → new ≡ old)
+  dump_silent (Ok x) left = tt
+  dump_silent (Err audits.Write) left no_write no_memory = absurd (no_write refl)
+  dump_silent (Err audits.Memory) left no_write no_memory = absurd (no_memory refl)
+  dump_silent (Err audits.Read) left no_write no_memory = left
+  dump_silent (Err audits.InputTooLong) left no_write no_memory = left
+  dump_silent (Err (audits.NotEdn fault)) left no_write no_memory = left
+  dump_silent (Err (audits.Dump fault)) left no_write no_memory = left
+  dump_silent (Err (audits.NoPoint point)) left no_write no_memory = left
 
-    -- of `print`
-    pub print_broken : {T : Type 0} (r : Result T RunFault) → IfErr r (λ f. plays.IsLeft (Gives text) f old new)
-        → IfErr r (λ f. f ≡ runs.Write → HasBrokenOff most Gives before after old new)
-    print_broken (Ok x) left = tt
-    print_broken (Err f) left e = part (subst (λ g. plays.IsLeft (Gives text) g old new) e left)
+  -- of `print`
+  pub print_broken : {T : Type 0} (r : Result T RunFault) → IfErr r (λ f. plays.IsLeft (Gives text) f old new)
+      → IfErr r (λ f. f ≡ runs.Write → HasBrokenOff most Gives before after old new)
+  print_broken (Ok x) left = tt
+  print_broken (Err f) left e = part (subst (λ g. plays.IsLeft (Gives text) g old new) e left)
 
-    pub print_begun : {T : Type 0} (r : Result T RunFault) → IfErr r (λ f. plays.IsLeft (Gives text) f old new)
-        → IfErr r (λ f. f ≡ runs.Memory → (new ≡ old) ⊎ HasBegun most Gives before after old new)
-    print_begun (Ok x) left = tt
-    print_begun (Err f) left e = begun (subst (λ g. plays.IsLeft (Gives text) g old new) e left)
+  pub print_begun : {T : Type 0} (r : Result T RunFault) → IfErr r (λ f. plays.IsLeft (Gives text) f old new)
+      → IfErr r (λ f. f ≡ runs.Memory → (new ≡ old) ⊎ HasBegun most Gives before after old new)
+  print_begun (Ok x) left = tt
+  print_begun (Err f) left e = begun (subst (λ g. plays.IsLeft (Gives text) g old new) e left)
 
-    pub print_silent : {T : Type 0} (r : Result T RunFault) → IfErr r (λ f. plays.IsLeft (Gives text) f old new)
-        → IfErr r (λ f. f ≢ runs.Write → f ≢ runs.Memory → new ≡ old)
-    print_silent (Ok x) left = tt
-    print_silent (Err runs.Write) left no_write no_memory = absurd (no_write refl)
-    print_silent (Err runs.Memory) left no_write no_memory = absurd (no_memory refl)
-    print_silent (Err runs.Read) left no_write no_memory = left
-    print_silent (Err runs.InputTooLong) left no_write no_memory = left
-    print_silent (Err (runs.NotEdn fault)) left no_write no_memory = left
-    print_silent (Err (runs.Plan fault)) left no_write no_memory = left
-    print_silent (Err runs.Internal) left no_write no_memory = left
+  pub print_silent : {T : Type 0} (r : Result T RunFault) → IfErr r (λ f. plays.IsLeft (Gives text) f old new)
+      → IfErr r (λ f. f ≢ runs.Write → f ≢ runs.Memory → new ≡ old)
+  print_silent (Ok x) left = tt
+  print_silent (Err runs.Write) left no_write no_memory = absurd (no_write refl)
+  print_silent (Err runs.Memory) left no_write no_memory = absurd (no_memory refl)
+  print_silent (Err runs.Read) left no_write no_memory = left
+  print_silent (Err runs.InputTooLong) left no_write no_memory = left
+  print_silent (Err (runs.NotEdn fault)) left no_write no_memory = left
+  print_silent (Err (runs.Plan fault)) left no_write no_memory = left
+  print_silent (Err runs.Internal) left no_write no_memory = left
