@@ -181,7 +181,13 @@ fn write_played<W: Sink>(
     ensures writes { CountsWrites (W.failures writer.old) (W.failures writer.new) result }
 {
     let mut waiting = Vec::new(alloc);
-    write_lines(alloc, forms, played.replies.as_slice(), writer, &mut waiting)?;
+    write_lines(
+        alloc,
+        forms,
+        played.replies.as_slice(),
+        writer,
+        &mut waiting,
+    )?;
     append_end(alloc, names, &played.world, dumped, &mut waiting)?;
     write_rest(writer, &mut waiting)
 }

@@ -100,11 +100,7 @@ fn run_fault(fault: OutputFault) -> RunFault
 }
 
 // Writes each value on a line.
-fn write_lines<W: Sink>(
-    alloc: Global,
-    values: &[Value],
-    writer: &mut W,
-) -> Result<(), OutputFault>
+fn write_lines<W: Sink>(alloc: Global, values: &[Value], writer: &mut W) -> Result<(), OutputFault>
     ensures ok { OnOk result (Appends (W.written writer.old) (W.written writer.new) (printed_lines values.now)) }
     ensures err { IfErr result (λ f. BreaksOff f (W.written writer.old) (W.written writer.new)
         (printed_lines values.now)) }
