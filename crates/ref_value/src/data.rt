@@ -31,7 +31,7 @@ pub struct Value {
 impl Drop for Value {
     #[cycle(drop)]
     fn drop(self) {
-        let Value { node: [_node] } = self;
+        let Value { node: _node } = self;
     }
 }
 
