@@ -29,6 +29,7 @@ pub struct Value {
 // A function of its own, which each place that drops a value calls; a derived one would be written out there, with all that a
 // value may be made of.
 impl Drop for Value {
+    #[inline(never)]
     #[cycle(drop)]
     fn drop(self) {
         let Value { node: _node } = self;
