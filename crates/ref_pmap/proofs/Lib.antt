@@ -1,5 +1,7 @@
+pub mod HighBits
 pub mod Joins
 pub mod Removals
+pub mod Sides
 pub mod Rising
 pub mod Opened
 pub mod WholeMaps

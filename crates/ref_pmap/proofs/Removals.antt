@@ -1,12 +1,10 @@
--- What is left of a join once a key is gone, and what stays true of a fork then.
+-- What is left of a join once a key is gone.
 use Rattle.std.proofs.Common.{◌≡◌, ℕ, cond, Some, None, refl, sym, ap, ◌∙◌}
 use Rattle.std.specs.Ordering.{nat_cmp, eq_by_cmp}
 use Rattle.std.specs.Cmp.{nat_cmp_total}
 use Rattle.std.specs.FinMap.{FinMap, get, empty, remove, get-empty, get-remove}
 use Rattle.ref_pmap.specs.Joined.{joined, single}
-use Rattle.ref_pmap.specs.declared.bounds.Bounds.{Bounds}
-use Rattle.ref_pmap.specs.Trees.{IsFork}
-use Rattle.ref_pmap.proofs.Joins.{single_none, or_else, else_none, get_joined, get_single, by_key, same}
+use Rattle.ref_pmap.proofs.Joins.{single_none, or_else, get_joined, get_single, by_key, same}
 
 module _ {V : Type 0} where
   -- a key that isn't there isn't there after a removal
@@ -34,38 +32,6 @@ module _ {V : Type 0} where
       get_joined l (remove r k) q ∙ ap (or_else (get l q)) (get-remove nat_cmp_total r k q)
       ∙ by_key (λ b. or_else (get l q) (cond b None (get r q)) ≡ cond b None (or_else (get l q) (get r q))) q k (λ e. ap (λ x. or_else x None) (ap (get l) e ∙ none)) refl
       ∙ ap (cond (eq_by_cmp nat_cmp q k) None) (sym (get_joined l r q)) ∙ sym (get-remove nat_cmp_total (joined l r) k q))
-
-  joined_empty : (r : FinMap nat_cmp V) → joined empty r ≡ r
-  joined_empty r = same _ _ (λ q. get_joined empty r q ∙ ap (λ x. or_else x (get r q)) (get-empty nat_cmp q))
-
-  empty_joined : (l : FinMap nat_cmp V) → joined l empty ≡ l
-  empty_joined l = same _ _ (λ q. get_joined l empty q ∙ ap (or_else (get l q)) (get-empty nat_cmp q) ∙ else_none (get l q))
-
-  -- where nothing is left of a side, the other one is all
-  pub only_right : (l r : FinMap nat_cmp V) (k : ℕ) → get r k ≡ None → remove l k ≡ empty → r ≡ remove (joined l r) k
-  only_right l r k none e = sym (joined_empty r) ∙ ap (λ m. joined m r) (sym e) ∙ gone_left l r k none
-
-  pub only_left : (l r : FinMap nat_cmp V) (k : ℕ) → get l k ≡ None → remove r k ≡ empty → l ≡ remove (joined l r) k
-  only_left l r k none e = sym (empty_joined l) ∙ ap (joined l) (sym e) ∙ gone_right l r k none
-
-  -- a removal keeps what is known of a fork
-  pub fork_gone_left : (bounds : Bounds) (l r : FinMap nat_cmp V) (k : ℕ) → IsFork bounds l r → IsFork bounds (remove l k) r
-  fork_gone_left bounds l r k f = record {
-    ordered = f.ordered;
-    left_from = λ q less. gone_none l k q (f.left_from q less);
-    left_to = λ q more. gone_none l k q (f.left_to q more);
-    right_from = f.right_from;
-    right_to = f.right_to;
-  }
-
-  pub fork_gone_right : (bounds : Bounds) (l r : FinMap nat_cmp V) (k : ℕ) → IsFork bounds l r → IsFork bounds l (remove r k)
-  fork_gone_right bounds l r k f = record {
-    ordered = f.ordered;
-    left_from = f.left_from;
-    left_to = f.left_to;
-    right_from = λ q less. gone_none r k q (f.right_from q less);
-    right_to = λ q more. gone_none r k q (f.right_to q more);
-  }
 
   pub gone_other : (k key : ℕ) (v : V) → (k ≡ key → ⊥) → single k v ≡ remove (single k v) key
   gone_other k key v apart = gone_already (single k v) key (single_none k v key (λ e. apart (sym e)))

@@ -1,17 +1,20 @@
--- The entries of a fork in the order of their keys are those of its left side and then those of its right side: the left keys
--- come before the middle and the right ones don't, so both lists together rise.
-use Rattle.std.proofs.Common.{◌≡◌, ℕ, ◌<◌, ◌≤◌, Bool, true, false, cond, ◌&&◌, List, [], ◌∷◌, ◌++◌, length, Option, Some, None, refl, sym, ap, ◌∙◌, subst, arith, ⊎_elim}
+-- The entries of a fork in the order of their keys are those of its first side, then those of its second, and so on: the keys of a
+-- side come before those of the next.
+use Rattle.std.proofs.Common.{◌≡◌, ℕ, zero, suc, ◌+◌, ◌*◌, ◌/◌, ◌^◌, ◌<◌, ◌≤◌, Bool, true, false, cond, ◌&&◌, List, [], ◌∷◌, ◌++◌, length, Option, Some, None, refl, sym, ap, ◌∙◌, subst, arith, ⊎_elim}
+use Rattle.std.proofs.Math.Nat.{le-div_iff_mul-le}
+use Rattle.std.proofs.lemmas.Nat.{pow_pos}
 use Rattle.std.proofs.lemmas.Bool.{cases_lt}
 use Rattle.std.specs.Ordering.{nat_cmp, eq_by_cmp, is_eq, is_lt}
 use Rattle.std.specs.Cmp.{nat_cmp_total, tied_itself, nat_cmp_is}
 use Rattle.std.specs.declared.cmp.Ordering.TheVariants.{Less}
 use lib.Dec.{T}
-use Rattle.std.specs.FinMap.{FinMap, empty, entries, from_sorted, get-entries, get-from_entries, get-from_sorted, entries-from_sorted, entries_sorted, len-entries, len-empty, entries-insert}
+use Rattle.std.specs.FinMap.{FinMap, get, empty, entries, from_sorted, get-entries, get-from_entries, get-from_sorted, entries-from_sorted, entries_sorted, len-entries, len-empty, entries-insert}
 use Rattle.std.specs.FinMap.Entries.{find, is_sorted, below_all, put}
+use Rattle.std.specs.List.{flat_map}
 use Rattle.ref_pmap.specs.Joined.{joined, single}
-use Rattle.ref_pmap.specs.declared.bounds.Bounds.{Bounds}
-use Rattle.ref_pmap.specs.Trees.{IsFork}
+use Rattle.ref_pmap.specs.Trees.{all_joined, side_map}
 use Rattle.ref_pmap.proofs.Joins.{same}
+use Rattle.ref_pmap.proofs.Sides.{none_in_all}
 
 both : (a b : Bool) → T a → T b → T (a && b)
 both true b p q = q
@@ -27,6 +30,12 @@ second false b p = absurd p
 
 lt_test : (x y : ℕ) → x < y → T (is_lt (nat_cmp x y))
 lt_test x y h = subst (λ o. T (is_lt o)) (nat_cmp_is x y Less h) tt
+
+at_least : (s n q : ℕ) → n * 2 ^ s ≤ q → n ≤ q / 2 ^ s
+at_least s n q h = (le-div_iff_mul-le (pow_pos s)).1 h
+
+from_least : (s n q : ℕ) → n ≤ q / 2 ^ s → n * 2 ^ s ≤ q
+from_least s n q h = (le-div_iff_mul-le (pow_pos s)).0 h
 
 module _ {V : Type 0} where
   -- each key comes before mid
@@ -73,11 +82,11 @@ module _ {V : Type 0} where
   rising mid [] fs s t b a = t
   rising mid (e ∷ es) fs s t b a = both _ _ (below_both e.0 mid es fs (first _ _ s) b.0 a) (rising mid es fs (second _ _ s) t b.1 a)
 
-  pub entries_joined : (bounds : Bounds) (l r : FinMap nat_cmp V) → IsFork bounds l r → entries (joined l r) ≡ entries l ++ entries r
-  entries_joined bounds l r f =
-      let s = rising bounds.middle (entries l) (entries r) (entries_sorted l) (entries_sorted r)
-      (all_below bounds.middle (entries l) (λ q m. sym (get-entries l q) ∙ f.left_to q m))
-      (all_from bounds.middle (entries r) (λ q m. sym (get-entries r q) ∙ f.right_from q m)) in
+  entries_joined : (mid : ℕ) (l r : FinMap nat_cmp V) → ((q : ℕ) → mid ≤ q → get l q ≡ None) → ((q : ℕ) → q < mid → get r q ≡ None) → entries (joined l r) ≡ entries l ++ entries r
+  entries_joined mid l r left right =
+      let s = rising mid (entries l) (entries r) (entries_sorted l) (entries_sorted r)
+      (all_below mid (entries l) (λ q m. sym (get-entries l q) ∙ left q m))
+      (all_from mid (entries r) (λ q m. sym (get-entries r q) ∙ right q m)) in
       ap entries (same (joined l r) (from_sorted (entries l ++ entries r)) (λ q. get-from_entries nat_cmp_total (entries l ++ entries r) q ∙ sym (get-from_sorted nat_cmp (entries l ++ entries r) q s)))
       ∙ entries-from_sorted nat_cmp (entries l ++ entries r) s
 
@@ -90,3 +99,11 @@ module _ {V : Type 0} where
 
   pub entries_single : (k : ℕ) (v : V) → entries (single k v) ≡ (k, v) ∷ []
   entries_single k v = entries-insert nat_cmp_total empty k v ∙ ap (put nat_cmp k v) entries_empty
+
+  pub entries_all : (s n : ℕ) (ts : List (FinMap nat_cmp V × ℕ)) → ((i q : ℕ) → (q / 2 ^ s ≡ n + i → ⊥) → get (side_map ts i) q ≡ None) → entries (all_joined ts) ≡ flat_map (λ t. entries t.0) ts
+  entries_all s n [] apart = entries_empty
+  entries_all s n (t ∷ ts) apart =
+      entries_joined ((n + 1) * 2 ^ s) t.0 (all_joined ts)
+      (λ q m. let h = at_least s (n + 1) q m in apart zero q (λ e. omega arith))
+      (λ q l. none_in_all ts q (λ i. apart (suc i) q (λ e. let h = from_least s (n + 1) q (omega arith) in omega arith)))
+      ∙ ap (λ es. entries t.0 ++ es) (entries_all s (n + 1) ts (λ i q away. apart (suc i) q (λ e. away (omega arith))))

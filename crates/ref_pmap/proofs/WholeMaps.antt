@@ -1,12 +1,12 @@
 -- A map with its number of entries, and what a walk shows of it.
-use Rattle.std.proofs.Common.{◌≡◌, ℕ, ◌-◌, ◌+◌, true, cond, Option, None, Some, List, [], ◌∷◌, ◌++◌, refl, sym, ap, ◌∙◌}
+use Rattle.std.proofs.Common.{◌≡◌, ℕ, ◌-◌, ◌+◌, true, cond, List, [], ◌∷◌, ◌++◌, refl, sym, ap, ◌∙◌}
 use Rattle.std.specs.Prelude.{IsTrue, nat_eq}
 use Rattle.std.proofs.lemmas.Bool.{eqb-true, eq-eqb}
-use Rattle.std.specs.Option.{MatchOption, is_some}
+use Rattle.std.specs.Option.{is_some}
 use Rattle.std.specs.Ordering.{nat_cmp}
 use Rattle.std.specs.Cmp.{nat_cmp_total}
 use Rattle.std.specs.FinMap.{FinMap, get, empty, insert, remove, len, empty_of_len, get-empty, get-insert, len-empty, len-insert, len-remove}
-use Rattle.ref_pmap.specs.Whole.{map_of, shown}
+use Rattle.ref_pmap.specs.Whole.{shown}
 use denote.Bor.{Bor}
 pub use Rattle.ref_pmap.proofs.Removals.{gone_already}
 
@@ -16,11 +16,6 @@ module _ {V : Type 0} where
   -- a test of the length is one of the map
   pub empty_where : (n : ℕ) (m : FinMap nat_cmp V) → n ≡ len m → (IsTrue (nat_eq n 0) → m ≡ empty) × (m ≡ empty → IsTrue (nat_eq n 0))
   empty_where n m e = (λ zero. empty_of_len m (sym e ∙ eqb-true n 0 zero), λ none. eq-eqb n 0 (e ∙ ap len none ∙ len-empty nat_cmp V))
-
-  -- a tree that is left, or none, holds what the map is to hold
-  pub map_is : (o : Option (FinMap nat_cmp V × ℕ)) (m : FinMap nat_cmp V) → MatchOption o (m ≡ empty) (λ t. t.0 ≡ m) → map_of o ≡ m
-  map_is None m h = sym h
-  map_is (Some t) m h = h
 
   pub as_many : (m : FinMap nat_cmp V) (k : ℕ) (v : V) → is_some (get m k) ≡ true → len (insert m k v) ≡ len m
   as_many m k v e = len-insert nat_cmp_total m k v ∙ ap (λ b. cond b (len m) (len m + 1)) e

@@ -1,7 +1,7 @@
--- Two maps as one, and the bounds of a map's keys.
-use Rattle.std.specs.Prelude.{◌≡◌, ℕ, ◌<◌, ◌++◌, None}
+-- Two maps as one.
+use Rattle.std.specs.Prelude.{ℕ, ◌++◌}
 use Rattle.std.specs.Ordering.{nat_cmp}
-use Rattle.std.specs.FinMap.{FinMap, get, entries, empty, insert, from_entries}
+use Rattle.std.specs.FinMap.{FinMap, entries, empty, insert, from_entries}
 
 module _ {V : Type 0} where
   -- the entries of both; where both have a key, the first map's
@@ -11,8 +11,3 @@ module _ {V : Type 0} where
   -- the map with one entry
   abbrev pub single : ℕ → V → FinMap nat_cmp V
   single k v = insert empty k v
-
-  -- each key lies from `first` to `last`
-  pub record IsWithin (m : FinMap nat_cmp V) (first last : ℕ) : Type 0 where
-    pub from : (q : ℕ) → q < first → get m q ≡ None
-    pub to : (q : ℕ) → last < q → get m q ≡ None

@@ -1,25 +1,30 @@
--- What a node holds: its entries as a map, and its height.
-use Rattle.std.specs.Prelude.{◌≡◌, ℕ, ◌+◌, ◌<◌, ◌≤◌, max, None}
+-- What the sides of a fork hold together. A tree is seen as its entries and its height.
+use Rattle.std.specs.Prelude.{◌≡◌, ℕ, ◌+◌, ◌/◌, ◌^◌, List, [], ◌∷◌, length, get_or, None}
 use Rattle.std.specs.Ordering.{nat_cmp}
-use Rattle.std.specs.FinMap.{FinMap, get}
-use Rattle.ref_pmap.specs.Joined.{joined, single}
-use Rattle.ref_pmap.specs.declared.bounds.Bounds.{Bounds}
-use Rattle.ref_pmap.specs.declared.trees.Node.{Node}
-use Rattle.ref_pmap.specs.declared.trees.Node.TheVariants.{Leaf, Fork}
+use Rattle.std.specs.FinMap.{FinMap, get, empty}
+use Rattle.std.proofs.Math.ListN.{replicate}
+use denote.Param.Weighed.{most}
+use Rattle.ref_pmap.specs.Joined.{joined}
+use Rattle.ref_pmap.specs.declared.blocks.Block.{Block}
 
 module _ {V : Type 0} where
-  abbrev pub tree_of : Node V → FinMap nat_cmp V × ℕ
-  tree_of (Leaf k v) = (single k v, 0)
-  tree_of (Fork bounds l r) = (joined l.0 r.0, max l.1 r.1 + 1)
+  -- the entries of all sides
+  abbrev pub all_joined : List (FinMap nat_cmp V × ℕ) → FinMap nat_cmp V
+  all_joined [] = empty
+  all_joined (t ∷ ts) = joined t.0 (all_joined ts)
 
-  -- the keys on the left lie from the first bound on and before the middle, those on the right from the middle to the last bound
-  pub record IsFork (bounds : Bounds) (l r : FinMap nat_cmp V) : Type 0 where
-    pub ordered : (bounds.first < bounds.middle) × (bounds.middle ≤ bounds.last)
-    pub left_from : (q : ℕ) → q < bounds.first → get l q ≡ None
-    pub left_to : (q : ℕ) → bounds.middle ≤ q → get l q ≡ None
-    pub right_from : (q : ℕ) → q < bounds.middle → get r q ≡ None
-    pub right_to : (q : ℕ) → bounds.last < q → get r q ≡ None
+  -- one more than that of the highest side
+  abbrev pub height : List (FinMap nat_cmp V × ℕ) → ℕ
+  height ts = most (λ t. t.1 + 1) ts
 
-  abbrev pub IsTree : Node V → Type 0
-  IsTree (Leaf k v) = Unit {0}
-  IsTree (Fork bounds l r) = IsFork bounds l.0 r.0
+  -- the entries of one side; none, where there is no such side
+  abbrev pub side_map : List (FinMap nat_cmp V × ℕ) → ℕ → FinMap nat_cmp V
+  side_map ts i = (get_or ts i (empty, 0)).0
+
+  abbrev pub no_sides : List (FinMap nat_cmp V × ℕ)
+  no_sides = replicate 16 (empty, 0)
+
+  -- each key of a side is one of those that the block has for that side
+  pub record IsFork (block : Block) (ts : List (FinMap nat_cmp V × ℕ)) : Type 0 where
+    pub count : length ts ≡ 16
+    pub apart : (i q : ℕ) → (q / 2 ^ block.shift ≡ block.first + i → ⊥) → get (side_map ts i) q ≡ None

@@ -11,10 +11,10 @@
 //! | Call | Time, for n entries | Memory |
 //! |---|---|---|
 //! | `empty`, `len`, `is_empty` | constant | none |
-//! | `get` | a step for each level, of which there are at most 32, and about log2(n) where keys are close | none |
-//! | `with` | as `get`, twice | a block for the entry, and one for each fork on its way |
+//! | `get` | a step for each level, of which there are at most 8, and about log16(n) where keys are close | none |
+//! | `with` | as `get`, twice, and the sides of each fork on its way | a block for the entry, and one for each fork on its way |
 //! | `set` | as `get` | as `with`, but for what no other map has |
-//! | `without` | as `get`, twice | a block for each fork on its way; none where the key isn't there |
+//! | `without` | as `with` | a block for each fork on its way; none where the key isn't there |
 //! | `walk` | linear | the answer |
 //! | `share` | constant | none |
 //! | letting the last owner go | linear | |
@@ -23,21 +23,22 @@
 //! | `Numbered`: `set` | as `set` | as `set` |
 //! | `Numbered`: going over all | a `get` for each value | none |
 //!
-//! **How it is stored.** As a binary radix tree, which is also known as a Patricia tree; Okasaki and Gill's 'Fast Mergeable
-//! Integer Maps' has it as a persistent map. A fork stands for a block of numbers, of a power of two at a multiple of it, and its
-//! sides for the two halves; forks with an empty side are left out, so the tree needs no balancing. A new version shares
-//! all of the tree but the forks on the way to its key, and values are never copied. (Nodes with 16 and 32 sides, as in Clojure's
-//! maps, were measured: reads get faster and new versions slower, since a node that is copied counts an owner more of each side.)
+//! **How it is stored.** As a radix tree, which is also known as a Patricia tree, with forks of sixteen sides. A fork stands for a block of
+//! numbers, of which each side has a sixteenth: those that differ in their lowest bits alone. Forks with only one side are left out, so
+//! the tree needs no balancing. A new version shares all of the tree but the forks on the way to its key, and values are never copied.
 //!
-//! Each fork stores the bounds of its block, and `get` compares its key with these. So what is found rests on comparisons alone, and
-//! on no arithmetic of bits, which only shapes the tree.
+//! What a `with` or `set` copies, where another map has the whole tree: for 4,096 numbers from 0 on 3 forks, where forks of two sides would be
+//! 12, and an entry; for 64 numbers 2 forks in the place of 6. Each fork that is copied counts one owner more of each of its sides that
+//! isn't empty: 48 in all for 4,096 numbers, where forks of two sides would count 12; and 20 in the place of 6 for 64.
+//!
+//! `get` compares the bits of its key above those of a side with the block's. So what is found rests on a shift and a comparison.
 //!
 //! **Not promised.** Contracts see a finite map, and say what is in it. No contract speaks of time, of memory, of the height
 //! of the tree, or of which versions share what. Where memory is refused, `with` and `set` drop the value that they were passed: where it
 //! couldn't be made again, share it before the call.
 #![tactic(auto)]
 
-mod bounds;
+mod blocks;
 pub mod maps;
 pub mod numbered;
 mod trees;

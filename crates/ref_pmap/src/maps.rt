@@ -4,7 +4,7 @@ ghost use Rattle.std.specs.Option.{option_copied};
 ghost use Rattle.std.specs.FinMap as map;
 ghost use Rattle.ref_pmap.specs.Whole.{shown};
 
-use crate::trees::{Tree, add_entries, leaf};
+use crate::trees::{Tree, add_entries};
 use std::alloc::{AllocError, Global};
 use std::marker::Model;
 
@@ -12,7 +12,7 @@ use std::marker::Model;
 #[derive(Drop)]
 pub struct PMap<V> {
     len: usize,
-    tree: Option<Tree<V>>,
+    tree: Tree<V>,
 }
 
 impl<V> Model for PMap<V> {
@@ -25,11 +25,9 @@ impl<V> Model for PMap<V> {
 
     ghost coded = { map.code coded_ℕ V.code };
 
-    ghost use Rattle.ref_pmap.specs.Whole.{map_of};
+    ghost view = { λ a. a.tree.0 };
 
-    ghost view = { λ a. map_of a.tree };
-
-    ghost invariant = { λ a. a.len ≡ map.len (map_of a.tree) };
+    ghost invariant = { λ a. a.len ≡ map.len a.tree.0 };
 }
 
 impl<V: Drop> PMap<V> {
@@ -38,7 +36,10 @@ impl<V: Drop> PMap<V> {
     pub fn empty() -> PMap<V>
         ensures { result ≡ map.empty }
     {
-        PMap { len: 0, tree: None }
+        PMap {
+            len: 0,
+            tree: Tree::empty(),
+        }
     }
 
     /// How many entries there are, in constant time.
@@ -59,25 +60,18 @@ impl<V: Drop> PMap<V> {
     pub fn share(&self) -> Result<PMap<V>, AllocError>
         ensures { IfOk result (λ m. m ≡ self.now) }
     {
-        let tree = match &self.tree {
-            None => None,
-            Some(tree) => Some(tree.share()?),
-        };
         Ok(PMap {
             len: self.len,
-            tree,
+            tree: self.tree.share()?,
         })
     }
 
-    /// The value at a key, or `None` if there is none, in as many steps as the tree is deep: 32 at most.
+    /// The value at a key, or `None` if there is none, in as many steps as the tree is deep: 8 forks at most.
     #[tactic(auto, using(crate::proofs::WholeMaps::maps))]
     pub fn get(&self, key: u32) -> Option<&V>
         ensures { option_copied result ≡ map.get self.now key }
     {
-        match &self.tree {
-            None => None,
-            Some(tree) => tree.get(key),
-        }
+        self.tree.get(key)
     }
 
     /// The map with this value at the key, instead of the one that may be there. Where memory is refused, the value is dropped.
@@ -89,14 +83,9 @@ impl<V: Drop> PMap<V> {
             Some(_) => self.len,
             None => self.len.checked_add(1).ok_or(AllocError)?,
         };
-        let tree = match &self.tree {
-            None => leaf(alloc, key, value)?,
-            Some(tree) => tree.with(alloc, key, value)?,
-        };
-        Ok(PMap {
-            len,
-            tree: Some(tree),
-        })
+        let mut tree = self.tree.share()?;
+        tree.put(alloc, key, value)?;
+        Ok(PMap { len, tree })
     }
 
     /// Puts this value at the key, instead of the one that is there. On its way there, what other maps have too is copied, and the rest
@@ -107,39 +96,29 @@ impl<V: Drop> PMap<V> {
         ensures ok { OnOk result (self.new ≡ map.insert self.old key value) }
         ensures err { OnErr result (self.new ≡ self.old) }
     {
-        match &mut self.tree {
-            Some(tree) => tree.set(alloc, key, value),
-            None => Err(AllocError),
-        }
+        self.tree.put(alloc, key, value)
     }
 
     /// The map without the key: one more owner of this one, where the key isn't there.
-    #[tactic(auto, using(crate::proofs::WholeMaps::maps, crate::proofs::WholeMaps::map_is, crate::proofs::WholeMaps::gone_already, crate::proofs::WholeMaps::one_less))]
+    #[tactic(auto, using(crate::proofs::WholeMaps::maps, crate::proofs::WholeMaps::gone_already, crate::proofs::WholeMaps::one_less))]
     pub fn without(&self, alloc: Global, key: u32) -> Result<PMap<V>, AllocError>
         ensures { IfOk result (λ m. m ≡ map.remove self.now key) }
     {
-        let Some(tree) = &self.tree else {
-            return self.share();
-        };
-        if tree.get(key).is_none() {
+        if self.tree.get(key).is_none() {
             return self.share();
         }
-        let tree = tree.without(alloc, key)?;
         Ok(PMap {
             len: self.len.saturating_sub(1),
-            tree,
+            tree: self.tree.without(alloc, key)?,
         })
     }
 
     /// The entries in the order of their keys.
-    #[tactic(auto, using(crate::proofs::Rising::entries_empty))]
     pub fn walk(&self, alloc: Global) -> Result<Vec<(u32, &V)>, AllocError>
         ensures { IfOk result (λ entries. shown entries.items ≡ map.entries self.now) }
     {
         let mut entries = Vec::new(alloc);
-        if let Some(tree) = &self.tree {
-            add_entries(tree, &mut entries)?;
-        }
+        add_entries(&self.tree, &mut entries)?;
         Ok(entries)
     }
 }

@@ -1,28 +1,43 @@
-//! Trees with at least one entry.
-ghost use Rattle.std.specs.Prelude.{◌≡◌, ℕ, ◌+◌, ◌<◌, ◌≤◌, max, ◌⊎◌, ◌++◌, IfOk, OnErr, OnOk, MatchOption};
+//! Trees of entries.
+ghost use Rattle.std.specs.Prelude.{◌≡◌, ℕ, ◌+◌, ◌/◌, ◌^◌, ◌<◌, ◌≤◌, ◌++◌, IfOk, OnErr, OnOk, IsTrue, MatchOption};
 ghost use Rattle.std.specs.Option.{option_copied};
 ghost use Rattle.std.specs.FinMap as map;
-ghost use Rattle.ref_pmap.specs.Joined.{joined, single, IsWithin};
-ghost use Rattle.ref_pmap.specs.Trees.{IsFork};
+ghost use Rattle.ref_pmap.specs.Joined.{single};
+ghost use Rattle.ref_pmap.specs.Trees.{IsFork, all_joined, height, no_sides, side_map};
 ghost use Rattle.ref_pmap.specs.Whole.{shown};
 
-use crate::bounds::{Bounds, bounds_after, bounds_before};
+use crate::blocks::{Block, Parting, SIDES, parting_of};
 use std::alloc::{AllocError, Global};
 use std::marker::Model;
 use std::sync::Arc;
+use std::{array, mem};
 
-/// A tree with at least one entry. Contracts see the entries as a map, and the height.
+/// A tree of entries. Contracts see the entries as a map, and the height.
 #[cycle(tree)]
 #[derive(Drop)]
 pub(crate) struct Tree<V> {
-    node: Arc<Node<V>>,
+    node: Node<V>,
 }
 
 #[cycle(tree)]
 #[derive(Drop)]
 enum Node<V> {
-    Leaf(u32, V),
-    Fork(Bounds, Tree<V>, Tree<V>),
+    Empty,
+    Leaf(Arc<Entry<V>>),
+    Fork(Arc<Branch<V>>),
+}
+
+#[derive(Drop)]
+struct Entry<V> {
+    key: u32,
+    value: V,
+}
+
+#[cycle(tree)]
+#[derive(Drop)]
+struct Branch<V> {
+    block: Block,
+    sides: [Tree<V>; SIDES],
 }
 
 impl<V> Model for Tree<V> {
@@ -35,220 +50,275 @@ impl<V> Model for Tree<V> {
 
     ghost coded = { coded× (map.code coded_ℕ V.code) coded_ℕ };
 
-    ghost use Rattle.ref_pmap.specs.Trees.{tree_of, IsTree};
+    ghost use Rattle.ref_pmap.specs.Nodes.{tree_of, IsTree};
 
-    ghost view = { λ a. tree_of a.node.value };
+    ghost view = { λ a. tree_of a.node };
 
-    ghost invariant = { λ a. IsTree a.node.value };
+    ghost invariant = { λ a. IsTree a.node };
 
     ghost size = { λ t. t.1 };
 
     ghost use Rattle.ref_pmap.specs.Falls.{falls};
 
-    ghost size_decreases = { λ a h. falls a.node.value };
+    ghost size_decreases = { λ a h. falls a.node };
 }
 
-pub(crate) fn leaf<V: Drop>(alloc: Global, key: u32, value: V) -> Result<Tree<V>, AllocError>
+impl<V: Drop> Branch<V> {
+    // A fork without entries. It is no tree yet.
+    fn bare(block: Block) -> Branch<V>
+        ensures { result ≡ record { block = block; sides = no_sides } }
+    {
+        Branch {
+            block,
+            sides: array::from_fn(|_| Tree::empty()),
+        }
+    }
+
+    // The same fork once more, which shares the sides.
+    fn copied(&self) -> Result<Branch<V>, AllocError>
+        requires { IsFork self.now.block self.now.sides }
+        ensures { IfOk result (λ branch. branch ≡ self.now) }
+    {
+        let mut copy = Branch::bare(self.block);
+        for i in 0..SIDES {
+            copy.sides[i] = self.sides[i].share()?;
+        }
+        Ok(copy)
+    }
+
+    // A side such that all others are empty, if there is one.
+    fn only_side(&self) -> Option<usize>
+        requires { IsFork self.now.block self.now.sides }
+        ensures { MatchOption result (Unit {0}) (λ i. (i < 16) × ((j : ℕ) → (j ≡ i → ⊥) → side_map self.now.sides j ≡ map.empty)) }
+    {
+        let mut only = None;
+        for i in 0..SIDES {
+            if self.sides[i].is_empty() {
+                continue;
+            }
+            if only.is_some() {
+                return None;
+            }
+            only = Some(i);
+        }
+        only.or(Some(0))
+    }
+
+    // The tree of the entries: a fork, where more than one side has any.
+    fn into_tree(mut self, alloc: Global) -> Result<Tree<V>, AllocError>
+        requires { IsFork self.block self.sides }
+        ensures { IfOk result (λ t. t.0 ≡ all_joined self.sides) }
+    {
+        match self.only_side() {
+            Some(side) => Ok(mem::replace(&mut self.sides[side], Tree::empty())),
+            None => fork(alloc, self),
+        }
+    }
+}
+
+fn leaf<V: Drop>(alloc: Global, key: u32, value: V) -> Result<Tree<V>, AllocError>
     ensures { IfOk result (λ t. t ≡ (single key value, 0)) }
 {
-    let node = Arc::new(alloc, Node::Leaf(key, value))?;
-    Ok(Tree { node })
+    let entry = Arc::new(alloc, Entry { key, value })?;
+    Ok(Tree {
+        node: Node::Leaf(entry),
+    })
 }
 
-fn fork<V: Drop>(
-    alloc: Global,
-    bounds: Bounds,
-    left: Tree<V>,
-    right: Tree<V>,
-) -> Result<Tree<V>, AllocError>
-    requires { IsFork bounds left.0 right.0 }
-    ensures { IfOk result (λ t. t ≡ (joined left.0 right.0, max left.1 right.1 + 1)) }
+fn fork<V: Drop>(alloc: Global, branch: Branch<V>) -> Result<Tree<V>, AllocError>
+    requires { IsFork branch.block branch.sides }
+    ensures { IfOk result (λ t. t ≡ (all_joined branch.sides, height branch.sides)) }
 {
-    let node = Arc::new(alloc, Node::Fork(bounds, left, right))?;
-    Ok(Tree { node })
+    let branch = Arc::new(alloc, branch)?;
+    Ok(Tree {
+        node: Node::Fork(branch),
+    })
 }
 
 impl<V: Drop> Tree<V> {
+    /// A tree without entries.
+    pub(crate) fn empty() -> Tree<V>
+        ensures { result ≡ (map.empty, 0) }
+    {
+        Tree { node: Node::Empty }
+    }
+
+    fn is_empty(&self) -> bool
+        ensures { IsTrue result → self.now.0 ≡ map.empty }
+    {
+        matches!(&self.node, Node::Empty)
+    }
+
     pub(crate) fn share(&self) -> Result<Tree<V>, AllocError>
         ensures { IfOk result (λ t. t ≡ self.now) }
     {
-        Ok(Tree {
-            node: Arc::try_clone(&self.node)?,
-        })
+        let node = match &self.node {
+            Node::Empty => Node::Empty,
+            Node::Leaf(entry) => Node::Leaf(Arc::try_clone(entry)?),
+            Node::Fork(branch) => Node::Fork(Arc::try_clone(branch)?),
+        };
+        Ok(Tree { node })
     }
 
-    #[tactic(auto, using(crate::proofs::Joins::get_left, crate::proofs::Joins::get_right, crate::proofs::Joins::get_single))]
+    #[tactic(auto, using(crate::proofs::Sides::get_here, crate::proofs::Sides::get_outside, crate::proofs::Joins::get_single))]
     pub(crate) fn get(&self, key: u32) -> Option<&V>
         ensures { option_copied result ≡ map.get self.now.0 key }
     {
-        match &*self.node {
-            Node::Leaf(k, value) => { if *k == key { Some(value) } else { None } }
-            Node::Fork(bounds, left, right) => {
-                if key < bounds.middle {
-                    left.get(key)
+        match &self.node {
+            Node::Empty => None,
+            Node::Leaf(entry) => {
+                if entry.key == key {
+                    Some(&entry.value)
                 } else {
-                    right.get(key)
+                    None
+                }
+            }
+            Node::Fork(branch) => {
+                let branch = &**branch;
+                match branch.block.side_of(key) {
+                    Some(side) => branch.sides[side].get(key),
+                    None => None,
                 }
             }
         }
     }
 
-    // A fork of this tree, whose keys lie from `first` to `last`, and a leaf for a key outside of these.
-    #[tactic(auto, using(crate::proofs::Joins::join_before, crate::proofs::Joins::join_after))]
+    // A fork of this tree and of a leaf for a key that has another side.
     fn widened(
         &self,
         alloc: Global,
-        first: u32,
-        last: u32,
+        parting: Parting,
         key: u32,
         value: V,
     ) -> Result<Tree<V>, AllocError>
-        requires within { IsWithin self.now.0 first last }
-        requires ordered { first ≤ last }
-        requires outside { (key < first) ⊎ (last < key) }
+        requires old { (q : ℕ) → (q / 2 ^ parting.block.shift ≡ parting.block.first + parting.old_side → ⊥)
+            → map.get self.now.0 q ≡ None }
+        requires new { key / 2 ^ parting.block.shift ≡ parting.block.first + parting.new_side }
         ensures { IfOk result (λ t. t.0 ≡ map.insert self.now.0 key value) }
     {
-        let old = self.share()?;
-        let new = leaf(alloc, key, value)?;
-        if key < first {
-            let bounds = bounds_before(key, first, last);
-            fork(alloc, bounds, new, old)
-        } else {
-            let bounds = bounds_after(first, last, key);
-            fork(alloc, bounds, old, new)
-        }
-    }
-
-    /// The tree with this value at the key.
-    #[tactic(auto, using(crate::proofs::Joins::with_left, crate::proofs::Joins::with_right, crate::proofs::Joins::within_single, crate::proofs::Joins::single_again))]
-    pub(crate) fn with(&self, alloc: Global, key: u32, value: V) -> Result<Tree<V>, AllocError>
-        ensures { IfOk result (λ t. t.0 ≡ map.insert self.now.0 key value) }
-    {
-        match &*self.node {
-            Node::Leaf(k, _) => {
-                if *k == key {
-                    leaf(alloc, key, value)
-                } else {
-                    self.widened(alloc, *k, *k, key, value)
-                }
-            }
-            Node::Fork(bounds, left, right) => {
-                if key < bounds.first {
-                    self.widened(alloc, bounds.first, bounds.last, key, value)
-                } else if bounds.last < key {
-                    self.widened(alloc, bounds.first, bounds.last, key, value)
-                } else if key < bounds.middle {
-                    let right = right.share()?;
-                    let left = left.with(alloc, key, value)?;
-                    fork(alloc, *bounds, left, right)
-                } else {
-                    let left = left.share()?;
-                    let right = right.with(alloc, key, value)?;
-                    fork(alloc, *bounds, left, right)
-                }
-            }
-        }
-    }
-
-    // Whether the key may be put in below this node.
-    fn has_place(&self, key: u32) -> bool {
-        match &*self.node {
-            Node::Leaf(k, _) => *k == key,
-            Node::Fork(bounds, _, _) => bounds.first <= key && key <= bounds.last,
-        }
+        let mut branch = Branch::bare(parting.block);
+        branch.sides[parting.old_side] = self.share()?;
+        branch.sides[parting.new_side] = leaf(alloc, key, value)?;
+        fork(alloc, branch)
     }
 
     /// Puts this value at the key. On its way there, what has other owners is copied, and the rest changed in place.
-    #[tactic(auto, using(crate::proofs::Joins::with_left, crate::proofs::Joins::with_right, crate::proofs::Joins::single_again))]
-    pub(crate) fn set(&mut self, alloc: Global, key: u32, value: V) -> Result<(), AllocError>
+    #[cycle(put)]
+    pub(crate) fn put(&mut self, alloc: Global, key: u32, value: V) -> Result<(), AllocError>
         ensures ok { OnOk result (self.new.0 ≡ map.insert self.old.0 key value) }
         ensures err { OnErr result (self.new ≡ self.old) }
     {
-        if !self.has_place(key) {
-            *self = self.with(alloc, key, value)?;
-            return Ok(());
-        }
-        let Some(node) = Arc::get_mut(&mut self.node) else {
-            *self = self.with(alloc, key, value)?;
-            return Ok(());
-        };
-        match node {
-            Node::Leaf(k, v) => {
-                if *k != key {
-                    return Err(AllocError);
-                }
-                *v = value;
+        match &mut self.node {
+            Node::Empty => {
+                *self = leaf(alloc, key, value)?;
             }
-            Node::Fork(bounds, left, right) => {
-                if key < bounds.first || bounds.last < key {
-                    return Err(AllocError);
+            Node::Leaf(entry) => {
+                let old = entry.key;
+                if old != key {
+                    let parting = parting_of(0, old, key);
+                    *self = self.widened(alloc, parting, key, value)?;
+                    return Ok(());
                 }
-                if key < bounds.middle {
-                    left.set(alloc, key, value)?;
-                } else {
-                    right.set(alloc, key, value)?;
-                }
+                put_value(entry, alloc, value)?;
+            }
+            Node::Fork(branch) => {
+                let block = branch.block;
+                let Some(side) = block.side_of(key) else {
+                    let parting = block.parting_from(key);
+                    *self = self.widened(alloc, parting, key, value)?;
+                    return Ok(());
+                };
+                put_in_side(branch, alloc, side, key, value)?;
             }
         }
         Ok(())
     }
 
-    /// The tree without the key; `None` where nothing else is there.
-    #[tactic(auto, using(crate::proofs::Removals::gone_single, crate::proofs::Removals::gone_other, crate::proofs::Removals::gone_left, crate::proofs::Removals::gone_right, crate::proofs::Removals::only_right, crate::proofs::Removals::only_left))]
-    pub(crate) fn without(&self, alloc: Global, key: u32) -> Result<Option<Tree<V>>, AllocError>
-        ensures { IfOk result (λ o. MatchOption o (map.remove self.now.0 key ≡ map.empty)
-            (λ t. t.0 ≡ map.remove self.now.0 key)) }
+    /// The tree without the key.
+    pub(crate) fn without(&self, alloc: Global, key: u32) -> Result<Tree<V>, AllocError>
+        ensures { IfOk result (λ t. t.0 ≡ map.remove self.now.0 key) }
     {
-        match &*self.node {
-            Node::Leaf(k, _) => {
-                if *k == key {
-                    Ok(None)
+        match &self.node {
+            Node::Empty => Ok(Tree::empty()),
+            Node::Leaf(entry) => {
+                if entry.key == key {
+                    Ok(Tree::empty())
                 } else {
-                    let same = self.share()?;
-                    Ok(Some(same))
+                    self.share()
                 }
             }
-            Node::Fork(bounds, left, right) => {
-                if key < bounds.middle {
-                    let right = right.share()?;
-                    match left.without(alloc, key)? {
-                        None => Ok(Some(right)),
-                        Some(left) => {
-                            let tree = fork(alloc, *bounds, left, right)?;
-                            Ok(Some(tree))
-                        }
-                    }
-                } else {
-                    let left = left.share()?;
-                    match right.without(alloc, key)? {
-                        None => Ok(Some(left)),
-                        Some(right) => {
-                            let tree = fork(alloc, *bounds, left, right)?;
-                            Ok(Some(tree))
-                        }
-                    }
-                }
+            Node::Fork(branch) => {
+                let branch = &**branch;
+                let Some(side) = branch.block.side_of(key) else {
+                    return self.share();
+                };
+                let rest = branch.sides[side].without(alloc, key)?;
+                let mut copy = branch.copied()?;
+                copy.sides[side] = rest;
+                copy.into_tree(alloc)
             }
         }
     }
 }
 
+// Puts another value into an entry.
+fn put_value<V: Drop>(entry: &mut Arc<Entry<V>>, alloc: Global, value: V) -> Result<(), AllocError>
+    ensures ok { OnOk result (entry.new.value ≡ record { key = entry.old.value.key; value = value }) }
+    ensures err { OnErr result (entry.new.value ≡ entry.old.value) }
+{
+    if let Some(own) = Arc::get_mut(entry) {
+        own.value = value;
+        return Ok(());
+    }
+    let key = entry.key;
+    *entry = Arc::new(alloc, Entry { key, value })?;
+    Ok(())
+}
+
+// Puts a value at a key that belongs to this side of a fork.
+#[cycle(put)]
+fn put_in_side<V: Drop>(
+    branch: &mut Arc<Branch<V>>,
+    alloc: Global,
+    side: usize,
+    key: u32,
+    value: V,
+) -> Result<(), AllocError>
+    requires fork { IsFork branch.old.value.block branch.old.value.sides }
+    requires within { side < 16 }
+    requires place { key / 2 ^ branch.old.value.block.shift ≡ branch.old.value.block.first + side }
+    ensures fork { IsFork branch.new.value.block branch.new.value.sides }
+    ensures ok { OnOk result (all_joined branch.new.value.sides ≡ map.insert (all_joined branch.old.value.sides) key value) }
+    ensures err { OnErr result (branch.new.value ≡ branch.old.value) }
+{
+    if let Some(own) = Arc::get_mut(branch) {
+        return own.sides[side].put(alloc, key, value);
+    }
+    let mut copy = branch.copied()?;
+    copy.sides[side].put(alloc, key, value)?;
+    *branch = Arc::new(alloc, copy)?;
+    Ok(())
+}
+
 /// Puts the tree's entries, in the order of their keys, behind those that are there.
-#[tactic(auto, using(crate::proofs::Rising::entries_joined, crate::proofs::Rising::entries_single, crate::proofs::WholeMaps::shown_append))]
 pub(crate) fn add_entries<'a, V: Drop>(
     tree: &'a Tree<V>,
     out: &mut Vec<(u32, &'a V)>,
 ) -> Result<(), AllocError>
     ensures { OnOk result (shown out.new.items ≡ shown out.old.items ++ map.entries tree.now.0) }
 {
-    match &*tree.node {
-        Node::Leaf(key, value) => {
-            out.push((*key, value))?;
+    match &tree.node {
+        Node::Empty => Ok(()),
+        Node::Leaf(entry) => {
+            let entry = &**entry;
+            out.push((entry.key, &entry.value))?;
             Ok(())
         }
-        Node::Fork(_, left, right) => {
-            add_entries(left, out)?;
-            add_entries(right, out)?;
+        Node::Fork(branch) => {
+            let branch = &**branch;
+            for side in &branch.sides {
+                add_entries(side, out)?;
+            }
             Ok(())
         }
     }

@@ -13,7 +13,7 @@ use crate::faults::{Alien, CommitFault};
 use ref_fun::{Functions, Meaning, absent_agent};
 use ref_log::counting::moved_by_dones;
 use ref_log::{Done, Op, Sent, Side};
-use ref_tx::{Snapshot, Tx};
+use ref_tx::{Beginning, Tx};
 use ref_value::{Node, Value};
 
 // The first operation on a ref that isn't here, if there is one.
@@ -78,38 +78,25 @@ pub fn check_served<M: Meaning, F: Functions<M>>(
 
 // Whether somebody else changed a ref that the transaction protects, or one of these has another value than in the beginning. A ref
 // costs one look-up here, one in the beginning, and a comparison; so do several operations in a row that protect it.
-pub(crate) fn is_any_other<M: Meaning>(refs: &Refs, tx: &Tx<M>) -> bool
+pub(crate) fn is_any_other<M: Meaning, S: Beginning>(refs: &Refs, tx: &Tx<M, S>) -> bool
     requires { alien_ref refs.now.values tx.now.dones ≡ None }
     ensures unchanged { result ≡ false
         → first_protected refs.now.values tx.now.dones (changed_after refs.now.lasts tx.now.read_point) ≡ None }
     ensures same { result ≡ false
         → first_protected refs.now.values tx.now.dones (differs_at refs.now.values tx.now.began) ≡ None }
 {
-    let (began, read_point) = (tx.began(), tx.read_point());
+    let read_point = tx.read_point();
     let dones = tx.dones();
     let mut known = None;
+    let mut i = 0;
     for done in dones {
-        if protects_other(refs, began, read_point, known, done) {
+        if is_new(known, done) && is_other(refs, tx.start_of(i), read_point, done.r) {
             return true;
         }
         known = known_after(known, done);
+        i += 1;
     }
     false
-}
-
-// Whether an operation protects a ref, other than the known one, that has changed after a point or has another value than in the
-// beginning.
-fn protects_other(
-    refs: &Refs,
-    began: &Snapshot,
-    read_point: u64,
-    known: Option<u32>,
-    done: &Done,
-) -> bool
-    ensures { result ≡ (is_new known done.now && (changed_after refs.now.lasts read_point done.now.r
-        || differs_at refs.now.values began.now.values done.now.r)) }
-{
-    is_new(known, done) && is_other(refs, began, read_point, done.r)
 }
 
 // Whether an operation protects a ref, and another one than this, which is known.
@@ -137,20 +124,19 @@ fn known_after(known: Option<u32>, done: &Done) -> Option<u32>
 }
 
 // Whether a ref has changed after a point, or has another value than in the beginning.
-fn is_other(refs: &Refs, began: &Snapshot, read_point: u64, r: u32) -> bool
-    ensures { result ≡ (changed_after refs.now.lasts read_point r || differs_at refs.now.values began.now.values r) }
+fn is_other(refs: &Refs, start: Option<&Value>, read_point: u64, r: u32) -> bool
 {
     match refs.version(r) {
         None => false,
         Some(version) => {
             let is_changed = version.changed_at > read_point;
-            is_changed | differs(began.get(r), &version.value)
+            is_changed | differs(start, &version.value)
         }
     }
 }
 
 // The smallest protected ref that has changed after the read point.
-pub(crate) fn first_changed<M: Meaning>(refs: &Refs, tx: &Tx<M>) -> Option<u32>
+pub(crate) fn first_changed<M: Meaning, S: Beginning>(refs: &Refs, tx: &Tx<M, S>) -> Option<u32>
     requires { alien_ref refs.now.values tx.now.dones ≡ None }
     ensures { result ≡ first_protected refs.now.values tx.now.dones (changed_after refs.now.lasts tx.now.read_point) }
 {
@@ -167,18 +153,19 @@ pub(crate) fn first_changed<M: Meaning>(refs: &Refs, tx: &Tx<M>) -> Option<u32>
 
 // The smallest protected ref whose value isn't the one that the transaction began with. Several operations in a row that protect a ref
 // compare it once.
-pub(crate) fn first_differing<M: Meaning>(refs: &Refs, tx: &Tx<M>) -> Option<u32>
+pub(crate) fn first_differing<M: Meaning, S: Beginning>(refs: &Refs, tx: &Tx<M, S>) -> Option<u32>
     requires { alien_ref refs.now.values tx.now.dones ≡ None }
     ensures { result ≡ first_protected refs.now.values tx.now.dones (differs_at refs.now.values tx.now.began) }
 {
-    let began = tx.began();
     let dones = tx.dones();
     let (mut first, mut known) = (None, None);
+    let mut i = 0;
     for done in dones {
-        if protects_differing(refs, began, known, done) {
+        if is_new(known, done) && differs_at(refs, tx.start_of(i), done.r) {
             first = Some(smaller(first, done.r));
         }
         known = known_after(known, done);
+        i += 1;
     }
     first
 }
@@ -188,13 +175,6 @@ fn protects_changed(refs: &Refs, done: &Done, point: u64) -> bool
     ensures { result ≡ (not (is_commute done.now.op) && changed_after refs.now.lasts point done.now.r) }
 {
     !done.op.is_commute() && is_changed(refs, done.r, point)
-}
-
-// Whether an operation protects a ref, other than the known one, that has another value than in the beginning.
-fn protects_differing(refs: &Refs, began: &Snapshot, known: Option<u32>, done: &Done) -> bool
-    ensures { result ≡ (is_new known done.now && differs_at refs.now.values began.now.values done.now.r) }
-{
-    is_new(known, done) && differs_at(refs, began, done.r)
 }
 
 // Whether no ref has changed after a point.
@@ -220,12 +200,11 @@ fn is_changed(refs: &Refs, r: u32, point: u64) -> bool
 }
 
 // Whether a ref has another value now than in the beginning.
-fn differs_at(refs: &Refs, began: &Snapshot, r: u32) -> bool
-    ensures { result ≡ differs_at refs.now.values began.now.values r }
+fn differs_at(refs: &Refs, start: Option<&Value>, r: u32) -> bool
 {
     match refs.get(r) {
         None => false,
-        Some(now) => differs(began.get(r), now),
+        Some(now) => differs(start, now),
     }
 }
 

@@ -29,7 +29,7 @@ use crate::store::RefStore;
 use crate::watches::{are_unguarded, notices, touched_refs};
 use ref_fun::{Functions, Meaning};
 use ref_log::{Done, Entry, LAST_POINT, Notice, Side, Stamp, Transaction};
-use ref_tx::Tx;
+use ref_tx::{Beginning, Tx};
 use std::alloc::Global;
 
 /// A commit that was made: its entry for the log, and the notices for its watches.
@@ -70,7 +70,7 @@ impl<M: Meaning> RefStore<M> {
     /// Each operation costs time logarithmic in the number of refs. A protected ref costs a comparison of its value with the one
     /// of the beginning, which is linear in its size, once for several operations in a row; a `commute` of another ref costs its
     /// function, each changed ref the test of its rule and a notice for each of its watches.
-    pub fn commit<F: Functions<M>>(
+    pub fn commit<F: Functions<M>, S: Beginning>(
         &mut self,
         alloc: Global,
         funs: &F,
@@ -79,8 +79,8 @@ impl<M: Meaning> RefStore<M> {
         most_added: u64,
         most_taken: u64,
         stamp: Stamp,
-        tx: Tx<M>,
-    ) -> Result<Landed, (Tx<M>, CommitFault)>
+        tx: Tx<M, S>,
+    ) -> Result<Landed, (Tx<M, S>, CommitFault)>
         requires new { 1 ≤ at }
         requires last { are_unchanged_since self.old.lasts (at - 1) ≡ true }
         ensures refused { TellsBack commits.Memory (early_refusal (F.knows funs.now) self.old at agents tx)
@@ -115,7 +115,7 @@ impl<M: Meaning> RefStore<M> {
     }
 
     /// All of a commit that takes memory or may be refused. It changes nothing.
-    pub fn prepare<F: Functions<M>>(
+    pub fn prepare<F: Functions<M>, S: Beginning>(
         &self,
         alloc: Global,
         funs: &F,
@@ -124,7 +124,7 @@ impl<M: Meaning> RefStore<M> {
         most_added: u64,
         most_taken: u64,
         stamp: Stamp,
-        tx: &Tx<M>,
+        tx: &Tx<M, S>,
     ) -> Result<Prepared, CommitFault>
         ensures refused { TellsOrMemory commits.Memory (early_refusal (F.knows funs.now) self.now at agents tx.now)
             (commit_refusal M.means M.accepts (F.knows funs.now) self.now at agents most_added most_taken tx.now)
@@ -257,12 +257,12 @@ impl<M: Meaning> RefStore<M> {
     }
 
     // Asks all that can be asked before memory is taken.
-    fn check<F: Functions<M>>(
+    fn check<F: Functions<M>, S: Beginning>(
         &self,
         funs: &F,
         at: u64,
         agents: usize,
-        tx: &Tx<M>,
+        tx: &Tx<M, S>,
     ) -> Result<(), CommitFault>
         ensures refused { Tells (early_refusal (F.knows funs.now) self.now at agents tx.now) result }
         ensures here { OnOk result (alien_ref self.now.values tx.now.dones ≡ None) }
@@ -283,7 +283,7 @@ impl<M: Meaning> RefStore<M> {
     }
 
     // What of a transaction is foreign, but for its values.
-    fn check_foreign(&self, at: u64, agents: usize, tx: &Tx<M>) -> Result<(), CommitFault>
+    fn check_foreign<S: Beginning>(&self, at: u64, agents: usize, tx: &Tx<M, S>) -> Result<(), CommitFault>
         ensures refused { Tells (alien self.now at agents tx.now) result }
         ensures here { OnOk result (alien_ref self.now.values tx.now.dones ≡ None) }
         ensures fits { OnOk result (fit_tally self.now.tally tx.now.dones ≡ true) }
@@ -301,7 +301,7 @@ impl<M: Meaning> RefStore<M> {
         Ok(())
     }
 
-    fn check_conflict(&self, tx: &Tx<M>) -> Result<(), CommitFault>
+    fn check_conflict<S: Beginning>(&self, tx: &Tx<M, S>) -> Result<(), CommitFault>
         requires { alien_ref self.now.values tx.now.dones ≡ None }
         ensures refused { Tells (conflict self.now tx.now) result }
         ensures told { IfErr result (λ f. f ≢ commits.Memory) }
@@ -317,7 +317,7 @@ impl<M: Meaning> RefStore<M> {
         }
     }
 
-    fn check_values(&self, tx: &Tx<M>) -> Result<(), CommitFault>
+    fn check_values<S: Beginning>(&self, tx: &Tx<M, S>) -> Result<(), CommitFault>
         requires { alien_ref self.now.values tx.now.dones ≡ None }
         ensures refused { Tells (alien_value self.now.values tx.now) result }
         ensures told { IfErr result (λ f. f ≢ commits.Memory) }

@@ -15,18 +15,18 @@ use crate::drafts::Draft;
 use crate::faults::CommitFault;
 use ref_fun::{CallFault, Functions, Meaning};
 use ref_log::Done;
-use ref_tx::Tx;
+use ref_tx::{Beginning, Tx};
 use ref_value::Value;
 use std::alloc::Global;
 
 // The refs after the operations of a transaction, which come at a point. Each is made on the latest value of its ref, where
 // nobody else has changed a ref that the transaction protects.
-pub(crate) fn place_all<'a, M: Meaning, F: Functions<M>>(
+pub(crate) fn place_all<'a, M: Meaning, F: Functions<M>, S: Beginning>(
     alloc: Global,
     funs: &F,
     at: u64,
     refs: &'a Refs,
-    tx: &Tx<M>,
+    tx: &Tx<M, S>,
 ) -> Result<Draft<'a>, CommitFault>
     requires all { length refs.now.lasts ≡ length refs.now.values }
     requires here { alien_ref refs.now.values tx.now.dones ≡ None }

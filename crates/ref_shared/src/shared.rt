@@ -18,7 +18,7 @@ use ref_atoms::{AtomFault, Cas, Swapped};
 use ref_fun::{Action, Args, Functions, Meaning, Rule};
 use ref_log::{MakeFault, RuleFault, Stamp, WatchFault, Who};
 use ref_refs::CommitFault;
-use ref_tx::Tx;
+use ref_tx::{Beginning, Tx};
 use ref_value::Value;
 use ref_world::{Booked, Books, Receipt, Share, Totals, View, World};
 use std::alloc::{AllocError, Global};
@@ -97,15 +97,15 @@ impl<M: Meaning, L: Books> Shared<M, L> {
 
     /// Commits a transaction: see [`Booked::commit_with`]. The caller delivers the notices of the receipt to the watches, and
     /// then releases the commit's sends by [`Shared::release`]; [`Shared::transact`] does all of it.
-    pub fn commit<R: Wait, F: Functions<M>>(
+    pub fn commit<R: Wait, F: Functions<M>, S: Beginning>(
         &self,
         rt: &R,
         alloc: Global,
         funs: &F,
         share: &mut Share<L>,
         stamp: Stamp,
-        tx: Tx<M>,
-    ) -> Result<Receipt, (Tx<M>, CommitFault)>
+        tx: Tx<M, S>,
+    ) -> Result<Receipt, (Tx<M, S>, CommitFault)>
         ensures stamp { IfOk result (λ receipt. receipt.stamp ≡ stamp) }
         ensures share { IfOk result (λ receipt. HasCommitted stamp tx receipt.point share.old share.new) }
         ensures notices { IfOk result (λ receipt. AreCommitted M.means tx receipt.notices.items) }

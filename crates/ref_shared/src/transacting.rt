@@ -65,6 +65,9 @@ impl<M: Meaning, L: Books> Shared<M, L> {
             };
             gate.pass(Spot::AfterBody);
             let Dosync { tx, .. } = tx;
+            let Ok(tx) = tx.close(alloc) else {
+                return Err(TransactFault::Memory);
+            };
             let has_sends = !tx.sends().is_empty();
             match self.commit(rt, alloc, funs, share, stamp, tx) {
                 Ok(receipt) => {

@@ -160,6 +160,9 @@ impl<M: Meaning, L: Books> Shared<M, L> {
                 }
                 continue;
             };
+            let Ok(tx) = tx.close(alloc) else {
+                return Err(WaitFault::Transact(TransactFault::Memory));
+            };
             let has_sends = !tx.sends().is_empty();
             match self.commit(rt, alloc, funs, share, stamp, tx) {
                 Ok(receipt) => {

@@ -32,12 +32,14 @@
 //! much memory is taken, of which snapshots share what, or of the last changes in the snapshot that a `Tx` lends.
 #![tactic(auto)]
 
+pub mod beginnings;
 pub mod dosync;
 pub mod faults;
 pub mod snapshots;
 mod tables;
 pub mod transactions;
 
+pub use beginnings::{Beginning, Starts};
 pub use dosync::Dosync;
 pub use faults::TxFault;
 pub use snapshots::{Snapshot, Version};

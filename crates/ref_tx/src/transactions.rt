@@ -8,6 +8,7 @@ ghost use Rattle.ref_tx.specs.Inner.{IsTx, inner_value, has_ref, is_commuted, re
 ghost use Rattle.ref_tx.specs.declared.faults.TxFault.TheVariants.{NoSuchRef, Memory};
 
 use crate::faults::TxFault;
+use crate::beginnings::{Beginning, Starts};
 use crate::snapshots::Snapshot;
 use crate::tables::Table;
 use ref_fun::{Action, CallFault, Functions, Meaning, Rule, absent_agent, missing_fun};
@@ -21,9 +22,9 @@ use std::marker::{Model, PhantomData};
 ///
 /// A call costs a look-up among the refs that the transaction has operated on, and its function.
 #[derive(Drop)]
-pub struct Tx<M: Meaning> {
+pub struct Tx<M: Meaning, S: Beginning = Snapshot> {
     read_point: u64,
-    began: Snapshot,
+    began: S,
     dones: SharedVec<Done>,
     sends: SharedVec<Sent>,
     tally: Option<u32>,
@@ -32,7 +33,7 @@ pub struct Tx<M: Meaning> {
     of: PhantomData<M>,
 }
 
-impl<M: Meaning> Model for Tx<M> {
+impl<M: Meaning, S: Beginning> Model for Tx<M, S> {
     ghost use Rattle.std.specs.Coded.{codes};
     ghost use Rattle.ref_value.specs.Code.{edn_code};
     ghost use Rattle.ref_tx.specs.Inner.{IsTx};
@@ -45,15 +46,15 @@ impl<M: Meaning> Model for Tx<M> {
 
     ghost view = { λ a. record {
       read_point = a.read_point;
-      began = a.began.values;
+      began = S.values a.began;
       dones = a.dones;
       sends = a.sends;
       tally = a.tally;
       agents = a.agents;
     } };
 
-    ghost invariant = { λ a. IsTx M.means a.began.values a.dones a.tally
-        × IsTabled M.means a.began.values a.dones a.table };
+    ghost invariant = { λ a. IsTx M.means (S.values a.began) a.dones a.tally
+        × IsTabled M.means (S.values a.began) a.dones a.table };
 }
 
 impl<M: Meaning> Tx<M> {
@@ -88,13 +89,6 @@ impl<M: Meaning> Tx<M> {
         }
     }
 
-    /// The point as of which it reads.
-    pub fn read_point(&self) -> u64
-        ensures { result ≡ self.now.read_point }
-    {
-        self.read_point
-    }
-
     /// All refs as of the read point.
     pub fn began(&self) -> &Snapshot
         ensures { result.now.values ≡ self.now.began }
@@ -102,40 +96,31 @@ impl<M: Meaning> Tx<M> {
         &self.began
     }
 
-    /// The operations so far, each with its answer: the in-transaction value after it.
-    pub fn dones(&self) -> &[Done]
-        ensures value { result.now ≡ self.now.dones }
-        ensures kept { IsTx M.means self.now.began self.now.dones self.now.tally }
+    /// The transaction once its body is done: nothing more can be done in it, and it lets the other values of its beginning go.
+    pub fn close(self, alloc: Global) -> Result<Tx<M, Starts>, AllocError>
+        ensures { IfOk result (λ tx. tx ≡ self) }
     {
-        SharedVec::as_slice(&self.dones)
-    }
-
-    /// The operations so far, for one more owner of them all.
-    pub fn shared_dones(&self) -> &SharedVec<Done>
-        ensures { result.now ≡ self.now.dones }
-    {
-        &self.dones
-    }
-
-    /// Whether it has set, altered or ensured a ref. A look-up among the refs that it has operated on.
-    pub fn is_protected(&self, r: u32) -> bool
-        ensures { result ≡ is_protected self.now.dones r }
-    {
-        self.table.is_protected(self.dones.as_slice(), r)
-    }
-
-    /// What it sends when it is committed, in the order in which it was sent.
-    pub fn sends(&self) -> &[Sent]
-        ensures { result.now ≡ self.now.sends }
-    {
-        self.sends.as_slice()
-    }
-
-    /// What it sends when it is committed, for one more owner of it all.
-    pub fn shared_sends(&self) -> &SharedVec<Sent>
-        ensures { result.now ≡ self.now.sends }
-    {
-        &self.sends
+        let Tx {
+            read_point,
+            began,
+            dones,
+            sends,
+            tally,
+            agents,
+            table,
+            of,
+        } = self;
+        let began = Starts::of(alloc, began, dones.as_slice())?;
+        Ok(Tx {
+            read_point,
+            began,
+            dones,
+            sends,
+            tally,
+            agents,
+            table,
+            of,
+        })
     }
 
     /// The in-transaction value of a ref: Clojure's `deref`. It takes no memory.
@@ -308,6 +293,58 @@ impl<M: Meaning> Tx<M> {
         self.table.make_place(self.dones.as_slice())?;
         self.dones.push(alloc, Done { r, op, answer })?;
         Ok(value)
+    }
+}
+
+impl<M: Meaning, S: Beginning> Tx<M, S> {
+    /// The point as of which it reads.
+    pub fn read_point(&self) -> u64
+        ensures { result ≡ self.now.read_point }
+    {
+        self.read_point
+    }
+
+    /// The operations so far, each with its answer: the in-transaction value after it.
+    pub fn dones(&self) -> &[Done]
+        ensures value { result.now ≡ self.now.dones }
+        ensures kept { IsTx M.means self.now.began self.now.dones self.now.tally }
+    {
+        SharedVec::as_slice(&self.dones)
+    }
+
+    /// The operations so far, for one more owner of them all.
+    pub fn shared_dones(&self) -> &SharedVec<Done>
+        ensures { result.now ≡ self.now.dones }
+    {
+        &self.dones
+    }
+
+    /// Whether it has set, altered or ensured a ref. A look-up among the refs that it has operated on.
+    pub fn is_protected(&self, r: u32) -> bool
+        ensures { result ≡ is_protected self.now.dones r }
+    {
+        self.table.is_protected(self.dones.as_slice(), r)
+    }
+
+    /// What it sends when it is committed, in the order in which it was sent.
+    pub fn sends(&self) -> &[Sent]
+        ensures { result.now ≡ self.now.sends }
+    {
+        self.sends.as_slice()
+    }
+
+    /// What it sends when it is committed, for one more owner of it all.
+    pub fn shared_sends(&self) -> &SharedVec<Sent>
+        ensures { result.now ≡ self.now.sends }
+    {
+        &self.sends
+    }
+
+    /// What the ref of an operation had in the beginning, where the operation protects it.
+    pub fn start_of(&self, i: usize) -> Option<&Value>
+        requires { i < length self.now.dones }
+    {
+        self.began.start_of(i, self.dones.as_slice()[i].r)
     }
 }
 

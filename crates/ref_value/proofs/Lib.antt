@@ -11,3 +11,4 @@ pub mod Places
 pub mod Searched
 pub mod SetMembers
 pub mod MapKeys
+pub mod OneNode

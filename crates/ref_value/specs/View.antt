@@ -1,4 +1,5 @@
 -- What a node is as EDN data.
+use Rattle.std.specs.Prelude.{List, [], ◌∷◌}
 use Rattle.ref_value.specs.Edn.{Edn, nil, boolean, int, string, keyword, symbol, vector, map, set, items_of, entries_of}
 use Rattle.ref_value.specs.declared.data.Node.{Node}
 use Rattle.ref_value.specs.declared.data.Node.TheVariants.{Nil, Bool, Int, Str, Keyword, Symbol, Vector, Map, Set, ShortStr, ShortKeyword, ShortSymbol}
@@ -16,3 +17,8 @@ edn (Set xs) = set (items_of xs)
 edn (ShortStr s) = string s
 edn (ShortKeyword s) = keyword s
 edn (ShortSymbol s) = symbol s
+
+-- what the only node of a value is
+abbrev pub edn_of_one : List Node → Edn
+edn_of_one [] = nil
+edn_of_one (n ∷ ns) = edn n

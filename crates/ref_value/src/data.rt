@@ -22,12 +22,14 @@ pub const MOST_NESTED: u8 = 64;
 /// owners.
 #[cycle(value)]
 pub struct Value {
-    node: Node,
+    // A list of one: the compiler moves an array at once, and a node, which is an enum, in pieces.
+    node: [Node; 1],
 }
 
 // A function of its own, which each place that drops a value calls; a derived one would be written out there, with all that a
 // value may be made of.
 impl Drop for Value {
+    #[inline(never)]
     #[cycle(drop)]
     fn drop(self) {
         let Value { node: _node } = self;
@@ -59,7 +61,7 @@ pub enum Node {
 }
 
 impl Model for Value {
-    ghost use Rattle.std.specs.Prelude.{◌*◌};
+    ghost use Rattle.std.specs.Prelude.{◌≡◌, ◌*◌, length};
     ghost use Rattle.ref_value.specs.Edn.{Edn, nesting};
     ghost use Rattle.ref_value.specs.Code.{edn_code};
 
@@ -67,19 +69,19 @@ impl Model for Value {
 
     ghost coded = { edn_code };
 
-    ghost use Rattle.ref_value.specs.View.{edn};
+    ghost use Rattle.ref_value.specs.View.{edn_of_one};
 
-    ghost view = { λ a. edn a.node };
+    ghost view = { λ a. edn_of_one a.node };
 
     ghost use Rattle.ref_value.specs.Lawful.{IsLawful};
 
-    ghost invariant = { λ a. IsLawful (edn a.node) };
+    ghost invariant = { λ a. (length a.node ≡ 1) × IsLawful (edn_of_one a.node) };
 
     ghost size = { λ v. 300 * nesting v };
 
-    ghost use Rattle.ref_value.specs.Falls.{falls};
+    ghost use Rattle.ref_value.specs.Falls.{falls_one};
 
-    ghost size_decreases = { λ a h. falls a.node };
+    ghost size_decreases = { λ a h. falls_one a.node h.0 };
 }
 
 impl Node {
@@ -271,7 +273,7 @@ impl Value {
         ensures unlawful { OnErr result (¬ IsLawful (edn node)) }
     {
         if node.is_lawful() {
-            Ok(Value { node })
+            Ok(Value { node: [node] })
         } else {
             Err(node)
         }
@@ -282,15 +284,17 @@ impl Value {
         requires { IsLawful (edn node) }
         ensures { result ≡ edn node }
     {
-        Value { node }
+        Value { node: [node] }
     }
 
     /// What the value is: nil, a number, a text or a collection, to match on. Constant time.
+    #[tactic(auto, using(crate::proofs::OneNode::one_node))]
     pub fn node(&self) -> &Node
         ensures value { edn result.now ≡ self.now }
         ensures lawful { IsLawful self.now }
     {
-        &self.node
+        let [node] = &self.node;
+        node
     }
 
     /// One more owner. It takes no memory; only a count of owners can refuse.
@@ -298,7 +302,7 @@ impl Value {
         ensures { IfOk result (λ v. v ≡ self.now) }
     {
         Ok(Value {
-            node: self.node.share()?,
+            node: [self.node().share()?],
         })
     }
 
@@ -307,6 +311,6 @@ impl Value {
         ensures value { result ≡ nesting self.now }
         ensures lawful { IsLawful self.now }
     {
-        self.node.depth()
+        self.node().depth()
     }
 }

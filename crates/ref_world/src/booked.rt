@@ -36,7 +36,7 @@ use ref_atoms::{AtomFault, Cas, Change, Swapped};
 use ref_fun::{Args, Functions, Meaning};
 use ref_log::{MakeFault, Op, Shareable as _, Stamp, Who};
 use ref_refs::CommitFault;
-use ref_tx::Tx;
+use ref_tx::{Beginning, Tx};
 use ref_value::Value;
 use std::alloc::{AllocError, Global};
 
@@ -94,14 +94,14 @@ impl<M: Meaning, L: Books> Booked<M, L> {
     /// receipt: the entry and its point.
     ///
     /// A refused commit changes neither world nor share, and returns the transaction.
-    pub fn commit_with<F: Functions<M>>(
+    pub fn commit_with<F: Functions<M>, S: Beginning>(
         &mut self,
         alloc: Global,
         funs: &F,
         share: &mut Share<L>,
         stamp: Stamp,
-        tx: Tx<M>,
-    ) -> Result<Receipt, (Tx<M>, CommitFault)>
+        tx: Tx<M, S>,
+    ) -> Result<Receipt, (Tx<M, S>, CommitFault)>
         ensures refused { TellsBack commits.Memory (early_refusal (F.knows funs.now) self.old.world tx)
             (commit_refusal M.means M.accepts (F.knows funs.now) self.old.world tx) result }
         // The base stays, the log has one entry more, no atom is changed, and the sends stand in their queues.

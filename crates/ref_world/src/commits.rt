@@ -18,7 +18,7 @@ use ref_fun::{Functions, Meaning};
 use ref_log::{Entry, Notice, Sent, Shareable as _, Stamp};
 use ref_pvec::PVec;
 use ref_refs::{CommitFault, Landed, Prepared};
-use ref_tx::Tx;
+use ref_tx::{Beginning, Tx};
 use std::alloc::{AllocError, Global};
 
 /// What a commit returns: its point, its stamp, and the notices for the watches.
@@ -59,13 +59,13 @@ impl<M: Meaning> World<M> {
     /// send, logarithmic in the number of agents with actions that wait.
     ///
     /// [`Booked::commit_with`](crate::Booked::commit_with) counts the commit in a share, too.
-    pub fn commit<F: Functions<M>>(
+    pub fn commit<F: Functions<M>, S: Beginning>(
         &mut self,
         alloc: Global,
         funs: &F,
         stamp: Stamp,
-        tx: Tx<M>,
-    ) -> Result<Receipt, (Tx<M>, CommitFault)>
+        tx: Tx<M, S>,
+    ) -> Result<Receipt, (Tx<M, S>, CommitFault)>
         ensures refused { TellsBack commits.Memory (early_refusal (F.knows funs.now) self.old tx)
             (commit_refusal M.means M.accepts (F.knows funs.now) self.old tx) result }
         // The base stays, the log has one entry more, no atom is changed, and the sends stand in their queues.
@@ -97,12 +97,12 @@ impl<M: Meaning> World<M> {
     }
 
     // All tests of a commit, and its first growths. It changes nothing.
-    pub(crate) fn prepare<F: Functions<M>>(
+    pub(crate) fn prepare<F: Functions<M>, S: Beginning>(
         &self,
         alloc: Global,
         funs: &F,
         stamp: Stamp,
-        tx: &Tx<M>,
+        tx: &Tx<M, S>,
     ) -> Result<Prepared, CommitFault>
         ensures refused { TellsOrMemory commits.Memory (early_refusal (F.knows funs.now) self.now tx.now)
             (commit_refusal M.means M.accepts (F.knows funs.now) self.now tx.now) result }
@@ -118,13 +118,13 @@ impl<M: Meaning> World<M> {
     }
 
     // Makes a commit that was prepared. Where there is no memory for its entry and its sends it changes nothing.
-    pub(crate) fn install(
+    pub(crate) fn install<S: Beginning>(
         &mut self,
         alloc: Global,
         stamp: Stamp,
         prepared: Prepared,
-        tx: Tx<M>,
-    ) -> Result<Receipt, Tx<M>>
+        tx: Tx<M, S>,
+    ) -> Result<Receipt, Tx<M, S>>
         requires { IsReady M.means M.accepts self.old stamp tx prepared }
         ensures entry { OnOk result (self.new ≡ with_commit self.old (entry_of stamp tx) self.new.refs tx.sends) }
         ensures values { OnOk result (step M.means (point_of self.old + 1) (entry_of stamp tx)

@@ -1,12 +1,15 @@
-use Rattle.ref_pmap.proofs.Joins.{fork_before, fork_after}
+use Rattle.std.proofs.Common.{arith}
+use Rattle.ref_pmap.proofs.Sides.{two_fork, two_map}
+use Rattle.ref_pmap.proofs.Opened.{joined_then}
 use Rattle.ref_pmap.proofs.trees.Tree.widened.Goals as goal
 
 pub fork-requires : goal.fork-requires
-fork-requires g c =
-    let b = c.bounds_before-bounds.ensures in
-    rw (c.in_ok-new.ensures, c.in_ok-old.ensures) (fork_before _ c.args.first c.args.last c.args.key _ c.args.value c.requires.within c.requires.ordered b.0 b.1 b.2 b.3)
+fork-requires g c = (
+  omega arith,
+  rw (c.bare-branch.ensures, c.in_ok-branch.ensures, c.in_ok-branch-2.ensures)
+      (two_fork c.args.parting.block _ _ _ c.args.key c.args.value c.args.parting.old_within c.args.parting.new_within c.requires.old c.requires.new),
+)
 
-pub fork-requires-else-key-first : goal.fork-requires-else-key-first
-fork-requires-else-key-first g c =
-    let b = c.bounds_after-bounds.ensures in
-    rw (c.in_ok-new.ensures, c.in_ok-old.ensures) (fork_after _ c.args.first c.args.last c.args.key _ c.args.value c.requires.within c.requires.ordered b.0 b.1 b.2 b.3)
+pub returns : goal.returns
+returns g c = joined_then c.fork.result _ _ c.fork.ensures (rw (c.bare-branch.ensures, c.in_ok-branch.ensures, c.in_ok-branch-2.ensures)
+    (two_map c.args.parting.block _ _ _ c.args.key c.args.value c.args.parting.old_within c.args.parting.new_within c.args.parting.apart c.requires.old c.requires.new))
