@@ -184,6 +184,7 @@ impl<V: Drop> Tree<V> {
     }
 
     // A fork of this tree and of a leaf for a key that has another side.
+    #[inline(never)]
     fn widened(
         &self,
         alloc: Global,
@@ -294,10 +295,31 @@ fn put_in_side<V: Drop>(
     if let Some(own) = Arc::get_mut(branch) {
         return own.sides[side].put(alloc, key, value);
     }
+    *branch = put_in_copy(branch, alloc, side, key, value)?;
+    Ok(())
+}
+
+// The same fork once more, with a value put at a key that belongs to this side. A function of its own, since a function clears the memory of
+// its locals where it begins, and those of this one are large.
+#[inline(never)]
+#[cycle(put)]
+fn put_in_copy<V: Drop>(
+    branch: &Branch<V>,
+    alloc: Global,
+    side: usize,
+    key: u32,
+    value: V,
+) -> Result<Arc<Branch<V>>, AllocError>
+    requires fork { IsFork branch.now.block branch.now.sides }
+    requires within { side < 16 }
+    requires place { key / 2 ^ branch.now.block.shift ≡ branch.now.block.first + side }
+    ensures fork { IfOk result (λ copy. IsFork copy.value.block copy.value.sides) }
+    ensures ok { IfOk result (λ copy. all_joined copy.value.sides ≡ map.insert (all_joined branch.now.sides) key value) }
+{
     let mut copy = branch.copied()?;
     copy.sides[side].put(alloc, key, value)?;
-    *branch = Arc::new(alloc, copy)?;
-    Ok(())
+    let copy = Arc::new(alloc, copy)?;
+    Ok(copy)
 }
 
 /// Puts the tree's entries, in the order of their keys, behind those that are there.

@@ -1,6 +1,6 @@
 //! The tests before a commit.
 ghost use Rattle.ref_log.specs.Told.{Tells};
-ghost use Rattle.std.specs.Prelude.{◌≡◌, ◌≢◌, ◌||◌, ◌&&◌, [], ◌∷◌, false, None, Some, option_copied, IfErr, IfSome, is_some, nat_lt, not};
+ghost use Rattle.std.specs.Prelude.{◌≡◌, ◌≢◌, ◌||◌, ◌&&◌, [], ◌∷◌, false, None, Some, option_copied, IfErr, IfSome, is_some, nat_lt, not, slice_get};
 ghost use Rattle.ref_log.specs.Replay.{is_commute};
 ghost use Rattle.ref_log.specs.Tally.{fit_tally, is_count, moved_by_dones};
 ghost use Rattle.ref_refs.specs.Commit.{alien_agent, alien_ref, changed_after, differs, differs_at, first_protected, lacking};
@@ -85,18 +85,32 @@ pub(crate) fn is_any_other<M: Meaning, S: Beginning>(refs: &Refs, tx: &Tx<M, S>)
     ensures same { result ≡ false
         → first_protected refs.now.values tx.now.dones (differs_at refs.now.values tx.now.began) ≡ None }
 {
-    let read_point = tx.read_point();
     let dones = tx.dones();
-    let mut known = None;
-    let mut i = 0;
+    let (mut known, mut i) = (None, 0);
     for done in dones {
-        if is_new(known, done) && is_other(refs, tx.start_of(i), read_point, done.r) {
+        if protects_other(refs, tx, known, i, done) {
             return true;
         }
         known = known_after(known, done);
         i += 1;
     }
     false
+}
+
+// Whether an operation, the one with this number, protects a ref, other than the known one, that has changed after the read point or has
+// another value than in the beginning.
+fn protects_other<M: Meaning, S: Beginning>(
+    refs: &Refs,
+    tx: &Tx<M, S>,
+    known: Option<u32>,
+    i: usize,
+    done: &Done,
+) -> bool
+    requires { slice_get tx.now.dones i ≡ Some done.now }
+    ensures { result ≡ (is_new known done.now && (changed_after refs.now.lasts tx.now.read_point done.now.r
+        || differs_at refs.now.values tx.now.began done.now.r)) }
+{
+    is_new(known, done) && is_other(refs, tx.start_of(i), tx.read_point(), done.r)
 }
 
 // Whether an operation protects a ref, and another one than this, which is known.
@@ -123,8 +137,10 @@ fn known_after(known: Option<u32>, done: &Done) -> Option<u32>
     }
 }
 
-// Whether a ref has changed after a point, or has another value than in the beginning.
+// Whether a ref has changed after a point, or has another value than this, which it began with.
 fn is_other(refs: &Refs, start: Option<&Value>, read_point: u64, r: u32) -> bool
+    ensures { result ≡ (changed_after refs.now.lasts read_point r
+        || differs (option_copied start.entry) (slice_get refs.now.values r)) }
 {
     match refs.version(r) {
         None => false,
@@ -158,10 +174,9 @@ pub(crate) fn first_differing<M: Meaning, S: Beginning>(refs: &Refs, tx: &Tx<M, 
     ensures { result ≡ first_protected refs.now.values tx.now.dones (differs_at refs.now.values tx.now.began) }
 {
     let dones = tx.dones();
-    let (mut first, mut known) = (None, None);
-    let mut i = 0;
+    let (mut first, mut known, mut i) = (None, None, 0);
     for done in dones {
-        if is_new(known, done) && differs_at(refs, tx.start_of(i), done.r) {
+        if protects_differing(refs, tx, known, i, done) {
             first = Some(smaller(first, done.r));
         }
         known = known_after(known, done);
@@ -175,6 +190,20 @@ fn protects_changed(refs: &Refs, done: &Done, point: u64) -> bool
     ensures { result ≡ (not (is_commute done.now.op) && changed_after refs.now.lasts point done.now.r) }
 {
     !done.op.is_commute() && is_changed(refs, done.r, point)
+}
+
+// Whether an operation, the one with this number, protects a ref, other than the known one, that has another value than in the beginning.
+fn protects_differing<M: Meaning, S: Beginning>(
+    refs: &Refs,
+    tx: &Tx<M, S>,
+    known: Option<u32>,
+    i: usize,
+    done: &Done,
+) -> bool
+    requires { slice_get tx.now.dones i ≡ Some done.now }
+    ensures { result ≡ (is_new known done.now && differs_at refs.now.values tx.now.began done.now.r) }
+{
+    is_new(known, done) && differs_at(refs, tx.start_of(i), done.r)
 }
 
 // Whether no ref has changed after a point.
@@ -199,8 +228,9 @@ fn is_changed(refs: &Refs, r: u32, point: u64) -> bool
     }
 }
 
-// Whether a ref has another value now than in the beginning.
+// Whether a ref has another value now than this, which it began with.
 fn differs_at(refs: &Refs, start: Option<&Value>, r: u32) -> bool
+    ensures { result ≡ differs (option_copied start.entry) (slice_get refs.now.values r) }
 {
     match refs.get(r) {
         None => false,

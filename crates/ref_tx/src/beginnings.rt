@@ -1,5 +1,7 @@
 //! What a transaction holds of the values that it began with.
-ghost use Rattle.std.specs.Prelude.{◌≡◌, List};
+ghost use Rattle.std.specs.Prelude.{◌≡◌, ℕ, List, Option, IfOk, drop, map, option_copied, slice_get};
+ghost use Rattle.std.specs.Option.{option_map};
+ghost use Rattle.ref_tx.specs.Starts.{HasStarts, flat, kept_at, start_in, start_of};
 ghost use Rattle.ref_value.specs.Edn.{Edn};
 
 use crate::snapshots::Snapshot;
@@ -8,44 +10,55 @@ use ref_value::Value;
 use std::alloc::{AllocError, Global};
 use std::snapshot;
 
-/// What a transaction holds of the values that it began with.
+/// What a transaction holds of the values that it began with: all of them while it is open, and once it is closed those that its commit
+/// asks for.
 pub trait Beginning: Drop {
+    /// The values of all refs in the beginning.
     ghost values: { Self → List Edn };
 
-    fn start_of(&self, i: usize, r: u32) -> Option<&Value>;
+    /// What is held for the operation of a number, on a ref.
+    ghost start_at: { Self → ℕ → ℕ → Option Edn };
+
+    /// What is held for the operation of this number, which is on this ref.
+    fn start_of(&self, i: usize, r: u32) -> Option<&Value>
+        ensures { option_copied result ≡ start_at self.now i r };
 }
 
 impl Beginning for Snapshot {
     ghost values = { λ s. s.values };
+
+    ghost start_at = { λ s i r. slice_get s.values r };
 
     fn start_of(&self, _i: usize, r: u32) -> Option<&Value> {
         self.get(r)
     }
 }
 
+/// What the refs of some operations began with, as far as these protect their refs. The values of the first two have places of their own,
+/// since few transactions have more operations.
 #[derive(Drop)]
 pub struct Starts {
-    starts: Vec<Option<Value>>,
+    first: Option<Value>,
+    second: Option<Value>,
+    others: Vec<Option<Value>>,
     began: snapshot::Snapshot<Snapshot>,
 }
 
 impl Starts {
-    pub(crate) fn of(alloc: Global, began: Snapshot, dones: &[Done]) -> Result<Starts, AllocError> {
-        let mut starts = Vec::with_capacity(alloc, dones.len())?;
-        for done in dones {
-            let start = if done.op.is_commute() {
-                None
-            } else {
-                match began.get(done.r) {
-                    Some(value) => Some(value.share()?),
-                    None => None,
-                }
-            };
-            starts.push(start)?;
-        }
+    /// Of these operations, over these values. It takes memory for more than two operations.
+    #[tactic(auto, using(crate::proofs::Kept::has_starts))]
+    pub(crate) fn of(alloc: Global, began: &Snapshot, dones: &[Done]) -> Result<Starts, AllocError>
+        ensures began { IfOk result (λ s. s.began.value ≡ began.now) }
+        ensures starts { IfOk result (λ s. HasStarts began.now.values (λ i r. kept_at s.first s.second s.others.items i) dones.now) }
+    {
+        let first = start_of(began, dones.get(0))?;
+        let second = start_of(began, dones.get(1))?;
+        let others = starts_in(alloc, began, behind_two(dones))?;
         Ok(Starts {
-            starts,
-            began: snapshot::Snapshot::of(&began),
+            first,
+            second,
+            others,
+            began: snapshot::Snapshot::of(began),
         })
     }
 }
@@ -53,7 +66,68 @@ impl Starts {
 impl Beginning for Starts {
     ghost values = { λ s. s.began.value.values };
 
+    ghost start_at = { λ s i r. kept_at s.first s.second s.others.items i };
+
+    #[tactic(auto, using(crate::proofs::Kept::kept_late))]
     fn start_of(&self, i: usize, _r: u32) -> Option<&Value> {
-        self.starts[i].as_ref()
+        match i {
+            0 => self.first.as_ref(),
+            1 => self.second.as_ref(),
+            _ => match self.others.get(i - 2) {
+                Some(start) => start.as_ref(),
+                None => None,
+            },
+        }
+    }
+}
+
+// All operations but the first two.
+fn behind_two(dones: &[Done]) -> &[Done]
+    ensures { result.now ≡ drop 2 dones.now }
+{
+    if dones.len() <= 2 {
+        return &[];
+    }
+    &dones[2..]
+}
+
+// What the refs of these operations began with, each as far as it is protected by its operation.
+fn starts_in(
+    alloc: Global,
+    began: &Snapshot,
+    dones: &[Done],
+) -> Result<Vec<Option<Value>>, AllocError>
+    ensures { IfOk result (λ starts. starts.items ≡ map (start_in began.now.values) dones.now) }
+{
+    let mut starts = Vec::with_capacity(alloc, dones.len())?;
+    for done in dones {
+        let start = start_in(began, done)?;
+        starts.push(start)?;
+    }
+    Ok(starts)
+}
+
+fn start_of(began: &Snapshot, done: Option<&Done>) -> Result<Option<Value>, AllocError>
+    ensures { IfOk result (λ start. start ≡ start_of began.now.values (option_copied done.entry)) }
+{
+    match done {
+        Some(done) => start_in(began, done),
+        None => Ok(None),
+    }
+}
+
+// What the ref of an operation began with, if the operation protects it.
+fn start_in(began: &Snapshot, done: &Done) -> Result<Option<Value>, AllocError>
+    ensures { IfOk result (λ start. start ≡ start_in began.now.values done.now) }
+{
+    if done.op.is_commute() {
+        return Ok(None);
+    }
+    match began.get(done.r) {
+        Some(value) => {
+            let value = value.share()?;
+            Ok(Some(value))
+        }
+        None => Ok(None),
     }
 }

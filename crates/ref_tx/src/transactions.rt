@@ -1,14 +1,15 @@
 //! An open transaction.
 ghost use Rattle.ref_log.specs.Told.{AnswersOrMemory, Tells, TellsThenMemory};
-ghost use Rattle.std.specs.Prelude.{◌≡◌, ◌≢◌, [], true, false, Ok, Err, Some, None, IfOk, IfErr, OnOk, OnErr};
+ghost use Rattle.std.specs.Prelude.{◌≡◌, ◌≢◌, ◌<◌, [], true, false, Ok, Err, Some, None, IfOk, IfErr, OnOk, OnErr, length, option_copied, slice_get};
+ghost use Rattle.ref_log.specs.declared.operations.Done.{Done};
 ghost use Rattle.ref_log.specs.Replay.{codes_of, is_commute, is_protected, missing, place};
 ghost use Rattle.ref_log.specs.declared.operations.Op.TheVariants.{Set, Alter, Commute, Ensure};
 ghost use Rattle.ref_log.specs.Tally.{is_tally};
 ghost use Rattle.ref_tx.specs.Inner.{IsTx, inner_value, has_ref, is_commuted, refusal, refusal_by, early_refusal, answer_of, and_place, called, send_refusal, unmet, with_done, with_sent};
 ghost use Rattle.ref_tx.specs.declared.faults.TxFault.TheVariants.{NoSuchRef, Memory};
 
-use crate::faults::TxFault;
 use crate::beginnings::{Beginning, Starts};
+use crate::faults::TxFault;
 use crate::snapshots::Snapshot;
 use crate::tables::Table;
 use ref_fun::{Action, CallFault, Functions, Meaning, Rule, absent_agent, missing_fun};
@@ -53,8 +54,11 @@ impl<M: Meaning, S: Beginning> Model for Tx<M, S> {
       agents = a.agents;
     } };
 
+    ghost use Rattle.ref_tx.specs.Starts.{HasStarts};
+
     ghost invariant = { λ a. IsTx M.means (S.values a.began) a.dones a.tally
-        × IsTabled M.means (S.values a.began) a.dones a.table };
+        × IsTabled M.means (S.values a.began) a.dones a.table
+        × HasStarts (S.values a.began) (S.start_at a.began) a.dones };
 }
 
 impl<M: Meaning> Tx<M> {
@@ -96,7 +100,9 @@ impl<M: Meaning> Tx<M> {
         &self.began
     }
 
-    /// The transaction once its body is done: nothing more can be done in it, and it lets the other values of its beginning go.
+    /// The transaction once its body is done, for a commit: nothing more can be done in it. Of the values that it began with it holds those of the
+    /// refs that it protects, and lets all others go, so that they can be changed in place. Linear in the number of operations. It takes memory
+    /// for more than two operations; where that is refused, the transaction is dropped.
     pub fn close(self, alloc: Global) -> Result<Tx<M, Starts>, AllocError>
         ensures { IfOk result (λ tx. tx ≡ self) }
     {
@@ -110,10 +116,10 @@ impl<M: Meaning> Tx<M> {
             table,
             of,
         } = self;
-        let began = Starts::of(alloc, began, dones.as_slice())?;
+        let starts = Starts::of(alloc, &began, dones.as_slice())?;
         Ok(Tx {
             read_point,
-            began,
+            began: starts,
             dones,
             sends,
             tally,
@@ -340,11 +346,14 @@ impl<M: Meaning, S: Beginning> Tx<M, S> {
         &self.sends
     }
 
-    /// What the ref of an operation had in the beginning, where the operation protects it.
+    /// What the ref of an operation had in the beginning, for the operation of this number, where that protects its ref.
     pub fn start_of(&self, i: usize) -> Option<&Value>
         requires { i < length self.now.dones }
+        ensures { (d : Done) → slice_get self.now.dones i ≡ Some d → is_commute d.op ≡ false
+            → option_copied result ≡ slice_get self.now.began d.r }
     {
-        self.began.start_of(i, self.dones.as_slice()[i].r)
+        let done = &self.dones.as_slice()[i];
+        self.began.start_of(i, done.r)
     }
 }
 

@@ -35,10 +35,10 @@ pub put_in_side-returns-in-Some-clause-ok : goal.put_in_side-returns-in-Some-cla
 put_in_side-returns-in-Some-clause-ok g t c =
     put_branch_map _ _ c.args.side c.args.key c.args.value _ _ c.put.result c.in-Some.ensures.value c.requires.fork c.requires.within c.requires.place c.put.ensures.ok
 
-pub put_in_side-returns-clause-fork : goal.put_in_side-returns-clause-fork
-put_in_side-returns-clause-fork g t c = rw c.in_ok-branch.ensures.ok
-    (put_branch_fork _ _ c.args.side c.args.key c.args.value _ _ c.put-2.result (c.in_ok-copy.ensures ∙ c.deref.ensures) c.requires.fork c.requires.within c.requires.place c.put-2.ensures.ok c.put-2.ensures.err)
+pub put_in_copy-returns-clause-fork : goal.put_in_copy-returns-clause-fork
+put_in_copy-returns-clause-fork g t c = rw c.in_ok-copy-2.ensures.ok
+    (put_branch_fork _ _ c.args.side c.args.key c.args.value _ _ c.put.result c.in_ok-copy.ensures c.requires.fork c.requires.within c.requires.place c.put.ensures.ok c.put.ensures.err)
 
-pub put_in_side-returns-clause-ok : goal.put_in_side-returns-clause-ok
-put_in_side-returns-clause-ok g t c = rw c.in_ok-branch.ensures.ok
-    (put_branch_map {E = AllocError} _ _ c.args.side c.args.key c.args.value _ _ (Ok c.in_ok-put.field-0) (c.in_ok-copy.ensures ∙ c.deref.ensures) c.requires.fork c.requires.within c.requires.place c.in_ok-put.ensures.ok)
+pub put_in_copy-returns-clause-ok : goal.put_in_copy-returns-clause-ok
+put_in_copy-returns-clause-ok g t c = rw c.in_ok-copy-2.ensures.ok
+    (put_branch_map {E = AllocError} _ _ c.args.side c.args.key c.args.value _ _ (Ok c.in_ok-put.field-0) c.in_ok-copy.ensures c.requires.fork c.requires.within c.requires.place c.in_ok-put.ensures.ok)
