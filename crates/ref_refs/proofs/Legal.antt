@@ -63,6 +63,16 @@ ensured_answer means op there v answer is found kept =
     let placed = sym (ap (option_map (place means op)) found ∙ ap Some (ensure_keeps means op v is)) ∙ kept in
     cc
 
+-- the value of a ref that is there
+pub there : (values : List Edn) (r : ℕ) → r < length values → (v : Edn) × (slice_get values r ≡ Some v)
+there values r here = (get_or values r nil, slice_get-get_or values r nil here)
+
+-- what an operation makes of it
+pub made_of : (means : Means) (op : Op) (o : Option Edn) (old v : Edn) → o ≡ Some old → option_map (place means op) o ≡ Some (Ok v) → place means op old ≡ Ok v
+made_of means op o old v is makes =
+    let made : Some (place means op old) ≡ Some (Ok v) = sym (ap (option_map (place means op)) is) ∙ makes in
+    cc
+
 -- ---- all operations, one at a time
 
 -- the first of those that are left

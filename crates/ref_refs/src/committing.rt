@@ -283,7 +283,12 @@ impl<M: Meaning> RefStore<M> {
     }
 
     // What of a transaction is foreign, but for its values.
-    fn check_foreign<S: Beginning>(&self, at: u64, agents: usize, tx: &Tx<M, S>) -> Result<(), CommitFault>
+    fn check_foreign<S: Beginning>(
+        &self,
+        at: u64,
+        agents: usize,
+        tx: &Tx<M, S>,
+    ) -> Result<(), CommitFault>
         ensures refused { Tells (alien self.now at agents tx.now) result }
         ensures here { OnOk result (alien_ref self.now.values tx.now.dones ≡ None) }
         ensures fits { OnOk result (fit_tally self.now.tally tx.now.dones ≡ true) }

@@ -80,13 +80,10 @@ fn place_one<M: Meaning, F: Functions<M>>(
     ensures fault { IfErr result (λ f. f ≢ Memory → (ds : List Done)
         → refused M.means (done.now ∷ ds) refs.old.values ≡ Some f) }
 {
-    let Some(value) = refs.get(done.r) else {
-        unreachable!();
-    };
     if done.op.is_ensure() {
         return Ok(());
     }
-    let value = next_value(alloc, funs, is_free, done, value)?;
+    let value = next_value(alloc, funs, is_free, done, refs)?;
     refs.set(alloc, done.r, value, at)?;
     Ok(())
 }
@@ -98,19 +95,26 @@ fn next_value<M: Meaning, F: Functions<M>>(
     funs: &F,
     is_free: bool,
     done: &Done,
-    value: &Value,
+    refs: &Draft<'_>,
 ) -> Result<Value, CommitFault>
+    requires here { done.now.r < length refs.now.values }
     requires served { missing (F.knows funs.now).funs (commuted_code done.now.op) ≡ None }
     requires free { is_free ≡ true → is_commute done.now.op ≡ true }
-    requires kept { is_free ≡ false → place M.means done.now.op value.now ≡ Ok done.now.answer }
-    ensures ok { IfOk result (λ v. place M.means done.now.op value.now ≡ Ok v) }
+    requires kept { is_free ≡ false → option_map (place M.means done.now.op) (slice_get refs.now.values done.now.r)
+        ≡ Some (Ok done.now.answer) }
+    ensures ok { IfOk result (λ v. option_map (place M.means done.now.op) (slice_get refs.now.values done.now.r)
+        ≡ Some (Ok v)) }
     ensures answers { IfOk result (λ v. is_free ≡ false → v ≡ done.now.answer) }
     ensures fault { IfErr result (λ f. f ≢ Memory → (later : Edn → Option Fault)
-        → refused_at done.now.r (Some (place M.means done.now.op value.now)) later ≡ Some f) }
+        → refused_at done.now.r (option_map (place M.means done.now.op) (slice_get refs.now.values done.now.r)) later
+        ≡ Some f) }
 {
     if !is_free {
         return Ok(done.answer.share()?);
     }
+    let Some(value) = refs.get(done.r) else {
+        unreachable!();
+    };
     again(alloc, funs, done, value)
 }
 
