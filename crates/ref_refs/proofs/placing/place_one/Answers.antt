@@ -1,4 +1,5 @@
 use Rattle.std.proofs.Common.{Ok, ◌∙◌, ap, slice_get, slice_set, sym}
+use Rattle.std.proofs.lemmas.Result.{err_from_is_err_and}
 use Rattle.ref_refs.specs.Commit.{refused}
 use Rattle.ref_refs.proofs.Legal.{stepped_one, refused_one, others_stay, answered, ensure_keeps, ensured_answer, ensured_stays, made_of, there}
 use Rattle.ref_refs.proofs.placing.place_one.Goals as goal
@@ -48,5 +49,6 @@ returns-then-is_ensure-clause-unrefused g c = λ ds.
     ∙ ap (refused means ds) (ensured_stays values d.r before.0 before.1)
 
 pub returns-in_err-value-clause-fault : goal.returns-in_err-value-clause-fault
-returns-in_err-value-clause-fault g c = λ other ds.
-    c.in_err-value.ensures.fault other (λ v. refused g.M.Meaning.means ds (slice_set c.args.refs.now.values c.args.done.now.r v))
+returns-in_err-value-clause-fault g c =
+    let p = err_from_is_err_and c.from_residual.result c.from_residual.ensures.1 in
+    rw (p.1, p.2) (λ n ds. c.in_err-value.ensures.fault n (λ v. refused g.M.Meaning.means ds (slice_set c.args.refs.now.values c.args.done.now.r v)))
