@@ -25,6 +25,9 @@ impl<M: Meaning, L: Books> Shared<M, L> {
     /// What its earlier calls did outside the transaction stays done. Where a fault is returned, this call has committed nothing,
     /// and no send is left of it. A fault of the body, a refused commit other than a conflict, and out of memory end it.
     ///
+    /// While it waits for the lock to commit, it holds no refs as they were: the transaction is closed ([`Tx::close`]), which takes memory
+    /// for more than two operations.
+    ///
     /// [`Shared::transact`] takes a closure, where functions mean what [`Core`]'s mean.
     pub fn transact_body<R: Wait, F: Functions<M>, G: Gate, S: WatchSink, B: Body<Meaning = M>>(
         &self,
@@ -102,6 +105,9 @@ impl<L: Books> Shared<Core, L> {
     /// The body is called with the lock free, at most `tries` times, each time with a transaction in which nothing was done.
     /// What its earlier calls did outside the transaction stays done. Where a fault is returned, this call has committed nothing,
     /// and no send is left of it. A fault of the body, a refused commit other than a conflict, and out of memory end it.
+    ///
+    /// While it waits for the lock to commit, it holds no refs as they were: the transaction is closed ([`Tx::close`]), which takes memory
+    /// for more than two operations.
     ///
     /// The closure is dropped at the end. [`Shared::transact_body`] is lent its body, and takes one of any meaning.
     pub fn transact<

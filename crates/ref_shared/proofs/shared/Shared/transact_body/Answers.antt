@@ -79,3 +79,11 @@ returns-in_default-clause-fault g c =
       so_far.0,
       record { called = so_far.1; few = omega (arith, so_far.2, c.loop-attempt.invariant.room); retried = all_earlier so_far.0 so_far.3 },
     )
+
+pub returns-in_default-close-clause-fault : goal.returns-in_default-close-clause-fault
+returns-in_default-close-clause-fault g c =
+    let so_far = c.loop-attempt.invariant.called in (
+      (record { began = _; answer = Ok c.in-Ok-run.answer; left = _ }) ∷ so_far.0,
+      one_more _ _ _ _ _ _ _ _ so_far.1 so_far.2 so_far.3 c.loop-attempt.invariant.room
+          (record { fresh = c.in-Ok.ensures; called = c.in-Ok-run.ensures.does }),
+    )

@@ -127,3 +127,11 @@ loop-preserved g c =
       );
       room = omega (arith, c.loop.invariant.room, c.if-conflicts-tries.false);
     }
+
+pub returns-in_default-close-clause-fault : goal.returns-in_default-close-clause-fault
+returns-in_default-close-clause-fault g c =
+    let so_far = c.loop.invariant.called in (
+      (record { began = _; answer = Ok c.in-Ok-run.answer; left = _ }) ∷ so_far.0,
+      one_more _ _ _ _ _ _ _ _ so_far.1 so_far.2 so_far.3 c.loop.invariant.room
+          (record { fresh = c.in-Ok.ensures; called = c.in-Ok-run.ensures.does }),
+    )
