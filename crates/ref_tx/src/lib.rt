@@ -6,7 +6,8 @@
 //!
 //! | Type | Is |
 //! |---|---|
-//! | [`Tx`] | an open transaction: its operations so far with their answers, and what it sends |
+//! | [`Tx`] | a transaction, open or closed: its operations so far with their answers, and what it sends |
+//! | [`Beginning`] | what a transaction holds of the values that it began with: a [`Snapshot`] while it is open, [`Starts`] once it is closed |
 //! | [`Dosync`] | a [`Tx`] with its allocator and functions, so that its calls are as short as Clojure's |
 //! | [`TxFault`] | why a call of it was refused; the transaction is then as it was |
 //! | [`Snapshot`] | all refs at one point, by number; one that is shared and then gets another value has all else in common with it |
@@ -24,7 +25,8 @@
 //! no memory; operations and sends are stored, for the entry of the commit too. The last 16 operations are looked through one by one;
 //! of those before them a table has the value now of each ref. Most transactions have fewer and need no table. `start` and one more owner of a
 //! snapshot take constant time and no memory; another value in a snapshot takes time and memory logarithmic in the number of refs.
-//! The values of the read point are held as long as the transaction is open.
+//! The values of the read point are held as long as the transaction is open. [`Tx::close`] lets them go but for those of the refs that it
+//! protects, in a look-up for each operation: then others can change refs in place while it waits for its commit.
 //!
 //! **Not promised.** That a ref which was only read, by `deref` or `require`, still has its value at the commit: `ensure` is the remedy.
 //! That the snapshot which `start` takes is that of the read point, and that there are so many agents: its caller says so. That a

@@ -18,8 +18,11 @@ use ref_value::Value;
 use std::alloc::{AllocError, Global};
 use std::marker::{Model, PhantomData};
 
-/// A transaction that is open. Contracts see its read point, the values that it began with, its operations with their
+/// A transaction. Contracts see its read point, the values that it began with, its operations with their
 /// answers, what it sends, the number of the tally, and how many agents there were.
+///
+/// It is open if S is [`Snapshot`], as it is where S isn't written. [`Tx::close`] makes it one that only a commit takes; what contracts see
+/// stays the same.
 ///
 /// A call costs a look-up among the refs that the transaction has operated on, and its function.
 #[derive(Drop)]
@@ -111,7 +114,7 @@ impl<M: Meaning> Tx<M> {
             began,
             dones,
             sends,
-            tally,
+            tally: number,
             agents,
             table,
             of,
@@ -122,7 +125,7 @@ impl<M: Meaning> Tx<M> {
             began: starts,
             dones,
             sends,
-            tally,
+            tally: number,
             agents,
             table,
             of,
