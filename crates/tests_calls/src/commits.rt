@@ -11,7 +11,7 @@ use ref_tx::Tx;
 use std::alloc::{AllocError, Global};
 use std::test::Fail;
 
-// Each row is asked of a world without books, and of one whose share counts.
+// Each row is asked of a world without books, and of one whose share counts, there also once the transaction is closed.
 const FOREIGN: &str = r##"
     // What of a transaction isn't so in another place.
     a transaction of another store: there is no ref 0 here | :refs [[a 0]] :events [[9 :ref-set a 5]] | :refs []
@@ -22,6 +22,10 @@ const FOREIGN: &str = r##"
     a transaction of another store: there is no agent 1 here | :agents [[g 0] [h 0]] :events [[9 :send-in-tx h + 1]] | :agents [[g 0]]
     // Of what it sends the first agent that isn't here.
     a transaction of another store: there is no agent 2 here | :agents [[g 0] [h 0] [i 0]] :events [[9 :send-carry-in-tx g [+ 1] [i + 5] [h + 5]] [9 :send-in-tx h + 1]] | :agents [[g 0]]
+    // Of several refs the smallest; one that is only commuted isn't compared.
+    a transaction of another store: ref 2 had another value here | :refs [[a 0] [b 0] [c 0] [d 0]] :events [[9 :ensure d] [9 :ensure a] [9 :commute b + 1] [9 :ref-set c 1]] | :refs [[a 0] [b 7] [c 5] [d 9]]
+    a transaction of another store: ref 3 had another value here | :refs [[a 0] [b 0] [c 0] [d 0]] :events [[9 :ensure a] [9 :commute b + 1] [9 :ref-set c 1] [9 :ensure c] [9 :ensure d]] | :refs [[a 0] [b 7] [c 0] [d 9]]
+    point 1 | :refs [[a 0] [b 0] [c 0] [d 0]] :events [[9 :ensure a] [9 :commute b + 1] [9 :ref-set c 1] [9 :ensure c] [9 :ensure d]] | :refs [[a 0] [b 7] [c 0] [d 0]]
     // What is so is committed there.
     point 2 | :refs [[a 0]] :events [[0 :begin] [0 :commit] [9 :ref-set a 5]] | :refs [[a 0]] :events [[0 :begin] [0 :commit]]
     point 1 | :refs [[a 0]] :events [[9 :commute a - 1]] | :refs [[t 5 :tally]]
@@ -40,7 +44,8 @@ const FOREIGN: &str = r##"
 #[test]
 fn transactions_of_another_world(rt: HostRuntime) -> Result<(), Fail> {
     check(&rt, Way::Commit(FULL), FOREIGN)?;
-    check(&rt, Way::Counted(FULL), FOREIGN)
+    check(&rt, Way::Counted(FULL), FOREIGN)?;
+    check(&rt, Way::Closed(FULL), FOREIGN)
 }
 
 const LACKING: &str = r##"
@@ -60,7 +65,8 @@ const LACKING: &str = r##"
 #[test]
 fn commits_lack(rt: HostRuntime) -> Result<(), Fail> {
     check(&rt, Way::Commit(FEWER), LACKING)?;
-    check(&rt, Way::Counted(FEWER), LACKING)
+    check(&rt, Way::Counted(FEWER), LACKING)?;
+    check(&rt, Way::Closed(FEWER), LACKING)
 }
 
 // The end of points and a full book come last, in this order.

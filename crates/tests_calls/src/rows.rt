@@ -23,6 +23,8 @@ pub(crate) enum Way {
     Commit(Table),
     /// The same, where a share counts the commit.
     Counted(Table),
+    /// The same, of a transaction that is closed before.
+    Closed(Table),
     /// Agents that give a job, and agents where it is ended.
     Job,
     /// Agents, whose last act is by the table with fewer functions.
@@ -63,6 +65,11 @@ fn outcome(alloc: Global, way: Way, row: &str) -> Result<String, AllocError> {
             let (there, here) = parted(row)?;
             let tx = run(alloc, there, Beginning)?;
             counted(alloc, here, Counting::Commit(tx, table))
+        }
+        Way::Closed(table) => {
+            let (there, here) = parted(row)?;
+            let tx = run(alloc, there, Beginning)?.close(alloc)?;
+            counted(alloc, here, Counting::Closed(tx, table))
         }
         Way::Job => {
             let (there, here) = parted(row)?;

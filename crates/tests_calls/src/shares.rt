@@ -12,7 +12,7 @@ use ref_events::ScriptParts;
 use ref_fun::Core;
 use ref_play::{Event, Sim};
 use ref_refs::CommitFault;
-use ref_tx::Tx;
+use ref_tx::{Beginning, Starts, Tx};
 use ref_world::{ALL_PARTS, Blanks, Booked, Books, Share, World};
 use std::alloc::{AllocError, Global};
 use std::marker::Brand;
@@ -23,6 +23,8 @@ use std::test::Fail;
 pub(crate) enum Counting {
     /// A transaction of another world is committed by a table.
     Commit(Tx<Core>, Table),
+    /// The same, once it is closed.
+    Closed(Tx<Core, Starts>, Table),
     /// What is left is looked at.
     Left,
     /// The share is split and joined again.
@@ -163,12 +165,12 @@ fn forgotten<L: Books>(
 }
 
 // Whether a transaction is refused for this fault.
-fn is_refused<L: Books>(
+fn is_refused<L: Books, S: Beginning>(
     alloc: Global,
     booked: &mut Booked<Core, L>,
     share: &mut Share<L>,
     table: &Table,
-    tx: Tx<Core>,
+    tx: Tx<Core, S>,
     fault: CommitFault,
 ) -> bool {
     match booked.commit_with(alloc, table, share, STAMP, tx) {
@@ -178,12 +180,12 @@ fn is_refused<L: Books>(
 }
 
 // What comes of a commit. A refused one is refused again, for the same fault, and the share counts nothing.
-fn committed<L: Books>(
+fn committed<L: Books, S: Beginning>(
     alloc: Global,
     booked: &mut Booked<Core, L>,
     share: &mut Share<L>,
     table: &Table,
-    tx: Tx<Core>,
+    tx: Tx<Core, S>,
 ) -> Result<String, AllocError> {
     let before = (booked.world.point(), share.receipts().len());
     match booked.commit_with(alloc, table, share, STAMP, tx) {
@@ -210,6 +212,7 @@ impl Counting {
     ) -> Result<String, AllocError> {
         match self {
             Counting::Commit(tx, table) => committed(alloc, booked, share, &table, tx),
+            Counting::Closed(tx, table) => committed(alloc, booked, share, &table, tx),
             Counting::Left => left(alloc, booked, share),
             Counting::Split => split(alloc, booked, share, rest),
             Counting::Forget => forgotten(alloc, booked, share, rest),
