@@ -79,9 +79,9 @@ fine_state : (names : NamesSeen) (point : ℕ) (state : Result PlainState AuditF
 fine_state names point (Ok state) text is =
     let refs = value_lines (codes "ref") names.refs 0 state.refs in
     let atoms = value_lines (codes "atom") names.atoms 0 state.atoms in
-    fine_said (values_said names point (Ok state)) (refs ++ (atoms ++ end_line point)) text
-    (fine_append refs (atoms ++ end_line point) (fine_values (codes "ref") names.refs 0 state.refs)
-    (fine_append atoms (end_line point) (fine_values (codes "atom") names.atoms 0 state.atoms) (fine_end point)))
+    fine_said (values_said names point (Ok state)) (refs ++ atoms ++ end_line point) text
+    (fine_append (refs ++ atoms) (end_line point)
+    (fine_append refs atoms (fine_values (codes "ref") names.refs 0 state.refs) (fine_values (codes "atom") names.atoms 0 state.atoms)) (fine_end point))
     refl is
 fine_state names point (Err fault) text is = absurd cc
 
