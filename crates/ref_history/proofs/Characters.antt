@@ -1,15 +1,20 @@
 -- What is shown of a text has no hidden character, but for the ends of lines.
-use Rattle.std.proofs.Common.{◌≡◌, ◌∙◌, ℕ, ◌%◌, ◌==◌, ◌&&◌, ◌||◌, not, nat_lt, nat_le, Bool, true, false, if◌then◌else◌, List, [], ◌∷◌, ◌++◌, map, length, refl, ap, sym, arith, IsUtf8}
+use Rattle.std.proofs.Common.{◌≡◌, ◌∙◌, ℕ, ◌<◌, ◌%◌, ◌==◌, ◌&&◌, ◌||◌, not, nat_lt, nat_le, Bool, true, false, if◌then◌else◌, List, [], ◌∷◌, ◌++◌, map, length, refl, ap, sym, arith, IsUtf8}
 use Rattle.std.proofs.lemmas.Bool.Decides.{nat_tests}
 use Rattle.std.proofs.lemmas.List.Folds.{list_all-append}
-use Rattle.std.proofs.lemmas.Str.{chars-append, chars-encodes, IsUtf8-append, IsUtf8-nil, chars-nil, chars_past_char}
+use Rattle.std.proofs.lemmas.Str.{chars-append, chars-encodes, IsUtf8-append, IsUtf8-nil, chars-nil, chars_past_char, utf8_lossy-IsUtf8}
+use Rattle.std.proofs.lemmas.Str.Ascii.{IsAscii-cons, IsAscii-nil, encodes-IsAscii}
 use Rattle.std.specs.Char.{encode_utf8}
 use Rattle.std.specs.Int.{is_in_range}
 use Rattle.std.specs.List.{list_all}
-use Rattle.std.specs.Str.{chars, encode_utf8_all, all_scalars}
+use Rattle.std.specs.Str.{IsAscii, chars, encode_utf8_all, all_scalars}
 use Rattle.std.specs.Str.Lossy.{utf8_lossy}
 use lib.Utf8.{scalar}
-use Rattle.ref_history.specs.Visible.{is_blank, is_control, is_hidden, is_mark, is_none, is_shown, is_visible, line, visible, visible_char}
+use Rattle.ref_history.specs.Visible.{is_blank, is_control, is_hidden, is_mark, is_none, is_printable, is_shown, is_visible, line, visible, visible_char}
+
+and_parts : (a b : Bool) → (a && b) ≡ true → (a ≡ true) × (b ≡ true)
+and_parts true b e = (refl, e)
+and_parts false b e = absurd cc
 
 neither : (a b : Bool) → (a || b) ≡ false → (a ≡ false) × (b ≡ false)
 neither true b e = absurd cc
@@ -91,6 +96,65 @@ fine_line text = fine_append (visible text) (10 ∷ []) (fine_visible text) fine
 pub fine_if : (b : Bool) (text : List ℕ) → IsFine text → IsFine (if b then text else [])
 fine_if true text fine = fine
 fine_if false text fine = fine_nil
+
+-- ---- texts that are shown as they are
+
+printable_below : (b : ℕ) → is_printable b ≡ true → b < 128
+printable_below b is = grind (arith, nat_tests)
+
+same_by : (c : ℕ) (blank hidden : Bool) → blank ≡ false → hidden ≡ false → (if blank then 32 else if hidden then 63 else c) ≡ c
+same_by c true hidden not_blank not_hidden = absurd cc
+same_by c false true not_blank not_hidden = absurd cc
+same_by c false false not_blank not_hidden = refl
+
+no_blank : (b : ℕ) → is_printable b ≡ true → is_blank b ≡ false
+no_blank b is = grind (arith, nat_tests)
+
+hidden_by : (b : ℕ) (low past : Bool) → low ≡ false → past ≡ false → (low || (past && (is_control b || is_mark b || is_none b))) ≡ false
+hidden_by b true past not_low not_past = absurd cc
+hidden_by b false true not_low not_past = absurd cc
+hidden_by b false false not_low not_past = refl
+
+not_low : (b : ℕ) → is_printable b ≡ true → nat_lt b 32 ≡ false
+not_low b is = grind (arith, nat_tests)
+
+not_past : (b : ℕ) → is_printable b ≡ true → nat_le 0x7F b ≡ false
+not_past b is = grind (arith, nat_tests)
+
+printable_char : (b : ℕ) → is_printable b ≡ true → visible_char b ≡ b
+unfolding visible_char
+printable_char b is = same_by b (is_blank b) (is_hidden b) (no_blank b is) (hidden_by b (nat_lt b 32) (nat_le 0x7F b) (not_low b is) (not_past b is))
+
+printable_scalar : (b : ℕ) → is_printable b ≡ true → scalar b ≡ true
+printable_scalar b is = grind (arith, nat_tests)
+
+printable_ascii : (text : List ℕ) → list_all is_printable text ≡ true → IsAscii text
+printable_ascii [] all = IsAscii-nil
+printable_ascii (b ∷ bs) all =
+    let p = and_parts (is_printable b) (list_all is_printable bs) all in
+    IsAscii-cons b bs (printable_below b p.0) (printable_ascii bs p.1)
+
+printable_scalars : (text : List ℕ) → list_all is_printable text ≡ true → all_scalars text ≡ true
+printable_scalars [] all = refl
+printable_scalars (b ∷ bs) all =
+    let p = and_parts (is_printable b) (list_all is_printable bs) all in
+    ap (λ v. v && all_scalars bs) (printable_scalar b p.0) ∙ printable_scalars bs p.1
+
+printable_same : (text : List ℕ) → list_all is_printable text ≡ true → map visible_char text ≡ text
+printable_same [] all = refl
+printable_same (b ∷ bs) all =
+    let p = and_parts (is_printable b) (list_all is_printable bs) all in
+    ap (λ c. c ∷ map visible_char bs) (printable_char b p.0) ∙ ap (λ cs. b ∷ cs) (printable_same bs p.1)
+
+pub printable_visible : (text : List ℕ) → list_all is_printable text ≡ true → visible text ≡ text
+unfolding visible
+printable_visible text all =
+    let encoded = encodes-IsAscii text (printable_ascii text all) in
+    let scalars = printable_scalars text all in
+    let same : utf8_lossy text ≡ text = utf8_lossy-IsUtf8 text (text, (scalars, encoded)) in
+    let spelled : chars text ≡ text = ap chars (sym encoded) ∙ chars-encodes text scalars in
+    ap (λ bs. encode_utf8_all (map visible_char (chars bs))) same
+    ∙ (ap (λ cs. encode_utf8_all (map visible_char cs)) spelled ∙ (ap encode_utf8_all (printable_same text all) ∙ encoded))
 
 -- ---- a loop over characters
 

@@ -31,6 +31,10 @@ visible_char c = if is_blank c then 32 else if is_hidden c then 63 else c
 unfoldable pub visible : List ℕ → List ℕ
 visible text = encode_utf8_all (map visible_char (chars (utf8_lossy text)))
 
+-- what stands in ASCII and is no control character is shown as it is
+abbrev pub is_printable : ℕ → Bool
+is_printable b = is_in_range 0x20 0x7E b
+
 -- A text in a line of its own.
 abbrev pub line : List ℕ → List ℕ
 line text = visible text ++ 10 ∷ []

@@ -16,7 +16,7 @@ use crate::entry_lines::{append_count, append_made, append_stamp, counted};
 use crate::places::{Choice, Place, first_place, place_after};
 use crate::shown::{append_number, append_reference, append_sends, append_spaced};
 use crate::steps::Values;
-use crate::visible::append_visible_line;
+use crate::visible::{ROOM_OF_LINE, append_visible_line};
 use ref_edn::print;
 use ref_forms::kinds::of_kind;
 use ref_forms::{Kind, Names};
@@ -141,7 +141,7 @@ fn append_change_line(
     ensures { OnOk result (out.new.items ≡ out.old.items
         ++ line (decimal place.point ++ entry_changes names.now place entry.now befores.now values.now)) }
 {
-    let mut text = Vec::new(alloc);
+    let mut text = Vec::with_capacity(alloc, ROOM_OF_LINE)?;
     append_number(place.point, &mut text)?;
     append_changes(alloc, names, place, entry, befores, values, &mut text)?;
     append_visible_line(alloc, &text, out)

@@ -5,7 +5,7 @@ ghost use Rattle.ref_history.specs.Places.{is_chosen};
 
 use crate::places::{Choice, Place, first_place, place_after};
 use crate::shown::{append_change, append_dones, append_number, append_reference, append_sends};
-use crate::visible::append_visible_line;
+use crate::visible::{ROOM_OF_LINE, append_visible_line};
 use ref_edn::print;
 use ref_forms::Names;
 use ref_log::{Entry, Transaction, Who};
@@ -78,7 +78,7 @@ pub(crate) fn append_line(
 ) -> Result<(), AllocError>
     ensures { OnOk result (out.new.items ≡ out.old.items ++ entry_line names.now place entry.now) }
 {
-    let mut text = Vec::new(alloc);
+    let mut text = Vec::with_capacity(alloc, ROOM_OF_LINE)?;
     append_number(place.point, &mut text)?;
     append_entry(alloc, names, place, entry, &mut text)?;
     append_visible_line(alloc, &text, out)

@@ -6,7 +6,7 @@ ghost use Rattle.ref_verdict.specs.OfCore.{IsOfCore};
 ghost use Rattle.ref_history.specs.Values.{end_line, has_point, name_or_number, value_line, value_lines, values_at, values_text};
 
 use crate::shown::{append_name, append_number};
-use crate::visible::append_visible_line;
+use crate::visible::{ROOM_OF_LINE, append_visible_line};
 use ref_edn::print;
 use ref_forms::Names;
 use ref_fun::{Core, Functions};
@@ -105,7 +105,7 @@ fn append_value(
 ) -> Result<(), AllocError>
     ensures { OnOk result (out.new.items ≡ out.old.items ++ value_line kind.now names.now n value.now) }
 {
-    let mut text = Vec::new(alloc);
+    let mut text = Vec::with_capacity(alloc, ROOM_OF_LINE)?;
     text.extend_from_slice(kind.as_bytes())?;
     text.extend_from_slice(b" ")?;
     append_name_or_number(names, n, &mut text)?;

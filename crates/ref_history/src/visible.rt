@@ -1,7 +1,8 @@
 //! Text for people: a terminal and a page show it, and do nothing else.
 ghost use Rattle.std.specs.Prelude.{◌≡◌, ◌++◌, ◌||◌, ◌&&◌, Ok, IfOk, OnOk, true, string_bytes};
 ghost use Rattle.std.specs.Int.{is_in_range};
-ghost use Rattle.ref_history.specs.Visible.{is_blank, is_control, is_hidden, is_mark, is_none, line, visible, visible_char};
+ghost use Rattle.std.specs.List.{list_all};
+ghost use Rattle.ref_history.specs.Visible.{is_blank, is_control, is_hidden, is_mark, is_none, is_printable, line, visible, visible_char};
 
 use std::alloc::{AllocError, Global};
 
@@ -77,6 +78,9 @@ pub fn visible_text(alloc: Global, text: &[u8]) -> Result<String, AllocError>
     Ok(shown)
 }
 
+/// The room that a line gets at once, in bytes. Most lines need no more.
+pub(crate) const ROOM_OF_LINE: usize = 128;
+
 /// Appends a text in a line of its own.
 pub(crate) fn append_visible_line(
     alloc: Global,
@@ -85,6 +89,29 @@ pub(crate) fn append_visible_line(
 ) -> Result<(), AllocError>
     ensures { OnOk result (out.new.items ≡ out.old.items ++ line text.now) }
 {
-    out.extend_from_slice(visible_text(alloc, text)?.as_bytes())?;
+    append_visible(alloc, text, out)?;
     out.extend_from_slice(b"\n")
+}
+
+// Most texts are shown as they are: a look at their bytes says so.
+#[tactic(auto, using(crate::proofs::Characters::printable_visible))]
+fn append_visible(alloc: Global, text: &[u8], out: &mut Vec<u8>) -> Result<(), AllocError>
+    ensures { OnOk result (out.new.items ≡ out.old.items ++ visible text.now) }
+{
+    if are_printable(text) {
+        return out.extend_from_slice(text);
+    }
+    out.extend_from_slice(visible_text(alloc, text)?.as_bytes())
+}
+
+fn are_printable(bytes: &[u8]) -> bool
+    ensures { result ≡ list_all is_printable bytes.now }
+{
+    bytes.iter().all(|byte| is_printable(*byte))
+}
+
+fn is_printable(byte: u8) -> bool
+    ensures { result ≡ is_printable byte }
+{
+    0x20 <= byte && byte <= 0x7E
 }
