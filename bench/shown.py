@@ -18,7 +18,7 @@ COMMANDS = {
     "history": f"entries {ENTRIES} chosen {ENTRIES}",
     "history --changes": f"entries {ENTRIES} chosen {ENTRIES}",
     "history --from 639000": f"entries {ENTRIES} chosen 1001",
-    f"at {ENTRIES}": f"atom 0 {ENTRIES}",
+    f"at {ENTRIES}": f"at {ENTRIES} ok",
     "draw": "</html>",
 }
 

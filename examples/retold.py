@@ -77,7 +77,7 @@ def entry_of(line):
 
 
 def values_of(lines, kind):
-    """The values of refs or of atoms, by number, in lines as `at` prints them."""
+    """The values of refs or of atoms, by number, in lines as `at` prints them, without the last."""
     found = [it for it in map(VALUE.fullmatch, lines) if it["kind"] == kind]
     assert [int(it["number"]) for it in found] == list(range(len(found)))
     return [read(it["rest"]) for it in found]
@@ -103,7 +103,8 @@ def dump_of(history, first, changes):
     """
     points, entries = zip(*map(entry_of, history[:-1])) if len(history) > 1 else ((), ())
     assert history[-1] == f"entries {len(entries)} chosen {len(entries)}" and list(points) == [points[0] + at for at in range(len(points))]
-    base = {key: values_of(first, kind) for key, kind in NAMES.items()}
+    assert re.fullmatch(r"at \d+ ok", first[-1])
+    base = {key: values_of(first[:-1], kind) for key, kind in NAMES.items()}
     now = {"ref": dict(enumerate(base["refs"])), "atom": dict(enumerate(base["atoms"]))}
     for line in changes[:-1]:
         for kind, number, new in changes_in(line):

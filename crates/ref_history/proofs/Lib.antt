@@ -5,3 +5,5 @@ pub mod Sends
 pub mod Touched
 pub mod Turns
 pub mod Escapes
+pub mod Characters
+pub mod Shows

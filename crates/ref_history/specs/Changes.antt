@@ -27,7 +27,8 @@ use Rattle.ref_forms.specs.Names.{NamesSeen}
 use Rattle.ref_verdict.specs.declared.reading.dumps.Dump.{Dump}
 use Rattle.ref_history.specs.History.{chosen_from, count_line, made_text, stamp_text}
 use Rattle.ref_history.specs.Places.{first_place, is_chosen, place_after}
-use Rattle.ref_history.specs.Shown.{arrow, newline, reference_text, send_text, space, spaced}
+use Rattle.ref_history.specs.Shown.{arrow, reference_text, send_text, space, spaced}
+use Rattle.ref_history.specs.Visible.{line}
 use Rattle.ref_history.specs.declared.befores.Before.{Before}
 use Rattle.ref_history.specs.declared.places.Choice.{Choice}
 use Rattle.ref_history.specs.declared.places.Place.{Place}
@@ -68,7 +69,7 @@ entry_changes names place (MadeRef v) befores new = made_text names (whos.Ref pl
 entry_changes names place (MadeAtom v) befores new = made_text names (whos.Atom place.atoms) v
 
 abbrev pub change_line : NamesSeen → Place → Entry → PlainState → PlainState → List ℕ
-change_line names place e old new = decimal place.point ++ entry_changes names place e (entry_befores old e) new ++ newline
+change_line names place e old new = line (decimal place.point ++ entry_changes names place e (entry_befores old e) new)
 
 -- the line of an entry, if it is chosen and has values before and after it
 abbrev pub line_between : NamesSeen → Choice → Place → Entry → Result PlainState AuditFault → Result PlainState AuditFault → List ℕ

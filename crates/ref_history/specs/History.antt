@@ -16,7 +16,8 @@ use Rattle.ref_log.specs.declared.notices.Who.TheVariants as whos
 use Rattle.ref_forms.specs.Names.{NamesSeen}
 use Rattle.ref_verdict.specs.declared.reading.dumps.Dump.{Dump}
 use Rattle.ref_history.specs.Places.{first_place, is_chosen, place_after}
-use Rattle.ref_history.specs.Shown.{answered_text, arrow, atom_word, done_text, newline, reference_text, send_text, space}
+use Rattle.ref_history.specs.Shown.{answered_text, arrow, atom_word, done_text, reference_text, send_text, space}
+use Rattle.ref_history.specs.Visible.{line}
 use Rattle.ref_history.specs.declared.places.Choice.{Choice}
 use Rattle.ref_history.specs.declared.places.Place.{Place}
 
@@ -38,7 +39,7 @@ entry_text names place (MadeRef v) = made_text names (whos.Ref place.refs) v
 entry_text names place (MadeAtom v) = made_text names (whos.Atom place.atoms) v
 
 abbrev pub entry_line : NamesSeen → Place → Entry → List ℕ
-entry_line names place e = decimal place.point ++ entry_text names place e ++ newline
+entry_line names place e = line (decimal place.point ++ entry_text names place e)
 
 -- The lines of these entries, as far as they are chosen, the first of which has this place.
 abbrev pub lines_from : NamesSeen → Choice → Place → List Entry → List ℕ
@@ -51,7 +52,7 @@ chosen_from choice place [] = 0
 chosen_from choice place (e ∷ es) = (if is_chosen choice place e then 1 else 0) + chosen_from choice (place_after e place) es
 
 abbrev pub count_line : ℕ → ℕ → List ℕ
-count_line entries chosen = codes "entries " ++ decimal entries ++ codes " chosen " ++ decimal chosen ++ newline
+count_line entries chosen = line (codes "entries " ++ decimal entries ++ codes " chosen " ++ decimal chosen)
 
 abbrev pub history_text : NamesSeen → Choice → Dump → List ℕ
 history_text names choice dump =

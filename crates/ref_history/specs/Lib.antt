@@ -1,5 +1,6 @@
--- To be read and believed: Shown (how references, operations and sends are written), Places (which entries are chosen), History, Values
--- and Changes (the lines of each), Looks, and Escaped (text in a page).
+-- To be read and believed: Visible (which characters people are shown), Shown (how references, operations and sends are written), Places
+-- (which entries are chosen), History, Values and Changes (the lines of each), Looks, and Escaped (text in a page).
+pub mod Visible
 pub mod Shown
 pub mod Places
 pub mod History

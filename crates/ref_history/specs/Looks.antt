@@ -10,11 +10,11 @@ use Rattle.ref_history.specs.Values.{values_at, values_text}
 use Rattle.ref_history.specs.declared.looks.Look.{Look}
 use Rattle.ref_history.specs.declared.looks.Look.TheVariants.{History, Changes, At}
 
-abbrev pub values_said : NamesSeen → Result PlainState AuditFault → Result (List ℕ) AuditFault
-values_said names (Ok state) = Ok (values_text names state)
-values_said names (Err fault) = Err fault
+abbrev pub values_said : NamesSeen → ℕ → Result PlainState AuditFault → Result (List ℕ) AuditFault
+values_said names point (Ok state) = Ok (values_text names point state)
+values_said names point (Err fault) = Err fault
 
 abbrev pub looked : NamesSeen → Look → Dump → Result (List ℕ) AuditFault
 looked names (History choice) dump = Ok (history_text names choice dump)
 looked names (Changes choice) dump = changes_text names choice dump
-looked names (At point) dump = values_said names (values_at dump point)
+looked names (At point) dump = values_said names point (values_at dump point)

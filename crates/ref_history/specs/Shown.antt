@@ -1,11 +1,12 @@
 -- How references, operations and sends are written in a history: as in a workload, with the answer of an operation behind an arrow.
 --
---   a, ref 3                            a reference by its name, or by its kind and number where it has none
+--   a, ref 3                            a reference by its name, or by its kind and number where it has none; of a name at most 256 bytes
 --   [:alter a + 5] -> 5                 an operation on a ref; :set, :commute and :ensure likewise
 --   [:swap x conj 1] -> [1]             one on an atom; :reset likewise
 --   [:send g + 1]                       a send
 --   [:send-carry g [+ 1] [h + 10]]      a send of an action that carries sends
-use Rattle.std.specs.Prelude.{ℕ, List, [], ◌∷◌, ◌++◌, Option, None, Some, unwrap_or, slice_get, codes, decimal}
+use Rattle.std.specs.Prelude.{ℕ, ◌-◌, nat_le, Bool, not, if◌then◌else◌, List, [], ◌∷◌, ◌++◌, length, take, Option, None, Some, unwrap_or, slice_get, slice_index, codes, decimal}
+use Rattle.std.specs.Int.{is_in_range}
 use Rattle.std.specs.List.{flat_map}
 use Rattle.ref_value.specs.Edn.{Edn}
 use Rattle.ref_edn.specs.Printed.{printed}
@@ -22,16 +23,33 @@ use Rattle.ref_forms.specs.Names.{NamesSeen}
 abbrev pub space : List ℕ
 space = 32 ∷ []
 
-abbrev pub newline : List ℕ
-newline = 10 ∷ []
-
 abbrev pub arrow : List ℕ
 arrow = codes " -> "
+
+-- ---- names
+
+abbrev pub most_of_name : ℕ
+most_of_name = 256
+
+-- whether a byte in UTF-8 goes on with a character
+abbrev pub goes_on : ℕ → Bool
+goes_on b = is_in_range 0x80 0xBF b
+
+-- where the character begins that has the byte at this place: it has at most four
+abbrev pub begin_of : List ℕ → ℕ → ℕ
+begin_of text n =
+    if not (goes_on (slice_index text n)) then n else
+    if not (goes_on (slice_index text (n - 1))) then n - 1 else
+    if not (goes_on (slice_index text (n - 2))) then n - 2 else n - 3
+
+-- A name, or as many of its characters as have room in so many bytes, and an ellipsis.
+abbrev pub shown_name : List ℕ → List ℕ
+shown_name name = if nat_le (length name) most_of_name then name else take (begin_of name most_of_name) name ++ 0xE2 ∷ 0x80 ∷ 0xA6 ∷ []
 
 -- ---- references
 
 abbrev pub name_or : List ℕ → ℕ → Option (List ℕ) → List ℕ
-name_or kind n (Some name) = name
+name_or kind n (Some name) = shown_name name
 name_or kind n None = kind ++ space ++ decimal n
 
 abbrev pub reference_text : NamesSeen → Who → List ℕ

@@ -1,5 +1,5 @@
 //! The history of a dump by its changes.
-ghost use Rattle.std.specs.Prelude.{◌≡◌, ◌≢◌, ◌<◌, ◌^◌, ◌++◌, [], Some, Ok, Err, length, IfOk, IfErr, OnOk, if◌then◌else◌};
+ghost use Rattle.std.specs.Prelude.{◌≡◌, ◌≢◌, ◌<◌, ◌^◌, ◌++◌, [], Some, Ok, Err, decimal, length, IfOk, IfErr, OnOk, if◌then◌else◌};
 ghost use Rattle.std.specs.List.{flat_map};
 ghost use Rattle.ref_fun.specs.Calls.{HasCore};
 ghost use Rattle.ref_fun.specs.Core.{core_means};
@@ -9,12 +9,14 @@ ghost use Rattle.ref_history.specs.Changes.{change_line, change_of, change_text,
 ghost use Rattle.ref_history.specs.History.{chosen_from, count_line};
 ghost use Rattle.ref_history.specs.Places.{first_place};
 ghost use Rattle.ref_history.specs.Shown.{reference_text};
+ghost use Rattle.ref_history.specs.Visible.{line};
 
 use crate::befores::{Before, befores, push_before};
 use crate::entry_lines::{append_count, append_made, append_stamp, counted};
 use crate::places::{Choice, Place, first_place, place_after};
 use crate::shown::{append_number, append_reference, append_sends, append_spaced};
 use crate::steps::Values;
+use crate::visible::{ROOM_OF_LINE, append_visible_line};
 use ref_edn::print;
 use ref_forms::kinds::of_kind;
 use ref_forms::{Kind, Names};
@@ -99,7 +101,7 @@ fn lines<F: Functions<Core>>(
         chosen = counted(is_chosen, chosen)?;
         place = place_after(entry, place)?;
     }
-    append_count(dump.entries.len() as u64, chosen, &mut text)?;
+    append_count(alloc, dump.entries.len() as u64, chosen, &mut text)?;
     Ok(text)
 }
 
@@ -123,9 +125,26 @@ fn append_step<F: Functions<Core>>(
     }
     let befores = befores_of(alloc, values, entry)?;
     values.apply(alloc, funs, place.point, entry)?;
-    append_number(place.point, out)?;
-    append_changes(alloc, names, place, entry, &befores, values, out)?;
-    out.extend_from_slice(b"\n")
+    append_change_line(alloc, names, place, entry, &befores, values, out)
+}
+
+// The line of an entry, by what it touched with the values before, and the values after.
+fn append_change_line(
+    alloc: Global,
+    names: &Names,
+    place: Place,
+    entry: &Entry,
+    befores: &[Before],
+    values: &Values,
+    out: &mut Vec<u8>,
+) -> Result<(), AllocError>
+    ensures { OnOk result (out.new.items ≡ out.old.items
+        ++ line (decimal place.point ++ entry_changes names.now place entry.now befores.now values.now)) }
+{
+    let mut text = Vec::with_capacity(alloc, ROOM_OF_LINE)?;
+    append_number(place.point, &mut text)?;
+    append_changes(alloc, names, place, entry, befores, values, &mut text)?;
+    append_visible_line(alloc, &text, out)
 }
 
 // What an entry touches, with the values before it.

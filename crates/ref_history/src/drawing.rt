@@ -6,11 +6,16 @@ pub mod tallies;
 
 use crate::drawing::boxes::{append_picture, colour};
 use crate::drawing::escaping::append_escaped;
-use crate::drawing::frames::{Frame, MOST_DRAWN, Part};
+use crate::drawing::frames::{Frame, Part};
 use crate::drawing::tallies::{Tally, tallies_of};
+use crate::shown::append_name;
+use crate::visible::visible_text;
 use ref_forms::Names;
 use ref_verdict::reading::dumps::Dump;
 use std::alloc::{AllocError, Global};
+
+/// How many refs have a row at most.
+pub const MOST_ROWS: u64 = 2_000;
 
 const HEAD: &str = "<!DOCTYPE html>
 <html lang=\"en\">
@@ -19,7 +24,9 @@ const HEAD: &str = "<!DOCTYPE html>
 <title>Entries of a dump</title>
 <style>
 body { font: 14px sans-serif; color: #000; background: #fff; }
-.picture { overflow-x: auto; }
+.picture { display: flex; overflow: auto; max-height: 90vh; }
+svg { flex: none; background: #fff; }
+svg.names { position: sticky; left: 0; }
 text { font: 11px monospace; }
 text.point { text-anchor: middle; fill: #444; }
 text.box { text-anchor: end; }
@@ -52,9 +59,9 @@ A dashed line leads from where a transaction began to one that was committed mea
 What an entry did stands in its tooltip.</p>
 ";
 
-/// The page of a dump, in HTML with a picture in SVG: the entries of a part, at most [`MOST_DRAWN`], and a table of the first refs, as
-/// many. It has no script and needs no other file. What a page says of a dump's values and names is escaped, so that nothing in them is
-/// markup. Linear in the dump and in what is drawn.
+/// The page of a dump, in HTML with a picture in SVG: the entries of a part, at most [`MOST_DRAWN`](frames::MOST_DRAWN), and a table of the
+/// first refs, at most [`MOST_ROWS`]. It has no script and needs no other file. What a page says of a dump's values and names is escaped, so
+/// that nothing in them is markup. Linear in the dump and in what is drawn.
 pub fn page(alloc: Global, names: &Names, part: Part, dump: &Dump) -> Result<Vec<u8>, AllocError> {
     let frame = Frame::of(alloc, dump, part)?;
     let mut out = Vec::new(alloc);
@@ -77,18 +84,26 @@ fn append_extent(
     out: &mut Vec<u8>,
 ) -> Result<(), AllocError> {
     let (drawn, all) = (frame.count(), dump.entries.len() as u64);
-    let text = if drawn == 0 {
-        format!(in alloc; "<p>{all} entries, of which none is drawn.</p>\n")?
-    } else if drawn == all {
-        format!(in alloc; "<p>{all} entries, all of which are drawn.</p>\n")?
-    } else {
-        let (first, last) = (frame.first, frame.end.saturating_sub(1));
-        format!(in alloc;
-            "<p>{all} entries, of which {drawn} are drawn, those of the points {first} to {last}. \
-             --from and --to choose others, at most {MOST_DRAWN} on a page.</p>\n"
-        )?
-    };
-    out.extend_from_slice(text.as_bytes())
+    if drawn == 0 {
+        let text = format!(in alloc; "<p>{all} entries, of which none is drawn.</p>\n")?;
+        return out.extend_from_slice(text.as_bytes());
+    }
+    if drawn == all {
+        let text = format!(in alloc; "<p>{all} entries, all of which are drawn.</p>\n")?;
+        return out.extend_from_slice(text.as_bytes());
+    }
+    let (first, end, most) = (frame.first, frame.end, frame.most);
+    let last = end.saturating_sub(1);
+    let text = format!(in alloc;
+        "<p>{all} entries, of which {drawn} are drawn, those of the points {first} to {last}. \
+         --from and --to choose others, at most {most} on a page."
+    )?;
+    out.extend_from_slice(text.as_bytes())?;
+    if last < dump.base.point.saturating_add(all) {
+        let text = format!(in alloc; " --from {end} draws the next.")?;
+        out.extend_from_slice(text.as_bytes())?;
+    }
+    out.extend_from_slice(b"</p>\n")
 }
 
 // The table of refs.
@@ -103,7 +118,7 @@ fn append_table(
     )?;
     let all = tallies_of(alloc, dump)?;
     for (r, tally) in all.iter().enumerate() {
-        if r as u64 >= MOST_DRAWN {
+        if r as u64 >= MOST_ROWS {
             break;
         }
         append_row(alloc, names, r as u64, *tally, out)?;
@@ -114,7 +129,7 @@ fn append_table(
 
 // How many refs have no row.
 fn append_left_out(alloc: Global, refs: u64, out: &mut Vec<u8>) -> Result<(), AllocError> {
-    let left_out = refs.saturating_sub(MOST_DRAWN);
+    let left_out = refs.saturating_sub(MOST_ROWS);
     if left_out == 0 {
         return Ok(());
     }
@@ -133,9 +148,16 @@ fn append_row(
     let begin = format!(in alloc; "<tr><td class=\"{class}\">r{r}</td><td class=\"name\">")?;
     out.extend_from_slice(begin.as_bytes())?;
     if let Some(name) = names.refs().get(r as usize) {
-        append_escaped(name.as_bytes(), out)?;
+        append_escaped_name(alloc, name.as_bytes(), out)?;
     }
     let Tally { changes, last } = tally;
     let end = format!(in alloc; "</td><td>{changes}</td><td>{last}</td></tr>\n")?;
     out.extend_from_slice(end.as_bytes())
+}
+
+// A name as it is shown.
+fn append_escaped_name(alloc: Global, name: &[u8], out: &mut Vec<u8>) -> Result<(), AllocError> {
+    let mut shown = Vec::new(alloc);
+    append_name(name, &mut shown)?;
+    append_escaped(visible_text(alloc, &shown)?.as_bytes(), out)
 }

@@ -5,6 +5,7 @@ ghost use Rattle.ref_history.specs.Places.{is_chosen};
 
 use crate::places::{Choice, Place, first_place, place_after};
 use crate::shown::{append_change, append_dones, append_number, append_reference, append_sends};
+use crate::visible::{ROOM_OF_LINE, append_visible_line};
 use ref_edn::print;
 use ref_forms::Names;
 use ref_log::{Entry, Transaction, Who};
@@ -30,7 +31,7 @@ pub fn history(
         chosen = counted(is_chosen, chosen)?;
         place = place_after(entry, place)?;
     }
-    append_count(dump.entries.len() as u64, chosen, &mut text)?;
+    append_count(alloc, dump.entries.len() as u64, chosen, &mut text)?;
     Ok(text)
 }
 
@@ -77,9 +78,10 @@ pub(crate) fn append_line(
 ) -> Result<(), AllocError>
     ensures { OnOk result (out.new.items ≡ out.old.items ++ entry_line names.now place entry.now) }
 {
-    append_number(place.point, out)?;
-    append_entry(alloc, names, place, entry, out)?;
-    out.extend_from_slice(b"\n")
+    let mut text = Vec::with_capacity(alloc, ROOM_OF_LINE)?;
+    append_number(place.point, &mut text)?;
+    append_entry(alloc, names, place, entry, &mut text)?;
+    append_visible_line(alloc, &text, out)
 }
 
 fn append_entry(
@@ -144,12 +146,18 @@ pub(crate) fn append_made(
 }
 
 /// Appends how many entries there are, and how many were chosen.
-pub(crate) fn append_count(entries: u64, chosen: u64, out: &mut Vec<u8>) -> Result<(), AllocError>
+pub(crate) fn append_count(
+    alloc: Global,
+    entries: u64,
+    chosen: u64,
+    out: &mut Vec<u8>,
+) -> Result<(), AllocError>
     ensures { OnOk result (out.new.items ≡ out.old.items ++ count_line entries chosen) }
 {
-    out.extend_from_slice(b"entries ")?;
-    append_number(entries, out)?;
-    out.extend_from_slice(b" chosen ")?;
-    append_number(chosen, out)?;
-    out.extend_from_slice(b"\n")
+    let mut text = Vec::new(alloc);
+    text.extend_from_slice(b"entries ")?;
+    append_number(entries, &mut text)?;
+    text.extend_from_slice(b" chosen ")?;
+    append_number(chosen, &mut text)?;
+    append_visible_line(alloc, &text, out)
 }

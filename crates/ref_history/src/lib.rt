@@ -11,6 +11,7 @@
 //! | [`values_text`] | their lines, as a report has them |
 //! | [`page`] | a page in HTML: a picture of the entries of a [`Part`], and a table of the refs |
 //! | [`text_of`] | each of these but a page, by a [`Look`] |
+//! | [`visible_text`], [`visible_char`] | a text, and a character, as people are shown it: a terminal and a page do nothing else with it |
 //!
 //! References are printed by the [`Names`](ref_forms::Names) that a caller has, or as `ref 3`. All are linear in the dump and in what is
 //! printed, but for the functions that a replay calls.
@@ -25,12 +26,15 @@ pub mod places;
 mod shown;
 mod steps;
 pub mod values;
+pub mod visible;
 
 pub use change_lines::changes;
 pub use drawing::escaping::escaped_is_plain;
-pub use drawing::frames::{MOST_DRAWN, Part};
-pub use drawing::page;
+pub use drawing::frames::{MOST_DRAWN, MOST_WIDE_DRAWN, Part};
+pub use drawing::{MOST_ROWS, page};
 pub use entry_lines::history;
-pub use looks::{Look, text_of};
+pub use looks::{Look, looked_is_visible, text_of};
 pub use places::{Choice, Place};
+pub use shown::MOST_OF_NAME;
 pub use values::{has_point, values_at, values_text};
+pub use visible::{visible_char, visible_text};

@@ -1,9 +1,12 @@
 //! What can be shown of a dump.
-ghost use Rattle.std.specs.Prelude.{◌≡◌, ◌≢◌, ◌<◌, ◌^◌, Ok, Err, IfOk, IfErr};
+ghost use Rattle.std.specs.Prelude.{◌≡◌, ◌≢◌, ◌<◌, ◌^◌, ℕ, List, Ok, Err, IfOk, IfErr, true};
 ghost use Rattle.ref_fun.specs.Calls.{HasCore};
 ghost use Rattle.ref_log.specs.Replay.{point_after};
+ghost use Rattle.ref_forms.specs.Names.{NamesSeen};
 ghost use Rattle.ref_verdict.specs.OfCore.{IsOfCore};
+ghost use Rattle.ref_verdict.specs.declared.reading.dumps.Dump.{Dump};
 ghost use Rattle.ref_history.specs.Looks.{looked};
+ghost use Rattle.ref_history.specs.Visible.{is_visible};
 
 use crate::change_lines::changes;
 use crate::entry_lines::history;
@@ -44,8 +47,14 @@ pub fn text_of<F: Functions<Core>>(
         Look::History(choice) => Ok(history(alloc, names, &choice, dump)?),
         Look::Changes(choice) => changes(alloc, funs, names, &choice, dump),
         Look::At(point) => match values_at(alloc, funs, dump, point) {
-            Ok(state) => Ok(values_text(alloc, names, &state)?),
+            Ok(state) => Ok(values_text(alloc, names, point, &state)?),
             Err(fault) => Err(fault),
         },
     }
 }
+
+/// What is shown has no hidden character, whatever stands in the dump and in the names: a terminal shows it, and does nothing else.
+pub fn looked_is_visible()
+    ensures { (names : NamesSeen) (look : Look) (dump : Dump) (text : List ℕ)
+        → looked names look dump ≡ Ok text → is_visible text ≡ true }
+{}

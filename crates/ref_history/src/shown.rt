@@ -1,8 +1,8 @@
 //! How references, operations and sends are written.
-ghost use Rattle.std.specs.Prelude.{◌≡◌, ◌++◌, [], OnOk, decimal, slice_get, unwrap_or};
+ghost use Rattle.std.specs.Prelude.{◌≡◌, ◌≤◌, ◌<◌, ◌++◌, [], OnOk, decimal, length, slice_get, unwrap_or};
 ghost use Rattle.std.specs.List.{flat_map};
 ghost use Rattle.ref_fun.specs.Names.{core_names, name_in};
-ghost use Rattle.ref_history.specs.Shown.{answered_text, atom_word, bracketed, call_text, carry_text, carrying_head, carrying_send, done_text, name_or, operation_text, plain_send, ref_word, reference_text, rest_text, send_text, spaced};
+ghost use Rattle.ref_history.specs.Shown.{answered_text, atom_word, begin_of, bracketed, call_text, carry_text, carrying_head, carrying_send, done_text, goes_on, name_or, operation_text, plain_send, ref_word, reference_text, rest_text, send_text, shown_name, spaced};
 
 use itoa::Buffer;
 use ref_edn::print;
@@ -17,6 +17,46 @@ pub(crate) fn append_number(n: u64, out: &mut Vec<u8>) -> Result<(), AllocError>
     ensures { OnOk result (out.new.items ≡ out.old.items ++ decimal n) }
 {
     out.extend_from_slice(Buffer::new().format(n).as_bytes())
+}
+
+/// How many bytes of a name are shown at most.
+pub const MOST_OF_NAME: usize = 256;
+
+/// Appends a name, or as many of its characters as have room in [`MOST_OF_NAME`] bytes, and an ellipsis.
+pub(crate) fn append_name(name: &[u8], out: &mut Vec<u8>) -> Result<(), AllocError>
+    ensures { OnOk result (out.new.items ≡ out.old.items ++ shown_name name.now) }
+{
+    if name.len() <= MOST_OF_NAME {
+        return out.extend_from_slice(name);
+    }
+    let end = begin_of(name, MOST_OF_NAME);
+    out.extend_from_slice(&name[..end])?;
+    out.extend_from_slice("…".as_bytes())
+}
+
+// Where the character begins that has the byte at a place. A character has at most four.
+fn begin_of(text: &[u8], n: usize) -> usize
+    requires first { 3 ≤ n }
+    requires within { n < length text.now }
+    ensures value { result ≡ begin_of text.now n }
+    ensures before { result ≤ n }
+{
+    if !goes_on(text[n]) {
+        n
+    } else if !goes_on(text[n - 1]) {
+        n - 1
+    } else if !goes_on(text[n - 2]) {
+        n - 2
+    } else {
+        n - 3
+    }
+}
+
+// Whether a byte in UTF-8 goes on with a character.
+fn goes_on(byte: u8) -> bool
+    ensures { result ≡ goes_on byte }
+{
+    0x80 <= byte && byte <= 0xBF
 }
 
 /// Appends a reference by its name, or by its kind and number where it has none.
@@ -34,7 +74,7 @@ fn append_named(kind: &str, names: &[Text], n: u32, out: &mut Vec<u8>) -> Result
     ensures { OnOk result (out.new.items ≡ out.old.items ++ name_or kind.now n (slice_get names.now n)) }
 {
     match names.get(n as usize) {
-        Some(name) => out.extend_from_slice(name.as_bytes()),
+        Some(name) => append_name(name.as_bytes(), out),
         None => {
             out.extend_from_slice(kind.as_bytes())?;
             out.extend_from_slice(b" ")?;

@@ -1,11 +1,12 @@
 //! The values at a point.
-ghost use Rattle.std.specs.Prelude.{◌≡◌, ◌≢◌, ◌<◌, ◌^◌, ◌++◌, Ok, Err, IfOk, IfErr, OnOk, decimal, slice_get, unwrap_or};
+ghost use Rattle.std.specs.Prelude.{◌≡◌, ◌≢◌, ◌<◌, ◌^◌, ◌++◌, Ok, Err, IfOk, IfErr, OnOk, slice_get};
 ghost use Rattle.ref_fun.specs.Calls.{HasCore};
 ghost use Rattle.ref_log.specs.Replay.{point_after};
 ghost use Rattle.ref_verdict.specs.OfCore.{IsOfCore};
-ghost use Rattle.ref_history.specs.Values.{has_point, value_line, value_lines, values_at, values_text};
+ghost use Rattle.ref_history.specs.Values.{end_line, has_point, name_or_number, value_line, value_lines, values_at, values_text};
 
-use crate::shown::append_number;
+use crate::shown::{append_name, append_number};
+use crate::visible::{ROOM_OF_LINE, append_visible_line};
 use ref_edn::print;
 use ref_forms::Names;
 use ref_fun::{Core, Functions};
@@ -48,20 +49,33 @@ pub fn values_at<F: Functions<Core>>(
     }
 }
 
-/// The lines of values, as a report has them: each with a name, or with its number where there is none. Linear in the text.
-pub fn values_text(alloc: Global, names: &Names, state: &PlainState) -> Result<Vec<u8>, AllocError>
-    ensures { IfOk result (λ text. text.items ≡ values_text names.now state.now) }
+/// The lines of values at a point, as a report has them: each with a name, or with its number where there is none. A last line says that
+/// these are all. Linear in the text.
+pub fn values_text(
+    alloc: Global,
+    names: &Names,
+    point: u64,
+    state: &PlainState,
+) -> Result<Vec<u8>, AllocError>
+    ensures { IfOk result (λ text. text.items ≡ values_text names.now point state.now) }
+{
+    let (refs, atoms) = (state.refs.as_slice(), state.atoms.as_slice());
+    let mut text = Vec::new(alloc);
+    append_values(alloc, "ref", names.refs(), refs, &mut text)?;
+    append_values(alloc, "atom", names.atoms(), atoms, &mut text)?;
+    append_end(alloc, point, &mut text)?;
+    Ok(text)
+}
+
+// The line behind all values.
+fn append_end(alloc: Global, point: u64, out: &mut Vec<u8>) -> Result<(), AllocError>
+    ensures { OnOk result (out.new.items ≡ out.old.items ++ end_line point) }
 {
     let mut text = Vec::new(alloc);
-    append_values(alloc, "ref", names.refs(), state.refs.as_slice(), &mut text)?;
-    append_values(
-        alloc,
-        "atom",
-        names.atoms(),
-        state.atoms.as_slice(),
-        &mut text,
-    )?;
-    Ok(text)
+    text.extend_from_slice(b"at ")?;
+    append_number(point, &mut text)?;
+    text.extend_from_slice(b" ok")?;
+    append_visible_line(alloc, &text, out)
 }
 
 // The lines of all values of a kind.
@@ -91,20 +105,21 @@ fn append_value(
 ) -> Result<(), AllocError>
     ensures { OnOk result (out.new.items ≡ out.old.items ++ value_line kind.now names.now n value.now) }
 {
-    out.extend_from_slice(kind.as_bytes())?;
-    out.extend_from_slice(b" ")?;
-    append_name(names, n, out)?;
-    out.extend_from_slice(b" ")?;
-    print(alloc, value, out)?;
-    out.extend_from_slice(b"\n")
+    let mut text = Vec::with_capacity(alloc, ROOM_OF_LINE)?;
+    text.extend_from_slice(kind.as_bytes())?;
+    text.extend_from_slice(b" ")?;
+    append_name_or_number(names, n, &mut text)?;
+    text.extend_from_slice(b" ")?;
+    print(alloc, value, &mut text)?;
+    append_visible_line(alloc, &text, out)
 }
 
 // A name, or the number where there is none.
-fn append_name(names: &[Text], n: usize, out: &mut Vec<u8>) -> Result<(), AllocError>
-    ensures { OnOk result (out.new.items ≡ out.old.items ++ unwrap_or (slice_get names.now n) (decimal n)) }
+fn append_name_or_number(names: &[Text], n: usize, out: &mut Vec<u8>) -> Result<(), AllocError>
+    ensures { OnOk result (out.new.items ≡ out.old.items ++ name_or_number n (slice_get names.now n)) }
 {
     match names.get(n) {
-        Some(name) => out.extend_from_slice(name.as_bytes()),
+        Some(name) => append_name(name.as_bytes(), out),
         None => append_number(n as u64, out),
     }
 }

@@ -113,12 +113,13 @@ const AT_MORE: &str =
 Example:
   refrun run --dump < workload.edn | refrun at 0 --names workload.edn
 prints, of the workload in the help of run,
-  ref a 0";
+  ref a 0
+  at 0 ok";
 
 const DRAW: &str =
     "Reads a dump from standard input, and prints a page in HTML: a picture of its entries, and a table of its refs";
 
-const DRAW_MORE: &str = "At most 2,000 entries are drawn; --from and --to choose them.
+const DRAW_MORE: &str = "At most 400 entries are drawn; --from and --to choose them.
 
 Example:
   refrun run --dump < workload.edn | refrun draw --names workload.edn > page.html";

@@ -4,8 +4,11 @@ use ref_verdict::reading::dumps::Dump;
 use std::alloc::{AllocError, Global};
 use std::collections::BTreeSet;
 
-/// How many entries a page has at most.
-pub const MOST_DRAWN: u64 = 2_000;
+/// How many entries a page has at most: so many that its picture is less than 20,000 pixels wide.
+pub const MOST_DRAWN: u64 = 400;
+
+/// How many it has at most where columns are wide, as they are for a dump with more than 10,000 refs or atoms.
+pub const MOST_WIDE_DRAWN: u64 = 230;
 
 /// Which entries are drawn: those from a point up to another one, as far as a page has room.
 #[derive(Clone, Copy, Debug, Drop, PartialEq, Eq)]
@@ -14,11 +17,13 @@ pub struct Part {
     pub to: u64,
 }
 
-// In pixels: the space for the names of lanes and for points, a column of a point, a lane, and a box in it. A column has room for the
-// label of a ref with up to four digits, and a wide one for each.
+// In pixels: the space for the names of lanes, and for points above the lanes and below them, a column of a point, a lane, and a box in it.
+// A column has room for the label of a ref with up to four digits, and a wide one for each.
 const LEFT: u64 = 124;
 
 const TOP: u64 = 30;
+
+const BOTTOM: u64 = 20;
 
 const COLUMN: u64 = 48;
 
@@ -38,6 +43,8 @@ pub(crate) struct Frame {
     pub end: u64,
     /// Their numbers, in order.
     pub workers: Vec<u32>,
+    /// How many entries could be drawn.
+    pub most: u64,
     /// How wide a column is.
     column: u64,
 }
@@ -48,18 +55,21 @@ impl Frame {
         let begin = dump.base.point.saturating_add(1);
         let end = begin.saturating_add(dump.entries.len() as u64);
         let first = part.from.max(begin).min(end);
+        let is_wide = is_wide(dump);
+        let most = if is_wide { MOST_WIDE_DRAWN } else { MOST_DRAWN };
         let end = part
             .to
             .saturating_add(1)
             .min(end)
-            .min(first.saturating_add(MOST_DRAWN))
+            .min(first.saturating_add(most))
             .max(first);
         let workers = workers_in(alloc, dump, first, end)?;
         Ok(Frame {
             first,
             end,
             workers,
-            column: column_of(dump),
+            most,
+            column: if is_wide { WIDE_COLUMN } else { COLUMN },
         })
     }
 
@@ -117,22 +127,26 @@ impl Frame {
         BOX
     }
 
-    pub(crate) fn width(&self) -> u64 {
+    /// Where the last lane ends, from left to right.
+    pub(crate) fn right(&self) -> u64 {
         self.x(self.end).saturating_add(self.column)
     }
 
-    pub(crate) fn height(&self) -> u64 {
+    /// Where the last lane ends, from top to bottom.
+    pub(crate) fn bottom(&self) -> u64 {
         self.y(self.last_lane().saturating_add(1))
+    }
+
+    /// How high the picture is.
+    pub(crate) fn height(&self) -> u64 {
+        self.bottom().saturating_add(BOTTOM)
     }
 }
 
-fn column_of(dump: &Dump) -> u64 {
+// Whether labels may need more room.
+fn is_wide(dump: &Dump) -> bool {
     let (refs, atoms) = (dump.refs.as_slice().len(), dump.atoms.as_slice().len());
-    if refs.max(atoms) <= MOST_NARROW {
-        COLUMN
-    } else {
-        WIDE_COLUMN
-    }
+    refs.max(atoms) > MOST_NARROW
 }
 
 // The workers that committed what is drawn.
