@@ -27,9 +27,9 @@
 //! numbers, of which each side has a sixteenth: those that differ in their lowest bits alone. Forks with only one side are left out, so
 //! the tree needs no balancing. A new version shares all of the tree but the forks on the way to its key, and values are never copied.
 //!
-//! What a `with` or `set` copies, where another map has the whole tree: for 4,096 numbers from 0 on 3 forks, where forks of two sides would be
-//! 12, and an entry; for 64 numbers 2 forks in the place of 6. Each fork that is copied counts one owner more of each of its sides that
-//! isn't empty: 48 in all for 4,096 numbers, where forks of two sides would count 12; and 20 in the place of 6 for 64.
+//! If another map has the whole tree, `with` and `set` copy an entry and the forks on its way: 3 for 4,096 numbers from 0 on, 2 for 64. With
+//! forks of two sides they would be 12 and 6. Each fork that is copied counts one more owner of each of its sides that isn't empty: 48 in
+//! all for 4,096 numbers and 20 for 64. With forks of two sides they would be 12 and 6.
 //!
 //! `get` compares the bits of its key above those of a side with the block's. So what is found rests on a shift and a comparison.
 //!

@@ -25,7 +25,7 @@
 //! no memory; operations and sends are stored, for the entry of the commit too. The last 16 operations are looked through one by one;
 //! of those before them a table has the value now of each ref. Most transactions have fewer and need no table. `start` and one more owner of a
 //! snapshot take constant time and no memory; another value in a snapshot takes time and memory logarithmic in the number of refs.
-//! The values of the read point are held as long as the transaction is open. [`Tx::close`] lets them go but for those of the refs that it
+//! The values of the read point are held as long as the transaction is open. [`Tx::close`] drops them but for those of the refs that it
 //! protects, in a look-up for each operation: then others can change refs in place while it waits for its commit.
 //!
 //! **Not promised.** That a ref which was only read, by `deref` or `require`, still has its value at the commit: `ensure` is the remedy.

@@ -103,9 +103,9 @@ impl<M: Meaning> Tx<M> {
         &self.began
     }
 
-    /// The transaction once its body is done, for a commit: nothing more can be done in it. Of the values that it began with it holds those of the
-    /// refs that it protects, and lets all others go, so that they can be changed in place. Linear in the number of operations. It takes memory
-    /// for more than two operations; where that is refused, the transaction is dropped.
+    /// The transaction once its body is done, for a commit: nothing more can be done in it. Of the values that it began with it holds those of
+    /// the refs that it protects. It drops all others, so that they can be changed in place. Linear in the number of operations. It takes memory
+    /// for more than two operations; if that is refused, the transaction is dropped.
     pub fn close(self, alloc: Global) -> Result<Tx<M, Starts>, AllocError>
         ensures { IfOk result (λ tx. tx ≡ self) }
     {

@@ -58,7 +58,7 @@ impl<'a> Scenario for Look<'a> {
     }
 
     fn has_fewer(&self, place: usize) -> bool {
-        self.tables.as_bytes().get(place) == Some(&b'x')
+        self.tables.as_bytes().get(place) == Some(&b'f')
     }
 
     fn refuse(self, alloc: Global, who: Who, fault: MakeFault) -> Result<String, AllocError> {

@@ -17,7 +17,7 @@ pub(crate) const LAST: u64 = 4_611_686_018_427_387_904;
 /// How a row is asked.
 #[derive(Clone, Copy, Drop)]
 pub(crate) enum Way {
-    /// A list; before it, for the start and each event, an `x` if it is by the table with fewer functions.
+    /// A list; before it, for the start and each event, an `f` if it is by the table with fewer functions.
     Served,
     /// Where a transaction begins, with its acts by hand, and where it is committed, by this table.
     Commit(Table),
