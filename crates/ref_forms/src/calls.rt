@@ -1,8 +1,8 @@
 //! Functions and predicates of Core with their arguments.
-ghost use Rattle.std.specs.Prelude.{◌≡◌, ◌≤◌, Bool, true, None, Some, IfOk, IfSome, OnOk};
+ghost use Rattle.std.specs.Prelude.{◌≡◌, ◌∷◌, ◌≤◌, Bool, true, None, Some, IfOk, IfSome, OnOk};
 ghost use Rattle.ref_value.specs.Edn.{Edn};
 ghost use Rattle.ref_fun.specs.Names.{is_function, is_predicate};
-ghost use Rattle.ref_forms.specs.Calls.{action_of, action_said, any, args_said, code_for, code_of, rule_of, rule_said};
+ghost use Rattle.ref_forms.specs.Calls.{action_of, action_said, any, args_said, code_for, code_of, rule_of, rule_said, value_said};
 ghost use Rattle.ref_forms.specs.Reading.{Reads};
 
 use crate::plain::{elements_in, symbol_in};
@@ -53,17 +53,49 @@ fn function_in(form: &Value) -> Option<u32>
     function_named(symbol_in(form)?)
 }
 
-/// At most 8 arguments.
-#[tactic(auto, using(crate::specs::Laws::args_said_many, crate::specs::Laws::args_said_wrong, crate::specs::Laws::args_said_right))]
-pub fn args_in<V: Values>(alloc: Global, forms: Iter<'_>) -> Result<Args, Wrong>
+// A value, where the document takes it.
+pub(crate) fn value_in<V: Values>(form: &Value) -> Result<Value, Wrong>
+    ensures { Reads (value_said V.is_value form.now) result }
+{
+    if !V::takes(form) {
+        return Err(Wrong::Form);
+    }
+    Ok(form.share()?)
+}
+
+/// At most 8 arguments. None and one take no memory.
+pub fn args_in<V: Values>(alloc: Global, mut forms: Iter<'_>) -> Result<Args, Wrong>
     ensures { Reads (args_said V.is_value forms.entry) result }
 {
+    let Some(first) = forms.next() else {
+        return Ok(Args::of(alloc, Vec::new(alloc))?);
+    };
+    let first = value_in::<V>(first)?;
+    match forms.next() {
+        Some(second) => several_args::<V>(alloc, first, second, forms),
+        None => Ok(Args::one(first)),
+    }
+}
+
+// Two arguments and those behind them, of which the first is known to be one.
+#[tactic(auto, using(crate::specs::Laws::args_said_many, crate::specs::Laws::args_said_wrong, crate::specs::Laws::args_said_right))]
+fn several_args<V: Values>(
+    alloc: Global,
+    first: Value,
+    second: &Value,
+    forms: Iter<'_>,
+) -> Result<Args, Wrong>
+    requires { V.is_value first ≡ true }
+    ensures { Reads (args_said V.is_value (first ∷ second.now ∷ forms.entry)) result }
+{
     let mut values = Vec::new(alloc);
+    values.push(first)?;
+    values.push(value_in::<V>(second)?)?;
     for form in forms {
-        if values.len() >= MOST_ARGUMENTS || !V::takes(form) {
+        if values.len() >= MOST_ARGUMENTS {
             return Err(Wrong::Form);
         }
-        values.push(form.share()?)?;
+        values.push(value_in::<V>(form)?)?;
     }
     values.shrink_to_fit();
     Ok(Args::of(alloc, values)?)

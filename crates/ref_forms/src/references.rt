@@ -8,7 +8,7 @@ ghost use Rattle.ref_forms.specs.Reading.{Reads};
 ghost use Rattle.ref_forms.specs.References.{number_said, state_said};
 ghost use Rattle.ref_forms.specs.declared.kinds.Kind.TheVariants as kinds;
 
-use crate::calls::{Values, args_in, function_named, predicate_named};
+use crate::calls::{Values, args_in, function_named, predicate_named, value_in};
 use crate::kinds::{Kind, number_at};
 use crate::marks::{is_marked, mode_in};
 use crate::plain::symbol_in;
@@ -40,15 +40,6 @@ pub fn number_in<D: Naming>(document: &D, kind: Kind, form: &Value) -> Result<u3
         },
         Err(wrong) => Err(wrong),
     }
-}
-
-fn value_in<V: Values>(form: &Value) -> Result<Value, Wrong>
-    ensures { Reads (value_said V.is_value form.now) result }
-{
-    if !V::takes(form) {
-        return Err(Wrong::Form);
-    }
-    Ok(form.share()?)
 }
 
 /// `NAME`, for a reference of this kind.
