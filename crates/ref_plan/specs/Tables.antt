@@ -4,7 +4,14 @@ use Rattle.std.specs.Cmp.Lexicographic.{pointwise}
 use Rattle.std.specs.Map.{lookup}
 use Rattle.ref_forms.specs.Names.{NamesSeen}
 use Rattle.ref_log.specs.declared.notices.Who.{Who}
+use Rattle.ref_plan.specs.declared.planning.names.NameText.{NameText}
+use Rattle.ref_plan.specs.declared.planning.names.NameText.TheVariants.{Long, Short}
 use Rattle.ref_plan.specs.Named.{IsNamed}
+
+-- the bytes of a name, wherever they lie
+abbrev pub bytes_of : NameText → List ℕ
+bytes_of (Short text) = text
+bytes_of (Long text) = text
 
 abbrev pub Table : Type 0
 Table = List (List ℕ × Who)

@@ -7,7 +7,8 @@
 //! |---|---|
 //! | [`Plan`] | the references that are declared, with their names, the steps of each worker, and the size of the pool |
 //! | [`Step`] | what a worker does next |
-//! | [`PlannedOp`] | one operation of a transaction |
+//! | [`PlannedOps`] | the operations of a transaction |
+//! | [`PlannedOp`] | one of them |
 //! | [`PlanFault`] | why a value is no workload |
 //!
 //! Planning is linear in the text, but for the look-ups of names. Guaranteed: a plan that is returned is what the workload says, and a
@@ -21,4 +22,4 @@ pub mod plans;
 pub mod versions;
 
 pub use plan_faults::PlanFault;
-pub use plans::{Plan, PlannedOp, Step};
+pub use plans::{Plan, PlannedOp, PlannedOps, Step};

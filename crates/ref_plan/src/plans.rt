@@ -1,12 +1,14 @@
 //! Plans: what a workload says must be run.
-ghost use Rattle.std.specs.Prelude.{◌≡◌};
+ghost use Rattle.std.specs.Prelude.{◌≡◌, ◌++◌, ◌∷◌, [], IfOk};
 
 use ref_agents::{ErrorMode, Start};
 use ref_forms::Names;
 use ref_fun::{Action, Rule};
 use ref_log::{Op, Sent, SharedVec, Who};
 use ref_value::Value;
+use std::alloc::{AllocError, Global};
 use std::marker::Model;
+use std::slice;
 
 /// An operation of a transaction, as the text of its step names it.
 pub enum PlannedOp {
@@ -29,10 +31,94 @@ impl Drop for PlannedOp {
     }
 }
 
+// Most transactions have one operation.
+#[derive(Drop)]
+enum Held {
+    Nothing,
+    One(PlannedOp),
+    Listed(Vec<PlannedOp>),
+}
+
+/// The operations of a transaction. A single one takes no block of memory, and more take one. Contracts see a list.
+#[derive(Drop)]
+pub struct PlannedOps {
+    held: Held,
+}
+
+impl Model for PlannedOps {
+    ghost use Rattle.std.specs.Prelude.{List};
+    ghost use Rattle.std.specs.Coded.{codes};
+    ghost use Rattle.ref_value.specs.Code.{edn_code};
+    ghost use Rattle.ref_plan.specs.Stored.{ops_stored};
+    ghost use Rattle.ref_plan.specs.declared.plans.PlannedOp.{PlannedOp};
+
+    ghost Value = { List PlannedOp };
+
+    ghost coded = { Prim.hlevel (codes, edn_code) };
+
+    ghost view = { λ a. ops_stored a.held };
+}
+
+impl PlannedOps {
+    /// No operations. It takes no memory.
+    pub(crate) fn none() -> PlannedOps
+        ensures { result ≡ [] }
+    {
+        PlannedOps {
+            held: Held::Nothing,
+        }
+    }
+
+    /// The operations in order.
+    pub fn as_slice(&self) -> &[PlannedOp]
+        ensures { result.now ≡ self.now }
+    {
+        match &self.held {
+            Held::Nothing => &[],
+            Held::One(op) => slice::from_ref(op),
+            Held::Listed(ops) => ops.as_slice(),
+        }
+    }
+
+    /// These and one more behind them.
+    pub(crate) fn with(self, alloc: Global, op: PlannedOp) -> Result<PlannedOps, AllocError>
+        ensures { IfOk result (λ ops. ops ≡ self ++ op ∷ []) }
+    {
+        let held = match self.held {
+            Held::Nothing => Held::One(op),
+            Held::One(first) => Held::Listed(pair(alloc, first, op)?),
+            Held::Listed(mut ops) => {
+                ops.push(op)?;
+                Held::Listed(ops)
+            }
+        };
+        Ok(PlannedOps { held })
+    }
+
+    /// Gives back the room that a list has for more.
+    pub(crate) fn shrink_to_fit(&mut self)
+        ensures { self.new ≡ self.old }
+    {
+        if let Held::Listed(ops) = &mut self.held {
+            ops.shrink_to_fit();
+        }
+    }
+}
+
+// A list with no room for more.
+fn pair(alloc: Global, first: PlannedOp, second: PlannedOp) -> Result<Vec<PlannedOp>, AllocError>
+    ensures { IfOk result (λ ops. ops.items ≡ first ∷ second ∷ []) }
+{
+    let mut ops = Vec::with_capacity(alloc, 2)?;
+    ops.push(first)?;
+    ops.push(second)?;
+    Ok(ops)
+}
+
 /// A step of a worker.
 pub enum Step {
     /// A transaction with these operations.
-    Tx(SharedVec<PlannedOp>),
+    Tx(PlannedOps),
     /// `swap!` of the atom of this number.
     Swap(u32, Action),
     /// `reset!` of the atom of this number.

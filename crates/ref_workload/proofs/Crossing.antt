@@ -3,7 +3,7 @@
 -- `search` alone finds no proof of it, as for a world: each type's fact stands on those of its fields.
 use denote.RattleType.{RattleType}
 use denote.Ref.{NamedLft}
-use denote.Param.Send.{IsSend, IsSync, sendable}
+use denote.Param.Send.{IsSend, IsSync, sendable, view_send, view_sync}
 use denote.Param.SendFields.{declared_send, declared_sync, variants_send, variants_sync}
 use Rattle.std.proofs.Crossing as std
 use Rattle.ref_world.specs.declared.names.Books as Books
@@ -14,6 +14,8 @@ use Rattle.ref_audit.specs.contracts.reports.Refusal as Refusal
 use Rattle.ref_world.proofs.Crossing.{action_send, action_sync, op_send, op_sync, rule_send, rule_sync, sent_send, sent_sync, share_send, value_send, value_sync}
 use Rattle.ref_shared.proofs.Crossing.{shared_sync}
 use Rattle.ref_plan.specs.contracts.plans.PlannedOp as PlannedOp
+use Rattle.ref_plan.specs.contracts.plans.PlannedOps as PlannedOps
+use Rattle.ref_plan.specs.contracts.plans.PlannedOps.TheInside as InPlannedOps
 use Rattle.ref_plan.specs.contracts.plans.Step as Step
 use Rattle.ref_workload.specs.contracts.progress.Progress as Progress
 use Rattle.ref_workload.specs.contracts.running.workers.Ended as Ended
@@ -42,9 +44,15 @@ planned_sync = variants_sync PlannedOp.enum (
   ),
 )
 
+ops_send : IsSend PlannedOps.the_row
+ops_send = view_send _ _ _ _ _ (declared_send InPlannedOps.the_type (search (planned_send, plain) depth 60, tt))
+
+ops_sync : IsSync PlannedOps.the_row
+ops_sync = view_sync _ _ _ _ _ (declared_sync InPlannedOps.the_type (search (planned_sync, plain) depth 60, tt))
+
 step_send : IsSend Step.the_row
 step_send = variants_send Step.enum (
-  (search (planned_send, planned_sync, lists.the_send, plain) depth 60, tt),
+  (ops_send, tt),
   (
     (search plain depth 60, (action_send, tt)),
     (
@@ -68,7 +76,7 @@ step_send = variants_send Step.enum (
 
 step_sync : IsSync Step.the_row
 step_sync = variants_sync Step.enum (
-  (search (planned_send, planned_sync, lists.the_sync, plain) depth 60, tt),
+  (ops_sync, tt),
   (
     (search plain depth 60, (action_sync, tt)),
     (

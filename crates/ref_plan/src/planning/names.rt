@@ -14,23 +14,58 @@ use ref_forms::plain::symbol_in;
 use ref_forms::{Names, Naming, Values, Wrong};
 use ref_fun::MOST_NESTED_RESULT;
 use ref_log::Who;
-use ref_value::{Text, Value};
+use ref_value::Value;
+use ref_value::texts::{ShortText, Text};
 use std::alloc::{AllocError, Global};
 use std::hash::{Hash, Hasher};
 use std::marker::Model;
 
-/// The name of a reference. Contracts see its bytes.
+// How long a name may be that lies in the table.
+const MOST_SHORT: usize = 14;
+
+/// The name of a reference. Contracts see its bytes. One of up to 14 bytes takes no block of memory, so that a table finds it in place.
 #[derive(Drop)]
 pub struct Name {
-    text: Text,
+    text: NameText,
+}
+
+#[derive(Drop)]
+enum NameText {
+    Short(ShortText),
+    Long(Text),
 }
 
 impl Model for Name {
     ghost use Rattle.std.specs.Prelude.{List, ℕ};
+    ghost use Rattle.ref_plan.specs.Tables.{bytes_of};
 
     ghost Value = { List ℕ };
 
-    ghost view = { λ a. a.text };
+    ghost view = { λ a. bytes_of a.text };
+}
+
+impl Name {
+    // The name that a text is, with one more owner if it is long.
+    fn of(text: &Text) -> Result<Name, AllocError>
+        ensures { IfOk result (λ n. n ≡ text.now) }
+    {
+        let bytes = text.as_bytes();
+        let text = if bytes.len() <= MOST_SHORT {
+            NameText::Short(ShortText::of_bytes(bytes))
+        } else {
+            NameText::Long(text.share()?)
+        };
+        Ok(Name { text })
+    }
+
+    fn as_bytes(&self) -> &[u8]
+        ensures { result.now ≡ self.now }
+    {
+        match &self.text {
+            NameText::Short(text) => text.as_bytes(),
+            NameText::Long(text) => text.as_bytes(),
+        }
+    }
 }
 
 impl PartialEq for Name {
@@ -44,7 +79,7 @@ impl PartialEq for Name {
     ghost laws = { partial_equiv_from_equiv nat_list_eq_equiv };
 
     fn eq(&self, other: &Name) -> bool {
-        self.text.as_bytes() == other.text.as_bytes()
+        self.as_bytes() == other.as_bytes()
     }
 }
 
@@ -64,7 +99,7 @@ impl Hash for Name {
     ghost respects_eq = { Prim.search (hashing, rules) };
 
     fn hash<H: Hasher>(&self, state: &mut H) {
-        state.write(self.text.as_bytes());
+        state.write(self.as_bytes());
         state.write_u8(0xff);
     }
 }
@@ -105,7 +140,7 @@ impl<'a> Equivalent<Name> for Wanted<'a> {
     ghost respects_eq = { λ q x y. nat_list_eq_equiv.congr q.bytes.now x y };
 
     fn equivalent(&self, key: &Name) -> bool {
-        self.bytes == key.text.as_bytes()
+        self.bytes == key.as_bytes()
     }
 }
 
@@ -140,9 +175,7 @@ impl NameTable {
         ensures absent { IfOk result (λ added. OnTrue added (found self.old name.now ≡ None)) }
         ensures there { IfOk result (λ added. OnFalse added (is_none (found self.old name.now) ≡ false)) }
     {
-        let name = Name {
-            text: name.share()?,
-        };
+        let name = Name::of(name)?;
         if self.references.get(&name).is_some() {
             return Ok(false);
         }

@@ -4,14 +4,14 @@ ghost use Rattle.ref_forms.specs.Reading.{Reads};
 ghost use Rattle.ref_plan.specs.Operations.{op_of, op_said, ops_said, tagged_op};
 
 use crate::planning::names::Declared;
-use crate::plans::PlannedOp;
+use crate::plans::{PlannedOp, PlannedOps};
 use ref_calls::{OperationWord, Version, operation_named};
 use ref_forms::carrying::carrying_on;
 use ref_forms::plain::tagged_in;
 use ref_forms::references::{call_on, number_alone, requirement_on, value_on};
 use ref_forms::{Kind, Wrong};
 use ref_fun::Action;
-use ref_log::{Op, Sent, SharedVec};
+use ref_log::{Op, Sent};
 use ref_value::Value;
 use ref_value::vectors::Iter;
 use std::alloc::Global;
@@ -91,17 +91,18 @@ fn operation(
     }
 }
 
+/// The operations that these forms say, at most 256. A wrong form of any of them comes first, then a wrong name, then a wrong function.
 #[tactic(auto, using(ref_forms::specs::Laws::known_more))]
-fn list_of(
+pub fn operations(
     alloc: Global,
     version: Version,
     declared: &Declared,
     forms: Iter<'_>,
-) -> Result<Vec<PlannedOp>, Wrong>
-    ensures ok { IfOk result (λ ops. ops_said version declared.now forms.entry ≡ Some ops.items) }
+) -> Result<PlannedOps, Wrong>
+    ensures ok { IfOk result (λ ops. ops_said version declared.now forms.entry ≡ Some ops) }
     ensures wrong { IfErr result (λ w. w ≢ Wrong.Memory → ops_said version declared.now forms.entry ≡ None) }
 {
-    let mut ops = Vec::new(alloc);
+    let mut ops = PlannedOps::none();
     let mut worst = None;
     let mut seen = 0;
     for form in forms {
@@ -110,7 +111,7 @@ fn list_of(
         }
         seen += 1;
         match operation(alloc, version, declared, form) {
-            Ok(op) => ops.push(op)?,
+            Ok(op) => ops = ops.with(alloc, op)?,
             Err(wrong) => worst = Some(wrong.worse(worst)),
         }
     }
@@ -121,17 +122,4 @@ fn list_of(
         }
         Some(wrong) => Err(wrong),
     }
-}
-
-/// The operations that these forms say, at most 256. A wrong form of any of them comes first, then a wrong name, then a wrong function.
-pub fn operations(
-    alloc: Global,
-    version: Version,
-    declared: &Declared,
-    forms: Iter<'_>,
-) -> Result<SharedVec<PlannedOp>, Wrong>
-    ensures { Reads (ops_said version declared.now forms.entry) result }
-{
-    let ops = list_of(alloc, version, declared, forms)?;
-    Ok(SharedVec::of(alloc, ops)?)
 }
