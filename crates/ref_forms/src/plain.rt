@@ -82,11 +82,24 @@ pub fn tagged_in(form: &Value) -> Option<(&[u8], Iter<'_>)>
     Some((tag, parts))
 }
 
-/// Whether these are the same bytes.
+/// Whether these are the same bytes. It is for words: from some sixteen bytes on `==` is faster.
 pub fn is_same(a: &[u8], b: &[u8]) -> bool
     ensures { result ≡ bytes_eq a.now b.now }
 {
-    a == b
+    let (mut left, mut right) = (a, b);
+    loop {
+        let [x, xs @ ..] = left else {
+            return right.is_empty();
+        };
+        let [y, ys @ ..] = right else {
+            return false;
+        };
+        if *x != *y {
+            return false;
+        }
+        left = xs;
+        right = ys;
+    }
 }
 
 /// Whether a value is the keyword of this name.

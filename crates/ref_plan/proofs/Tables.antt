@@ -1,12 +1,22 @@
 -- Tables of names: what one name more tells, and when a name is free.
-use Rattle.std.proofs.Common.{◌≡◌, ℕ, Bool, true, false, ◌⊎◌, inl, inr, zero, suc, List, [], ◌∷◌, ◌++◌, Option, None, Some, IfSome, cond, length, nat_eq, refl, sym, ◌∙◌, ap, subst, slice_get}
+use Rattle.std.proofs.Common.{◌≡◌, ℕ, Bool, true, false, ◌&&◌, ◌⊎◌, inl, inr, zero, suc, List, [], ◌∷◌, ◌++◌, Option, None, Some, IfSome, cond, length, nat_eq, refl, sym, ◌∙◌, ap, subst, slice_get}
 use Rattle.std.proofs.lemmas.Cmp.{nat_list_eq_equiv}
 use Rattle.std.specs.Cmp.Lexicographic.{pointwise, same_text}
+use Rattle.ref_value.specs.Names.{bytes_eq}
 use Rattle.ref_forms.specs.Names.{NamesSeen}
 use Rattle.ref_log.specs.declared.notices.Who.{Who}
 use Rattle.ref_log.specs.declared.notices.Who.TheVariants.{Ref, Atom, Agent}
 use Rattle.ref_plan.specs.Named.{AreApart, IsNamed, name_of}
 use Rattle.ref_plan.specs.Tables.{Adds, Knows, Table, found, refs_alone, refs_and_atoms}
+
+-- ---- the bytes of names
+
+-- what tests words tests names, too
+pub same_bytes : (xs ys : List ℕ) → bytes_eq xs ys ≡ pointwise nat_eq xs ys
+same_bytes [] [] = refl
+same_bytes [] (y ∷ ys) = refl
+same_bytes (x ∷ xs) [] = refl
+same_bytes (x ∷ xs) (y ∷ ys) = ap (λ b. nat_eq x y && b) (same_bytes xs ys)
 
 -- ---- lists by number
 

@@ -10,7 +10,7 @@ ghost use Rattle.ref_plan.specs.Tables.{Knows, found};
 
 use crate::planning::hashing::NameHashing;
 use indexmap::{Equivalent, IndexMap};
-use ref_forms::plain::symbol_in;
+use ref_forms::plain::{is_same, symbol_in};
 use ref_forms::{Names, Naming, Values, Wrong};
 use ref_fun::MOST_NESTED_RESULT;
 use ref_log::Who;
@@ -139,8 +139,9 @@ impl<'a> Equivalent<Name> for Wanted<'a> {
 
     ghost respects_eq = { λ q x y. nat_list_eq_equiv.congr q.bytes.now x y };
 
+    #[tactic(auto, using(crate::proofs::Tables::same_bytes))]
     fn equivalent(&self, key: &Name) -> bool {
-        self.bytes == key.as_bytes()
+        is_same(self.bytes, key.as_bytes())
     }
 }
 
