@@ -1,9 +1,11 @@
--- Laws of what forms say, for a proof: of a vector, of a map, of a rule in a vector, and of arguments by how many they are.
-use Rattle.std.specs.Prelude.{◌≡◌, ◌≢◌, ◌<◌, ◌≤◌, ◌&&◌, Bool, true, false, nat_le, List, [], ◌∷◌, ◌++◌, length, Option, None, Some, option_map, refl}
+-- Laws of what forms say, for a proof: of a vector, of a map, of a rule in a vector, of words of different lengths, and of arguments by
+-- how many they are.
+use Rattle.std.specs.Prelude.{◌≡◌, ◌≢◌, ◌<◌, ◌≤◌, ◌&&◌, ◌==◌, ℕ, suc, Bool, true, false, nat_le, List, [], ◌∷◌, ◌++◌, length, Option, None, Some, option_map, refl}
 use Rattle.std.specs.List.{list_all}
 use Rattle.std.proofs.Common.{ap, arith, ◌∙◌, sym, append_assoc}
 use Rattle.std.proofs.lemmas.Bool.Decides.{nat_tests}
 use Rattle.ref_value.specs.Edn.{Edn, vector, map, items_of, entries_of, list_of-items_of, pairs_of-entries_of}
+use Rattle.ref_value.specs.Names.{bytes_eq}
 use Rattle.ref_forms.specs.Calls.{any, args_said, rule_of, rule_said}
 use Rattle.ref_forms.specs.Plain.{all_said, and_said, elements_of, map_said, only_if}
 use Rattle.ref_forms.specs.declared.wrong.Wrong.{Wrong}
@@ -37,6 +39,12 @@ false_behind true b e = e
 
 and_true : (a b : Bool) → a ≡ true → b ≡ true → (a && b) ≡ true
 and_true a b p q = ap (λ x. x && b) p ∙ q
+
+pub of_another_length : (xs ys : List ℕ) → length xs ≢ length ys → bytes_eq xs ys ≡ false
+of_another_length [] [] n = absurd (n refl)
+of_another_length [] (y ∷ ys) n = refl
+of_another_length (x ∷ xs) [] n = refl
+of_another_length (x ∷ xs) (y ∷ ys) n = false_behind (x == y) (bytes_eq xs ys) (of_another_length xs ys (λ e. n (ap (λ k. suc k) e)))
 
 pub args_said_many : (is_value : Edn → Bool) (xs : List Edn) → 8 < length xs → args_said is_value xs ≡ None
 args_said_many is_value xs many =

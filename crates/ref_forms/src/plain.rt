@@ -83,9 +83,13 @@ pub fn tagged_in(form: &Value) -> Option<(&[u8], Iter<'_>)>
 }
 
 /// Whether these are the same bytes. It is for words: from some sixteen bytes on `==` is faster.
+#[tactic(auto, using(crate::specs::Laws::of_another_length))]
 pub fn is_same(a: &[u8], b: &[u8]) -> bool
     ensures { result ≡ bytes_eq a.now b.now }
 {
+    if a.len() != b.len() {
+        return false;
+    }
     let (mut left, mut right) = (a, b);
     loop {
         let [x, xs @ ..] = left else {
