@@ -53,7 +53,7 @@ fn check(alloc: Global, text: &[u8]) -> Result<(), RunFault>
 {
     let value = read_one(alloc, text)?;
     let plan = plan(alloc, &value)?;
-    // The program ends next, and its memory with it. To free each block before that would take a tenth of its time.
+    // The program ends next, and its memory with it. To free each block before that would take a seventh of its time.
     mem::forget(plan);
     mem::forget(value);
     Ok(())
