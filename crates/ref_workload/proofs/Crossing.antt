@@ -13,6 +13,7 @@ use Rattle.ref_audit.specs.contracts.reports.Reason as Reason
 use Rattle.ref_audit.specs.contracts.reports.Refusal as Refusal
 use Rattle.ref_world.proofs.Crossing.{action_send, action_sync, op_send, op_sync, rule_send, rule_sync, sent_send, sent_sync, share_send, value_send, value_sync}
 use Rattle.ref_shared.proofs.Crossing.{shared_sync}
+use Rattle.ref_plan.specs.contracts.plans.Held as Held
 use Rattle.ref_plan.specs.contracts.plans.PlannedOp as PlannedOp
 use Rattle.ref_plan.specs.contracts.plans.PlannedOps as PlannedOps
 use Rattle.ref_plan.specs.contracts.plans.PlannedOps.TheInside as InPlannedOps
@@ -44,11 +45,17 @@ planned_sync = variants_sync PlannedOp.enum (
   ),
 )
 
+held_send : IsSend Held.the_row
+held_send = variants_send Held.enum (tt, ((planned_send, tt), ((search (planned_send, plain) depth 60, tt), tt)))
+
+held_sync : IsSync Held.the_row
+held_sync = variants_sync Held.enum (tt, ((planned_sync, tt), ((search (planned_sync, plain) depth 60, tt), tt)))
+
 ops_send : IsSend PlannedOps.the_row
-ops_send = view_send _ _ _ _ _ (declared_send InPlannedOps.the_type (search (planned_send, plain) depth 60, tt))
+ops_send = view_send _ _ _ _ _ (declared_send InPlannedOps.the_type (held_send, tt))
 
 ops_sync : IsSync PlannedOps.the_row
-ops_sync = view_sync _ _ _ _ _ (declared_sync InPlannedOps.the_type (search (planned_sync, plain) depth 60, tt))
+ops_sync = view_sync _ _ _ _ _ (declared_sync InPlannedOps.the_type (held_sync, tt))
 
 step_send : IsSend Step.the_row
 step_send = variants_send Step.enum (
