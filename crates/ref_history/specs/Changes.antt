@@ -88,8 +88,11 @@ abbrev pub text_after : Result PlainState AuditFault → List ℕ → Result (Li
 text_after (Ok state) text = Ok text
 text_after (Err fault) text = Err fault
 
+-- the lines of a dump whose replay comes to its end
+abbrev pub all_changes : NamesSeen → Choice → Dump → List ℕ
+all_changes names choice dump =
+    changes_from names choice (first_place dump.base) dump.entries (Ok (state_of dump.base))
+    ++ count_line (length dump.entries) (chosen_from choice (first_place dump.base) dump.entries)
+
 abbrev pub changes_text : NamesSeen → Choice → Dump → Result (List ℕ) AuditFault
-changes_text names choice dump =
-    text_after (replay core_means dump.base dump.entries)
-    (changes_from names choice (first_place dump.base) dump.entries (Ok (state_of dump.base))
-    ++ count_line (length dump.entries) (chosen_from choice (first_place dump.base) dump.entries))
+changes_text names choice dump = text_after (replay core_means dump.base dump.entries) (all_changes names choice dump)

@@ -28,22 +28,22 @@ audit_told text v line w (Ok dump) is e belongs line_is =
     record { value = v; dump = dump; belongs = belongs; says = sym is; verdict_is = sym same; output_is = line_is }
 audit_told text v line w (Err f) is e belongs line_is = absurd (grind (arith, e))
 
-not_edn : (text : List ℕ) (f : ReadFault) → (f ≢ reads.Memory → (v : Edn) → IsText text v → ⊥) → IsFaultOfOne text f → IsAtFault text (edn_fault_of f)
-not_edn text reads.Memory none is = tt
-not_edn text f none is = (λ e. cc, none (λ e. cc), is)
+not_edn : (text : List ℕ) (f : ReadFault) → (f ≢ reads.Memory → (v : Edn) → IsText text v → ⊥) → IsFaultOfOne text f → (most : ℕ) → IsAtFault most text (edn_fault_of f)
+not_edn text reads.Memory none is most = tt
+not_edn text f none is most = (λ e. cc, none (λ e. cc), is)
 
-not_dump : (text : List ℕ) (v : Edn) (f : DumpFault) → IsText text v → (f ≢ dumps.Memory → dump_of v ≡ Err f) → IsAtFault text (dump_fault_of f)
-not_dump text v dumps.Memory is none = tt
-not_dump text v f is none = (λ e. cc, (v, is, none (λ e. cc)))
+not_dump : (text : List ℕ) (v : Edn) (f : DumpFault) → IsText text v → (f ≢ dumps.Memory → dump_of v ≡ Err f) → (most : ℕ) → IsAtFault most text (dump_fault_of f)
+not_dump text v dumps.Memory is none most = tt
+not_dump text v f is none most = (λ e. cc, (v, is, none (λ e. cc)))
 
 -- what a call that hands on such a fault answers
-pub edn_told : {T : Type 0} (r : Result T AuditRunFault) (text : List ℕ) (f : ReadFault) → IsErrAnd r (λ g. g ≡ edn_fault_of f) → (f ≢ reads.Memory → (v : Edn) → IsText text v → ⊥) → IsFaultOfOne text f → IfErr r (λ g. IsAtFault text g)
+pub edn_told : {T : Type 0} (r : Result T AuditRunFault) (text : List ℕ) (f : ReadFault) → IsErrAnd r (λ g. g ≡ edn_fault_of f) → (f ≢ reads.Memory → (v : Edn) → IsText text v → ⊥) → IsFaultOfOne text f → IfErr r (λ g. (most : ℕ) → IsAtFault most text g)
 edn_told (Ok x) text f told none is = tt
 edn_told (Err g) text f told none is = rw told (not_edn text f none is)
 
-pub unread_told : {T : Type 0} (r : Result T AuditRunFault) (text : List ℕ) (v : Edn) (f : DumpFault) → IsErrAnd r (λ g. g ≡ dump_fault_of f) → IsText text v → (f ≢ dumps.Memory → dump_of v ≡ Err f) → IfErr r (λ g. IsAtFault text g)
+pub unread_told : {T : Type 0} (r : Result T AuditRunFault) (text : List ℕ) (v : Edn) (f : DumpFault) → IsErrAnd r (λ g. g ≡ dump_fault_of f) → IsText text v → (f ≢ dumps.Memory → dump_of v ≡ Err f) → IfErr r (λ g. (most : ℕ) → IsAtFault most text g)
 unread_told (Ok x) text v f told is none = tt
 unread_told (Err g) text v f told is none = rw told (not_dump text v f is none)
 
-pub dump_told : {T : Type 0} (r : Result T AuditRunFault) (text : List ℕ) (v : Edn) (f : DumpFault) → IsErrAnd r (λ g. g ≡ dump_fault_of f) → IsText text v → (f ≢ dumps.Memory → verdict_on (dump_of v) ≡ Err f) → IfErr r (λ g. IsAtFault text g)
+pub dump_told : {T : Type 0} (r : Result T AuditRunFault) (text : List ℕ) (v : Edn) (f : DumpFault) → IsErrAnd r (λ g. g ≡ dump_fault_of f) → IsText text v → (f ≢ dumps.Memory → verdict_on (dump_of v) ≡ Err f) → IfErr r (λ g. (most : ℕ) → IsAtFault most text g)
 dump_told r text v f told is none = unread_told r text v f told is (λ other. no_dump (dump_of v) f (none other))

@@ -1,5 +1,5 @@
 use Rattle.refrun.proofs.AuditFaults.{edn_told, unread_told}
-use Rattle.refrun.proofs.looking.look_of.Goals as goal
+use Rattle.refrun.proofs.looking.write_look_of.Goals as goal
 
 pub returns-in_err-value-clause-fault : goal.returns-in_err-value-clause-fault
 returns-in_err-value-clause-fault g c = edn_told c.from_residual.result c.args.text.now c.in_err-value.field-0.0 c.from_residual.ensures.1 c.in_err-value.ensures.none c.in_err-value.ensures.fault
