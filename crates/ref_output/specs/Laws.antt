@@ -36,6 +36,12 @@ remains_more a b output rest more r = record {
   appended = r.appended;
 }
 
+-- More was appended to what remains.
+pub remains_with : (a b : Option (List ℕ)) (output waiting more waits : List ℕ) → Remains a b output waiting → waits ≡ waiting ++ more
+    → Remains a b (output ++ more) waits
+remains_with a b output waiting more waits r appended =
+    remains_as a b (output ++ more) (waiting ++ more) waits (remains_more a b output waiting more r) (sym appended)
+
 -- What remains is written.
 pub wrote_all : (a b c : Option (List ℕ)) (output rest : List ℕ) → Remains a b output rest → Appends b c rest → Appends a c output
 wrote_all a b c output rest r w = subst (Appends a c) (sym r.output_is) (Appends-trans a b c r.front rest r.appended w)
@@ -125,3 +131,9 @@ pub fault_told : {T : Type 0} (r : Result T OutputFault) (f : OutputFault) (a b 
     → BreaksOff f a b output → IfErr r (λ g. BreaksOff g a b output)
 fault_told (Ok x) f a b output told w = tt
 fault_told (Err g) f a b output told w = rw told w
+
+-- What remains was to be written, and that breaks off.
+pub rest_told : {T : Type 0} (r : Result T OutputFault) (a b c : Option (List ℕ)) (output rest : List ℕ) → Remains a b output rest
+    → IfErr r (λ f. BreaksOff f b c rest) → IfErr r (λ f. BreaksOff f a c output)
+rest_told (Ok x) a b c output rest r w = tt
+rest_told (Err f) a b c output rest r w = breaks_rest f a b c output rest r w

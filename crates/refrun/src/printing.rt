@@ -1,12 +1,13 @@
 //! The elements of a text, each on a line.
-ghost use Rattle.std.specs.Prelude.{◌+◌, ◌≡◌, ◌≢◌, ◌⊎◌, ◌<◌, ◌≤◌, ℕ, IfOk, IfErr, IfSome, OnOk, length, vec_len};
+ghost use Rattle.std.specs.Prelude.{◌+◌, ◌++◌, ◌≡◌, ◌≢◌, ◌⊎◌, ◌<◌, ◌≤◌, ℕ, IfOk, IfErr, IfSome, OnOk, length, vec_len};
 ghost use Rattle.std.specs.Io.KnownBytes.{Appends, IsAtEnd};
+ghost use Rattle.ref_edn.specs.Printed.{printed};
 ghost use Rattle.ref_edn.specs.Streams.{ConsumesUpTo};
 ghost use Rattle.ref_output.specs.Pieces.{BreaksOff, CountsWrites as CountsOutput, WritesOne};
 ghost use Rattle.ref_player.specs.Faults.{output_fault_of};
 ghost use Rattle.ref_player.specs.Plays.{IsLeft};
 ghost use Rattle.refrun.specs.Inputs.{HasBegun, HasBrokenOff, HasWritten, most_of};
-ghost use Rattle.refrun.specs.Printing.{IsAtFault, IsOfElements, IsOfPrinting, IsPrintOf, printed_lines};
+ghost use Rattle.refrun.specs.Printing.{IsAtFault, IsOfElements, IsOfPrinting, IsPrintOf, newline, printed_lines};
 ghost use Rattle.ref_workload.specs.Streams.{CountsReads, CountsWrites, IsOfInput};
 
 use crate::limits::most_of;
@@ -14,7 +15,7 @@ use ref_edn::{InputFault, Sink, Source, print, read_all, read_to_end};
 use ref_output::{OutputFault, write_piece, write_rest};
 use ref_value::Value;
 use ref_workload::RunFault;
-use std::alloc::Global;
+use std::alloc::{AllocError, Global};
 
 /// Reads a text of any number of EDN elements to its end, and writes each element on a line: the one text that is
 /// printed of it, and a newline.
@@ -108,9 +109,16 @@ fn write_lines<W: Sink>(alloc: Global, values: &[Value], writer: &mut W) -> Resu
 {
     let mut lines = Vec::new(alloc);
     for value in values {
-        print(alloc, value, &mut lines)?;
-        lines.push(b'\n')?;
+        append_line(alloc, value, &mut lines)?;
         write_piece(writer, &mut lines)?;
     }
     write_rest(writer, &mut lines)
+}
+
+// Appends a value and a newline.
+fn append_line(alloc: Global, value: &Value, out: &mut Vec<u8>) -> Result<(), AllocError>
+    ensures { OnOk result (out.new.items ≡ out.old.items ++ (printed value.now ++ newline)) }
+{
+    print(alloc, value, out)?;
+    out.extend_from_slice(b"\n")
 }
