@@ -1,5 +1,5 @@
 -- One turn of the loops over entries, and their end.
-use Rattle.std.proofs.Common.{◌≡◌, ◌∙◌, ℕ, ◌+◌, List, [], ◌∷◌, ◌++◌, Ok, ap, if◌then◌else◌, arith}
+use Rattle.std.proofs.Common.{◌≡◌, ◌∙◌, ℕ, ◌+◌, List, [], ◌∷◌, ◌++◌, Bool, Ok, ap, sym, if◌then◌else◌, arith}
 use Rattle.ref_fun.specs.Core.{core_means}
 use Rattle.ref_log.specs.Replay.{step}
 use Rattle.ref_log.specs.declared.entries.Entry.{Entry}
@@ -24,10 +24,11 @@ count_end choice place rest count all none so_far =
     omega (arith, no, so_far)
 
 -- The changes of the entries that are left begin with the line of the first one, if it is chosen.
-pub changes_turn : (names : NamesSeen) (choice : Choice) (place : Place) (e : Entry) (es rest : List Entry) (old new : PlainState) → rest ≡ e ∷ es
-    → step core_means place.point e old ≡ Ok new
+pub changes_turn : (names : NamesSeen) (choice : Choice) (place : Place) (e : Entry) (es rest : List Entry) (old new : PlainState) (chosen : Bool) → rest ≡ e ∷ es
+    → step core_means place.point e old ≡ Ok new → chosen ≡ is_chosen choice place e
     → changes_from names choice place rest (Ok old)
-    ≡ (if is_chosen choice place e then change_line names place e old new else []) ++ changes_from names choice (place_after e place) es (Ok new)
-changes_turn names choice place e es rest old new is stepped =
+    ≡ (if chosen then change_line names place e old new else []) ++ changes_from names choice (place_after e place) es (Ok new)
+changes_turn names choice place e es rest old new chosen is stepped same =
     ap (λ (es : List Entry). changes_from names choice place es (Ok old)) is
     ∙ ap (λ r. line_between names choice place e (Ok old) r ++ changes_from names choice (place_after e place) es r) stepped
+    ∙ ap (λ (b : Bool). (if b then change_line names place e old new else []) ++ changes_from names choice (place_after e place) es (Ok new)) (sym same)
