@@ -1,27 +1,29 @@
 -- What a play of a script is, and what the faults of a text and of its value say.
-use Rattle.std.proofs.Common.{◌≡◌, ◌≤◌, ◌⊎◌, ℕ, Bool, true, false, List, Option, Some, inl, inr, ap, length, refl, subst}
-use Rattle.std.specs.Prelude.{◌≢◌, Result, Ok, Err, IfErr, IfSome, IsErrAnd, OnErr, OnOk}
-use Rattle.std.specs.Io.KnownBytes.{Appends, IsAtEnd}
-use Rattle.ref_edn.specs.Streams.{AppendsPart}
-use Rattle.ref_output.specs.Pieces.{BreaksOff, WritesFront, WritesIn, WritesOne, WritesPart}
+use Rattle.std.proofs.Common.{◌≡◌, ℕ, Bool, true, false, List, ◌++◌, Option, Some, inl, inr, ap, subst}
+use Rattle.std.specs.Prelude.{◌≢◌, Result, Ok, Err, IfErr, IsErrAnd, OnOk}
+use Rattle.ref_output.specs.Pieces.{BreaksOff, WritesIn, WritesOne}
 use Rattle.ref_output.specs.declared.faults.OutputFault.{OutputFault}
 use Rattle.ref_output.specs.declared.faults.OutputFault.TheVariants as outputs
 use Rattle.ref_value.specs.Edn.{Edn}
 use Rattle.ref_edn.specs.Grammar.{IsText}
 use Rattle.ref_edn.specs.declared.faults.ReadFault.{ReadFault}
-use Rattle.ref_workload.specs.Run.{IsOfPlan}
-use Rattle.ref_workload.specs.Streams.{HasBrokenOff, HasWritten, IsFaultOfOne, most_input}
+use Rattle.ref_workload.specs.Streams.{IsFaultOfOne}
 use Rattle.ref_edn.specs.declared.faults.ReadFault.TheVariants as reads
 use Rattle.ref_fun.specs.Calls.{HasCore, Known}
 use Rattle.ref_forms.specs.Names.{NamesSeen}
 use Rattle.ref_agents.specs.declared.starts.AgentStart.{AgentStart}
 use Rattle.ref_agents.specs.declared.starts.AtomStart.{AtomStart}
 use Rattle.ref_agents.specs.declared.starts.RefStart.{RefStart}
+use Rattle.ref_verdict.specs.DumpForm.{dump_of}
+use Rattle.ref_verdict.specs.Verdict.{verdict_on}
+use Rattle.ref_verdict.specs.declared.reports.Verdict.TheVariants as verdicts
+use Rattle.ref_audit.specs.Dumped.{dumped}
 use Rattle.ref_world.specs.Seen.{WorldSeen}
 use Rattle.ref_workload.specs.declared.faults.RunFault.{RunFault}
 use Rattle.ref_workload.specs.declared.faults.RunFault.TheVariants as runs
 use Rattle.ref_play.specs.Sims.{SimSeen}
 use Rattle.ref_play.specs.declared.events.Event.{Event}
+use Rattle.ref_play.specs.declared.events.Reply.{Reply}
 use Rattle.ref_events.specs.Documents.{IsScript, ScriptSeen}
 use Rattle.ref_events.specs.declared.faults.ScriptFault.{ScriptFault}
 use Rattle.ref_events.specs.declared.faults.ScriptFault.TheVariants as scripts
@@ -29,9 +31,9 @@ use Rattle.ref_player.specs.Faults.{output_fault_of, script_fault_of, text_fault
 use Rattle.ref_log.specs.declared.faults.MakeFault.{MakeFault}
 use Rattle.ref_log.specs.declared.faults.MakeFault.TheVariants as makes
 use Rattle.ref_log.specs.declared.notices.Who.{Who}
-use Rattle.ref_player.specs.Plays.{Begins, HasBegun, IsAtFault, IsDumpIf, IsLeft, IsLeftByPlay, IsPlayOf, IsPlayedFrom, IsStartLine, end_text, shown, start_refusal}
+use Rattle.ref_player.specs.Lines.{event_lines}
+use Rattle.ref_player.specs.Plays.{Begins, IsAtFault, IsDumpIf, IsLeft, IsPlayOf, IsPlayedFrom, IsStartLine, Plays, end_text, shown, start_refusal}
 use Rattle.ref_player.specs.declared.faults.PlayFault.{PlayFault}
-use Rattle.ref_player.specs.declared.faults.PlayFault.TheVariants as plays
 
 -- ---- a play of a script, from its parts
 
@@ -76,9 +78,21 @@ module _ (dump : Bool) (script : ScriptSeen) (knows : Known) (core : HasCore kno
 
 -- ---- what is written, and what a fault leaves
 
-pub shown_is : (dump : Bool) (names : NamesSeen) (world : WorldSeen) (d : Option Edn) → IsDumpIf dump world d → end_text names world d ≡ shown dump names world
+shown_is : (dump : Bool) (names : NamesSeen) (world : WorldSeen) (d : Option Edn) → IsDumpIf dump world d → end_text names world d ≡ shown dump names world
 shown_is true names world d is = ap (end_text names world) is
 shown_is false names world d is = ap (end_text names world) is
+
+-- the lines of a play, and what ends its output
+pub played_from : (knows : Known) (first : SimSeen) (events : List Event) (forms : List Edn) (names : NamesSeen) (dump : Bool) (replies : List Reply) (world : WorldSeen) (d : Option Edn)
+    → Plays knows first events replies world → verdict_on (dump_of (dumped world)) ≡ Ok verdicts.Ok → IsDumpIf dump world d
+    → IsPlayedFrom knows first events forms names dump (event_lines 0 forms replies ++ end_text names world d)
+played_from knows first events forms names dump replies world d plays audited is = record {
+  replies = replies;
+  world = world;
+  plays = plays;
+  audited = audited;
+  output_is = ap (λ (l : List ℕ). event_lines 0 forms replies ++ l) (shown_is dump names world d is);
+}
 
 -- an output of one kind is one of another
 module _ (P Q : List ℕ → Type 0) (a b : Option (List ℕ)) (h : (output : List ℕ) → P output → Q output) where
@@ -103,77 +117,11 @@ module _ (P Q : List ℕ → Type 0) (a b : Option (List ℕ)) (h : (output : Li
   left_told (Ok x) w = tt
   left_told (Err f) w = left_as f w
 
-  pub left_by_play : (f : RunFault) → IsLeft P f a b → IsLeftByPlay Q (plays.Run f) a b
-  left_by_play f w = left_as f w
-
 -- this output is of the kind
 module _ (P : List ℕ → Type 0) (a b : Option (List ℕ)) (output : List ℕ) (is : P output) where
-  pub wrote_one : {T E : Type 0} (r : Result T E) → OnOk r (Appends a b output) → OnOk r (WritesOne P a b)
-  wrote_one (Ok x) w = (record { output = output; is_one = is; written = w })
-  wrote_one (Err f) w = tt
-
   pub left_by_output : (f : OutputFault) → BreaksOff f a b output → IsLeft P (output_fault_of f) a b
   left_by_output outputs.Write w = (record { output = output; is_one = is; written = w })
   left_by_output outputs.Memory w = inr (record { output = output; is_one = is; written = w })
-
-  pub left_by_write : {T : Type 0} (r : Result T RunFault) → IfErr r (λ f. f ≡ runs.Write) → OnErr r (AppendsPart a b output) → IfErr r (λ f. IsLeft P f a b)
-  left_by_write (Ok x) is_write w = tt
-  left_by_write (Err f) is_write w = rw is_write (record { output = output; is_one = is; written = w })
-
--- Nothing is written before a play has ended.
-pub left_before : (P : List ℕ → Type 0) (f : RunFault) (a : Option (List ℕ)) → IsOfPlan f → IsLeft P f a a
-left_before P runs.Memory a is_of = inl refl
-left_before P runs.Internal a is_of = refl
-left_before P f a is_of = absurd is_of
-
-pub left_before_told : {T : Type 0} (P : List ℕ → Type 0) (r : Result T RunFault) (f : RunFault) (a : Option (List ℕ)) → IsErrAnd r (λ g. g ≡ f) → IsOfPlan f → IfErr r (λ g. IsLeft P g a a)
-left_before_told P (Ok x) f a told is_of = tt
-left_before_told P (Err g) f a told is_of = rw told (left_before P f a is_of)
-
-pub left_by_text : {T : Type 0} (P : List ℕ → Type 0) (r : Result T PlayFault) (f : ReadFault) (a : Option (List ℕ)) → IsErrAnd r (λ g. g ≡ text_fault_of f) → IfErr r (λ g. IsLeftByPlay P g a a)
-left_by_text P (Ok x) f a told = tt
-left_by_text P (Err g) reads.Memory a told = rw told (inl refl)
-left_by_text P (Err g) f a told = rw told refl
-
-pub left_by_script : {T : Type 0} (P : List ℕ → Type 0) (r : Result T PlayFault) (f : ScriptFault) (a : Option (List ℕ)) → IsErrAnd r (λ g. g ≡ script_fault_of f) → IfErr r (λ g. IsLeftByPlay P g a a)
-left_by_script P (Ok x) f a told = tt
-left_by_script P (Err g) scripts.Memory a told = rw told (inl refl)
-left_by_script P (Err g) f a told = rw told refl
-
--- ---- a play from its reader to its writer
-
-module _ (Gives : List ℕ → List ℕ → Type 0) (before after old new : Option (List ℕ)) (text : List ℕ) (whole : IfSome before (λ all. text ≡ all)) (at_end : IsAtEnd after) (short : length text ≤ most_input) where
-  pub has_written : {T E : Type 0} (r : Result T E) → OnOk r (WritesOne (Gives text) old new) → OnOk r (HasWritten Gives before after old new)
-  has_written (Ok x) w = record { text = text; output = w.output; whole = whole; at_end = at_end; short = short; gives = w.is_one; written = w.written }
-  has_written (Err f) w = tt
-
-  pub has_broken_off : {T : Type 0} (r : Result T PlayFault) → IfErr r (λ f. IsLeftByPlay (Gives text) f old new)
-      → IfErr r (λ f. f ≡ plays.Run runs.Write → HasBrokenOff Gives before after old new)
-  has_broken_off (Ok x) left = tt
-  has_broken_off (Err f) left e =
-      let w : WritesPart (Gives text) old new = subst (λ g. IsLeftByPlay (Gives text) g old new) e left in
-      record { text = text; output = w.output; whole = whole; at_end = at_end; short = short; gives = w.is_one; written = w.written }
-
-  begun : WritesFront (Gives text) old new → (new ≡ old) ⊎ HasBegun Gives before after old new
-  begun (inl same) = inl same
-  begun (inr w) = inr (record { text = text; output = w.output; whole = whole; at_end = at_end; short = short; gives = w.is_one; written = w.written })
-
-  pub has_begun : {T : Type 0} (r : Result T PlayFault) → IfErr r (λ f. IsLeftByPlay (Gives text) f old new)
-      → IfErr r (λ f. f ≡ plays.Run runs.Memory → (new ≡ old) ⊎ HasBegun Gives before after old new)
-  has_begun (Ok x) left = tt
-  has_begun (Err f) left e = begun (subst (λ g. IsLeftByPlay (Gives text) g old new) e left)
-
-  pub is_silent : {T : Type 0} (r : Result T PlayFault) → IfErr r (λ f. IsLeftByPlay (Gives text) f old new)
-      → IfErr r (λ f. f ≢ plays.Run runs.Write → f ≢ plays.Run runs.Memory → new ≡ old)
-  is_silent (Ok x) left = tt
-  is_silent (Err (plays.Run runs.Write)) left no_write no_memory = absurd (no_write refl)
-  is_silent (Err (plays.Run runs.Memory)) left no_write no_memory = absurd (no_memory refl)
-  is_silent (Err (plays.Run runs.Read)) left no_write no_memory = left
-  is_silent (Err (plays.Run runs.InputTooLong)) left no_write no_memory = left
-  is_silent (Err (plays.Run (runs.NotEdn fault))) left no_write no_memory = left
-  is_silent (Err (plays.Run (runs.Plan fault))) left no_write no_memory = left
-  is_silent (Err (plays.Run runs.Internal)) left no_write no_memory = left
-  is_silent (Err (plays.Script fault)) left no_write no_memory = left
 
 -- ---- faults
 
