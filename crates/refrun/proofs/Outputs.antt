@@ -1,16 +1,21 @@
--- From what was written of a text to what a command has read and written, and left.
-use Rattle.std.proofs.Common.{◌≡◌, ◌≤◌, ◌⊎◌, ℕ, List, Option, inl, inr, length, refl, subst}
-use Rattle.std.specs.Prelude.{◌≢◌, Result, Ok, Err, IfErr, IfOk, IfSome, OnOk}
-use Rattle.std.specs.Io.KnownBytes.{IsAtEnd}
-use Rattle.ref_output.specs.Pieces.{BreaksOff, WritesFront, WritesIn, WritesOne, WritesPart}
+-- From what was written of a dump to what a command leaves.
+use Rattle.std.proofs.Common.{◌≡◌, ◌∙◌, List, ℕ, Option, Some, Ok, Err, inl, inr, refl, subst, sym}
+use Rattle.std.specs.Prelude.{◌≢◌, Result}
+use Rattle.std.specs.Io.KnownBytes.{Appends}
+use Rattle.ref_edn.specs.Streams.{AppendsPart}
+use Rattle.ref_log.specs.declared.faults.AuditFault.{AuditFault}
+use Rattle.ref_audit.specs.Report.{verdict_line}
+use Rattle.ref_verdict.specs.declared.reports.Verdict.{Verdict}
+use Rattle.ref_verdict.specs.declared.reports.Verdict.TheVariants as verdicts
+use Rattle.ref_history.specs.Written.{IsLeft, IsLooked}
+use Rattle.ref_history.specs.declared.faults.LookFault.TheVariants as lookfaults
+use Rattle.ref_output.specs.Pieces.{BreaksOff, WritesIn, WritesOne}
 use Rattle.ref_output.specs.declared.faults.OutputFault.{OutputFault}
 use Rattle.ref_output.specs.declared.faults.OutputFault.TheVariants as outputs
 use Rattle.ref_player.specs.Faults as players
 use Rattle.ref_player.specs.Plays as plays
-use Rattle.ref_workload.specs.declared.faults.RunFault.{RunFault}
-use Rattle.ref_workload.specs.declared.faults.RunFault.TheVariants as runs
 use Rattle.refrun.specs.Auditing.{IsLeftOf, output_fault_of}
-use Rattle.refrun.specs.Inputs.{HasBegun, HasBrokenOff, HasWritten}
+use Rattle.refrun.specs.Looking.{IsShown, Shows, verdict_of}
 use Rattle.refrun.specs.declared.faults.AuditRunFault.{AuditRunFault}
 use Rattle.refrun.specs.declared.faults.AuditRunFault.TheVariants as audits
 
@@ -41,67 +46,33 @@ module _ (P : List ℕ → Type 0) (a b : Option (List ℕ)) (output : List ℕ)
   run_left_by_output outputs.Write w = (record { output = output; is_one = is; written = w })
   run_left_by_output outputs.Memory w = inr (record { output = output; is_one = is; written = w })
 
--- ---- a command, from its reader to its writer
+-- ---- what is shown of a dump
 
-module _ (most : ℕ) (before after old new : Option (List ℕ)) (text : List ℕ) (whole : IfSome before (λ all. text ≡ all)) (at_end : IsAtEnd after) (short : length text ≤ most) where
-  pub look_written : {V E : Type 0} (Gives : V → List ℕ → List ℕ → Type 0) (r : Result V E) → IfOk r (λ v. WritesOne (Gives v text) old new)
-      → IfOk r (λ v. HasWritten most (Gives v) before after old new)
-  look_written Gives (Ok v) w = record { text = text; output = w.output; whole = whole; at_end = at_end; short = short; gives = w.is_one; written = w.written }
-  look_written Gives (Err f) w = tt
+pub shows_text : (looked : Result (List ℕ) AuditFault) (text : List ℕ) → IsLooked looked text → Shows looked verdicts.Ok text
+shows_text looked text is = subst (λ (r : Result (List ℕ) AuditFault). Shows r verdicts.Ok text) (sym is) (refl, refl)
 
-  pub all_written : {V E : Type 0} (Gives : List ℕ → List ℕ → Type 0) (r : Result V E) → OnOk r (WritesOne (Gives text) old new) → OnOk r (HasWritten most Gives before after old new)
-  all_written Gives (Ok v) w = record { text = text; output = w.output; whole = whole; at_end = at_end; short = short; gives = w.is_one; written = w.written }
-  all_written Gives (Err f) w = tt
+pub shows_verdict : (looked : Result (List ℕ) AuditFault) (fault : AuditFault) (verdict : Verdict) → looked ≡ Err fault → verdict_of fault ≡ Some verdict
+    → Shows looked verdict (verdict_line verdict)
+shows_verdict looked fault verdict is v = subst (λ (r : Result (List ℕ) AuditFault). Shows r verdict (verdict_line verdict)) (sym is) (v, refl)
 
--- the same of one kind of output
-module _ (Gives : List ℕ → List ℕ → Type 0) (most : ℕ) (before after old new : Option (List ℕ)) (text : List ℕ) (whole : IfSome before (λ all. text ≡ all)) (at_end : IsAtEnd after) (short : length text ≤ most) where
-  part : WritesPart (Gives text) old new → HasBrokenOff most Gives before after old new
-  part w = record { text = text; output = w.output; whole = whole; at_end = at_end; short = short; gives = w.is_one; written = w.written }
+pub shown_left : (looked : Result (List ℕ) AuditFault) (f : OutputFault) (a b : Option (List ℕ)) → IsLeft looked (lookfaults.Output f) a b → IsLeftOf (IsShown looked) (output_fault_of f) a b
+shown_left looked outputs.Write a b w = (writes_as (IsLooked looked) (IsShown looked) a b (λ text is. (verdicts.Ok, shows_text looked text is)) w)
+shown_left looked outputs.Memory a b (inl same) = inl same
+shown_left looked outputs.Memory a b (inr w) = inr (writes_as (IsLooked looked) (IsShown looked) a b (λ text is. (verdicts.Ok, shows_text looked text is)) w)
 
-  begun : WritesFront (Gives text) old new → (new ≡ old) ⊎ HasBegun most Gives before after old new
-  begun (inl same) = inl same
-  begun (inr w) = inr (record { text = text; output = w.output; whole = whole; at_end = at_end; short = short; gives = w.is_one; written = w.written })
+pub verdict_written : (looked : Result (List ℕ) AuditFault) (fault : AuditFault) (verdict : Verdict) (a b c : Option (List ℕ)) → IsLeft looked (lookfaults.Replay fault) a b
+    → verdict_of fault ≡ Some verdict → Appends b c (verdict_line verdict) → WritesOne (Shows looked verdict) a c
+verdict_written looked fault verdict a b c left v w =
+    record { output = verdict_line verdict; is_one = shows_verdict looked fault verdict left.0 v; written = subst (λ (s : Option (List ℕ)). Appends s c (verdict_line verdict)) left.2 w }
 
-  -- of commands that read dumps
-  pub dump_broken : {T : Type 0} (r : Result T AuditRunFault) → IfErr r (λ f. IsLeftOf (Gives text) f old new)
-      → IfErr r (λ f. f ≡ audits.Write → HasBrokenOff most Gives before after old new)
-  dump_broken (Ok x) left = tt
-  dump_broken (Err f) left e = part (subst (λ g. IsLeftOf (Gives text) g old new) e left)
-
-  pub dump_begun : {T : Type 0} (r : Result T AuditRunFault) → IfErr r (λ f. IsLeftOf (Gives text) f old new)
-      → IfErr r (λ f. f ≡ audits.Memory → (new ≡ old) ⊎ HasBegun most Gives before after old new)
-  dump_begun (Ok x) left = tt
-  dump_begun (Err f) left e = begun (subst (λ g. IsLeftOf (Gives text) g old new) e left)
-
-  pub dump_silent : {T : Type 0} (r : Result T AuditRunFault) → IfErr r (λ f. IsLeftOf (Gives text) f old new)
-      → IfErr r (λ f. f ≢ audits.Write → f ≢ audits.Memory → new ≡ old)
-  dump_silent (Ok x) left = tt
-  dump_silent (Err audits.Write) left no_write no_memory = absurd (no_write refl)
-  dump_silent (Err audits.Memory) left no_write no_memory = absurd (no_memory refl)
-  dump_silent (Err audits.Read) left no_write no_memory = left
-  dump_silent (Err audits.InputTooLong) left no_write no_memory = left
-  dump_silent (Err (audits.NotEdn fault)) left no_write no_memory = left
-  dump_silent (Err (audits.Dump fault)) left no_write no_memory = left
-  dump_silent (Err (audits.NoPoint point)) left no_write no_memory = left
-
-  -- of `print`
-  pub print_broken : {T : Type 0} (r : Result T RunFault) → IfErr r (λ f. plays.IsLeft (Gives text) f old new)
-      → IfErr r (λ f. f ≡ runs.Write → HasBrokenOff most Gives before after old new)
-  print_broken (Ok x) left = tt
-  print_broken (Err f) left e = part (subst (λ g. plays.IsLeft (Gives text) g old new) e left)
-
-  pub print_begun : {T : Type 0} (r : Result T RunFault) → IfErr r (λ f. plays.IsLeft (Gives text) f old new)
-      → IfErr r (λ f. f ≡ runs.Memory → (new ≡ old) ⊎ HasBegun most Gives before after old new)
-  print_begun (Ok x) left = tt
-  print_begun (Err f) left e = begun (subst (λ g. plays.IsLeft (Gives text) g old new) e left)
-
-  pub print_silent : {T : Type 0} (r : Result T RunFault) → IfErr r (λ f. plays.IsLeft (Gives text) f old new)
-      → IfErr r (λ f. f ≢ runs.Write → f ≢ runs.Memory → new ≡ old)
-  print_silent (Ok x) left = tt
-  print_silent (Err runs.Write) left no_write no_memory = absurd (no_write refl)
-  print_silent (Err runs.Memory) left no_write no_memory = absurd (no_memory refl)
-  print_silent (Err runs.Read) left no_write no_memory = left
-  print_silent (Err runs.InputTooLong) left no_write no_memory = left
-  print_silent (Err (runs.NotEdn fault)) left no_write no_memory = left
-  print_silent (Err (runs.Plan fault)) left no_write no_memory = left
-  print_silent (Err runs.Internal) left no_write no_memory = left
+pub verdict_left : (looked : Result (List ℕ) AuditFault) (fault : AuditFault) (f : OutputFault) (a b c : Option (List ℕ)) → IsLeft looked (lookfaults.Replay fault) a b
+    → (f ≡ outputs.Write → (verdict : Verdict) × (verdict_of fault ≡ Some verdict) × AppendsPart b c (verdict_line verdict)) → (f ≢ outputs.Write → c ≡ b)
+    → IsLeftOf (IsShown looked) (output_fault_of f) a c
+verdict_left looked fault outputs.Write a b c left write silent =
+    let w = write refl in
+    (record {
+      output = verdict_line w.0;
+      is_one = (w.0, shows_verdict looked fault w.0 left.0 w.1);
+      written = subst (λ (s : Option (List ℕ)). AppendsPart s c (verdict_line w.0)) left.2 w.2;
+    })
+verdict_left looked fault outputs.Memory a b c left write silent = inl (silent (λ e. cc) ∙ left.2)

@@ -10,4 +10,3 @@ printed_line_at vs i v h is =
     ap printed_lines (drop-cons vs i v h)
     ∙ ap (λ (x : Edn). printed x ++ newline ++ printed_lines (drop (suc i) vs)) (sym is)
     ∙ ap (λ (k : ℕ). printed v ++ newline ++ printed_lines (drop k vs)) (sym (add-one i))
-
