@@ -3,3 +3,4 @@ pub mod AuditFaults
 pub mod PlayFaults
 pub mod Options
 pub mod Outputs
+pub mod PrintFaults
