@@ -1,5 +1,5 @@
 -- Printed values from a place on.
-use Rattle.std.proofs.Common.{◌≡◌, ◌∙◌, ℕ, ◌+◌, ◌<◌, List, ◌++◌, refl, sym, ap, drop, get_or, length, suc, drop-cons, add-one}
+use Rattle.std.proofs.Common.{◌≡◌, ◌∙◌, ℕ, ◌+◌, ◌<◌, List, ◌++◌, sym, ap, drop, get_or, length, suc, drop-cons, add-one}
 use Rattle.ref_value.specs.Edn.{Edn}
 use Rattle.ref_edn.specs.Printed.{printed}
 use Rattle.refrun.specs.Printing.{newline, printed_lines}

@@ -1,4 +1,4 @@
-use Rattle.std.proofs.Common.{rules, refl}
+use Rattle.std.proofs.Common.{rules}
 use Rattle.ref_output.specs.Laws.{breaks_line, fault_told, memory_told, remains_end, remains_line}
 use Rattle.ref_player.proofs.Written.{line_at, no_line_at}
 use Rattle.ref_player.proofs.lines.write_lines.Goals as goal

@@ -1,4 +1,4 @@
-use Rattle.std.proofs.Common.{rules, refl}
+use Rattle.std.proofs.Common.{rules}
 use Rattle.std.proofs.lemmas.List.{at_drop_all}
 use Rattle.ref_output.specs.Laws.{breaks_line, fault_told, memory_told, remains_end, remains_line, rest_told}
 use Rattle.refrun.specs.Printing.{printed_lines}
