@@ -104,6 +104,8 @@ class Case:
     wanted: dict
     times: int = 32
     is_known: bool = False
+    # Whether the text may be longer than an input may be without `--large`.
+    is_large: bool = False
 
 
 def refused(words):
@@ -728,7 +730,93 @@ def many_agents():
     yield Case(f"{sent:,} sends beside {agents - 1:,} failed agents with actions that wait", text, {RUN: printed(lines)}, 64)
 
 
+# ---- large dumps, and long outputs
+
+
+def size_of(pieces):
+    return sum(map(len, blocks(pieces)))
+
+
+def read_back(pieces, shown):
+    """What is wanted of a dump that may be longer than an input may be: with --large what is shown of it, and else a fault."""
+    shown["audit"] = Wanted(0, ["audit ok\n"])
+    shown["draw"] = Wanted(0, [], complaint=complaint_of_page)
+    wanted = {f"{command} --large": of_it for command, of_it in shown.items()}
+    if size_of(pieces) > FULL:
+        wanted |= {command: refused("InputTooLong") for command in shown}
+    return wanted
+
+
+def complaint_of_page(out):
+    """What is wrong with a page."""
+    begin = out.read(15)
+    out.seek(-8, os.SEEK_END)
+    return "" if (begin, out.read()) == (b"<!DOCTYPE html>", b"</html>\n") else "no page"
+
+
+def one_by_one(form, count):
+    """So many parts, made by number, none of which waits for another one."""
+    return lambda: (form(i) for i in range(count))
+
+
+def zeros(count):
+    return "[" + " ".join("0" * count) + "]"
+
+
+def large_dumps():
+    """Dumps of runs whose texts are short: of many transactions, and of answers that are long and all the same."""
+    steps = scaled(4_000)
+    n = WORKERS * steps
+    entry = "[:tx {} {} {} [[:alter 0 inc [] {}] [:alter 1 inc [] {}]] []]"
+    entries = each(lambda i: entry.format(i // steps, i % steps, i, i + 1, i + 1), n, " ")
+    refs = {"base_refs": "[[0 0] [0 0]]", "refs": f"[[{n} nil] [{n} nil]]"}
+    text = dump(entries=["[", entries, "]"], commits=str(n), **refs)
+    line = "{} {} {} read {} [:alter ref 0 inc] -> {} [:alter ref 1 inc] -> {}\n"
+    lines = each(lambda i: line.format(i + 1, i // steps, i % steps, i, i + 1, i + 1), n)
+    yield Case(f"the dump of {n:,} transactions of two alters", text, read_back(text, {
+        "history": printed(lines, f"entries {n} chosen {n}\n"),
+        f"at {n}": printed(f"ref 0 {n}\nref 1 {n}\nat {n} ok\n")}), 64, is_large=True)
+    n, long = 200, ['"', repeat("a", scaled(100_000)), '"']
+    written = ["{:added 0, :agents [], :atoms [], :base-atoms [], :base-refs [[", long, f" 0]], :commits {n}, :dump 3, :entries [",
+               [[" " * (i > 0), f"[:tx 0 {i} {i} [[:ensure 0 ", long, "]] []]"] for i in range(n)],
+               "], :folded [0 0 0], :point 0, :refs [[", long, " nil]], :taken 0, :tally nil}\n"]  # fmt: skip
+    size = size_of(written)
+    said = f"refrun: this dump has {size} bytes; audit, history, at, draw and print read it with --large\n" if size > FULL else ""
+    yield Case(f"{n} times [:ensure a] of a long string", workload(":refs [[a ", long, "]] :workers [[", repeat("[:tx [:ensure a]]", n), "]]"), {
+        "run --dump": Wanted(0, written, said)}, 2_000)
+    lines = [[f"{i + 1} 0 {i} read {i} [:ensure ref 0] -> ", long, "\n"] for i in range(n)]
+    yield Case(f"the dump of {n} times [:ensure a] of a long string", written, read_back(written, {
+        "history": printed(lines, f"entries {n} chosen {n}\n"),
+        f"at {n}": printed("ref 0 ", long, f"\nat {n} ok\n"),
+        "print": printed(written)}), is_large=True)
+    n = 2 * Length.size
+    yield Case("a string of 32 MiB", ['"', repeat("a", n), '"'], {
+        "print --large": printed('"', repeat("a", n), '"\n'), "audit --large": refused("NotDump"),
+        **{command: refused("InputTooLong") for command in ("print", "audit") if n + 2 > FULL}}, is_large=True)
+
+
+def long_outputs():
+    """Outputs that grow with the square of their texts, and are written while they are made."""
+    n = 8_000
+    step = "{} 0 :swap x conj 0 -> swapped {} {}\n"
+    lines = one_by_one(lambda i: step.format(i, zeros(i), zeros(i + 1)), n)
+    yield Case(f"a play of {n:,} times conj on a vector", ["{:version 1 :atoms [[x []]] :events [", repeat("[0 :swap x conj 0]", n), "]}"], {
+        "play": printed(lines, f"atom x {zeros(n)}\ncommits 0\naudit ok\n")})
+    # The answers of commutes aren't compared.
+    commuted = each(lambda i: f"[:tx 0 {i} {i} [[:commute 0 conj [0] 0]] []]", n)
+    refs = {"base_refs": "[[[] 0]]", "refs": f"[[{zeros(n)} nil]]"}
+    line = "{} 0 {} read {} ref 0 {} -> {}\n"
+    lines = one_by_one(lambda i: line.format(i + 1, i, i, zeros(i), zeros(i + 1)), n)
+    yield Case(f"the changes of {n:,} times conj", dump(entries=["[", commuted, "]"], commits=str(n), **refs), {
+        "history --changes": printed(lines, f"entries {n} chosen {n}\n")})
+    n = fitting("[:tx 0 400000 400000 [[:commute 0 conj [0] 0]] []]", AROUND)
+    commuted = each(lambda i: f"[:tx 0 {i} {i} [[:commute 0 conj [0] 0]] []]", n)
+    lines = one_by_one(lambda i: line.format(n - 9 + i, n - 10 + i, n - 10 + i, zeros(n - 10 + i), zeros(n - 9 + i)), 10)
+    yield Case(f"the last changes of {n:,} times conj", dump(entries=["[", commuted, "]"], commits=str(n), **refs), {
+        f"history --changes --from {n - 9}": printed(lines, f"entries {n} chosen 10\n")}, 64)
+
+
 GROUPS = (
     nesting, strings, names, integers, vectors, maps, blanks, brackets, values, long_names, too_many, steps, operations, dumps,
-    long_values, growing, plays, many_agents,
+    long_values, growing, plays, many_agents, large_dumps, long_outputs,
 )  # fmt: skip

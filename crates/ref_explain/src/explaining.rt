@@ -112,6 +112,10 @@ pub fn explain_start(alloc: Global, text: &[u8]) -> Result<String, AllocError> {
     }
 }
 
+// What is said of a text that is too long.
+const TOO_LONG: &str =
+    "a text has at most 16777216 bytes; with --large, audit, history, at, draw and print take 4294967296";
+
 /// What is wrong with a text, in lines for people: each place with its line and column, the line as far as it is shown, and what is
 /// said of it. Where a word is unknown, the nearest one that is known is named.
 ///
@@ -126,7 +130,7 @@ pub fn explain(alloc: Global, text: &[u8], mistake: Mistake) -> Result<String, A
         Mistake::Dump(fault) => write_dump(&mut writing, fault)?,
         Mistake::Audit(verdict) => write_verdict(&mut writing, verdict)?,
         Mistake::NoPoint => write_no_point(&mut writing)?,
-        Mistake::TooLong => writing.note("a text has at most 16777216 bytes")?,
+        Mistake::TooLong => writing.note(TOO_LONG)?,
     }
     Ok(writing.into_output())
 }

@@ -7,3 +7,4 @@ pub mod Turns
 pub mod Escapes
 pub mod Characters
 pub mod Shows
+pub mod Looked

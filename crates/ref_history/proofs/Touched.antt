@@ -1,5 +1,5 @@
 -- What the operations from a place on touch.
-use Rattle.std.proofs.Common.{◌≡◌, ℕ, ◌+◌, ◌<◌, ◌||◌, List, [], ◌∷◌, ◌++◌, Option, None, Some, refl, sym, drop, take, get_or, length, drop-cons, add-one, if◌then◌else◌}
+use Rattle.std.proofs.Common.{◌≡◌, ℕ, ◌+◌, ◌<◌, ◌||◌, List, [], ◌++◌, Option, None, Some, refl, sym, drop, take, get_or, length, drop-cons, add-one, if◌then◌else◌}
 use Rattle.std.proofs.lemmas.List.{append-nil, take_more}
 use Rattle.std.specs.Prelude.{slice_get}
 use Rattle.ref_value.specs.Edn.{Edn}

@@ -7,7 +7,7 @@
 --   entries NUMBER chosen NUMBER
 --
 -- There is none if the replay of the entries comes to a fault.
-use Rattle.std.specs.Prelude.{ℕ, ◌||◌, Bool, true, false, if◌then◌else◌, List, [], ◌∷◌, ◌++◌, length, Option, None, Some, slice_get, Result, Ok, Err, codes, decimal}
+use Rattle.std.specs.Prelude.{ℕ, ◌||◌, if◌then◌else◌, List, [], ◌∷◌, ◌++◌, length, Option, None, Some, slice_get, Result, Ok, Err, codes, decimal}
 use Rattle.std.specs.List.{flat_map}
 use Rattle.ref_value.specs.Edn.{Edn}
 use Rattle.ref_edn.specs.Printed.{printed}
@@ -19,7 +19,6 @@ use Rattle.ref_log.specs.Replay.{and_step, is_ensure, is_touched, replay, state_
 use Rattle.ref_log.specs.declared.entries.Entry.{Entry}
 use Rattle.ref_log.specs.declared.entries.Entry.TheVariants.{Trans, Atom, MadeRef, MadeAtom}
 use Rattle.ref_log.specs.declared.faults.AuditFault.{AuditFault}
-use Rattle.ref_log.specs.declared.notices.Who.{Who}
 use Rattle.ref_log.specs.declared.notices.Who.TheVariants as whos
 use Rattle.ref_log.specs.declared.operations.Done.{Done}
 use Rattle.ref_log.specs.declared.states.PlainState.{PlainState}
@@ -88,8 +87,11 @@ abbrev pub text_after : Result PlainState AuditFault → List ℕ → Result (Li
 text_after (Ok state) text = Ok text
 text_after (Err fault) text = Err fault
 
+-- the lines of a dump whose replay comes to its end
+abbrev pub all_changes : NamesSeen → Choice → Dump → List ℕ
+all_changes names choice dump =
+    changes_from names choice (first_place dump.base) dump.entries (Ok (state_of dump.base))
+    ++ count_line (length dump.entries) (chosen_from choice (first_place dump.base) dump.entries)
+
 abbrev pub changes_text : NamesSeen → Choice → Dump → Result (List ℕ) AuditFault
-changes_text names choice dump =
-    text_after (replay core_means dump.base dump.entries)
-    (changes_from names choice (first_place dump.base) dump.entries (Ok (state_of dump.base))
-    ++ count_line (length dump.entries) (chosen_from choice (first_place dump.base) dump.entries))
+changes_text names choice dump = text_after (replay core_means dump.base dump.entries) (all_changes names choice dump)

@@ -4,7 +4,7 @@
 --   POINT atom OPERATION -> ANSWER                                  a change of an atom
 --   POINT made REFERENCE -> VALUE                                   the making of a ref or an atom
 --   entries NUMBER chosen NUMBER
-use Rattle.std.specs.Prelude.{ℕ, ◌+◌, Bool, true, false, if◌then◌else◌, List, [], ◌∷◌, ◌++◌, length, codes, decimal}
+use Rattle.std.specs.Prelude.{ℕ, ◌+◌, if◌then◌else◌, List, [], ◌∷◌, ◌++◌, length, codes, decimal}
 use Rattle.std.specs.List.{flat_map}
 use Rattle.ref_value.specs.Edn.{Edn}
 use Rattle.ref_edn.specs.Printed.{printed}

@@ -1,51 +1,60 @@
 //! The history of a dump by its changes.
-ghost use Rattle.std.specs.Prelude.{◌≡◌, ◌≢◌, ◌<◌, ◌^◌, ◌++◌, [], Some, Ok, Err, decimal, length, IfOk, IfErr, OnOk, if◌then◌else◌};
+ghost use Rattle.std.specs.Prelude.{◌≡◌, ◌≢◌, ◌<◌, ◌^◌, ◌++◌, [], Some, Ok, Err, decimal, IfOk, IfErr, OnOk, if◌then◌else◌};
 ghost use Rattle.std.specs.List.{flat_map};
 ghost use Rattle.ref_fun.specs.Calls.{HasCore};
 ghost use Rattle.ref_fun.specs.Core.{core_means};
-ghost use Rattle.ref_log.specs.Replay.{point_after, replay, state_of, step};
+ghost use Rattle.ref_log.specs.Replay.{point_after, replay, step};
 ghost use Rattle.ref_verdict.specs.OfCore.{IsOfCore};
-ghost use Rattle.ref_history.specs.Changes.{change_line, change_of, change_text, changes_from, changes_text, entry_befores, entry_changes};
-ghost use Rattle.ref_history.specs.History.{chosen_from, count_line};
-ghost use Rattle.ref_history.specs.Places.{first_place};
+ghost use Rattle.std.specs.Io.KnownBytes.{Appends};
+ghost use Rattle.ref_output.specs.Pieces.{BreaksOff, CountsWrites, WritesOne};
+ghost use Rattle.ref_history.specs.Changes.{all_changes, change_line, change_of, change_text, changes_text, entry_befores, entry_changes};
+ghost use Rattle.ref_history.specs.Written.{CountsLook, IsLeft, IsLooked};
 ghost use Rattle.ref_history.specs.Shown.{reference_text};
 ghost use Rattle.ref_history.specs.Visible.{line};
 
 use crate::befores::{Before, befores, push_before};
 use crate::entry_lines::{append_count, append_made, append_stamp, counted};
+use crate::faults::LookFault;
 use crate::places::{Choice, Place, first_place, place_after};
 use crate::shown::{append_number, append_reference, append_sends, append_spaced};
 use crate::steps::Values;
 use crate::visible::{ROOM_OF_LINE, append_visible_line};
-use ref_edn::print;
+use ref_edn::{Sink, print};
 use ref_forms::kinds::of_kind;
 use ref_forms::{Kind, Names};
 use ref_fun::{Core, Functions};
 use ref_log::{AuditFault, Entry, PlainState, Who, replay_plain};
+use ref_output::{OutputFault, write_piece, write_rest};
 use ref_value::Value;
 use ref_verdict::reading::dumps::Dump;
 use std::alloc::{AllocError, Global};
 
-/// The history of a dump by its changes: as [`history`](crate::entry_lines::history), but in place of the operations of an entry stand
-/// the references that it touched, with the values before and after. The log is replayed twice, first for the fault of its replay,
-/// which is returned if there is one. Linear in the dump and in the text, but for the functions that a replay calls.
-pub fn changes<F: Functions<Core>>(
+/// Writes the history of a dump by its changes: as [`write_history`](crate::entry_lines::write_history), but in place of the operations
+/// of an entry stand the references that it touched, with the values before and after. The log is replayed twice, first for the fault of
+/// its replay, which is returned if there is one. Linear in the dump and in the text, but for the functions that a replay calls.
+pub fn write_changes<F: Functions<Core>, W: Sink>(
     alloc: Global,
     funs: &F,
     names: &Names,
     choice: &Choice,
     dump: &Dump,
-) -> Result<Vec<u8>, AuditFault>
+    writer: &mut W,
+) -> Result<(), LookFault>
     requires core { HasCore (F.knows funs.now) }
     requires dump { IsOfCore dump.now }
     requires points { point_after dump.now.base dump.now.entries < 2 ^ 64 }
-    ensures ok { IfOk result (λ text. changes_text names.now choice.now dump.now ≡ Ok text.items) }
-    ensures err { IfErr result (λ fault. fault ≢ AuditFault.Memory
-        → changes_text names.now choice.now dump.now ≡ Err fault) }
+    ensures ok { OnOk result (WritesOne (IsLooked (changes_text names.now choice.now dump.now))
+        (W.written writer.old) (W.written writer.new)) }
+    ensures err { IfErr result (λ f. IsLeft (changes_text names.now choice.now dump.now) f
+        (W.written writer.old) (W.written writer.new)) }
+    ensures writes { CountsLook (W.failures writer.old) (W.failures writer.new) result }
 {
     match replayed(alloc, funs, dump) {
-        Ok(_end) => Ok(lines(alloc, funs, names, choice, dump)?),
-        Err(fault) => Err(fault),
+        Ok(_end) => match write_lines(alloc, funs, names, choice, dump, writer) {
+            Ok(()) => Ok(()),
+            Err(fault) => Err(LookFault::Output(fault)),
+        },
+        Err(fault) => Err(LookFault::of_replay(fault)),
     }
 }
 
@@ -70,17 +79,20 @@ fn replayed<F: Functions<Core>>(
     }
 }
 
-// The lines of a dump whose replay comes to its end.
-fn lines<F: Functions<Core>>(
+// Writes the lines of a dump whose replay comes to its end.
+fn write_lines<F: Functions<Core>, W: Sink>(
     alloc: Global,
     funs: &F,
     names: &Names,
     choice: &Choice,
     dump: &Dump,
-) -> Result<Vec<u8>, AllocError>
-    ensures { IfOk result (λ text. text.items
-        ≡ changes_from names.now choice.now (first_place dump.now.base) dump.now.entries (Ok (state_of dump.now.base))
-        ++ count_line (length dump.now.entries) (chosen_from choice.now (first_place dump.now.base) dump.now.entries)) }
+    writer: &mut W,
+) -> Result<(), OutputFault>
+    ensures ok { OnOk result (Appends (W.written writer.old) (W.written writer.new)
+        (all_changes names.now choice.now dump.now)) }
+    ensures err { IfErr result (λ f. BreaksOff f (W.written writer.old) (W.written writer.new)
+        (all_changes names.now choice.now dump.now)) }
+    ensures writes { CountsWrites (W.failures writer.old) (W.failures writer.new) result }
 {
     let mut text = Vec::new(alloc);
     let mut values = Values::of(alloc, &dump.base)?;
@@ -98,11 +110,12 @@ fn lines<F: Functions<Core>>(
             &mut values,
             &mut text,
         )?;
+        write_piece(writer, &mut text)?;
         chosen = counted(is_chosen, chosen)?;
         place = place_after(entry, place)?;
     }
     append_count(alloc, dump.entries.len() as u64, chosen, &mut text)?;
-    Ok(text)
+    write_rest(writer, &mut text)
 }
 
 // Applies an entry to the values, and appends its line if it is chosen.

@@ -4,13 +4,19 @@ pub mod escaping;
 pub mod frames;
 pub mod tallies;
 
-use crate::drawing::boxes::{append_picture, colour};
+ghost use Rattle.std.specs.Prelude.{IfErr, OnOk};
+ghost use Rattle.ref_output.specs.Pieces.{CountsWrites};
+ghost use Rattle.ref_history.specs.Written.{Draws, DrawsPart};
+
+use crate::drawing::boxes::{colour, write_picture};
 use crate::drawing::escaping::append_escaped;
 use crate::drawing::frames::{Frame, Part};
 use crate::drawing::tallies::{Tally, tallies_of};
 use crate::shown::append_name;
 use crate::visible::visible_text;
+use ref_edn::Sink;
 use ref_forms::Names;
+use ref_output::{OutputFault, write_piece, write_rest};
 use ref_verdict::reading::dumps::Dump;
 use std::alloc::{AllocError, Global};
 
@@ -59,21 +65,41 @@ A dashed line leads from where a transaction began to one that was committed mea
 What an entry did stands in its tooltip.</p>
 ";
 
-/// The page of a dump, in HTML with a picture in SVG: the entries of a part, at most [`MOST_DRAWN`](frames::MOST_DRAWN), and a table of the
-/// first refs, at most [`MOST_ROWS`]. It has no script and needs no other file. What a page says of a dump's values and names is escaped, so
-/// that nothing in them is markup. Linear in the dump and in what is drawn.
-pub fn page(alloc: Global, names: &Names, part: Part, dump: &Dump) -> Result<Vec<u8>, AllocError> {
+/// Writes the page of a dump, in HTML with a picture in SVG: the entries of a part, at most [`MOST_DRAWN`](frames::MOST_DRAWN), and a table
+/// of the first refs, at most [`MOST_ROWS`]. It has no script and needs no other file. What a page says of a dump's values and names is
+/// escaped, so that nothing in them is markup. Linear in the dump and in what is drawn.
+pub fn write_page<W: Sink>(
+    alloc: Global,
+    names: &Names,
+    part: Part,
+    dump: &Dump,
+    writer: &mut W,
+) -> Result<(), OutputFault>
+    ensures ok { OnOk result (Draws (W.written writer.old) (W.written writer.new)) }
+    ensures err { IfErr result (λ f. DrawsPart f (W.written writer.old) (W.written writer.new)) }
+    ensures writes { CountsWrites (W.failures writer.old) (W.failures writer.new) result }
+{
     let frame = Frame::of(alloc, dump, part)?;
     let mut out = Vec::new(alloc);
-    out.extend_from_slice(HEAD.as_bytes())?;
-    append_extent(alloc, &frame, dump, &mut out)?;
-    out.extend_from_slice(LEGEND.as_bytes())?;
-    out.extend_from_slice(b"<div class=\"picture\">\n")?;
-    append_picture(alloc, names, &frame, dump, &mut out)?;
+    append_begin(alloc, &frame, dump, &mut out)?;
+    write_picture(alloc, names, &frame, dump, writer, &mut out)?;
     out.extend_from_slice(b"</div>\n")?;
-    append_table(alloc, names, dump, &mut out)?;
+    write_table(alloc, names, dump, writer, &mut out)?;
     out.extend_from_slice(b"</body>\n</html>\n")?;
-    Ok(out)
+    write_rest(writer, &mut out)
+}
+
+// What stands in front of the picture.
+fn append_begin(
+    alloc: Global,
+    frame: &Frame,
+    dump: &Dump,
+    out: &mut Vec<u8>,
+) -> Result<(), AllocError> {
+    out.extend_from_slice(HEAD.as_bytes())?;
+    append_extent(alloc, frame, dump, out)?;
+    out.extend_from_slice(LEGEND.as_bytes())?;
+    out.extend_from_slice(b"<div class=\"picture\">\n")
 }
 
 // How many entries there are, and which of them are drawn.
@@ -106,14 +132,19 @@ fn append_extent(
     out.extend_from_slice(b"</p>\n")
 }
 
-// The table of refs.
-fn append_table(
+// Writes the table of refs, behind what waits.
+fn write_table<W: Sink>(
     alloc: Global,
     names: &Names,
     dump: &Dump,
-    out: &mut Vec<u8>,
-) -> Result<(), AllocError> {
-    out.extend_from_slice(
+    writer: &mut W,
+    waiting: &mut Vec<u8>,
+) -> Result<(), OutputFault>
+    ensures ok { OnOk result (Draws (W.written writer.old) (W.written writer.new)) }
+    ensures err { IfErr result (λ f. DrawsPart f (W.written writer.old) (W.written writer.new)) }
+    ensures writes { CountsWrites (W.failures writer.old) (W.failures writer.new) result }
+{
+    waiting.extend_from_slice(
         b"<table>\n<tr><th>ref</th><th>name</th><th>changes</th><th>last point</th></tr>\n",
     )?;
     let all = tallies_of(alloc, dump)?;
@@ -121,10 +152,12 @@ fn append_table(
         if r as u64 >= MOST_ROWS {
             break;
         }
-        append_row(alloc, names, r as u64, *tally, out)?;
+        append_row(alloc, names, r as u64, *tally, waiting)?;
+        write_piece(writer, waiting)?;
     }
-    out.extend_from_slice(b"</table>\n")?;
-    append_left_out(alloc, all.len() as u64, out)
+    waiting.extend_from_slice(b"</table>\n")?;
+    append_left_out(alloc, all.len() as u64, waiting)?;
+    Ok(())
 }
 
 // How many refs have no row.

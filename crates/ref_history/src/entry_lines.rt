@@ -1,38 +1,47 @@
 //! The history of a dump.
-ghost use Rattle.std.specs.Prelude.{◌≡◌, ◌+◌, ◌++◌, [], IfOk, OnOk, if◌then◌else◌};
+ghost use Rattle.std.specs.Prelude.{◌≡◌, ◌+◌, ◌++◌, [], IfErr, IfOk, OnOk, if◌then◌else◌};
+ghost use Rattle.std.specs.Io.KnownBytes.{Appends};
+ghost use Rattle.ref_output.specs.Pieces.{BreaksOff, CountsWrites};
 ghost use Rattle.ref_history.specs.History.{count_line, entry_line, entry_text, history_text, made_text, stamp_text, transaction_text};
 ghost use Rattle.ref_history.specs.Places.{is_chosen};
 
 use crate::places::{Choice, Place, first_place, place_after};
 use crate::shown::{append_change, append_dones, append_number, append_reference, append_sends};
 use crate::visible::{ROOM_OF_LINE, append_visible_line};
-use ref_edn::print;
+use ref_edn::{Sink, print};
 use ref_forms::Names;
 use ref_log::{Entry, Transaction, Who};
+use ref_output::{OutputFault, write_piece, write_rest};
 use ref_value::Value;
 use ref_verdict::reading::dumps::Dump;
 use std::alloc::{AllocError, Global};
 
-/// The history of a dump: a line for each entry that is chosen, in order, and a last one with how many entries there are and how many
+/// Writes the history of a dump: a line for each entry that is chosen, in order, and a last one with how many entries there are and how many
 /// were chosen. docs/HISTORY.md describes the lines. References without a name are printed as `ref 3`. Linear in the dump and in the text.
-pub fn history(
+pub fn write_history<W: Sink>(
     alloc: Global,
     names: &Names,
     choice: &Choice,
     dump: &Dump,
-) -> Result<Vec<u8>, AllocError>
-    ensures { IfOk result (λ text. text.items ≡ history_text names.now choice.now dump.now) }
+    writer: &mut W,
+) -> Result<(), OutputFault>
+    ensures ok { OnOk result (Appends (W.written writer.old) (W.written writer.new)
+        (history_text names.now choice.now dump.now)) }
+    ensures err { IfErr result (λ f. BreaksOff f (W.written writer.old) (W.written writer.new)
+        (history_text names.now choice.now dump.now)) }
+    ensures writes { CountsWrites (W.failures writer.old) (W.failures writer.new) result }
 {
     let mut text = Vec::new(alloc);
     let mut place = first_place(&dump.base)?;
     let mut chosen = 0;
     for entry in &dump.entries {
         let is_chosen = append_if_chosen(alloc, names, choice, place, entry, &mut text)?;
+        write_piece(writer, &mut text)?;
         chosen = counted(is_chosen, chosen)?;
         place = place_after(entry, place)?;
     }
     append_count(alloc, dump.entries.len() as u64, chosen, &mut text)?;
-    Ok(text)
+    write_rest(writer, &mut text)
 }
 
 /// A count of one more, if there is one more.

@@ -1,5 +1,7 @@
 //! The values at a point.
 ghost use Rattle.std.specs.Prelude.{◌≡◌, ◌≢◌, ◌<◌, ◌^◌, ◌++◌, Ok, Err, IfOk, IfErr, OnOk, slice_get};
+ghost use Rattle.std.specs.Io.KnownBytes.{Appends};
+ghost use Rattle.ref_output.specs.Pieces.{BreaksOff, CountsWrites, Remains};
 ghost use Rattle.ref_fun.specs.Calls.{HasCore};
 ghost use Rattle.ref_log.specs.Replay.{point_after};
 ghost use Rattle.ref_verdict.specs.OfCore.{IsOfCore};
@@ -7,10 +9,11 @@ ghost use Rattle.ref_history.specs.Values.{end_line, has_point, name_or_number, 
 
 use crate::shown::{append_name, append_number};
 use crate::visible::{ROOM_OF_LINE, append_visible_line};
-use ref_edn::print;
+use ref_edn::{Sink, print};
 use ref_forms::Names;
 use ref_fun::{Core, Functions};
 use ref_log::{AuditFault, PlainState, replay_plain};
+use ref_output::{OutputFault, write_piece, write_rest};
 use ref_value::{Text, Value};
 use ref_verdict::reading::dumps::Dump;
 use std::alloc::{AllocError, Global};
@@ -49,22 +52,27 @@ pub fn values_at<F: Functions<Core>>(
     }
 }
 
-/// The lines of values at a point, as a report has them: each with a name, or with its number where there is none. A last line says that
-/// these are all. Linear in the text.
-pub fn values_text(
+/// Writes the lines of values at a point, as a report has them: each with a name, or with its number where there is none. A last line says
+/// that these are all. Linear in the text.
+pub fn write_values<W: Sink>(
     alloc: Global,
     names: &Names,
     point: u64,
     state: &PlainState,
-) -> Result<Vec<u8>, AllocError>
-    ensures { IfOk result (λ text. text.items ≡ values_text names.now point state.now) }
+    writer: &mut W,
+) -> Result<(), OutputFault>
+    ensures ok { OnOk result (Appends (W.written writer.old) (W.written writer.new)
+        (values_text names.now point state.now)) }
+    ensures err { IfErr result (λ f. BreaksOff f (W.written writer.old) (W.written writer.new)
+        (values_text names.now point state.now)) }
+    ensures writes { CountsWrites (W.failures writer.old) (W.failures writer.new) result }
 {
     let (refs, atoms) = (state.refs.as_slice(), state.atoms.as_slice());
     let mut text = Vec::new(alloc);
-    append_values(alloc, "ref", names.refs(), refs, &mut text)?;
-    append_values(alloc, "atom", names.atoms(), atoms, &mut text)?;
+    write_kind(alloc, "ref", names.refs(), refs, writer, &mut text)?;
+    write_kind(alloc, "atom", names.atoms(), atoms, writer, &mut text)?;
     append_end(alloc, point, &mut text)?;
-    Ok(text)
+    write_rest(writer, &mut text)
 }
 
 // The line behind all values.
@@ -78,19 +86,24 @@ fn append_end(alloc: Global, point: u64, out: &mut Vec<u8>) -> Result<(), AllocE
     append_visible_line(alloc, &text, out)
 }
 
-// The lines of all values of a kind.
-#[tactic(auto, using(crate::proofs::Lines::value_lines_at))]
-fn append_values(
+// Writes the lines of all values of a kind, behind what waits.
+fn write_kind<W: Sink>(
     alloc: Global,
     kind: &str,
     names: &[Text],
     values: &[Value],
-    out: &mut Vec<u8>,
-) -> Result<(), AllocError>
-    ensures { OnOk result (out.new.items ≡ out.old.items ++ value_lines kind.now names.now 0 values.now) }
+    writer: &mut W,
+    waiting: &mut Vec<u8>,
+) -> Result<(), OutputFault>
+    ensures ok { OnOk result (Remains (W.written writer.old) (W.written writer.new)
+        (waiting.old.items ++ value_lines kind.now names.now 0 values.now) waiting.new.items) }
+    ensures err { IfErr result (λ f. BreaksOff f (W.written writer.old) (W.written writer.new)
+        (waiting.old.items ++ value_lines kind.now names.now 0 values.now)) }
+    ensures writes { CountsWrites (W.failures writer.old) (W.failures writer.new) result }
 {
     for (n, value) in values.iter().enumerate() {
-        append_value(alloc, kind, names, n, value, out)?;
+        append_value(alloc, kind, names, n, value, waiting)?;
+        write_piece(writer, waiting)?;
     }
     Ok(())
 }

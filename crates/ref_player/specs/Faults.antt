@@ -1,8 +1,11 @@
 -- The faults of a play, and which of them others become.
 use Rattle.std.specs.Prelude.{◌≡◌, ℕ, Result, Ok, Err}
 use Rattle.ref_edn.specs.declared.faults.ReadFault.{ReadFault}
+use Rattle.ref_output.specs.declared.faults.OutputFault.{OutputFault}
+use Rattle.ref_output.specs.declared.faults.OutputFault.TheVariants as outputs
 use Rattle.ref_workload.specs.RunFaults.{edn_fault_of}
 use Rattle.ref_workload.specs.Streams as streams
+use Rattle.ref_workload.specs.declared.faults.RunFault.{RunFault}
 use Rattle.ref_workload.specs.declared.faults.RunFault.TheVariants as runs
 use Rattle.ref_events.specs.declared.faults.ScriptFault.{ScriptFault}
 use Rattle.ref_events.specs.declared.faults.ScriptFault.TheVariants as scripts
@@ -17,10 +20,21 @@ abbrev pub script_fault_of : ScriptFault → PlayFault
 script_fault_of scripts.Memory = plays.Run runs.Memory
 script_fault_of fault = plays.Script fault
 
--- faults of a text, which come from no reading and no writing
+-- the fault of a run for one of an output
+abbrev pub output_fault_of : OutputFault → RunFault
+output_fault_of outputs.Write = runs.Write
+output_fault_of outputs.Memory = runs.Memory
+
+-- faults of a play and of its output
+abbrev pub IsOfOutput : RunFault → Type 0
+IsOfOutput runs.Write = Unit {0}
+IsOfOutput runs.Memory = Unit {0}
+IsOfOutput runs.Internal = Unit {0}
+IsOfOutput fault = ⊥
+
+-- faults of a text and of its output, which come from no reading
 abbrev pub IsOfText : PlayFault → Type 0
 IsOfText (plays.Run runs.Read) = ⊥
-IsOfText (plays.Run runs.Write) = ⊥
 IsOfText (plays.Run runs.InputTooLong) = ⊥
 IsOfText (plays.Run (runs.Plan fault)) = ⊥
 IsOfText fault = Unit {0}

@@ -1,12 +1,14 @@
 //! The lines of a play.
-ghost use Rattle.std.specs.Prelude.{◌≡◌, ◌++◌, IfOk, OnOk};
+ghost use Rattle.std.specs.Prelude.{◌≡◌, ◌++◌, IfErr, IfOk, OnOk};
+ghost use Rattle.ref_output.specs.Pieces.{BreaksOff, CountsWrites, Remains};
 ghost use Rattle.ref_player.specs.Lines.{event_line, event_lines, form_text, spaced, start_line};
 
 use crate::fault_words::make_word;
 use crate::replies::{append_reply, append_who};
 use ref_audit::append_number;
-use ref_edn::print;
+use ref_edn::{Sink, print};
 use ref_log::{MakeFault, Who};
+use ref_output::{OutputFault, write_piece};
 use ref_play::Reply;
 use ref_value::{Items, Node, Value};
 use std::alloc::{AllocError, Global};
@@ -65,16 +67,27 @@ pub fn start_line(alloc: Global, who: Who, fault: MakeFault) -> Result<Vec<u8>, 
     Ok(text)
 }
 
-/// A line for each event that was answered: its number, how it is written, and the reply to its actor. Linear in the text.
-pub fn lines_of(alloc: Global, forms: &Items, replies: &[Reply]) -> Result<Vec<u8>, AllocError>
-    ensures { IfOk result (λ text. text.items ≡ event_lines 0 forms.now replies.now) }
+/// Writes a line for each event that was answered, behind what waits: its number, how it is written, and the reply to its actor. What is
+/// less than a piece waits at the end. Linear in the text.
+pub fn write_lines<W: Sink>(
+    alloc: Global,
+    forms: &Items,
+    replies: &[Reply],
+    writer: &mut W,
+    waiting: &mut Vec<u8>,
+) -> Result<(), OutputFault>
+    ensures ok { OnOk result (Remains (W.written writer.old) (W.written writer.new)
+        (waiting.old.items ++ event_lines 0 forms.now replies.now) waiting.new.items) }
+    ensures err { IfErr result (λ f. BreaksOff f (W.written writer.old) (W.written writer.new)
+        (waiting.old.items ++ event_lines 0 forms.now replies.now)) }
+    ensures writes { CountsWrites (W.failures writer.old) (W.failures writer.new) result }
 {
-    let mut text = Vec::new(alloc);
     for (i, reply) in replies.iter().enumerate() {
         match forms.get(i) {
-            Some(form) => append_line(alloc, i as u64, form, reply, &mut text)?,
-            None => return Ok(text),
+            Some(form) => append_line(alloc, i as u64, form, reply, waiting)?,
+            None => return Ok(()),
         }
+        write_piece(writer, waiting)?;
     }
-    Ok(text)
+    Ok(())
 }

@@ -1,6 +1,6 @@
 //! The play of a list of events, by one thread.
-ghost use Rattle.std.specs.Prelude.{◌≡◌, ◌≢◌, ◌++◌, ◌∷◌, [], Some, Ok, IfErr, IfOk, OnOk};
-ghost use Rattle.ref_edn.specs.Printed.{printed};
+ghost use Rattle.std.specs.Prelude.{◌≡◌, ◌≢◌, ◌++◌, Some, Ok, IfErr, IfOk, OnOk};
+ghost use Rattle.std.specs.Io.KnownBytes.{Appends};
 ghost use Rattle.ref_fun.specs.Calls.{HasCore};
 ghost use Rattle.ref_verdict.specs.DumpForm.{dump_of};
 ghost use Rattle.ref_verdict.specs.Verdict.{verdict_on};
@@ -9,25 +9,30 @@ ghost use Rattle.ref_audit.specs.Dumped.{dumped};
 ghost use Rattle.ref_events.specs.Documents.{ScriptSeen};
 ghost use Rattle.ref_play.specs.Sims.{Stands, machine_of};
 ghost use Rattle.ref_log.specs.declared.faults.MakeFault.TheVariants as makes;
+ghost use Rattle.ref_output.specs.Pieces.{BreaksOff, CountsWrites, WritesOne};
 ghost use Rattle.ref_player.specs.Lines.{event_lines, start_line};
-ghost use Rattle.ref_player.specs.Plays.{Begins, IsPlayOf, Plays, PlaysTo, shown, start_refusal};
+ghost use Rattle.ref_player.specs.Faults.{IsOfOutput, output_fault_of};
+ghost use Rattle.ref_player.specs.Plays.{Begins, IsDumpIf, IsLeft, IsPlayOf, IsPlayedFrom, IsStartLine, Plays, PlaysTo, end_text, start_refusal};
 ghost use Rattle.ref_workload.specs.Run.{IsOfPlan};
+ghost use Rattle.ref_workload.specs.Streams.{CountsWrites as CountsRunWrites};
 ghost use Rattle.ref_world.specs.Shares.{AreBlanks};
 
-use crate::lines::{lines_of, start_line};
+use crate::lines::{start_line, write_lines};
 use ref_agents::Start;
 use ref_audit::{Verdict, report};
-use ref_edn::print;
+use ref_edn::{Sink, print};
 use ref_events::{Script, ScriptParts};
 use ref_forms::Names;
 use ref_fun::{Core, Functions};
 use ref_log::{MakeFault, Who};
+use ref_output::{OutputFault, write_rest};
 use ref_play::{Event, Reply, Sim};
 use ref_value::{Items, Value};
 use ref_workload::RunFault;
+use ref_workload::streams::write_output;
 use ref_workload::texts::{audited, check_audit};
 use ref_world::{Blanks, Books, World};
-use std::alloc::Global;
+use std::alloc::{AllocError, Global};
 use std::marker::Brand;
 
 // The world that is declared, on which no actor has acted, or why there is none.
@@ -121,97 +126,164 @@ fn play<F: Functions<Core>, L: Books>(
     }
 }
 
-// Appends the printed dump, and a newline.
-fn append_dump(alloc: Global, dumped: &Value, text: &mut Vec<u8>) -> Result<(), RunFault>
-    ensures ok { OnOk result (text.new.items ≡ text.old.items ++ (printed dumped.now ++ 10 ∷ [])) }
-    ensures inner { IfErr result IsOfPlan }
-{
-    if print(alloc, dumped, text).is_err() || text.push(b'\n').is_err() {
-        return Err(RunFault::Memory);
-    }
-    Ok(())
-}
-
-// Appends the report of a world that is audited, or its dump, which is.
-fn append_end<F: Functions<Core>>(
+// The dump of a world, if it is asked for. The world is audited in any case.
+fn audited_dump<F: Functions<Core>>(
     alloc: Global,
     funs: &F,
-    names: &Names,
     world: &World<Core>,
     dump: bool,
-    text: &mut Vec<u8>,
-) -> Result<(), RunFault>
+) -> Result<Option<Value>, RunFault>
     requires { HasCore (F.knows funs.now) }
     ensures audited { OnOk result (verdict_on (dump_of (dumped world.now)) ≡ Ok verdicts.Ok) }
-    ensures text { OnOk result (text.new.items ≡ text.old.items ++ shown dump names.now world.now) }
+    ensures dump { IfOk result (λ dumped. IsDumpIf dump world.now dumped) }
     ensures inner { IfErr result IsOfPlan }
 {
     if dump {
         let dumped = audited(alloc, funs, world)?;
-        return append_dump(alloc, &dumped, text);
+        return Ok(Some(dumped));
     }
     check_audit(alloc, funs, world)?;
-    match report(alloc, names, world, &[], &Verdict::Ok, text) {
-        Ok(()) => Ok(()),
-        Err(_) => Err(RunFault::Memory),
+    Ok(None)
+}
+
+// Appends a dump and a newline, or else the report of a world.
+fn append_end(
+    alloc: Global,
+    names: &Names,
+    world: &World<Core>,
+    dumped: &Option<Value>,
+    out: &mut Vec<u8>,
+) -> Result<(), AllocError>
+    ensures { OnOk result (out.new.items ≡ out.old.items ++ end_text names.now world.now dumped.now) }
+{
+    match dumped {
+        Some(dumped) => {
+            print(alloc, dumped, out)?;
+            out.extend_from_slice(b"\n")
+        }
+        None => report(alloc, names, world, &[], &Verdict::Ok, out),
     }
 }
 
-// The lines of a play, and then the report or the dump of the world that it came to, which is audited.
-fn text_of<F: Functions<Core>>(
+// Writes the lines of a play, and then the dump, or the report of the world that it came to.
+fn write_played<W: Sink>(
+    alloc: Global,
+    names: &Names,
+    forms: &Items,
+    played: &Played,
+    dumped: &Option<Value>,
+    writer: &mut W,
+) -> Result<(), OutputFault>
+    ensures ok { OnOk result (Appends (W.written writer.old) (W.written writer.new)
+        (event_lines 0 forms.now played.now.replies.items ++ end_text names.now played.now.world dumped.now)) }
+    ensures err { IfErr result (λ f. BreaksOff f (W.written writer.old) (W.written writer.new)
+        (event_lines 0 forms.now played.now.replies.items ++ end_text names.now played.now.world dumped.now)) }
+    ensures writes { CountsWrites (W.failures writer.old) (W.failures writer.new) result }
+{
+    let mut waiting = Vec::new(alloc);
+    write_lines(
+        alloc,
+        forms,
+        played.replies.as_slice(),
+        writer,
+        &mut waiting,
+    )?;
+    append_end(alloc, names, &played.world, dumped, &mut waiting)?;
+    write_rest(writer, &mut waiting)
+}
+
+// The fault of a run for one of an output.
+fn output_fault(fault: OutputFault) -> RunFault
+    ensures { result ≡ output_fault_of fault }
+{
+    match fault {
+        OutputFault::Write => RunFault::Write,
+        OutputFault::Memory => RunFault::Memory,
+    }
+}
+
+// Plays the events on a world, and writes what comes of it.
+fn write_play<F: Functions<Core>, L: Books, W: Sink>(
     alloc: Global,
     funs: &F,
     names: &Names,
     forms: &Items,
-    played: &Played,
+    sim: Sim<Core, L>,
+    events: &[Event],
     dump: bool,
-) -> Result<Vec<u8>, RunFault>
+    writer: &mut W,
+) -> Result<(), RunFault>
     requires { HasCore (F.knows funs.now) }
-    ensures audited { OnOk result (verdict_on (dump_of (dumped played.now.world)) ≡ Ok verdicts.Ok) }
-    ensures text { IfOk result (λ text. text.items ≡ event_lines 0 forms.now played.now.replies.items
-        ++ shown dump names.now played.now.world) }
-    ensures inner { IfErr result IsOfPlan }
+    ensures ok { OnOk result (WritesOne (IsPlayedFrom (F.knows funs.now) sim events.now forms.now names.now dump)
+        (W.written writer.old) (W.written writer.new)) }
+    ensures left { IfErr result (λ f. IsLeft (IsPlayedFrom (F.knows funs.now) sim events.now forms.now names.now dump) f
+        (W.written writer.old) (W.written writer.new)) }
+    ensures inner { IfErr result IsOfOutput }
+    ensures writes { CountsRunWrites (W.failures writer.old) (W.failures writer.new) result }
 {
-    let Ok(mut text) = lines_of(alloc, forms, played.replies.as_slice()) else {
-        return Err(RunFault::Memory);
-    };
-    match append_end(alloc, funs, names, &played.world, dump, &mut text) {
-        Ok(()) => Ok(text),
-        Err(fault) => Err(fault),
+    let played = play(alloc, funs, sim, events)?;
+    let dumped = audited_dump(alloc, funs, &played.world, dump)?;
+    match write_played(alloc, names, forms, &played, &dumped, writer) {
+        Ok(()) => Ok(()),
+        Err(fault) => Err(output_fault(fault)),
     }
 }
 
-/// What is written of a list of events that is played by a table of Core's functions: a line for each event, and the report, or the dump,
-/// of the world that it came to, where all jobs were put back and all open transactions dropped. Where a rule or the tally refuses the start,
-/// it is the line that says so, and no event is played.
-pub fn output_of<F: Functions<Core>>(
+// Writes the line of a start that is refused, if it isn't for lack of memory.
+fn write_refused<W: Sink>(
+    alloc: Global,
+    who: Who,
+    fault: MakeFault,
+    writer: &mut W,
+) -> Result<(), RunFault>
+    ensures ok { OnOk result (WritesOne (IsStartLine who fault) (W.written writer.old) (W.written writer.new)) }
+    ensures left { IfErr result (λ f. IsLeft (IsStartLine who fault) f (W.written writer.old) (W.written writer.new)) }
+    ensures inner { IfErr result IsOfOutput }
+    ensures writes { CountsRunWrites (W.failures writer.old) (W.failures writer.new) result }
+{
+    let line = refused_start(alloc, who, fault)?;
+    write_output(writer, &line)
+}
+
+/// Plays a list of events by a table of Core's functions, and writes a line for each event, and the report, or the dump, of the world that
+/// it came to, where all jobs were put back and all open transactions dropped. Where a rule or the tally refuses the start, it writes the
+/// line that says so, and no event is played.
+///
+/// Nothing is written before the play has ended and its world is audited, and then in pieces.
+pub fn write_script<F: Functions<Core>, W: Sink>(
     alloc: Global,
     funs: &F,
     script: Script,
     dump: bool,
-) -> Result<Vec<u8>, RunFault>
+    writer: &mut W,
+) -> Result<(), RunFault>
     requires { HasCore (F.knows funs.now) }
-    ensures ok { IfOk result (λ output. IsPlayOf dump script output.items) }
-    ensures inner { IfErr result IsOfPlan }
+    ensures ok { OnOk result (WritesOne (IsPlayOf dump script) (W.written writer.old) (W.written writer.new)) }
+    ensures left { IfErr result (λ f. IsLeft (IsPlayOf dump script) f (W.written writer.old) (W.written writer.new)) }
+    ensures inner { IfErr result IsOfOutput }
+    ensures writes { CountsRunWrites (W.failures writer.old) (W.failures writer.new) result }
 {
-    match output_in::<F, Brand>(alloc, funs, script, dump, Blanks::new()) {
-        Ok(output) => Ok(output),
+    match write_in::<F, Brand, W>(alloc, funs, script, dump, Blanks::new(), writer) {
+        Ok(()) => Ok(()),
         Err(fault) => Err(fault),
     }
 }
 
 // The same, in a world whose books L names.
-fn output_in<F: Functions<Core>, L: Books>(
+fn write_in<F: Functions<Core>, L: Books, W: Sink>(
     alloc: Global,
     funs: &F,
     script: Script,
     dump: bool,
     blanks: Blanks,
-) -> Result<Vec<u8>, RunFault>
+    writer: &mut W,
+) -> Result<(), RunFault>
     requires core { HasCore (F.knows funs.now) }
     requires blanks { AreBlanks blanks L.commits L.added L.taken }
-    ensures ok { IfOk result (λ output. IsPlayOf dump script output.items) }
-    ensures inner { IfErr result IsOfPlan }
+    ensures ok { OnOk result (WritesOne (IsPlayOf dump script) (W.written writer.old) (W.written writer.new)) }
+    ensures left { IfErr result (λ f. IsLeft (IsPlayOf dump script) f (W.written writer.old) (W.written writer.new)) }
+    ensures inner { IfErr result IsOfOutput }
+    ensures writes { CountsRunWrites (W.failures writer.old) (W.failures writer.new) result }
 {
     let ScriptParts {
         names,
@@ -221,9 +293,9 @@ fn output_in<F: Functions<Core>, L: Books>(
     } = script.into_parts();
     match begin::<F, L>(alloc, funs, &start, blanks) {
         Ok(sim) => {
-            let played = play(alloc, funs, sim, events.as_slice())?;
-            text_of(alloc, funs, &names, &forms, &played, dump)
+            let events = events.as_slice();
+            write_play(alloc, funs, &names, &forms, sim, events, dump, writer)
         }
-        Err((who, fault)) => refused_start(alloc, who, fault),
+        Err((who, fault)) => write_refused(alloc, who, fault, writer),
     }
 }

@@ -72,28 +72,28 @@ pub record AreOptions (rows : List Row) (options : Options) (tells : Bool) : Typ
 -- A run with the options that stand under their names.
 abbrev pub IsRunOf : List Row → Task → Type 0
 IsRunOf rows (Run options tells) = AreOptions rows options tells
-IsRunOf rows Audit = ⊥
+IsRunOf rows (Audit is_large) = ⊥
 IsRunOf rows (Play dump) = ⊥
-IsRunOf rows (Look look) = ⊥
-IsRunOf rows (Draw part) = ⊥
+IsRunOf rows (Look look is_large) = ⊥
+IsRunOf rows (Draw part is_large) = ⊥
 
 -- A play with the option that stands under its name.
 abbrev pub IsPlayOf : List Row → Task → Type 0
 IsPlayOf rows (Run options tells) = ⊥
-IsPlayOf rows Audit = ⊥
+IsPlayOf rows (Audit is_large) = ⊥
 IsPlayOf rows (Play dump) = IsFlag (one_of (codes "dump") rows) dump
-IsPlayOf rows (Look look) = ⊥
-IsPlayOf rows (Draw part) = ⊥
+IsPlayOf rows (Look look is_large) = ⊥
+IsPlayOf rows (Draw part is_large) = ⊥
 
 -- The command of this name, with its options, is this request.
 abbrev pub IsRequest : Text → List Row → Request → Type 0
 IsRequest name rows (ByCore (Run options tells)) = (name ≡ codes "run") × AreOptions rows options tells
-IsRequest name rows (ByCore Audit) = name ≡ codes "audit"
+IsRequest name rows (ByCore (Audit is_large)) = (name ≡ codes "audit") × IsFlag (one_of (codes "large") rows) is_large
 IsRequest name rows (ByCore (Play dump)) = (name ≡ codes "play") × IsFlag (one_of (codes "dump") rows) dump
-IsRequest name rows (ByCore (Look look)) = IsLookOf name rows look
-IsRequest name rows (ByCore (Draw part)) = (name ≡ codes "draw") × IsPart rows part
+IsRequest name rows (ByCore (Look look is_large)) = IsLookOf name rows look × IsFlag (one_of (codes "large") rows) is_large
+IsRequest name rows (ByCore (Draw part is_large)) = (name ≡ codes "draw") × IsPart rows part × IsFlag (one_of (codes "large") rows) is_large
 IsRequest name rows Check = name ≡ codes "check"
-IsRequest name rows Print = name ≡ codes "print"
+IsRequest name rows (Print is_large) = (name ≡ codes "print") × IsFlag (one_of (codes "large") rows) is_large
 
 -- The command of this name, with its options, asks for this. Only a run can be strict.
 pub record AsksFor (name : Text) (rows : List Row) (wanted : Wanted) : Type 0 where

@@ -1,4 +1,5 @@
 -- To be read and believed: all of them.
+pub mod Inputs
 pub mod Auditing
 pub mod Looking
 pub mod Naming

@@ -26,6 +26,10 @@ abbrev pub Shows : Result (List ℕ) AuditFault → Verdict → List ℕ → Typ
 Shows (Ok text) verdict output = (verdict ≡ verdicts.Ok) × (output ≡ text)
 Shows (Err fault) verdict output = (verdict_of fault ≡ Some verdict) × (output ≡ verdict_line verdict)
 
+-- It does so with some verdict.
+abbrev pub IsShown : Result (List ℕ) AuditFault → List ℕ → Type 0
+IsShown looked output = (verdict : Verdict) × Shows looked verdict output
+
 -- The text is a dump, and the output shows it, with these names of references.
 pub record IsLookOf (names : NamesSeen) (look : Look) (verdict : Verdict) (text output : List ℕ) : Type 0 where
   pub value : Edn

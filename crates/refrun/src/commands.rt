@@ -31,7 +31,10 @@ pub(crate) enum Request {
     /// What runs by Core's functions.
     ByCore(Task),
     Check,
-    Print,
+    Print {
+        /// Whether the text may have 4 GiB.
+        is_large: bool,
+    },
 }
 
 // How often a transaction is tried where nothing is said.
@@ -128,6 +131,8 @@ const NAMES: &str = "Takes the names of references from the workload in this fil
 
 const PRINT: &str = "Reads EDN from standard input, and prints each element on a line";
 
+const LARGE: &str = "Takes up to 4 GiB of input, in place of 16 MiB";
+
 const EXPLAIN: &str = "Explains on standard error what is wrong";
 
 const PRINT_MORE: &str = "Example:
@@ -215,6 +220,7 @@ fn command<'a>(alloc: Global, texts: &'a Texts) -> Result<Command<'a>, AllocErro
     let audit = Command::new(alloc, "audit")
         .about(AUDIT)
         .after_help(AUDIT_MORE)
+        .arg(large(alloc))?
         .arg(explain(alloc, EXPLAIN))?;
     let play = Command::new(alloc, "play")
         .about(PLAY)
@@ -230,6 +236,7 @@ fn command<'a>(alloc: Global, texts: &'a Texts) -> Result<Command<'a>, AllocErro
     let print = Command::new(alloc, "print")
         .about(PRINT)
         .after_help(PRINT_MORE)
+        .arg(large(alloc))?
         .arg(explain(alloc, EXPLAIN))?;
     Command::new(alloc, "refrun")
         .about(ABOUT)
@@ -251,6 +258,13 @@ fn explain<'a>(alloc: Global, help: &'a str) -> Arg<'a> {
         .long("explain")
         .action(ArgAction::SetTrue)
         .help(help)
+}
+
+fn large<'a>(alloc: Global) -> Arg<'a> {
+    Arg::new(alloc, "large")
+        .long("large")
+        .action(ArgAction::SetTrue)
+        .help(LARGE)
 }
 
 fn dump<'a>(alloc: Global, help: &'a str) -> Arg<'a> {
@@ -303,6 +317,7 @@ fn history<'a>(alloc: Global) -> Result<Command<'a>, AllocError> {
         .arg(point(alloc, "from", "Only entries from this point on"))?
         .arg(point(alloc, "to", "Only entries up to this point"))?
         .arg(changes)?
+        .arg(large(alloc))?
         .arg(explain(alloc, EXPLAIN))
 }
 
@@ -318,6 +333,7 @@ fn at<'a>(alloc: Global) -> Result<Command<'a>, AllocError> {
         .after_help(AT_MORE)
         .arg(point)?
         .arg(names(alloc))?
+        .arg(large(alloc))?
         .arg(explain(alloc, EXPLAIN))
 }
 
@@ -328,6 +344,7 @@ fn draw<'a>(alloc: Global) -> Result<Command<'a>, AllocError> {
         .arg(names(alloc))?
         .arg(point(alloc, "from", "Only entries from this point on"))?
         .arg(point(alloc, "to", "Only entries up to this point"))?
+        .arg(large(alloc))?
         .arg(explain(alloc, EXPLAIN))
 }
 
@@ -398,15 +415,25 @@ fn request_of(name: &str, inner: &ArgMatches) -> Option<Request>
     ensures some { IfSome result (IsRequest name.now (rows_of (found_of inner.now))) }
     ensures none { IsNone result → is_command name.now ≡ false }
 {
+    let is_large = has_flag(inner, "large");
     match name {
         "run" => Some(Request::ByCore(run_of(inner))),
         "check" => Some(Request::Check),
-        "audit" => Some(Request::ByCore(Task::Audit)),
+        "audit" => Some(Request::ByCore(Task::Audit { is_large })),
         "play" => Some(Request::ByCore(play_of(inner))),
-        "history" => Some(Request::ByCore(Task::Look(history_of(inner)))),
-        "at" => Some(Request::ByCore(Task::Look(Look::At(point_of(inner, "point", 0))))),
-        "draw" => Some(Request::ByCore(Task::Draw(part_of(inner)))),
-        "print" => Some(Request::Print),
+        "history" => {
+            let look = history_of(inner);
+            Some(Request::ByCore(Task::Look { look, is_large }))
+        }
+        "at" => {
+            let look = Look::At(point_of(inner, "point", 0));
+            Some(Request::ByCore(Task::Look { look, is_large }))
+        }
+        "draw" => {
+            let part = part_of(inner);
+            Some(Request::ByCore(Task::Draw { part, is_large }))
+        }
+        "print" => Some(Request::Print { is_large }),
         _ => None,
     }
 }

@@ -19,8 +19,10 @@ pub mod checking;
 mod commands;
 mod explaining;
 pub mod faults;
+pub mod limits;
 mod lines;
 pub mod looking;
+mod measuring;
 pub mod naming;
 pub mod printing;
 mod serving;
@@ -33,6 +35,7 @@ use commands::{Request, Wanted, arguments, help_texts, matches_of, names_file_of
 use explaining::explain_fault;
 use faults::Fault;
 use lines::say;
+use measuring::Measuring;
 use naming::{names_of_text, no_names};
 use ref_audit::Names;
 use ref_edn::Counted;
@@ -110,11 +113,12 @@ where
 {
     let is_run = matches!(wanted.request, Request::ByCore(Task::Run { .. }));
     let mut reader = Remembering::new(rt.alloc(), Counted::new(rt.reader()), wanted.explains);
-    let mut writer = Watching::new(
+    let watching = Watching::new(
         rt.alloc(),
         Counted::new(io::writer(rt)),
         is_run && (wanted.explains || wanted.is_strict),
     );
+    let mut writer = Measuring::new(watching);
     serve(rt, funs, names, wanted, &mut reader, &mut writer)
 }
 

@@ -2,9 +2,8 @@
 ghost use Rattle.std.specs.Prelude.{◌+◌, ◌≡◌, IfOk, IfErr};
 ghost use Rattle.ref_edn.specs.Streams.{ConsumesUpTo};
 ghost use Rattle.ref_fun.specs.Calls.{HasCore};
-ghost use Rattle.refrun.specs.Serving.{Ends, IsRequestDone, IsFaultOfRequest, IsLeftByRequest, status_after, verdict_status};
+ghost use Rattle.refrun.specs.Serving.{Ends, IsRequestDone, IsFaultOfRequest, IsLeftByRequest, most_of_request, status_after, verdict_status};
 ghost use Rattle.refrun.specs.Tasks.{CountsReads, CountsWrites};
-ghost use Rattle.ref_workload.specs.Streams.{most_input};
 
 use crate::checking::check_text;
 use crate::commands::{Request, Wanted};
@@ -13,12 +12,14 @@ use crate::explaining::{
 };
 use crate::faults::Fault;
 use crate::lines::say;
+use crate::measuring::Measuring;
 use crate::printing::print_text;
 use crate::tasks::{Task, carry_out};
 use ref_audit::{Names, Verdict};
 use ref_edn::{Sink, Source};
 use ref_explain::{RefusedSteps, Remembering, Watching};
 use ref_fun::{Core, Functions};
+use ref_workload::streams::MOST_INPUT;
 use std::sync::Wait;
 use std::thread::Threads;
 use std::time::Clock;
@@ -37,7 +38,7 @@ pub(crate) fn serve<F, R, I, O>(
     names: &Names,
     wanted: Wanted,
     reader: &mut Remembering<I>,
-    writer: &mut Watching<O>,
+    writer: &mut Measuring<Watching<O>>,
 ) -> u8
 where
     F: Functions<Core> + Sync,
@@ -47,18 +48,40 @@ where
     requires { HasCore (F.knows funs.now) }
     // It reads no further than one byte past what an input may have.
     ensures taken { ConsumesUpTo (⟦<Remembering<I> as Source>⟧.left reader.old)
-        (⟦<Remembering<I> as Source>⟧.left reader.new) (most_input + 1) }
+        (⟦<Remembering<I> as Source>⟧.left reader.new) (most_of_request wanted.request + 1) }
     ensures ends { Ends names.now wanted (⟦<Remembering<I> as Source>⟧.left reader.old)
         (⟦<Remembering<I> as Source>⟧.left reader.new)
-        (⟦<Watching<O> as Sink>⟧.written writer.old) (⟦<Watching<O> as Sink>⟧.written writer.new) result }
+        (⟦<Measuring<Watching<O>> as Sink>⟧.written writer.old) (⟦<Measuring<Watching<O>> as Sink>⟧.written writer.new) result }
 {
     let done = do_request(rt, funs, names, wanted.request, reader, writer);
-    let shows = wanted.is_strict && writer.steps().count() > 0;
+    let steps = writer.inner().steps();
+    let shows = wanted.is_strict && steps.count() > 0;
     let status = say_end(rt, done, shows);
+    if done.is_ok() && is_dump(wanted.request) {
+        say_length(rt, writer.bytes());
+    }
     if let (true, Some(text)) = (wanted.explains, reader.bytes()) {
-        explain_end(rt, wanted.request, done, text, writer.steps());
+        explain_end(rt, wanted.request, done, text, steps);
     }
     status
+}
+
+// Whether a dump is asked for.
+fn is_dump(request: Request) -> bool {
+    match request {
+        Request::ByCore(Task::Run { options, .. }) => options.dump,
+        Request::ByCore(Task::Play { dump }) => dump,
+        _ => false,
+    }
+}
+
+// Says how a dump is read back that is longer than an input may be.
+fn say_length<R: Eprint>(rt: &R, bytes: u64) {
+    if bytes > MOST_INPUT as u64 {
+        let _said = eprintln!(rt;
+            "refrun: this dump has {bytes} bytes; audit, history, at, draw and print read it with --large"
+        );
+    }
 }
 
 // Does what is wanted. Of what is no audit the verdict is ok.
@@ -76,7 +99,7 @@ where
     I: Source,
     O: Sink,
     requires { HasCore (F.knows funs.now) }
-    ensures taken { ConsumesUpTo (I.left reader.old) (I.left reader.new) (most_input + 1) }
+    ensures taken { ConsumesUpTo (I.left reader.old) (I.left reader.new) (most_of_request request + 1) }
     ensures ok { IfOk result (λ verdict. IsRequestDone names.now request verdict (I.left reader.old) (I.left reader.new)
         (O.written writer.old) (O.written writer.new)) }
     ensures fault { IfErr result (λ f. IsFaultOfRequest request (I.left reader.old) f) }
@@ -90,10 +113,12 @@ where
             Ok(()) => Ok(Verdict::Ok),
             Err(fault) => Err(Fault::Run(fault)),
         },
-        Request::Print => match print_text(rt.alloc(), reader, writer) {
-            Ok(()) => Ok(Verdict::Ok),
-            Err(fault) => Err(Fault::Run(fault)),
-        },
+        Request::Print { is_large } => {
+            match print_text(rt.alloc(), is_large, reader, writer) {
+                Ok(()) => Ok(Verdict::Ok),
+                Err(fault) => Err(Fault::Run(fault)),
+            }
+        }
         Request::ByCore(task) => carry_out(rt, rt.alloc(), funs, names, task, reader, writer),
     }
 }

@@ -2,8 +2,7 @@
 ghost use Rattle.std.specs.Prelude.{◌+◌, ◌≡◌, IfOk, IfErr};
 ghost use Rattle.ref_edn.specs.Streams.{ConsumesUpTo};
 ghost use Rattle.ref_fun.specs.Calls.{HasCore};
-ghost use Rattle.refrun.specs.Tasks.{CountsReads, CountsWrites, IsDone, IsFaultOf, IsLeft, play_fault_of};
-ghost use Rattle.ref_workload.specs.Streams.{most_input};
+ghost use Rattle.refrun.specs.Tasks.{CountsReads, CountsWrites, IsDone, IsFaultOf, IsLeft, most_of_task, play_fault_of};
 
 use crate::auditing::audit_text;
 use crate::faults::Fault;
@@ -28,13 +27,24 @@ pub(crate) enum Task {
         /// Whether standard error shows how far the run is.
         tells: bool,
     },
-    Audit,
+    Audit {
+        /// Whether the dump may have 4 GiB.
+        is_large: bool,
+    },
     Play {
         /// Whether the dump is written instead of the report.
         dump: bool,
     },
-    Look(Look),
-    Draw(Part),
+    Look {
+        look: Look,
+        /// Whether the dump may have 4 GiB.
+        is_large: bool,
+    },
+    Draw {
+        part: Part,
+        /// Whether the dump may have 4 GiB.
+        is_large: bool,
+    },
 }
 
 // The fault of the program for one of a play.
@@ -64,8 +74,8 @@ where
     I: Source,
     O: Sink,
     requires { HasCore (F.knows funs.now) }
-    // It reads no further than one byte past what an input may have.
-    ensures taken { ConsumesUpTo (I.left reader.old) (I.left reader.new) (most_input + 1) }
+    // It reads no further than one byte past what an input of this task may have.
+    ensures taken { ConsumesUpTo (I.left reader.old) (I.left reader.new) (most_of_task task + 1) }
     ensures ok { IfOk result (λ verdict. IsDone names.now task verdict (I.left reader.old) (I.left reader.new)
         (O.written writer.old) (O.written writer.new)) }
     ensures fault { IfErr result (λ f. IsFaultOf task (I.left reader.old) f) }
@@ -89,18 +99,22 @@ where
             Ok(verdict) => Ok(verdict),
             Err(fault) => Err(Fault::Run(fault)),
         },
-        Task::Audit => match audit_text(alloc, funs, reader, writer) {
+        Task::Audit { is_large } => match audit_text(alloc, funs, is_large, reader, writer) {
             Ok(verdict) => Ok(verdict),
             Err(fault) => Err(Fault::Audit(fault)),
         },
-        Task::Look(look) => match look_text(alloc, funs, names, look, reader, writer) {
-            Ok(verdict) => Ok(verdict),
-            Err(fault) => Err(Fault::Audit(fault)),
-        },
-        Task::Draw(part) => match draw_text(alloc, names, part, reader, writer) {
-            Ok(()) => Ok(Verdict::Ok),
-            Err(fault) => Err(Fault::Audit(fault)),
-        },
+        Task::Look { look, is_large } => {
+            match look_text(alloc, funs, names, look, is_large, reader, writer) {
+                Ok(verdict) => Ok(verdict),
+                Err(fault) => Err(Fault::Audit(fault)),
+            }
+        }
+        Task::Draw { part, is_large } => {
+            match draw_text(alloc, names, part, is_large, reader, writer) {
+                Ok(()) => Ok(Verdict::Ok),
+                Err(fault) => Err(Fault::Audit(fault)),
+            }
+        }
         Task::Play { dump } => match play_events(alloc, funs, reader, writer, dump) {
             Ok(()) => Ok(Verdict::Ok),
             Err(fault) => Err(fault_of(fault)),

@@ -1,10 +1,16 @@
 //! The picture: lanes, points, boxes, and lines to what overtook them.
+ghost use Rattle.std.specs.Prelude.{IfErr, OnOk};
+ghost use Rattle.ref_output.specs.Pieces.{CountsWrites};
+ghost use Rattle.ref_history.specs.Written.{Draws, DrawsPart};
+
 use crate::drawing::escaping::append_escaped;
 use crate::drawing::frames::Frame;
 use crate::entry_lines::append_line;
 use crate::places::{Place, first_place, place_after};
+use ref_edn::Sink;
 use ref_forms::Names;
 use ref_log::{Entry, Transaction};
+use ref_output::{OutputFault, write_piece};
 use ref_verdict::reading::dumps::Dump;
 use std::alloc::{AllocError, Global};
 
@@ -14,24 +20,35 @@ const NUMBERED: usize = 5;
 // How many lines to others a box has at most: to the transactions that overtook it last.
 const MOST_LINES: u64 = 16;
 
-/// Appends the picture: the names of the lanes, which stay where they are when the rest is moved sideways, and the rest.
-pub(crate) fn append_picture(
+/// Writes the picture, behind what waits: the names of the lanes, which stay where they are when the rest is moved sideways, and the rest.
+pub(crate) fn write_picture<W: Sink>(
     alloc: Global,
     names: &Names,
     frame: &Frame,
     dump: &Dump,
-    out: &mut Vec<u8>,
-) -> Result<(), AllocError> {
+    writer: &mut W,
+    waiting: &mut Vec<u8>,
+) -> Result<(), OutputFault>
+    ensures ok { OnOk result (Draws (W.written writer.old) (W.written writer.new)) }
+    ensures err { IfErr result (λ f. DrawsPart f (W.written writer.old) (W.written writer.new)) }
+    ensures writes { CountsWrites (W.failures writer.old) (W.failures writer.new) result }
+{
+    append_ground(alloc, frame, waiting)?;
+    write_entries(alloc, names, frame, dump, true, writer, waiting)?;
+    write_entries(alloc, names, frame, dump, false, writer, waiting)?;
+    waiting.extend_from_slice(b"</svg>\n")?;
+    Ok(())
+}
+
+// The names of the lanes, and the lanes and points on which the entries are drawn.
+fn append_ground(alloc: Global, frame: &Frame, out: &mut Vec<u8>) -> Result<(), AllocError> {
     let (left, right) = (frame.left(), frame.right());
     append_head(alloc, frame, "names", 0, left, out)?;
     append_lane_names(alloc, frame, out)?;
     out.extend_from_slice(b"</svg>\n")?;
     append_head(alloc, frame, "entries", left, right, out)?;
     append_lanes(alloc, frame, out)?;
-    append_points(alloc, frame, out)?;
-    append_entries(alloc, names, frame, dump, true, out)?;
-    append_entries(alloc, names, frame, dump, false, out)?;
-    out.extend_from_slice(b"</svg>\n")
+    append_points(alloc, frame, out)
 }
 
 // The beginning of a part of the picture, from `left` to `right`.
@@ -105,27 +122,47 @@ fn append_point(
     out.extend_from_slice(mark.as_bytes())
 }
 
-// What is drawn of each entry: first the lines to what overtook it, which lie below, then the boxes.
-fn append_entries(
+// Writes what is drawn of each entry: first the lines to what overtook it, which lie below, then the boxes.
+fn write_entries<W: Sink>(
     alloc: Global,
     names: &Names,
     frame: &Frame,
     dump: &Dump,
     are_lines: bool,
-    out: &mut Vec<u8>,
-) -> Result<(), AllocError> {
+    writer: &mut W,
+    waiting: &mut Vec<u8>,
+) -> Result<(), OutputFault>
+    ensures ok { OnOk result (Draws (W.written writer.old) (W.written writer.new)) }
+    ensures err { IfErr result (λ f. DrawsPart f (W.written writer.old) (W.written writer.new)) }
+    ensures writes { CountsWrites (W.failures writer.old) (W.failures writer.new) result }
+{
     let mut place = first_place(&dump.base)?;
     for entry in &dump.entries {
-        if frame.has(place.point) {
-            if are_lines {
-                append_overtakers(alloc, frame, dump, place.point, entry, out)?;
-            } else {
-                append_box(alloc, names, frame, place, entry, out)?;
-            }
-        }
+        append_entry(alloc, names, frame, dump, are_lines, place, entry, waiting)?;
+        write_piece(writer, waiting)?;
         place = place_after(entry, place)?;
     }
     Ok(())
+}
+
+// What is drawn of an entry, if it has a place in the frame.
+fn append_entry(
+    alloc: Global,
+    names: &Names,
+    frame: &Frame,
+    dump: &Dump,
+    are_lines: bool,
+    place: Place,
+    entry: &Entry,
+    out: &mut Vec<u8>,
+) -> Result<(), AllocError> {
+    if !frame.has(place.point) {
+        Ok(())
+    } else if are_lines {
+        append_overtakers(alloc, frame, dump, place.point, entry, out)
+    } else {
+        append_box(alloc, names, frame, place, entry, out)
+    }
 }
 
 // The lines of a transaction to the last of those of other workers that were committed between its read point and its commit.
