@@ -82,7 +82,7 @@ struct Sale {
     group: i64,
 }
 
-impl Body for Sale {
+impl<S: Readable> Body<S> for Sale {
     type Meaning = BoxOffice;
 
     type Functions = Acts;
@@ -99,7 +99,7 @@ impl Body for Sale {
         Acts
     }
 
-    fn run(&mut self, tx: &mut Dosync<BoxOffice, Acts>) -> Result<(), TxFault> {
+    fn run(&mut self, tx: &mut Dosync<S, BoxOffice, Acts>) -> Result<(), TxFault> {
         tx.alter(self.evening, SELL, self.group)?;
         tx.commute(SOLD, ADD, self.group)?;
         Ok(())

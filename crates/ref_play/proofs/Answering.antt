@@ -48,7 +48,7 @@ use Rattle.ref_atoms.specs.declared.changes.Swapped.{Swapped}
 use Rattle.ref_world.specs.Checkpoint as checks
 use Rattle.ref_world.specs.Checkpoint.{folded_entries, with_checkpoint}
 use Rattle.ref_world.specs.References as references
-use Rattle.ref_world.specs.Seen.{ShareSeen, WorldSeen}
+use Rattle.ref_world.specs.Seen.{HistorySeen, ShareSeen, WorldSeen}
 use Rattle.ref_world.specs.Shares as shares
 use Rattle.ref_world.specs.Shares.{with_receipt}
 use Rattle.ref_world.specs.World as worlds
@@ -58,7 +58,7 @@ use Rattle.ref_world.specs.declared.faults.CheckpointFault.{CheckpointFault}
 use Rattle.ref_world.specs.declared.faults.CheckpointFault.TheVariants as checkpoints
 use Rattle.ref_play.specs.Machine.{Folds, checkpoint_of}
 use Rattle.ref_play.specs.Present.{Acts, Becomes, Begins, IsSwapped, Operates, Present, WithTx, begun, early_of, put, with_atom, with_made_atom, with_made_ref, with_tx}
-use Rattle.ref_play.specs.Sims.{Logs, Serves, SimSeen, Slots, present, txs_of}
+use Rattle.ref_play.specs.Sims.{Logs, Serves, SimSeen, Slots, counts_of, present, txs_of}
 use Rattle.ref_play.specs.declared.events.Act.{Act}
 use Rattle.ref_play.specs.declared.events.Act.TheVariants as acts
 use Rattle.ref_play.specs.declared.events.Reply.{Reply}
@@ -172,7 +172,7 @@ module _ (means : Means) (accepts : Accepts) (knows : Known) (s : SimSeen) (a : 
           slots : txs_of new ≡ txs_of s.slots
           slots = back ∙ (ap (λ f. put f a (Some tx)) took ∙ (put_again (txs_of s.slots) a None (Some tx) ∙ put_same (txs_of s.slots) a (Some tx) (sym was)))
 
-    pub commit_made : (v : WorldSeen) (sh : ShareSeen) (receipt : Receipt) → commit_refusal means accepts knows s.world.refs (point_of s.world + 1) (length s.world.agents.agents) (room s.world.books.added) (room s.world.books.taken) tx ≡ None
+    pub commit_made : (v : WorldSeen) (sh : ShareSeen) (h : HistorySeen) (receipt : Receipt) → commit_refusal means accepts knows s.world.refs (point_of s.world + 1) (length s.world.agents.agents) (room s.world.books.added) (room s.world.books.taken) tx ≡ None
         → v ≡ worlds.with_commit s.world (entry_of stamp tx) v.refs tx.sends
         → step means (point_of s.world + 1) (entry_of stamp tx) (values_now s.world.refs s.world.atoms) ≡ Ok (values_now v.refs v.atoms)
         → ((r : ℕ) → changed_at v.refs.lasts r ≡ changed_by s.world.refs.lasts (point_of s.world + 1) tx.dones r)
@@ -180,9 +180,9 @@ module _ (means : Means) (accepts : Accepts) (knows : Known) (s : SimSeen) (a : 
         → (v.refs.tally ≡ s.world.refs.tally) × (v.refs.guards ≡ s.world.refs.guards)
         → (receipt.point ≡ point_of s.world + 1) × (receipt.stamp ≡ stamp)
         → receipt.notices.items ≡ notices s.world.refs.guards s.world.refs.values v.refs.values (touched_refs tx.dones)
-        → sh ≡ shares.with_commit s.share (point_of s.world + 1) (entry_of stamp tx) (moved_by_dones sides.Added s.world.refs.tally tx.dones) (moved_by_dones sides.Taken s.world.refs.tally tx.dones)
+        → sh ≡ shares.knowing (shares.with_commit s.share (point_of s.world + 1) (moved_by_dones sides.Added s.world.refs.tally tx.dones) (moved_by_dones sides.Taken s.world.refs.tally tx.dones)) h
         → Serves means accepts knows s a (acts.Commit stamp) (replies.Commit (Ok receipt)) (record s { world = v; share = sh; slots = left })
-    commit_made v sh receipt none is values lasts count rest told noticed shared = served means accepts knows s a (record s { world = v; share = sh; slots = left }) (acts.Commit stamp) (replies.Commit (Ok receipt)) (entry_of stamp tx ∷ []) refl
+    commit_made v sh h receipt none is values lasts count rest told noticed shared = served means accepts knows s a (record s { world = v; share = sh; slots = left }) (acts.Commit stamp) (replies.Commit (Ok receipt)) (entry_of stamp tx ∷ []) refl
         (with_some (txs_of s.slots a) tx _ _ (sym was) (
           Ok receipt,
           refl,
@@ -198,7 +198,7 @@ module _ (means : Means) (accepts : Accepts) (knows : Known) (s : SimSeen) (a : 
             atoms = ap (λ (x : WorldSeen). x.atoms) is;
             agents = ap (λ (x : WorldSeen). x.agents) is;
             books = ap (λ (x : WorldSeen). x.books) is;
-            share = shared;
+            share = ap counts_of shared;
             closed = took;
             jobs = refl;
             told = told;
@@ -212,9 +212,9 @@ module _ (means : Means) (accepts : Accepts) (knows : Known) (s : SimSeen) (a : 
 
 module _ (means : Means) (accepts : Accepts) (knows : Known) (s : SimSeen) (actor n : ℕ) where
   -- the state with another value of an atom
-  atom_present : (op : Op) (v : WorldSeen) (sh : ShareSeen) (value : Edn) → v ≡ worlds.with_entry s.world (Atom n op value) s.world.refs (with_value s.world.atoms n value) → sh ≡ with_receipt s.share (point_of s.world + 1) (Atom n op value)
+  atom_present : (op : Op) (v : WorldSeen) (sh : ShareSeen) (h : HistorySeen) (value : Edn) → v ≡ worlds.with_entry s.world (Atom n op value) s.world.refs (with_value s.world.atoms n value) → sh ≡ shares.knowing (with_receipt s.share (point_of s.world + 1)) h
       → present (record s { world = v; share = sh }) ≡ with_atom (present s) n op value
-  atom_present op v sh value is shared =
+  atom_present op v sh h value is shared =
       ap (λ (x : WorldSeen). present (record s { world = x; share = sh })) is
       ∙ (ap (λ (x : ShareSeen). present (record s { world = worlds.with_entry s.world (Atom n op value) s.world.refs (with_value s.world.atoms n value); share = x })) shared
       ∙ ap (λ p. record (with_atom (present s) n op value) { point = p }) (entry_point s.world (Atom n op value)))
@@ -224,41 +224,40 @@ module _ (means : Means) (accepts : Accepts) (knows : Known) (s : SimSeen) (acto
   entered_atom act reply op v sh value none is did = served means accepts knows s actor (record s { world = v; share = sh }) act reply (Atom n op value ∷ []) none did
       (ap (λ (x : WorldSeen). x.log) is) (ap (λ (x : WorldSeen). x.base.point) is) (ap (λ (x : WorldSeen). state_of x.base) is)
 
-  is_swapped : (op : Op) (v : WorldSeen) (sh : ShareSeen) (swapped : Swapped) → slice_get s.world.atoms.values n ≡ Some swapped.old → place means op swapped.old ≡ Ok swapped.new
-      → v ≡ worlds.with_entry s.world (Atom n op swapped.new) s.world.refs (with_value s.world.atoms n swapped.new) → sh ≡ with_receipt s.share (point_of s.world + 1) (Atom n op swapped.new)
+  is_swapped : (op : Op) (v : WorldSeen) (sh : ShareSeen) (h : HistorySeen) (swapped : Swapped) → slice_get s.world.atoms.values n ≡ Some swapped.old → place means op swapped.old ≡ Ok swapped.new
+      → v ≡ worlds.with_entry s.world (Atom n op swapped.new) s.world.refs (with_value s.world.atoms n swapped.new) → sh ≡ shares.knowing (with_receipt s.share (point_of s.world + 1)) h
       → swapped.notices.items ≡ notices_of (who.Atom n) (keys_at s.world.atoms.guards n) swapped.old swapped.new → IsSwapped means (present s) n op swapped (Atom n op swapped.new ∷ []) (present (record s { world = v; share = sh }))
-  is_swapped op v sh swapped here gives is shared noticed = record { old_value = here; new_value = gives; after = (refl, atom_present op v sh swapped.new is shared); notices = noticed }
+  is_swapped op v sh h swapped here gives is shared noticed = record { old_value = here; new_value = gives; after = (refl, atom_present op v sh h swapped.new is shared); notices = noticed }
 
-  pub swap_made : (code : ℕ) (args : List Edn) (v : WorldSeen) (sh : ShareSeen) (swapped : Swapped) → change_refusal means accepts knows s.world.atoms (point_of s.world + 1) n (Alter code args) ≡ None → slice_get s.world.atoms.values n ≡ Some swapped.old → place means (Alter code args) swapped.old ≡ Ok swapped.new
-      → v ≡ worlds.with_entry s.world (Atom n (Alter code args) swapped.new) s.world.refs (with_value s.world.atoms n swapped.new) → sh ≡ with_receipt s.share (point_of s.world + 1) (Atom n (Alter code args) swapped.new)
+  pub swap_made : (code : ℕ) (args : List Edn) (v : WorldSeen) (sh : ShareSeen) (h : HistorySeen) (swapped : Swapped) → change_refusal means accepts knows s.world.atoms (point_of s.world + 1) n (Alter code args) ≡ None → slice_get s.world.atoms.values n ≡ Some swapped.old → place means (Alter code args) swapped.old ≡ Ok swapped.new
+      → v ≡ worlds.with_entry s.world (Atom n (Alter code args) swapped.new) s.world.refs (with_value s.world.atoms n swapped.new) → sh ≡ shares.knowing (with_receipt s.share (point_of s.world + 1)) h
       → swapped.notices.items ≡ notices_of (who.Atom n) (keys_at s.world.atoms.guards n) swapped.old swapped.new
       → Serves means accepts knows s actor (acts.Swap n code args) (replies.Swap (Ok swapped)) (record s { world = v; share = sh })
-  swap_made code args v sh swapped none here gives is shared noticed = entered_atom (acts.Swap n code args) (replies.Swap (Ok swapped)) (Alter code args) v sh swapped.new refl is
-      (Ok swapped, refl, none, is_swapped (Alter code args) v sh swapped here gives is shared noticed, tt)
+  swap_made code args v sh h swapped none here gives is shared noticed = entered_atom (acts.Swap n code args) (replies.Swap (Ok swapped)) (Alter code args) v sh swapped.new refl is
+      (Ok swapped, refl, none, is_swapped (Alter code args) v sh h swapped here gives is shared noticed, tt)
 
-  pub reset_made : (value : Edn) (v : WorldSeen) (sh : ShareSeen) (swapped : Swapped) → change_refusal means accepts knows s.world.atoms (point_of s.world + 1) n (Set value) ≡ None → slice_get s.world.atoms.values n ≡ Some swapped.old → swapped.new ≡ value
-      → v ≡ worlds.with_entry s.world (Atom n (Set value) value) s.world.refs (with_value s.world.atoms n value) → sh ≡ with_receipt s.share (point_of s.world + 1) (Atom n (Set value) value)
+  pub reset_made : (value : Edn) (v : WorldSeen) (sh : ShareSeen) (h : HistorySeen) (swapped : Swapped) → change_refusal means accepts knows s.world.atoms (point_of s.world + 1) n (Set value) ≡ None → slice_get s.world.atoms.values n ≡ Some swapped.old → swapped.new ≡ value
+      → v ≡ worlds.with_entry s.world (Atom n (Set value) value) s.world.refs (with_value s.world.atoms n value) → sh ≡ shares.knowing (with_receipt s.share (point_of s.world + 1)) h
       → swapped.notices.items ≡ notices_of (who.Atom n) (keys_at s.world.atoms.guards n) swapped.old value
       → Serves means accepts knows s actor (acts.Reset n value) (replies.Reset (Ok swapped)) (record s { world = v; share = sh })
-  reset_made value v sh swapped none here new is shared noticed =
+  reset_made value v sh h swapped none here new is shared noticed =
       let is_new = is ∙ ap (λ x. worlds.with_entry s.world (Atom n (Set value) x) s.world.refs (with_value s.world.atoms n x)) (sym new) in
-      let shared_new = shared ∙ ap (λ x. with_receipt s.share (point_of s.world + 1) (Atom n (Set value) x)) (sym new) in
       entered_atom (acts.Reset n value) (replies.Reset (Ok swapped)) (Set value) v sh swapped.new refl is_new
-      (Ok swapped, refl, none, is_swapped (Set value) v sh swapped here (ap Ok (sym new)) is_new shared_new (noticed ∙ ap (notices_of (who.Atom n) (keys_at s.world.atoms.guards n) swapped.old) (sym new)), tt)
+      (Ok swapped, refl, none, is_swapped (Set value) v sh h swapped here (ap Ok (sym new)) is_new shared (noticed ∙ ap (notices_of (who.Atom n) (keys_at s.world.atoms.guards n) swapped.old) (sym new)), tt)
 
-  pub compare_made : (first value : Edn) (v : WorldSeen) (sh : ShareSeen) (cas : Cas) → compare_refusal accepts knows.preds s.world.atoms (point_of s.world + 1) n first value ≡ None → cas.done ≡ is_same_at s.world.atoms n first
+  pub compare_made : (first value : Edn) (v : WorldSeen) (sh : ShareSeen) (h : HistorySeen) (cas : Cas) → compare_refusal accepts knows.preds s.world.atoms (point_of s.world + 1) n first value ≡ None → cas.done ≡ is_same_at s.world.atoms n first
       → (cas.done ≡ true → v ≡ worlds.with_entry s.world (Atom n (Set value) value) s.world.refs (with_value s.world.atoms n value))
       → (cas.done ≡ true → cas.notices.items ≡ notices_of (who.Atom n) (keys_at s.world.atoms.guards n) first value)
-      → (cas.done ≡ true → sh ≡ with_receipt s.share (point_of s.world + 1) (Atom n (Set value) value))
+      → (cas.done ≡ true → sh ≡ shares.knowing (with_receipt s.share (point_of s.world + 1)) h)
       → (cas.done ≡ false → v ≡ s.world) → (cas.done ≡ false → sh ≡ s.share) → (cas.done ≡ false → cas.notices.items ≡ [])
       → Serves means accepts knows s actor (acts.CompareAndSet n first value) (replies.CompareAndSet (Ok cas)) (record s { world = v; share = sh })
-  compare_made first value v sh cas none done sets noticed shared unset unshared untold = by cas.done refl where
+  compare_made first value v sh h cas none done sets noticed shared unset unshared untold = by cas.done refl where
     no_both : (b : Bool) → b ≡ true → b ≡ false → ⊥
     no_both b is isnt = cc
 
     by : (b : Bool) → cas.done ≡ b → Serves means accepts knows s actor (acts.CompareAndSet n first value) (replies.CompareAndSet (Ok cas)) (record s { world = v; share = sh })
     by true is = entered_atom (acts.CompareAndSet n first value) (replies.CompareAndSet (Ok cas)) (Set value) v sh value refl (sets is)
-        (Ok cas, refl, none, record { done = done; sets = λ holds. ((refl, atom_present (Set value) v sh value (sets is) (shared is)), noticed is); leaves = λ fails. absurd (no_both cas.done is fails) }, tt)
+        (Ok cas, refl, none, record { done = done; sets = λ holds. ((refl, atom_present (Set value) v sh h value (sets is) (shared is)), noticed is); leaves = λ fails. absurd (no_both cas.done is fails) }, tt)
     by false is = refused means accepts knows s actor (record s { world = v; share = sh }) (acts.CompareAndSet n first value) (replies.CompareAndSet (Ok cas)) refl
         (ap (λ (x : WorldSeen). record s { world = x; share = sh }) (unset is) ∙ ap (λ (x : ShareSeen). record s { share = x }) (unshared is))
         (Ok cas, refl, none, record { done = done; sets = λ holds. absurd (no_both cas.done holds is); leaves = λ fails. ((refl, refl), untold is) }, tt)

@@ -20,7 +20,7 @@ module _ (means : Means) (w : WorldSeen) (old new : JobSlots) (a : ℕ) (gone : 
 
   pub held_less : (held : HeldSeen) → slot_of old a ≡ Some (Some held) → AreHeld means (change_agent w.agents.agents held.job.agent (outed false)) (jobs_of new)
   held_less held here = subst (AreHeld means (change_agent w.agents.agents held.job.agent (outed false))) (sym (removed old new a gone))
-      (jobs_gone means (present (record { world = w; share = whole; slots = []; jobs = old })) a held (outed false) (λ agent. refl) (ap in_slot here) are)
+      (jobs_gone means (present (record { world = w; share = whole (record { start = w.base; entries = [] }); slots = []; jobs = old })) a held (outed false) (λ agent. refl) (ap in_slot here) are)
 
 pub back_rest : (w v : WorldSeen) (old new : JobSlots) (a : ℕ) (slot : Option HeldSeen) → old ≡ (a, slot) ∷ new → v ≡ with_agents w (one_back slot w.agents) → with_agents v (all_back new v.agents) ≡ with_agents w (all_back old w.agents)
 back_rest w v old new a slot was is = ap (λ (x : WorldSeen). with_agents x (all_back new x.agents)) is ∙ ap (λ l. with_agents w (all_back l w.agents)) (sym was)

@@ -258,14 +258,16 @@ with_counted tally point share (Trans t) = record {
   commits = share.commits + 1;
   added = share.added + moved_by_dones sides.Added tally t.dones;
   taken = share.taken + moved_by_dones sides.Taken tally t.dones;
-  receipts = share.receipts ++ record { point = point; entry = Trans t } ∷ [];
+  receipts = share.receipts ++ point ∷ [];
+  history = share.history;
 }
 with_counted tally point share (Atom n op v) = record {
   parts = share.parts;
   commits = share.commits;
   added = share.added;
   taken = share.taken;
-  receipts = share.receipts ++ record { point = point; entry = Atom n op v } ∷ [];
+  receipts = share.receipts ++ point ∷ [];
+  history = share.history;
 }
 with_counted tally point share (MadeRef v) = share
 with_counted tally point share (MadeAtom v) = share

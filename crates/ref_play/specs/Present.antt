@@ -205,7 +205,7 @@ pub record IsCommitted (means : Means) (old : Present) (a : ℕ) (stamp : Stamp)
   pub atoms : new.atoms ≡ old.atoms
   pub agents : new.agents ≡ agents.with_commit old.agents (old.point + 1) tx.sends
   pub books : new.books ≡ booked old.books (moved_by_dones sides.Added old.refs.tally tx.dones) (moved_by_dones sides.Taken old.refs.tally tx.dones)
-  pub share : new.share ≡ shares.with_commit old.share (old.point + 1) (entry_of stamp tx) (moved_by_dones sides.Added old.refs.tally tx.dones) (moved_by_dones sides.Taken old.refs.tally tx.dones)
+  pub share : new.share ≡ shares.with_commit old.share (old.point + 1) (moved_by_dones sides.Added old.refs.tally tx.dones) (moved_by_dones sides.Taken old.refs.tally tx.dones)
   pub closed : new.txs ≡ put old.txs a None
   pub jobs : new.jobs ≡ old.jobs
   pub told : (receipt.point ≡ old.point + 1) × (receipt.stamp ≡ stamp)
@@ -226,7 +226,7 @@ abbrev pub with_atom : Present → ℕ → Op → Edn → Present
 with_atom old n op v = record old {
   point = old.point + 1;
   atoms = with_value old.atoms n v;
-  share = with_receipt old.share (old.point + 1) (entries.Atom n op v);
+  share = with_receipt old.share (old.point + 1);
 }
 
 pub record IsSwapped (means : Means) (old : Present) (n : ℕ) (op : Op) (swapped : Swapped) (added : List Entry) (new : Present) : Type 0 where

@@ -11,7 +11,7 @@ use Rattle.ref_log.specs.declared.entries.Entry.{Entry}
 use Rattle.ref_tx.specs.Seen.{TxSeen}
 use Rattle.ref_agents.specs.Agents.{AgentsSeen, with_out}
 use Rattle.ref_world.specs.Seen.{ShareSeen, WorldSeen}
-use Rattle.ref_world.specs.Shares.{all_parts}
+use Rattle.ref_world.specs.Shares.{all_parts, knowing}
 use Rattle.ref_world.specs.World.{point_of}
 use Rattle.ref_play.specs.Laws.{LawsAlong}
 use Rattle.ref_play.specs.Machine.{Folds, Machine, Run, checkpoint_of}
@@ -68,9 +68,15 @@ pub record SimSeen : Type 0 where
   pub slots : Slots
   pub jobs : JobSlots
 
--- As much is in the books of a world as before.
+-- As much is in the books of a world as before, and base and log are the same.
 abbrev pub HaveSameBooks : WorldSeen → WorldSeen → Type 0
-HaveSameBooks old new = (new.books.commits ≡ old.books.commits) × (new.books.added ≡ old.books.added) × (new.books.taken ≡ old.books.taken)
+HaveSameBooks old new =
+    (new.books.commits ≡ old.books.commits) × (new.books.added ≡ old.books.added) × (new.books.taken ≡ old.books.taken)
+    × (new.base ≡ old.base) × (new.log ≡ old.log)
+
+-- of a share what it counts: all but how far the history is known
+abbrev pub counts_of : ShareSeen → ShareSeen
+counts_of share = knowing share (record { start = record { point = 0; refs = []; last = []; atoms = []; tally = None; commits = 0; added = 0; taken = 0 }; entries = [] })
 
 -- what there is now
 abbrev pub present : SimSeen → Present
@@ -80,7 +86,7 @@ present s = record {
   atoms = s.world.atoms;
   agents = s.world.agents;
   books = s.world.books;
-  share = s.share;
+  share = counts_of s.share;
   txs = txs_of s.slots;
   jobs = jobs_of s.jobs;
 }

@@ -1,6 +1,6 @@
 //! Acts that add an entry: commits, changes of atoms, and makings; and the one that folds entries.
 ghost use Rattle.std.specs.Prelude.{ℕ};
-ghost use Rattle.ref_play.specs.Sims.{HaveSameBooks, Serves, SimSeen};
+ghost use Rattle.ref_play.specs.Sims.{Serves, SimSeen};
 ghost use Rattle.ref_play.specs.declared.events.Act.TheVariants as acts;
 
 use crate::actors::Actors;
@@ -9,7 +9,7 @@ use ref_atoms::AtomFault;
 use ref_fun::{Args, Functions, Meaning, Rule, share_rule};
 use ref_log::{MakeFault, Stamp};
 use ref_value::Value;
-use ref_world::{Booked, Books, Share, World};
+use ref_world::{Booked, Books, Share};
 use std::alloc::Global;
 
 // Commits the actor's transaction. A refused commit leaves it with the actor.
@@ -111,18 +111,17 @@ pub(crate) fn compare_and_set<M: Meaning, L: Books, F: Functions<M>>(
 }
 
 // Makes a ref.
-pub(crate) fn make_ref<M: Meaning, F: Functions<M>>(
+pub(crate) fn make_ref<M: Meaning, L: Books, F: Functions<M>>(
     alloc: Global,
     funs: &F,
-    world: &mut World<M>,
+    booked: &mut Booked<M, L>,
     value: &Value,
     rule: &Option<Rule>,
     tally: bool,
 ) -> Reply
-    ensures serves { (s : SimSeen) (actor : ℕ) → Serves M.means M.accepts (F.knows funs.now) (record s { world = world.old })
+    ensures serves { (s : SimSeen) (actor : ℕ) → Serves M.means M.accepts (F.knows funs.now) (record s { world = booked.old.world })
         actor (acts.MakeRef value.now rule.now tally) result
-        (record s { world = world.new }) }
-    ensures books { HaveSameBooks world.old world.new }
+        (record s { world = booked.new.world }) }
 {
     let Ok(value) = value.share() else {
         return Reply::MakeRef(Err(MakeFault::Memory));
@@ -130,24 +129,23 @@ pub(crate) fn make_ref<M: Meaning, F: Functions<M>>(
     let Ok(rule) = share_rule(rule) else {
         return Reply::MakeRef(Err(MakeFault::Memory));
     };
-    match world.make_ref(alloc, funs, value, rule, tally) {
+    match booked.make_ref(alloc, funs, value, rule, tally) {
         Ok(r) => Reply::MakeRef(Ok(r)),
         Err(fault) => Reply::MakeRef(Err(fault)),
     }
 }
 
 // Makes an atom.
-pub(crate) fn make_atom<M: Meaning, F: Functions<M>>(
+pub(crate) fn make_atom<M: Meaning, L: Books, F: Functions<M>>(
     alloc: Global,
     funs: &F,
-    world: &mut World<M>,
+    booked: &mut Booked<M, L>,
     value: &Value,
     rule: &Option<Rule>,
 ) -> Reply
-    ensures serves { (s : SimSeen) (actor : ℕ) → Serves M.means M.accepts (F.knows funs.now) (record s { world = world.old })
+    ensures serves { (s : SimSeen) (actor : ℕ) → Serves M.means M.accepts (F.knows funs.now) (record s { world = booked.old.world })
         actor (acts.MakeAtom value.now rule.now) result
-        (record s { world = world.new }) }
-    ensures books { HaveSameBooks world.old world.new }
+        (record s { world = booked.new.world }) }
 {
     let Ok(value) = value.share() else {
         return Reply::MakeAtom(Err(MakeFault::Memory));
@@ -155,25 +153,24 @@ pub(crate) fn make_atom<M: Meaning, F: Functions<M>>(
     let Ok(rule) = share_rule(rule) else {
         return Reply::MakeAtom(Err(MakeFault::Memory));
     };
-    match world.make_atom(alloc, funs, value, rule) {
+    match booked.make_atom(alloc, funs, value, rule) {
         Ok(n) => Reply::MakeAtom(Ok(n)),
         Err(fault) => Reply::MakeAtom(Err(fault)),
     }
 }
 
 // Folds the entries up to a point into the base.
-pub(crate) fn checkpoint<M: Meaning, F: Functions<M>>(
+pub(crate) fn checkpoint<M: Meaning, L: Books, F: Functions<M>>(
     alloc: Global,
     funs: &F,
-    world: &mut World<M>,
+    booked: &mut Booked<M, L>,
     point: u64,
 ) -> Reply
-    ensures serves { (s : SimSeen) (actor : ℕ) → Serves M.means M.accepts (F.knows funs.now) (record s { world = world.old })
+    ensures serves { (s : SimSeen) (actor : ℕ) → Serves M.means M.accepts (F.knows funs.now) (record s { world = booked.old.world })
         actor (acts.Checkpoint point) result
-        (record s { world = world.new }) }
-    ensures books { HaveSameBooks world.old world.new }
+        (record s { world = booked.new.world }) }
 {
-    match world.checkpoint(alloc, funs, point) {
+    match booked.checkpoint(alloc, funs, point) {
         Ok(count) => Reply::Checkpoint(Ok(count)),
         Err(fault) => Reply::Checkpoint(Err(fault)),
     }

@@ -65,15 +65,8 @@ pub(crate) fn serve<M: Meaning, L: Books, F: Functions<M>>(
         Act::SetValidator(who, rule) => set_validator(funs, &mut booked.world, *who, rule),
         Act::AddWatch(who, key) => add_watch(&mut booked.world, *who, key),
         Act::RemoveWatch(who, key) => remove_watch(&mut booked.world, *who, key),
-        Act::MakeRef(value, rule, tally) => make_ref(
-            alloc,
-            funs,
-            &mut booked.world,
-            value,
-            rule,
-            *tally,
-        ),
-        Act::MakeAtom(value, rule) => make_atom(alloc, funs, &mut booked.world, value, rule),
+        Act::MakeRef(value, rule, tally) => { make_ref(alloc, funs, booked, value, rule, *tally) }
+        Act::MakeAtom(value, rule) => make_atom(alloc, funs, booked, value, rule),
         Act::MakeAgent(value, rule, mode) => make_agent(
             alloc,
             funs,
@@ -82,7 +75,7 @@ pub(crate) fn serve<M: Meaning, L: Books, F: Functions<M>>(
             rule,
             *mode,
         ),
-        Act::Checkpoint(point) => checkpoint(alloc, funs, &mut booked.world, *point),
+        Act::Checkpoint(point) => checkpoint(alloc, funs, booked, *point),
         Act::ValueOf(who) => value_of(&booked.world, *who),
         Act::RuleOf(who) => rule_of(&booked.world, *who),
         Act::ErrorOf(g) => error_of(&booked.world, *g),

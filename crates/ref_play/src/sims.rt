@@ -52,7 +52,7 @@ impl<M: Meaning, L: Books> Sim<M, L> {
         start: &Start,
         blanks: Blanks,
     ) -> Result<Sim<M, L>, (Who, MakeFault)>
-        requires { AreBlanks blanks L.commits L.added L.taken }
+        requires { AreBlanks blanks L.commits L.added L.taken L.story }
         ensures ok { OnOk result (start_refusal M.accepts (F.knows funs.now).preds start.now ≡ None) }
         ensures refs { IfOk result (λ s. starts.declared_refs M.accepts (F.knows funs.now).preds start.now.refs.items
             ≡ Ok s.world.refs) }
@@ -63,7 +63,7 @@ impl<M: Meaning, L: Books> Sim<M, L> {
         ensures base { IfOk result (λ s. s.world.base ≡ starts.base_of s.world.refs s.world.atoms) }
         ensures log { IfOk result (λ s. s.world.log ≡ []) }
         ensures books { IfOk result (λ s. s.world.books ≡ starts.books_of s.world.refs) }
-        ensures share { IfOk result (λ s. s.share ≡ whole) }
+        ensures share { IfOk result (λ s. s.share ≡ whole s.share.history) }
         ensures actors { IfOk result (λ s. (a : ℕ) → (txs_of s.slots a ≡ None) × (jobs_of s.jobs a ≡ None)) }
         ensures fault { IfErr result (λ e. e.1 ≢ makes.Memory
             → start_refusal M.accepts (F.knows funs.now).preds start.now ≡ Some e) }

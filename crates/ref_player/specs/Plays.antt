@@ -43,7 +43,7 @@ pub record Begins (knows : Known) (refs : List RefStart) (atoms : List AtomStart
   pub base : first.world.base ≡ base_of first.world.refs first.world.atoms
   pub log : first.world.log ≡ []
   pub books : first.world.books ≡ books_of first.world.refs
-  pub share : first.share ≡ whole
+  pub share : first.share ≡ whole first.share.history
   pub actors : (a : ℕ) → (txs_of first.slots a ≡ None) × (jobs_of first.jobs a ≡ None)
 
 -- Why no world begins with these: the first that can't be made, refs before atoms before agents.

@@ -42,7 +42,7 @@ fn begin<F: Functions<Core>, L: Books>(
     start: &Start,
     blanks: Blanks,
 ) -> Result<Sim<Core, L>, (Who, MakeFault)>
-    requires { AreBlanks blanks L.commits L.added L.taken }
+    requires { AreBlanks blanks L.commits L.added L.taken L.story }
     ensures begins { IfOk result (Begins (F.knows funs.now) start.now.refs.items start.now.atoms.items
         start.now.agents.items) }
     ensures fault { IfErr result (λ e. e.1 ≢ makes.Memory → start_refusal (F.knows funs.now) start.now.refs.items
@@ -279,7 +279,7 @@ fn write_in<F: Functions<Core>, L: Books, W: Sink>(
     writer: &mut W,
 ) -> Result<(), RunFault>
     requires core { HasCore (F.knows funs.now) }
-    requires blanks { AreBlanks blanks L.commits L.added L.taken }
+    requires blanks { AreBlanks blanks L.commits L.added L.taken L.story }
     ensures ok { OnOk result (WritesOne (IsPlayOf dump script) (W.written writer.old) (W.written writer.new)) }
     ensures left { IfErr result (λ f. IsLeft (IsPlayOf dump script) f (W.written writer.old) (W.written writer.new)) }
     ensures inner { IfErr result IsOfOutput }

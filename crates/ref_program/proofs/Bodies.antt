@@ -2,6 +2,7 @@
 use Rattle.std.proofs.Common.{◌≡◌, ◌⊎◌, ⊎_elim, inl, inr, ℕ, Ok, subst}
 use Rattle.std.proofs.lemmas.Result.{IfErr-weaker, IfOk-weaker}
 use Rattle.std.specs.Prelude.{Result, Option, IfErr, IfOk}
+use Rattle.ref_fun.specs.Meaning.{Means}
 use Rattle.ref_log.specs.declared.entries.Stamp.{Stamp}
 use Rattle.ref_world.specs.Seen.{ShareSeen}
 use Rattle.ref_shared.proofs.Within.{within, committed, fault_comes, landed, wait_fails}
@@ -10,15 +11,15 @@ use Rattle.ref_shared.specs.Waits.{Landed, WaitFails}
 use Rattle.ref_shared.specs.declared.faults.TransactFault.{TransactFault}
 use Rattle.ref_shared.specs.declared.faults.WaitFault.{WaitFault}
 
-pub if_committed : {W B T E : Type 0} (inner : W → B) (does : Doing B (Result T E)) (first last : W) (body : B) (tries : ℕ) (stamp : Stamp) (point : ℕ) (old new : ShareSeen) (r : Result T (TransactFault E))
-    → inner first ≡ body → IfOk r (λ t. Committed (within inner does) first last tries (Ok t) stamp point old new)
-    → IfOk r (λ t. (after : B) × Committed does body after tries (Ok t) stamp point old new)
-if_committed {B = B} inner does first last body tries stamp point old new r is so =
-    subst (λ (b : B). IfOk r (λ t. (after : B) × Committed does b after tries (Ok t) stamp point old new)) is
+pub if_committed : {W B T E : Type 0} (means : Means) (inner : W → B) (does : Doing B (Result T E)) (first last : W) (body : B) (tries : ℕ) (stamp : Stamp) (point : ℕ) (old new : ShareSeen) (r : Result T (TransactFault E))
+    → inner first ≡ body → IfOk r (λ t. Committed means (within inner does) first last tries (Ok t) stamp point old new)
+    → IfOk r (λ t. (after : B) × Committed means does body after tries (Ok t) stamp point old new)
+if_committed {B = B} means inner does first last body tries stamp point old new r is so =
+    subst (λ (b : B). IfOk r (λ t. (after : B) × Committed means does b after tries (Ok t) stamp point old new)) is
     (IfOk-weaker r
-    (λ t. Committed (within inner does) first last tries (Ok t) stamp point old new)
-    (λ t. (after : B) × Committed does (inner first) after tries (Ok t) stamp point old new)
-    (λ t h. (inner last, committed inner does first last tries (Ok t) stamp point old new h))
+    (λ t. Committed means (within inner does) first last tries (Ok t) stamp point old new)
+    (λ t. (after : B) × Committed means does (inner first) after tries (Ok t) stamp point old new)
+    (λ t h. (inner last, committed means inner does first last tries (Ok t) stamp point old new h))
     so)
 
 pub if_fault_comes : {W B T E : Type 0} (P Q : TransactFault E → Type 0) (inner : W → B) (does : Doing B (Result T E)) (first last : W) (body : B) (tries : ℕ) (r : Result T (TransactFault E))
@@ -32,15 +33,15 @@ if_fault_comes {B = B} P Q inner does first last body tries r weaker is so =
     (λ f h. ⊎_elim (λ p. inl (weaker f p)) (λ q. inr (inner last, fault_comes inner does first last tries f q)) h)
     so)
 
-pub if_landed : {W B T E : Type 0} (inner : W → B) (does : Doing B (Result (Option T) E)) (first last : W) (body : B) (tries : ℕ) (stamp : Stamp) (point : ℕ) (old new : ShareSeen) (r : Result T (WaitFault E))
-    → inner first ≡ body → IfOk r (λ t. Landed (within inner does) first last tries t stamp point old new)
-    → IfOk r (λ t. (after : B) × Landed does body after tries t stamp point old new)
-if_landed {B = B} inner does first last body tries stamp point old new r is so =
-    subst (λ (b : B). IfOk r (λ t. (after : B) × Landed does b after tries t stamp point old new)) is
+pub if_landed : {W B T E : Type 0} (means : Means) (inner : W → B) (does : Doing B (Result (Option T) E)) (first last : W) (body : B) (tries : ℕ) (stamp : Stamp) (point : ℕ) (old new : ShareSeen) (r : Result T (WaitFault E))
+    → inner first ≡ body → IfOk r (λ t. Landed means (within inner does) first last tries t stamp point old new)
+    → IfOk r (λ t. (after : B) × Landed means does body after tries t stamp point old new)
+if_landed {B = B} means inner does first last body tries stamp point old new r is so =
+    subst (λ (b : B). IfOk r (λ t. (after : B) × Landed means does b after tries t stamp point old new)) is
     (IfOk-weaker r
-    (λ t. Landed (within inner does) first last tries t stamp point old new)
-    (λ t. (after : B) × Landed does (inner first) after tries t stamp point old new)
-    (λ t h. (inner last, landed inner does first last tries t stamp point old new h))
+    (λ t. Landed means (within inner does) first last tries t stamp point old new)
+    (λ t. (after : B) × Landed means does (inner first) after tries t stamp point old new)
+    (λ t h. (inner last, landed means inner does first last tries t stamp point old new h))
     so)
 
 pub if_wait_fails : {W B T E : Type 0} (P Q : WaitFault E → Type 0) (inner : W → B) (does : Doing B (Result (Option T) E)) (first last : W) (body : B) (tries : ℕ) (r : Result T (WaitFault E))

@@ -3,8 +3,12 @@ use Rattle.std.proofs.Common.{zero, suc, true, is_ok, Result, Ok, Err, OnOk, ◌
 use Rattle.std.proofs.Math.Nat.{suc-mul, zero-mul}
 use Rattle.ref_program.specs.Done.{AreLeft, AreNumbers, AreTogether, HaveDone, HaveRun, IsEach}
 use Rattle.ref_program.specs.Seen.{HasDoneNothing}
+use Rattle.ref_fun.specs.Meaning.{Means}
 use Rattle.ref_log.specs.declared.entries.Entry.{Entry}
+use Rattle.ref_log.specs.declared.states.Base.{Base}
+use Rattle.ref_shared.specs.Commits.{HasEnded}
 use Rattle.ref_shared.specs.Gather.{InOrder, ReceiptsMatch}
+use Rattle.ref_world.specs.History.{Begins}
 use Rattle.ref_world.specs.Seen.{ShareSeen}
 use Rattle.ref_world.specs.Shares.{joined}
 use Rattle.ref_world.specs.declared.worlds.Totals.{Totals}
@@ -27,22 +31,22 @@ joined_parts old new s both = ap (λ t. t.parts) both
 
 -- A worker more has done its work, and its share was joined.
 pub have_joined : (did : ℕ → ShareSeen → Type 0) (n : ℕ) (old new s : ShareSeen)
-    → new ≡ joined old s → HaveDone did n old → did n s → HaveDone did (n + 1) new
-have_joined did n old new s both h one =
+    → new ≡ joined old s → Begins old.history new.history × Begins s.history new.history → HaveDone did n old → did n s → HaveDone did (n + 1) new
+have_joined did n old new s both known h one =
     subst (λ m. HaveDone did m new) (sym (add-one n)) (
       s,
       old,
       h,
       one,
-      record { commits = ap (λ t. t.commits) both; added = ap (λ t. t.added) both; taken = ap (λ t. t.taken) both; receipts = ap (λ t. t.receipts) both },
+      record { commits = ap (λ t. t.commits) both; added = ap (λ t. t.added) both; taken = ap (λ t. t.taken) both; receipts = ap (λ t. t.receipts) both; known = known },
     )
 
 -- The totals and the log of a world that was taken out, where all workers have done what this share has.
-pub as_run : (did : ℕ → ShareSeen → Type 0) (n : ℕ) (share : ShareSeen) (totals : Totals) (base : ℕ) (log : List Entry) → HaveDone did n share
+pub as_run : (means : Means) (did : ℕ → ShareSeen → Type 0) (n : ℕ) (share : ShareSeen) (totals : Totals) (base : Base) (log : List Entry) → HaveDone did n share
     → ((totals.commits ≡ share.commits) × (totals.added ≡ share.added) × (totals.taken ≡ share.taken))
-    × ReceiptsMatch base log share.receipts × InOrder base log
-    → HaveRun did n totals base log
-as_run did n share totals base log done fits = record { all = share; done = done; sums = fits.0; receipts = fits.1; order = fits.2 }
+    × ReceiptsMatch base.point log share.receipts × InOrder base.point log × HasEnded means share.history base log
+    → HaveRun means did n totals base log
+as_run means did n share totals base log done fits = record { all = share; done = done; sums = fits.0; receipts = fits.1; order = fits.2; ended = fits.3 }
 
 -- ---- where each has done as much
 

@@ -12,7 +12,7 @@ pub use ref_fun::codes::{
 pub use ref_fun::{Core, CoreFunctions, IntoArgs, IntoValue, Keyword};
 pub use ref_log::Who;
 pub use ref_refs::CommitFault;
-pub use ref_tx::{Dosync, TxFault};
+pub use ref_tx::{Dosync, Readable, TxFault};
 pub use ref_value::Value;
 pub use ref_world::Books;
 pub use std::alloc::Global;

@@ -1,8 +1,10 @@
 //! A whole program: its world is made, its workers work, and its world is taken out.
+ghost use Rattle.ref_fun.specs.Core.{core_means};
 ghost use Rattle.std.specs.Prelude.{◌≡◌, ◌+◌, ◌-◌, ◌<◌, ◌^◌, true, [], ◌∷◌, ◌++◌, map, max, vec_len, Ok, IfOk, OnOk, is_ok};
 ghost use Rattle.std.specs.Thread.{IsSend, IsSync};
 ghost use Rattle.ref_program.specs.Done.{AreFresh, AreLeft, AreNumbers, HaveDone, HaveRun, IsEach};
 ghost use Rattle.ref_program.specs.Seen.{HasDoneNothing};
+ghost use Rattle.ref_shared.specs.Commits.{HasEnded};
 ghost use Rattle.ref_shared.specs.Gather.{InOrder, ReceiptsMatch};
 ghost use Rattle.ref_world.specs.Shares.{AreBlanks, all_parts, whole};
 
@@ -35,7 +37,7 @@ pub fn run<P: Program + Sync, R: AllocGlobal + Threads + Wait + Sync>(
     program: &P,
     crew: Crew,
 ) -> Result<Ended, Fault>
-    ensures did { IfOk result (λ end. HaveRun P.did crew.workers end.totals end.world.base.point end.world.log) }
+    ensures did { IfOk result (λ end. HaveRun core_means P.did crew.workers end.totals end.world.base end.world.log) }
     ensures commits { IfOk result (λ end. IsEach P.did crew.workers (λ s. s.commits) end.totals.commits) }
     ensures added { IfOk result (λ end. IsEach P.did crew.workers (λ s. s.added) end.totals.added) }
     ensures taken { IfOk result (λ end. IsEach P.did crew.workers (λ s. s.taken) end.totals.taken) }
@@ -44,17 +46,17 @@ pub fn run<P: Program + Sync, R: AllocGlobal + Threads + Wait + Sync>(
 }
 
 /// As [`run`], for a program with functions or sinks of its own.
-pub fn run_custom<P: CustomProgram + Sync, R: AllocGlobal + Threads + Wait + Sync>(
-    rt: &R,
-    program: &P,
-    crew: Crew,
-) -> Result<Ended<P::Meaning, P::Sink>, Fault>
-    ensures did { IfOk result (λ end. HaveRun P.did crew.workers end.totals end.world.base.point end.world.log) }
+pub fn run_custom<
+    P: CustomProgram<Meaning = M> + Sync,
+    R: AllocGlobal + Threads + Wait + Sync,
+    M: Meaning + Send + Sync,
+>(rt: &R, program: &P, crew: Crew) -> Result<Ended<M, P::Sink>, Fault>
+    ensures did { IfOk result (λ end. HaveRun M.means P.did crew.workers end.totals end.world.base end.world.log) }
     ensures commits { IfOk result (λ end. IsEach P.did crew.workers (λ s. s.commits) end.totals.commits) }
     ensures added { IfOk result (λ end. IsEach P.did crew.workers (λ s. s.added) end.totals.added) }
     ensures taken { IfOk result (λ end. IsEach P.did crew.workers (λ s. s.taken) end.totals.taken) }
 {
-    match run_booked::<Brand, P, R>(rt, program, crew, Blanks::new()) {
+    match run_booked::<Brand, P, R, M>(rt, program, crew, Blanks::new()) {
         Ok(end) => Ok(end),
         Err(fault) => Err(fault),
     }
@@ -63,18 +65,19 @@ pub fn run_custom<P: CustomProgram + Sync, R: AllocGlobal + Threads + Wait + Syn
 // The run, in a world whose books L names.
 fn run_booked<
     L: Books + Send + Sync,
-    P: CustomProgram + Sync,
+    P: CustomProgram<Meaning = M> + Sync,
     R: AllocGlobal + Threads + Wait + Sync,
->(rt: &R, program: &P, crew: Crew, blanks: Blanks) -> Result<Ended<P::Meaning, P::Sink>, Fault>
-    requires { AreBlanks blanks L.commits L.added L.taken }
-    ensures { IfOk result (λ end. HaveRun P.did crew.workers end.totals end.world.base.point end.world.log) }
+    M: Meaning + Send + Sync,
+>(rt: &R, program: &P, crew: Crew, blanks: Blanks) -> Result<Ended<M, P::Sink>, Fault>
+    requires { AreBlanks blanks L.commits L.added L.taken L.story }
+    ensures { IfOk result (λ end. HaveRun M.means P.did crew.workers end.totals end.world.base end.world.log) }
 {
     let alloc = rt.alloc();
     let (hall, mut share) = open::<L, P>(alloc, program, crew, blanks)?;
     match work_all(rt, &hall, &mut share) {
         Ok(sinks) => {
             let Hall { shared, .. } = hall;
-            finish::<L, P>(alloc, shared, share, sinks)
+            finish::<L, P, M>(alloc, shared, share, sinks)
         }
         Err(fault) => {
             drop((hall, share));
@@ -126,8 +129,8 @@ fn open<'p, L: Books, P: CustomProgram>(
     crew: Crew,
     blanks: Blanks,
 ) -> Result<(HallOf<'p, P, L>, Share<L>), Fault>
-    requires { AreBlanks blanks L.commits L.added L.taken }
-    ensures share { IfOk result (λ r. r.1 ≡ whole) }
+    requires { AreBlanks blanks L.commits L.added L.taken L.story }
+    ensures share { IfOk result (λ r. r.1 ≡ whole r.1.history) }
     ensures crew { IfOk result (λ r. r.0.crew ≡ crew) }
 {
     let funs = program.functions();
@@ -153,6 +156,7 @@ fn open<'p, L: Books, P: CustomProgram>(
 
 fn add_watches<M: Meaning>(world: &mut World<M>, watches: Vec<Watch>) -> Result<(), Fault>
     ensures books { world.new.books ≡ world.old.books }
+    ensures log { (world.new.base ≡ world.old.base) × (world.new.log ≡ world.old.log) }
 {
     for watch in watches {
         let Watch { who, key } = watch;
@@ -167,7 +171,7 @@ fn work_all<
     P: CustomProgram + Sync,
     R: AllocGlobal + Threads + Wait + Sync,
 >(rt: &R, hall: &HallOf<'_, P, L>, share: &mut Share<L>) -> Result<Vec<P::Sink>, Fault>
-    requires { share.old ≡ whole }
+    requires { share.old ≡ whole share.old.history }
     ensures done { OnOk result (HaveDone P.did hall.now.crew.workers share.new) }
     ensures parts { OnOk result (share.new.parts ≡ all_parts) }
 {
@@ -192,10 +196,10 @@ fn parts<L: Books>(
     workers: u32,
     share: &mut Share<L>,
 ) -> Result<Vec<Share<L>>, AllocError>
-    requires { share.old ≡ whole }
+    requires { share.old ≡ whole share.old.history }
     ensures parts { IfOk result (λ parts. AreFresh parts.items) }
     ensures count { IfOk result (λ parts. (vec_len parts ≡ workers) × (vec_len parts < 2 ^ 32)) }
-    ensures rest { OnOk result (share.new ≡ record whole { parts = all_parts - workers }) }
+    ensures rest { OnOk result (share.new ≡ record (whole share.new.history) { parts = all_parts - workers }) }
 {
     let mut parts = Vec::with_capacity(alloc, workers as usize)?;
     for _ in 0..workers {
@@ -447,7 +451,7 @@ fn join_all<L: Books, P: CustomProgram>(
     helped: Vec<P::Sink>,
 ) -> Result<Vec<P::Sink>, Fault>
     requires left { AreLeft P.did 0 (map (λ left. left.share) left.items) }
-    requires rest { share.old ≡ record whole { parts = all_parts - vec_len left } }
+    requires rest { share.old ≡ record (whole share.old.history) { parts = all_parts - vec_len left } }
     requires few { vec_len left < all_parts }
     ensures done { OnOk result (HaveDone P.did (vec_len left) share.new) }
     ensures parts { OnOk result (share.new.parts ≡ all_parts) }
@@ -469,16 +473,17 @@ fn join_all<L: Books, P: CustomProgram>(
 }
 
 // Takes the world out, after it has compared its log with what the workers did.
-fn finish<L: Books, P: CustomProgram>(
+fn finish<L: Books, P: CustomProgram<Meaning = M>, M: Meaning>(
     alloc: Global,
-    shared: Shared<P::Meaning, L>,
+    shared: Shared<M, L>,
     share: Share<L>,
     sinks: Vec<P::Sink>,
-) -> Result<Ended<P::Meaning, P::Sink>, Fault>
+) -> Result<Ended<M, P::Sink>, Fault>
     requires { share.parts ≡ all_parts }
     ensures { IfOk result (λ end. ((end.totals.commits ≡ share.commits) × (end.totals.added ≡ share.added)
         × (end.totals.taken ≡ share.taken)) × ReceiptsMatch end.world.base.point end.world.log share.receipts
-        × InOrder end.world.base.point end.world.log) }
+        × InOrder end.world.base.point end.world.log
+        × HasEnded M.means share.history end.world.base end.world.log) }
 {
     match shared.finish(alloc, share) {
         Ok((world, totals)) => Ok(Ended {

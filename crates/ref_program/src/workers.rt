@@ -1,8 +1,8 @@
 //! What a thread has.
 ghost use Rattle.std.specs.Prelude.{◌≡◌, ◌⊎◌, ◌+◌, ◌<◌, true, false, List, Ok, IfOk, IfErr, OnErr, OnOk};
+ghost use Rattle.ref_fun.specs.Core.{core_means};
 ghost use Rattle.ref_fun.specs.declared.actions.Action.{Action};
 ghost use Rattle.ref_log.specs.Replay.{place};
-ghost use Rattle.ref_log.specs.declared.entries.Entry.TheVariants as entries;
 ghost use Rattle.ref_log.specs.declared.notices.Notice.{Notice};
 ghost use Rattle.ref_log.specs.declared.notices.Who.TheVariants as who;
 ghost use Rattle.ref_log.specs.declared.operations.Op.TheVariants.{Alter, Set};
@@ -10,7 +10,7 @@ ghost use Rattle.ref_program.specs.Seen.{IsSameWorker};
 ghost use Rattle.ref_program.specs.Stamps.{HasNoStamp, IsNext, IsNoEarlier};
 ghost use Rattle.ref_refs.specs.declared.faults.CommitFault.TheVariants as commits;
 ghost use Rattle.ref_shared.specs.Bodies.{Committed, FaultComes, calls_of};
-ghost use Rattle.ref_shared.specs.Commits.{AreNotices, HasReceipt};
+ghost use Rattle.ref_shared.specs.Commits.{AreNotices, HasChanged, IsLater};
 ghost use Rattle.ref_shared.specs.Sinks.{TakesAll};
 ghost use Rattle.ref_shared.specs.Waits.{Landed, NamesOneOf, WaitFails};
 ghost use Rattle.ref_shared.specs.declared.faults.TransactFault.TheVariants as transacts;
@@ -27,9 +27,9 @@ use ref_refs::CommitFault;
 use ref_shared::{
     AwaitFault, Body, OnDosync, Open, Quiet, Shared, TransactFault, WaitFault, WatchSink, tell,
 };
-use ref_tx::Dosync;
+use ref_tx::{Dosync, Snapshot};
 use ref_value::Value;
-use ref_world::{Books, CheckpointFault, Receipt, Share};
+use ref_world::{Books, CheckpointFault, Known, Opening, Preparing, Receipt, Share};
 use std::alloc::{AllocError, Global};
 use std::marker::Model;
 use std::sync::Wait;
@@ -125,17 +125,41 @@ impl<'a, L: Books, R: Wait, M: Meaning, F: Functions<M>, S: WatchSink> Worker<'a
     }
 
     /// Runs a body on a transaction and commits it, as [`Worker::transact`]: a [`Body`] may be of a meaning of the program's own.
-    pub fn transact_body<B: Body<Meaning = M>>(
+    pub fn transact_body<B: Body<Known<M, L>, Meaning = M>>(
         &mut self,
         body: &mut B,
     ) -> Result<B::Answer, TransactFault<B::Fault>>
         requires { B.may body.old }
-        ensures ok { IfOk result (λ t. Committed B.does body.old body.new self.old.tries (Ok t)
+        ensures ok { IfOk result (λ t. Committed M.means B.does body.old body.new self.old.tries (Ok t)
             self.old.next self.new.point self.old.share self.new.share) }
         ensures fault { IfErr result (λ f. HasNoStamp self.old.next self.old.workers
             × (f ≡ transacts.Commit commits.PointLimit) × (body.new ≡ body.old)
             ⊎ FaultComes B.does body.old body.new self.old.tries f) }
-        ensures same { OnErr result ((self.new.share ≡ self.old.share) × (self.new.sink ≡ self.old.sink)
+        ensures same { OnErr result (IsLater self.old.share self.new.share × (self.new.sink ≡ self.old.sink)
+            × (self.new.point ≡ self.old.point)) }
+        ensures told { OnOk result ((notices : List Notice) × TakesAll S.takes self.old.sink notices self.new.sink) }
+        ensures stamp { OnOk result (IsNext self.old.workers self.old.next self.new.next) }
+        ensures stamps { IsNoEarlier self.old.workers self.old.next self.new.next }
+        ensures worker { IsSameWorker self.old self.new }
+        ensures may { B.may body.new }
+    {
+        self.transact_as::<Known<M, L>, B>(body)
+    }
+
+    /// As [`Worker::transact_body`], for a body over a transaction whose beginning is of any kind.
+    pub fn transact_as<K: Opening<M, L>, B: Body<K, Meaning = M>>(
+        &mut self,
+        body: &mut B,
+    ) -> Result<B::Answer, TransactFault<B::Fault>>
+    where
+        K::Closed: Preparing<M, L>,
+        requires { B.may body.old }
+        ensures ok { IfOk result (λ t. Committed M.means B.does body.old body.new self.old.tries (Ok t)
+            self.old.next self.new.point self.old.share self.new.share) }
+        ensures fault { IfErr result (λ f. HasNoStamp self.old.next self.old.workers
+            × (f ≡ transacts.Commit commits.PointLimit) × (body.new ≡ body.old)
+            ⊎ FaultComes B.does body.old body.new self.old.tries f) }
+        ensures same { OnErr result (IsLater self.old.share self.new.share × (self.new.sink ≡ self.old.sink)
             × (self.new.point ≡ self.old.point)) }
         ensures told { OnOk result ((notices : List Notice) × TakesAll S.takes self.old.sink notices self.new.sink) }
         ensures stamp { OnOk result (IsNext self.old.workers self.old.next self.new.next) }
@@ -146,7 +170,7 @@ impl<'a, L: Books, R: Wait, M: Meaning, F: Functions<M>, S: WatchSink> Worker<'a
         let Some(stamp) = self.stamps.next() else {
             return Err(TransactFault::Commit(CommitFault::PointLimit));
         };
-        match self.shared.transact_body(
+        match self.shared.transact_as(
             self.rt,
             self.alloc,
             &self.funs,
@@ -166,17 +190,41 @@ impl<'a, L: Books, R: Wait, M: Meaning, F: Functions<M>, S: WatchSink> Worker<'a
     }
 
     /// As [`Worker::transact_when`], for a [`Body`].
-    pub fn transact_body_when<T: Drop, B: Body<Meaning = M, Answer = Option<T>>>(
+    pub fn transact_body_when<T: Drop, B: Body<Known<M, L>, Meaning = M, Answer = Option<T>>>(
         &mut self,
         body: &mut B,
     ) -> Result<T, WaitFault<B::Fault>>
         requires { B.may body.old }
-        ensures ok { IfOk result (λ t. Landed B.does body.old body.new self.old.tries t
+        ensures ok { IfOk result (λ t. Landed M.means B.does body.old body.new self.old.tries t
             self.old.next self.new.point self.old.share self.new.share) }
         ensures fault { IfErr result (λ f. HasNoStamp self.old.next self.old.workers
             × (f ≡ waits.Transact (transacts.Commit commits.PointLimit)) × (body.new ≡ body.old)
             ⊎ WaitFails B.does body.old body.new self.old.tries f) }
-        ensures same { OnErr result ((self.new.share ≡ self.old.share) × (self.new.sink ≡ self.old.sink)
+        ensures same { OnErr result (IsLater self.old.share self.new.share × (self.new.sink ≡ self.old.sink)
+            × (self.new.point ≡ self.old.point)) }
+        ensures told { OnOk result ((notices : List Notice) × TakesAll S.takes self.old.sink notices self.new.sink) }
+        ensures stamp { OnOk result (IsNext self.old.workers self.old.next self.new.next) }
+        ensures stamps { IsNoEarlier self.old.workers self.old.next self.new.next }
+        ensures worker { IsSameWorker self.old self.new }
+        ensures may { B.may body.new }
+    {
+        self.transact_as_when::<Known<M, L>, T, B>(body)
+    }
+
+    /// As [`Worker::transact_body_when`], for a body over a transaction whose beginning is of any kind.
+    pub fn transact_as_when<K: Opening<M, L>, T: Drop, B: Body<K, Meaning = M, Answer = Option<T>>>(
+        &mut self,
+        body: &mut B,
+    ) -> Result<T, WaitFault<B::Fault>>
+    where
+        K::Closed: Preparing<M, L>,
+        requires { B.may body.old }
+        ensures ok { IfOk result (λ t. Landed M.means B.does body.old body.new self.old.tries t
+            self.old.next self.new.point self.old.share self.new.share) }
+        ensures fault { IfErr result (λ f. HasNoStamp self.old.next self.old.workers
+            × (f ≡ waits.Transact (transacts.Commit commits.PointLimit)) × (body.new ≡ body.old)
+            ⊎ WaitFails B.does body.old body.new self.old.tries f) }
+        ensures same { OnErr result (IsLater self.old.share self.new.share × (self.new.sink ≡ self.old.sink)
             × (self.new.point ≡ self.old.point)) }
         ensures told { OnOk result ((notices : List Notice) × TakesAll S.takes self.old.sink notices self.new.sink) }
         ensures stamp { OnOk result (IsNext self.old.workers self.old.next self.new.next) }
@@ -187,7 +235,7 @@ impl<'a, L: Books, R: Wait, M: Meaning, F: Functions<M>, S: WatchSink> Worker<'a
         let Some(stamp) = self.stamps.next() else {
             return Err(WaitFault::Transact(TransactFault::Commit(CommitFault::PointLimit)));
         };
-        match self.shared.transact_body_when(
+        match self.shared.transact_as_when(
             self.rt,
             self.alloc,
             &self.funs,
@@ -210,10 +258,11 @@ impl<'a, L: Books, R: Wait, M: Meaning, F: Functions<M>, S: WatchSink> Worker<'a
     pub fn swap<A: IntoArgs>(&mut self, a: u32, code: u32, args: A) -> Result<Swapped, AtomFault>
         ensures share { IfOk result (λ s. (given : List Edn) × A.are args given
             × (place M.means (Alter code given) s.old ≡ Ok s.new)
-            × HasReceipt (entries.Atom a (Alter code given) s.new) self.old.share self.new.share) }
+            × HasChanged M.means a (Alter code given) s.old s.new self.old.share self.new.share) }
         ensures told { IfOk result (λ s. AreNotices (who.Atom a) s.old s.new s.notices.items
             × TakesAll S.takes self.old.sink s.notices.items self.new.sink) }
-        ensures same { OnErr result (self.new ≡ self.old) }
+        ensures same { OnErr result ((self.new ≡ record self.old { share = self.new.share })
+            × IsLater self.old.share self.new.share) }
         ensures rest { self.new ≡ record self.old { share = self.new.share; sink = self.new.sink } }
     {
         let args = args.into_args(self.alloc)?;
@@ -233,10 +282,11 @@ impl<'a, L: Books, R: Wait, M: Meaning, F: Functions<M>, S: WatchSink> Worker<'a
     /// Sets an atom to a value: Clojure's `reset!`. The sink gets the notices.
     pub fn reset<V: IntoValue>(&mut self, a: u32, value: V) -> Result<Swapped, AtomFault>
         ensures share { IfOk result (λ s. V.is value s.new
-            × HasReceipt (entries.Atom a (Set s.new) s.new) self.old.share self.new.share) }
+            × HasChanged M.means a (Set s.new) s.old s.new self.old.share self.new.share) }
         ensures told { IfOk result (λ s. AreNotices (who.Atom a) s.old s.new s.notices.items
             × TakesAll S.takes self.old.sink s.notices.items self.new.sink) }
-        ensures same { OnErr result (self.new ≡ self.old) }
+        ensures same { OnErr result ((self.new ≡ record self.old { share = self.new.share })
+            × IsLater self.old.share self.new.share) }
         ensures rest { self.new ≡ record self.old { share = self.new.share; sink = self.new.sink } }
     {
         let value = value.into_value(self.alloc)?;
@@ -255,11 +305,13 @@ impl<'a, L: Books, R: Wait, M: Meaning, F: Functions<M>, S: WatchSink> Worker<'a
         new: V,
     ) -> Result<bool, AtomFault>
         ensures done { IfOk result (λ done. done ≡ true → (v : Edn) × V.is new v
-            × HasReceipt (entries.Atom a (Set v) v) self.old.share self.new.share
+            × HasChanged M.means a (Set v) old.now v self.old.share self.new.share
             × (notices : List Notice) × AreNotices (who.Atom a) old.now v notices
             × TakesAll S.takes self.old.sink notices self.new.sink) }
-        ensures undone { IfOk result (λ done. done ≡ false → self.new ≡ self.old) }
-        ensures same { OnErr result (self.new ≡ self.old) }
+        ensures undone { IfOk result (λ done. done ≡ false → (self.new ≡ record self.old { share = self.new.share })
+            × IsLater self.old.share self.new.share) }
+        ensures same { OnErr result ((self.new ≡ record self.old { share = self.new.share })
+            × IsLater self.old.share self.new.share) }
         ensures rest { self.new ≡ record self.old { share = self.new.share; sink = self.new.sink } }
     {
         let new = new.into_value(self.alloc)?;
@@ -336,12 +388,12 @@ impl<'a, L: Books, R: Wait, S: WatchSink> Worker<'a, L, R, Core, CoreFunctions, 
         body: D,
     ) -> Result<T, TransactFault<E>>
         requires { D.IsAlwaysCallable body }
-        ensures ok { IfOk result (λ t. (last : D) × Committed (calls_of D.FnMut) body last self.old.tries (Ok t)
+        ensures ok { IfOk result (λ t. (last : D) × Committed core_means (calls_of D.FnMut) body last self.old.tries (Ok t)
             self.old.next self.new.point self.old.share self.new.share) }
         ensures fault { IfErr result (λ f. HasNoStamp self.old.next self.old.workers
             × (f ≡ transacts.Commit commits.PointLimit)
             ⊎ (last : D) × FaultComes (calls_of D.FnMut) body last self.old.tries f) }
-        ensures same { OnErr result ((self.new.share ≡ self.old.share) × (self.new.sink ≡ self.old.sink)
+        ensures same { OnErr result (IsLater self.old.share self.new.share × (self.new.sink ≡ self.old.sink)
             × (self.new.point ≡ self.old.point)) }
         ensures told { OnOk result ((notices : List Notice) × TakesAll S.takes self.old.sink notices self.new.sink) }
         ensures stamp { OnOk result (IsNext self.old.workers self.old.next self.new.next) }
@@ -349,7 +401,7 @@ impl<'a, L: Books, R: Wait, S: WatchSink> Worker<'a, L, R, Core, CoreFunctions, 
         ensures worker { IsSameWorker self.old self.new }
     {
         let mut body = OnDosync::of(body);
-        self.transact_body(&mut body)
+        self.transact_as::<Snapshot, OnDosync<D, T, E>>(&mut body)
     }
 
     /// As [`Worker::transact`], but the body may return None, which says that it isn't ready. Then the thread sleeps until something has
@@ -360,12 +412,12 @@ impl<'a, L: Books, R: Wait, S: WatchSink> Worker<'a, L, R, Core, CoreFunctions, 
         body: D,
     ) -> Result<T, WaitFault<E>>
         requires { D.IsAlwaysCallable body }
-        ensures ok { IfOk result (λ t. (last : D) × Landed (calls_of D.FnMut) body last self.old.tries t
+        ensures ok { IfOk result (λ t. (last : D) × Landed core_means (calls_of D.FnMut) body last self.old.tries t
             self.old.next self.new.point self.old.share self.new.share) }
         ensures fault { IfErr result (λ f. HasNoStamp self.old.next self.old.workers
             × (f ≡ waits.Transact (transacts.Commit commits.PointLimit))
             ⊎ (last : D) × WaitFails (calls_of D.FnMut) body last self.old.tries f) }
-        ensures same { OnErr result ((self.new.share ≡ self.old.share) × (self.new.sink ≡ self.old.sink)
+        ensures same { OnErr result (IsLater self.old.share self.new.share × (self.new.sink ≡ self.old.sink)
             × (self.new.point ≡ self.old.point)) }
         ensures told { OnOk result ((notices : List Notice) × TakesAll S.takes self.old.sink notices self.new.sink) }
         ensures stamp { OnOk result (IsNext self.old.workers self.old.next self.new.next) }
@@ -373,7 +425,7 @@ impl<'a, L: Books, R: Wait, S: WatchSink> Worker<'a, L, R, Core, CoreFunctions, 
         ensures worker { IsSameWorker self.old self.new }
     {
         let mut body = OnDosync::of(body);
-        self.transact_body_when(&mut body)
+        self.transact_as_when::<Snapshot, T, OnDosync<D, Option<T>, E>>(&mut body)
     }
 
     /// Runs a body as so many transactions, one after the other: Clojure's `(dotimes [_ times] (dosync ..))`. The first fault ends it.
@@ -389,7 +441,7 @@ impl<'a, L: Books, R: Wait, S: WatchSink> Worker<'a, L, R, Core, CoreFunctions, 
     {
         let mut body = OnDosync::of(body);
         for _ in 0..times {
-            let _ = self.transact_body(&mut body)?;
+            let _ = self.transact_as::<Snapshot, OnDosync<D, T, E>>(&mut body)?;
         }
         Ok(())
     }

@@ -13,7 +13,7 @@ use crate::faults::{Alien, CommitFault};
 use ref_fun::{Functions, Meaning, absent_agent};
 use ref_log::counting::moved_by_dones;
 use ref_log::{Done, Op, Sent, Side};
-use ref_tx::{Beginning, Tx};
+use ref_tx::{Beginning, Comparable, Tx};
 use ref_value::{Node, Value};
 
 // The first operation on a ref that isn't here, if there is one.
@@ -78,7 +78,7 @@ pub fn check_served<M: Meaning, F: Functions<M>>(
 
 // Whether somebody else changed a ref that the transaction protects, or one of these has another value than in the beginning. A ref
 // costs one look-up here, one in the beginning, and a comparison; so do several operations in a row that protect it.
-pub(crate) fn is_any_other<M: Meaning, S: Beginning>(refs: &Refs, tx: &Tx<M, S>) -> bool
+pub(crate) fn is_any_other<M: Meaning, S: Comparable>(refs: &Refs, tx: &Tx<M, S>) -> bool
     requires { alien_ref refs.now.values tx.now.dones ≡ None }
     ensures unchanged { result ≡ false
         → first_protected refs.now.values tx.now.dones (changed_after refs.now.lasts tx.now.read_point) ≡ None }
@@ -99,7 +99,7 @@ pub(crate) fn is_any_other<M: Meaning, S: Beginning>(refs: &Refs, tx: &Tx<M, S>)
 
 // Whether an operation, the one with this number, protects a ref, other than the known one, that has changed after the read point or has
 // another value than in the beginning.
-fn protects_other<M: Meaning, S: Beginning>(
+fn protects_other<M: Meaning, S: Comparable>(
     refs: &Refs,
     tx: &Tx<M, S>,
     known: Option<u32>,
@@ -169,7 +169,7 @@ pub(crate) fn first_changed<M: Meaning, S: Beginning>(refs: &Refs, tx: &Tx<M, S>
 
 // The smallest protected ref whose value isn't the one that the transaction began with. Several operations in a row that protect a ref
 // compare it once.
-pub(crate) fn first_differing<M: Meaning, S: Beginning>(refs: &Refs, tx: &Tx<M, S>) -> Option<u32>
+pub(crate) fn first_differing<M: Meaning, S: Comparable>(refs: &Refs, tx: &Tx<M, S>) -> Option<u32>
     requires { alien_ref refs.now.values tx.now.dones ≡ None }
     ensures { result ≡ first_protected refs.now.values tx.now.dones (differs_at refs.now.values tx.now.began) }
 {
@@ -193,7 +193,7 @@ fn protects_changed(refs: &Refs, done: &Done, point: u64) -> bool
 }
 
 // Whether an operation, the one with this number, protects a ref, other than the known one, that has another value than in the beginning.
-fn protects_differing<M: Meaning, S: Beginning>(
+fn protects_differing<M: Meaning, S: Comparable>(
     refs: &Refs,
     tx: &Tx<M, S>,
     known: Option<u32>,

@@ -12,6 +12,7 @@ ghost use Rattle.ref_log.specs.declared.counting.Side.TheVariants.{Added, Taken}
 ghost use Rattle.ref_tx.specs.Inner.{inner_value};
 ghost use Rattle.ref_refs.specs.Commit.{alien, alien_ref, alien_value, changed_by, commit_refusal, conflict, early_refusal, entry_of, first_invalid, full_book, lacking, lacking_rule};
 ghost use Rattle.ref_refs.specs.Conflicts.{ConflictFits};
+ghost use Rattle.ref_refs.specs.Ready.{CanInstall, IsChecked, IsOwn};
 ghost use Rattle.ref_refs.specs.Seen.{changed_at, are_unchanged_since};
 ghost use Rattle.ref_refs.specs.Watches.{notices, touched_refs};
 ghost use Rattle.ref_refs.specs.declared.faults.CommitFault.TheVariants as commits;
@@ -29,7 +30,7 @@ use crate::store::RefStore;
 use crate::watches::{are_unguarded, notices, touched_refs};
 use ref_fun::{Functions, Meaning};
 use ref_log::{Done, Entry, LAST_POINT, Notice, Side, Stamp, Transaction};
-use ref_tx::{Beginning, Tx};
+use ref_tx::{Beginning, Comparable, Tx};
 use std::alloc::Global;
 
 /// A commit that was made: its entry for the log, and the notices for its watches.
@@ -68,9 +69,9 @@ impl<M: Meaning> RefStore<M> {
     /// functions and predicates that the table lacks, the conflict, a foreign value, a refusal over the latest values, a
     /// rule that doesn't accept, the end of points, a full book.
     /// Each operation costs time logarithmic in the number of refs. A protected ref costs a comparison of its value with the one
-    /// of the beginning, which is linear in its size, once for several operations in a row; a `commute` of another ref costs its
+    /// of the beginning, which is linear in its size, once for several operations in a row ([`RefStore::prepare_own`] compares none); a `commute` of another ref costs its
     /// function, each changed ref the test of its rule and a notice for each of its watches.
-    pub fn commit<F: Functions<M>, S: Beginning>(
+    pub fn commit<F: Functions<M>, S: Comparable>(
         &mut self,
         alloc: Global,
         funs: &F,
@@ -115,7 +116,7 @@ impl<M: Meaning> RefStore<M> {
     }
 
     /// All of a commit that takes memory or may be refused. It changes nothing.
-    pub fn prepare<F: Functions<M>, S: Beginning>(
+    pub fn prepare<F: Functions<M>, S: Comparable>(
         &self,
         alloc: Global,
         funs: &F,
@@ -129,51 +130,36 @@ impl<M: Meaning> RefStore<M> {
         ensures refused { TellsOrMemory commits.Memory (early_refusal (F.knows funs.now) self.now at agents tx.now)
             (commit_refusal M.means M.accepts (F.knows funs.now) self.now at agents most_added most_taken tx.now)
             result }
-        ensures here { OnOk result (alien_ref self.now.values tx.now.dones ≡ None) }
-        ensures values { IfOk result (λ p. (atoms : List Edn)
-            → step M.means at (entry_of stamp tx.now) (record { refs = self.now.values; atoms = atoms })
-            ≡ Ok (record { refs = p.refs.values; atoms = atoms })) }
         // What `install` asks.
-        ensures base { IfOk result (λ p. p.refs.base ≡ record { values = self.now.values; lasts = self.now.lasts }) }
-        ensures fits { OnOk result (fit_tally self.now.tally tx.now.dones ≡ true) }
-        ensures made { IfOk result (λ p. after_dones M.means tx.now.dones at tx.now.dones (Ok self.now.values)
-            ≡ Ok p.refs.values) }
-        ensures accepted { IfOk result (λ p. AreAccepted M.accepts self.now.guards p.refs.values) }
-        ensures moved { IfOk result (λ p. (r : ℕ) →
-            changed_at p.refs.lasts r ≡ changed_by self.now.lasts at tx.now.dones r) }
-        ensures all { IfOk result (λ p. length p.refs.lasts ≡ length self.now.lasts) }
-        ensures entry { IfOk result (λ p. p.landed.entry ≡ entry_of stamp tx.now) }
-        ensures notices { IfOk result (λ p. p.landed.notices.items
-            ≡ notices self.now.guards self.now.values p.refs.values (touched_refs tx.now.dones)) }
-        ensures inner { IfOk result (λ p. (r : ℕ) → is_protected tx.now.dones r ≡ true
-            → slice_get p.refs.values r ≡ inner_value M.means tx.now r) }
-        ensures limit { OnOk result (at ≤ last_point) }
-        // What the books are to count, which they can take.
-        ensures added { IfOk result (λ p. p.added ≡ moved_by_dones Added self.now.tally tx.now.dones) }
-        ensures taken { IfOk result (λ p. p.taken ≡ moved_by_dones Taken self.now.tally tx.now.dones) }
-        ensures books { IfOk result (λ p. (p.added ≤ most_added) × (p.taken ≤ most_taken)) }
+        ensures ready { IfOk result (CanInstall M.means M.accepts self.now at most_added most_taken stamp tx.now) }
     {
         self.check(funs, at, agents, tx)?;
-        let dones = tx.dones();
-        let refs = place_all(alloc, funs, at, &self.refs, tx)?;
-        let touched = self.check_rules(alloc, funs, dones, &refs)?;
-        if at > LAST_POINT {
-            return Err(CommitFault::PointLimit);
-        }
-        let (added, taken) = self.moves(dones, most_added, most_taken)?;
-        let notices = notices(alloc, &self.guards, &self.refs, &refs, &touched)?;
-        let entry = Entry::Trans(Transaction {
-            stamp,
-            read_point: tx.read_point(),
-            dones: tx.shared_dones().share()?,
-            sends: tx.shared_sends().share()?,
-        });
-        Ok(Prepared {
-            refs: refs.done(),
-            landed: Landed { entry, notices },
-            added,
-            taken,
-        })
+        self.draft(alloc, funs, at, agents, most_added, most_taken, stamp, tx)
+    }
+
+    /// As [`RefStore::prepare`], for a transaction of which the caller knows that the refs it protects have the values that it began with, if
+    /// they haven't changed since. So no value is compared, and the transaction needn't hold any: an `ensure`, a set or an `alter` costs a
+    /// look-up, whatever the size of the value.
+    pub fn prepare_own<F: Functions<M>, S: Beginning>(
+        &self,
+        alloc: Global,
+        funs: &F,
+        at: u64,
+        agents: usize,
+        most_added: u64,
+        most_taken: u64,
+        stamp: Stamp,
+        tx: &Tx<M, S>,
+    ) -> Result<Prepared, CommitFault>
+        requires own { IsOwn self.now tx.now }
+        ensures refused { TellsOrMemory commits.Memory (early_refusal (F.knows funs.now) self.now at agents tx.now)
+            (commit_refusal M.means M.accepts (F.knows funs.now) self.now at agents most_added most_taken tx.now)
+            result }
+        // What `install` asks.
+        ensures ready { IfOk result (CanInstall M.means M.accepts self.now at most_added most_taken stamp tx.now) }
+    {
+        self.check_own(funs, at, agents, tx)?;
+        self.draft(alloc, funs, at, agents, most_added, most_taken, stamp, tx)
     }
 
     /// Makes the changes of a prepared commit. It can't fail: those that need memory which is refused are stored as notes, which each look-up
@@ -202,6 +188,46 @@ impl<M: Meaning> RefStore<M> {
 }
 
 impl<M: Meaning> RefStore<M> {
+    // What a commit makes, once all is asked that can be asked before memory is taken.
+    fn draft<F: Functions<M>, S: Beginning>(
+        &self,
+        alloc: Global,
+        funs: &F,
+        at: u64,
+        agents: usize,
+        most_added: u64,
+        most_taken: u64,
+        stamp: Stamp,
+        tx: &Tx<M, S>,
+    ) -> Result<Prepared, CommitFault>
+        requires { IsChecked (F.knows funs.now) self.now at agents tx.now }
+        ensures refused { TellsOrMemory commits.Memory (early_refusal (F.knows funs.now) self.now at agents tx.now)
+            (commit_refusal M.means M.accepts (F.knows funs.now) self.now at agents most_added most_taken tx.now)
+            result }
+        ensures ready { IfOk result (CanInstall M.means M.accepts self.now at most_added most_taken stamp tx.now) }
+    {
+        let dones = tx.dones();
+        let refs = place_all(alloc, funs, at, &self.refs, tx)?;
+        let touched = self.check_rules(alloc, funs, dones, &refs)?;
+        if at > LAST_POINT {
+            return Err(CommitFault::PointLimit);
+        }
+        let (added, taken) = self.moves(dones, most_added, most_taken)?;
+        let notices = notices(alloc, &self.guards, &self.refs, &refs, &touched)?;
+        let entry = Entry::Trans(Transaction {
+            stamp,
+            read_point: tx.read_point(),
+            dones: tx.shared_dones().share()?,
+            sends: tx.shared_sends().share()?,
+        });
+        Ok(Prepared {
+            refs: refs.done(),
+            landed: Landed { entry, notices },
+            added,
+            taken,
+        })
+    }
+
     // Asks the rules of the refs that these operations change, of the values after them. It returns the refs whose watches are to be
     // told, with others that have none, or no ref where none of them has a rule or a watch.
     #[tactic(auto, using(crate::proofs::Unguarded::invalid_none, crate::proofs::Unguarded::notices_none))]
@@ -257,7 +283,7 @@ impl<M: Meaning> RefStore<M> {
     }
 
     // Asks all that can be asked before memory is taken.
-    fn check<F: Functions<M>, S: Beginning>(
+    fn check<F: Functions<M>, S: Comparable>(
         &self,
         funs: &F,
         at: u64,
@@ -265,11 +291,7 @@ impl<M: Meaning> RefStore<M> {
         tx: &Tx<M, S>,
     ) -> Result<(), CommitFault>
         ensures refused { Tells (early_refusal (F.knows funs.now) self.now at agents tx.now) result }
-        ensures here { OnOk result (alien_ref self.now.values tx.now.dones ≡ None) }
-        ensures fits { OnOk result (fit_tally self.now.tally tx.now.dones ≡ true) }
-        ensures served { OnOk result (lacking (F.knows funs.now).funs tx.now.dones ≡ None) }
-        ensures known { OnOk result (lacking_rule (F.knows funs.now).preds self.now.guards tx.now.dones ≡ None) }
-        ensures unchanged { OnOk result (alien_value self.now.values tx.now ≡ None) }
+        ensures checked { OnOk result (IsChecked (F.knows funs.now) self.now at agents tx.now) }
         ensures told { IfErr result (λ f. f ≢ commits.Memory) }
     {
         self.check_foreign(at, agents, tx)?;
@@ -280,6 +302,26 @@ impl<M: Meaning> RefStore<M> {
         }
         self.check_conflict(tx)?;
         self.check_values(tx)
+    }
+
+    // As `check`, where the values of refs that haven't changed are known to be those of the beginning.
+    fn check_own<F: Functions<M>, S: Beginning>(
+        &self,
+        funs: &F,
+        at: u64,
+        agents: usize,
+        tx: &Tx<M, S>,
+    ) -> Result<(), CommitFault>
+        requires { IsOwn self.now tx.now }
+        ensures refused { Tells (early_refusal (F.knows funs.now) self.now at agents tx.now) result }
+        ensures checked { OnOk result (IsChecked (F.knows funs.now) self.now at agents tx.now) }
+        ensures told { IfErr result (λ f. f ≢ commits.Memory) }
+    {
+        let dones = tx.dones();
+        self.check_foreign(at, agents, tx)?;
+        check_served(funs, dones)?;
+        check_rules_known(funs, &self.guards, dones)?;
+        self.check_conflict(tx)
     }
 
     // What of a transaction is foreign, but for its values.
@@ -322,7 +364,7 @@ impl<M: Meaning> RefStore<M> {
         }
     }
 
-    fn check_values<S: Beginning>(&self, tx: &Tx<M, S>) -> Result<(), CommitFault>
+    fn check_values<S: Comparable>(&self, tx: &Tx<M, S>) -> Result<(), CommitFault>
         requires { alien_ref self.now.values tx.now.dones ≡ None }
         ensures refused { Tells (alien_value self.now.values tx.now) result }
         ensures told { IfErr result (λ f. f ≢ commits.Memory) }

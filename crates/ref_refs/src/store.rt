@@ -197,8 +197,16 @@ impl<M: Meaning> RefStore<M> {
               agents = agents;
             }) }
     {
-        let refs = self.refs.share(alloc)?;
+        let refs = self.snapshot(alloc)?;
         Ok(Tx::start(alloc, point, refs, self.tally, agents))
+    }
+
+    /// The refs as they are now. It costs what [`RefStore::begin`] costs.
+    pub fn snapshot(&self, alloc: Global) -> Result<Snapshot, AllocError>
+        ensures values { IfOk result (λ refs. refs.values ≡ self.now.values) }
+        ensures lasts { IfOk result (λ refs. refs.lasts ≡ self.now.lasts) }
+    {
+        self.refs.share(alloc)
     }
 }
 

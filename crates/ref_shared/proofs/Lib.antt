@@ -8,3 +8,4 @@ pub mod Forgotten
 pub mod Looks
 pub mod Ended
 pub mod Within
+pub mod Learned

@@ -5,7 +5,9 @@ use Rattle.std.specs.List.{IsAmong}
 use Rattle.std.specs.BTreeMap.{BTreeMap}
 use Rattle.ref_agents.specs.Agents.{error_at}
 use Rattle.ref_agents.specs.declared.agents.Agent.{Agent}
-use Rattle.ref_shared.specs.Waits.{is_through, left_of, look_of, target_of}
+use Rattle.ref_shared.specs.Waits.{NamesNoOther, NamesOneOf, is_through, left_of, look_of, target_of}
+use Rattle.ref_shared.specs.declared.faults.AwaitFault.{AwaitFault}
+use Rattle.ref_shared.specs.declared.faults.AwaitFault.TheVariants as awaits
 use Rattle.ref_shared.specs.declared.waiters.Awaited.{Awaited}
 use Rattle.ref_shared.specs.declared.waiters.Look.{Look}
 use Rattle.ref_shared.specs.declared.waiters.Look.TheVariants.{Through, Left, Failed}
@@ -67,3 +69,10 @@ of_targets awaited agents (g ∷ gs) = ap (λ rest. g ∷ rest) (of_targets awai
 pub names_one : (awaited : Option (BTreeMap ℕ Awaited)) (agents : List Agent) (targets : List Target) (gs : List ℕ) (g : ℕ)
     → map (λ (t : Target). t.g) targets ≡ gs → look_of awaited agents targets ≡ Failed g → IsAmong gs g
 names_one awaited agents targets gs g are is = subst (λ xs. IsAmong xs g) are (look_names awaited agents targets g is)
+
+-- What a fault of one agent of several names is one of them.
+pub names_among : (agents : List ℕ) (g : ℕ) (fault : AwaitFault) → NamesNoOther g fault → IsAmong agents g → NamesOneOf agents fault
+names_among agents g (awaits.NoSuchAgent h) same among = subst (IsAmong agents) (sym same) among
+names_among agents g (awaits.Failed h) never among = absurd never
+names_among agents g awaits.Closed any among = tt
+names_among agents g awaits.Memory any among = tt

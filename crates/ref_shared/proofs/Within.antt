@@ -2,6 +2,7 @@
 use Rattle.std.proofs.Common.{◌≡◌, ℕ, List, [], ◌∷◌, Ok, ap, subst}
 use Rattle.std.proofs.lemmas.Result.{IfErr-weaker, IfOk-weaker}
 use Rattle.std.specs.Prelude.{Result, Option, IfErr, IfOk}
+use Rattle.ref_fun.specs.Meaning.{Means}
 use Rattle.ref_log.specs.declared.entries.Stamp.{Stamp}
 use Rattle.ref_world.specs.Seen.{ShareSeen}
 use Rattle.ref_world.specs.declared.commits.Receipt.{Receipt}
@@ -27,9 +28,9 @@ all_calls : {W B T E : Type 0} (inner : W → B) (does : Doing B (Result T E)) (
 all_calls inner does body last calls tries all =
     record { called = called inner does body last calls all.called; few = all.few; retried = all.retried }
 
-pub committed : {W B T E : Type 0} (inner : W → B) (does : Doing B (Result T E)) (body last : W) (tries : ℕ) (answer : Result T E) (stamp : Stamp) (point : ℕ) (old new : ShareSeen)
-    → Committed (within inner does) body last tries answer stamp point old new → Committed does (inner body) (inner last) tries answer stamp point old new
-committed inner does body last tries answer stamp point old new so = record {
+pub committed : {W B T E : Type 0} (means : Means) (inner : W → B) (does : Doing B (Result T E)) (body last : W) (tries : ℕ) (answer : Result T E) (stamp : Stamp) (point : ℕ) (old new : ShareSeen)
+    → Committed means (within inner does) body last tries answer stamp point old new → Committed means does (inner body) (inner last) tries answer stamp point old new
+committed means inner does body last tries answer stamp point old new so = record {
   call = so.call;
   earlier = so.earlier;
   calls = all_calls inner does body last (so.call ∷ so.earlier) tries so.calls;
@@ -51,9 +52,9 @@ all_waits : {W B T E : Type 0} (inner : W → B) (does : Doing B (Result (Option
 all_waits inner does body last calls tries all =
     record { called = called inner does body last calls all.called; few = all.few; again = all.again }
 
-pub landed : {W B T E : Type 0} (inner : W → B) (does : Doing B (Result (Option T) E)) (body last : W) (tries : ℕ) (answer : T) (stamp : Stamp) (point : ℕ) (old new : ShareSeen)
-    → Landed (within inner does) body last tries answer stamp point old new → Landed does (inner body) (inner last) tries answer stamp point old new
-landed inner does body last tries answer stamp point old new so = record {
+pub landed : {W B T E : Type 0} (means : Means) (inner : W → B) (does : Doing B (Result (Option T) E)) (body last : W) (tries : ℕ) (answer : T) (stamp : Stamp) (point : ℕ) (old new : ShareSeen)
+    → Landed means (within inner does) body last tries answer stamp point old new → Landed means does (inner body) (inner last) tries answer stamp point old new
+landed means inner does body last tries answer stamp point old new so = record {
   call = so.call;
   earlier = so.earlier;
   calls = all_waits inner does body last (so.call ∷ so.earlier) tries so.calls;
@@ -74,15 +75,15 @@ wait_fails inner does body last tries (Transact Memory) so = (so.0, all_waits in
 
 -- ---- what is said of a wrapper that a body was put into, of the body
 
-pub if_committed : {W B T E : Type 0} (inner : W → B) (does : Doing B (Result T E)) (first last : W) (body : B) (tries : ℕ) (stamp : Stamp) (old new : ShareSeen) (r : Result (T × Receipt) (TransactFault E))
-    → inner first ≡ body → IfOk r (λ x. Committed (within inner does) first last tries (Ok x.0) stamp x.1.point old new)
-    → IfOk r (λ x. (after : B) × Committed does body after tries (Ok x.0) stamp x.1.point old new)
-if_committed {B = B} inner does first last body tries stamp old new r is so =
-    subst (λ (b : B). IfOk r (λ x. (after : B) × Committed does b after tries (Ok x.0) stamp x.1.point old new)) is
+pub if_committed : {W B T E : Type 0} (means : Means) (inner : W → B) (does : Doing B (Result T E)) (first last : W) (body : B) (tries : ℕ) (stamp : Stamp) (old new : ShareSeen) (r : Result (T × Receipt) (TransactFault E))
+    → inner first ≡ body → IfOk r (λ x. Committed means (within inner does) first last tries (Ok x.0) stamp x.1.point old new)
+    → IfOk r (λ x. (after : B) × Committed means does body after tries (Ok x.0) stamp x.1.point old new)
+if_committed {B = B} means inner does first last body tries stamp old new r is so =
+    subst (λ (b : B). IfOk r (λ x. (after : B) × Committed means does b after tries (Ok x.0) stamp x.1.point old new)) is
     (IfOk-weaker r
-    (λ x. Committed (within inner does) first last tries (Ok x.0) stamp x.1.point old new)
-    (λ x. (after : B) × Committed does (inner first) after tries (Ok x.0) stamp x.1.point old new)
-    (λ x h. (inner last, committed inner does first last tries (Ok x.0) stamp x.1.point old new h))
+    (λ x. Committed means (within inner does) first last tries (Ok x.0) stamp x.1.point old new)
+    (λ x. (after : B) × Committed means does (inner first) after tries (Ok x.0) stamp x.1.point old new)
+    (λ x h. (inner last, committed means inner does first last tries (Ok x.0) stamp x.1.point old new h))
     so)
 
 pub if_fault_comes : {W B T E : Type 0} (inner : W → B) (does : Doing B (Result T E)) (first last : W) (body : B) (tries : ℕ) (r : Result (T × Receipt) (TransactFault E))
@@ -95,15 +96,15 @@ if_fault_comes {B = B} inner does first last body tries r is so =
     (λ f h. (inner last, fault_comes inner does first last tries f h))
     so)
 
-pub if_landed : {W B T E : Type 0} (inner : W → B) (does : Doing B (Result (Option T) E)) (first last : W) (body : B) (tries : ℕ) (stamp : Stamp) (old new : ShareSeen) (r : Result (T × Receipt) (WaitFault E))
-    → inner first ≡ body → IfOk r (λ x. Landed (within inner does) first last tries x.0 stamp x.1.point old new)
-    → IfOk r (λ x. (after : B) × Landed does body after tries x.0 stamp x.1.point old new)
-if_landed {B = B} inner does first last body tries stamp old new r is so =
-    subst (λ (b : B). IfOk r (λ x. (after : B) × Landed does b after tries x.0 stamp x.1.point old new)) is
+pub if_landed : {W B T E : Type 0} (means : Means) (inner : W → B) (does : Doing B (Result (Option T) E)) (first last : W) (body : B) (tries : ℕ) (stamp : Stamp) (old new : ShareSeen) (r : Result (T × Receipt) (WaitFault E))
+    → inner first ≡ body → IfOk r (λ x. Landed means (within inner does) first last tries x.0 stamp x.1.point old new)
+    → IfOk r (λ x. (after : B) × Landed means does body after tries x.0 stamp x.1.point old new)
+if_landed {B = B} means inner does first last body tries stamp old new r is so =
+    subst (λ (b : B). IfOk r (λ x. (after : B) × Landed means does b after tries x.0 stamp x.1.point old new)) is
     (IfOk-weaker r
-    (λ x. Landed (within inner does) first last tries x.0 stamp x.1.point old new)
-    (λ x. (after : B) × Landed does (inner first) after tries x.0 stamp x.1.point old new)
-    (λ x h. (inner last, landed inner does first last tries x.0 stamp x.1.point old new h))
+    (λ x. Landed means (within inner does) first last tries x.0 stamp x.1.point old new)
+    (λ x. (after : B) × Landed means does (inner first) after tries x.0 stamp x.1.point old new)
+    (λ x h. (inner last, landed means inner does first last tries x.0 stamp x.1.point old new h))
     so)
 
 pub if_wait_fails : {W B T E : Type 0} (inner : W → B) (does : Doing B (Result (Option T) E)) (first last : W) (body : B) (tries : ℕ) (r : Result (T × Receipt) (WaitFault E))

@@ -4,6 +4,7 @@ use Rattle.std.specs.Fn.{Mut, CalledAtMut}
 use Rattle.std.specs.List.{All}
 use Rattle.std.specs.Borrow.{MutBor}
 use Rattle.std.specs.Result.{is_ok}
+use Rattle.ref_fun.specs.Meaning.{Means}
 use Rattle.ref_log.specs.declared.entries.Stamp.{Stamp}
 use Rattle.ref_refs.specs.Conflicts.{IsConflictOf}
 use Rattle.ref_refs.specs.declared.faults.Conflict.{Conflict}
@@ -63,12 +64,12 @@ pub record AllCalls {B T E : Type 0} (does : Doing B (Result T E)) (body last : 
   pub retried : All IsRetried (earlier_of calls)
 
 -- The last call of the body answered so, and what it left was committed.
-pub record Committed {B T E : Type 0} (does : Doing B (Result T E)) (body last : B) (tries : ℕ) (answer : Result T E) (stamp : Stamp) (point : ℕ) (old new : ShareSeen) : Type 0 where
+pub record Committed {B T E : Type 0} (means : Means) (does : Doing B (Result T E)) (body last : B) (tries : ℕ) (answer : Result T E) (stamp : Stamp) (point : ℕ) (old new : ShareSeen) : Type 0 where
   pub call : Call (Result T E)
   pub earlier : List (Call (Result T E))
   pub calls : AllCalls does body last (call ∷ earlier) tries
   pub answered : call.answer ≡ answer
-  pub landed : HasCommitted stamp call.left point old new
+  pub landed : HasCommitted means stamp call.left point old new
 
 -- a fault of a commit that ends a transaction as such: neither a conflict nor out of memory
 abbrev pub IsFinal : CommitFault → Type 0

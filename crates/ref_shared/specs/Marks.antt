@@ -3,8 +3,9 @@ use Rattle.std.specs.Prelude.{◌≡◌, ℕ, Bool, true, false, Some, List, sli
 use Rattle.ref_log.specs.declared.entries.Entry.{Entry}
 use Rattle.ref_shared.specs.Gather.{has_receipt}
 
--- This entry stands at i, has a receipt, and isn't marked.
-pub record Fits (log : List Entry) (met : List Bool) (i : ℕ) (e : Entry) : Type 0 where
+-- At i an entry stands that has a receipt, and isn't marked.
+pub record Fits (log : List Entry) (met : List Bool) (i : ℕ) : Type 0 where
+  pub e : Entry
   pub here : slice_get log i ≡ Some e
   pub due : has_receipt e ≡ true
   pub new : slice_index_or met i false ≡ false

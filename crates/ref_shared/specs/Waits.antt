@@ -9,6 +9,7 @@ use Rattle.ref_agents.specs.Agents.{account_at, error_at}
 use Rattle.ref_agents.specs.declared.agents.Agent.{Agent}
 use Rattle.ref_agents.specs.declared.ends.Finished.{Finished}
 use Rattle.ref_agents.specs.declared.ends.Finished.TheVariants.{Changed, Failed, Continued}
+use Rattle.ref_fun.specs.Meaning.{Means}
 use Rattle.ref_log.specs.declared.entries.Stamp.{Stamp}
 use Rattle.ref_refs.specs.Conflicts.{IsConflictOf}
 use Rattle.ref_refs.specs.declared.faults.Conflict.{Conflict}
@@ -163,12 +164,12 @@ pub record AllWaits {B T E : Type 0} (does : Doing B (Result (Option T) E)) (bod
   pub again : All IsCalledAgain (earlier_of calls)
 
 -- The last call of the body returned this value, and what it left was committed.
-pub record Landed {B T E : Type 0} (does : Doing B (Result (Option T) E)) (body last : B) (tries : ℕ) (answer : T) (stamp : Stamp) (point : ℕ) (old new : ShareSeen) : Type 0 where
+pub record Landed {B T E : Type 0} (means : Means) (does : Doing B (Result (Option T) E)) (body last : B) (tries : ℕ) (answer : T) (stamp : Stamp) (point : ℕ) (old new : ShareSeen) : Type 0 where
   pub call : Call (Result (Option T) E)
   pub earlier : List (Call (Result (Option T) E))
   pub calls : AllWaits does body last (call ∷ earlier) tries
   pub answered : call.answer ≡ Ok (Some answer)
-  pub landed : HasCommitted stamp call.left point old new
+  pub landed : HasCommitted means stamp call.left point old new
 
 -- When a transaction that waits fails: closed behind a last call that wasn't ready; giving up after all tries, with a conflict of what
 -- the last call left; with a body's fault as the last call returned it; with a commit's fault behind a last call that returned a value.

@@ -4,13 +4,16 @@ ghost use Rattle.std.specs.Fn.{CalledAtMut};
 ghost use Rattle.ref_tx.specs.Seen.{TxSeen};
 
 use ref_fun::{Core, CoreFunctions, Meaning};
-use ref_tx::{Dosync, Tx};
+use ref_tx::{Dosync, Readable, Snapshot, Tx};
 use std::marker::PhantomData;
 
 /// What a transaction runs: [`Shared::transact_body`](crate::Shared::transact_body) takes one. A closure is one where functions mean what
 /// [`Core`]'s mean: [`OnDosync`] has one over a [`Dosync`], and [`OnTx`] one over a [`Tx`]. A program with a meaning of its own writes a
 /// type that is one: no bound can be stated on a closure over a transaction of any meaning.
-pub trait Body {
+///
+/// S is what its transaction holds of the values that it began with. A closure is a body over a [`Snapshot`], the transaction of any world.
+/// A type that is a body for each `S: Readable` is one over a [`Known`](ref_world::Known), too, whose commit compares no value.
+pub trait Body<S: Readable> {
     /// What the codes of functions mean in its world.
     type Meaning: Meaning;
 
@@ -31,7 +34,7 @@ pub trait Body {
 
     fn run(
         &mut self,
-        tx: &mut Dosync<Self::Meaning, Self::Functions>,
+        tx: &mut Dosync<S, Self::Meaning, Self::Functions>,
     ) -> Result<Self::Answer, Self::Fault>
         requires { may self.old }
         ensures does { does self.old tx.old result tx.new self.new }
@@ -56,8 +59,7 @@ impl<D, T, E> OnDosync<D, T, E> {
     }
 }
 
-impl<T: Drop, E, D: FnMut(&mut Dosync<Core, CoreFunctions>) -> Result<T, E>> Body
-    for OnDosync<D, T, E> {
+impl<T: Drop, E, D: FnMut(&mut Dosync) -> Result<T, E>> Body<Snapshot> for OnDosync<D, T, E> {
     type Meaning = Core;
 
     type Functions = CoreFunctions;
@@ -74,7 +76,7 @@ impl<T: Drop, E, D: FnMut(&mut Dosync<Core, CoreFunctions>) -> Result<T, E>> Bod
         CoreFunctions
     }
 
-    fn run(&mut self, tx: &mut Dosync<Core, CoreFunctions>) -> Result<T, E>
+    fn run(&mut self, tx: &mut Dosync) -> Result<T, E>
         requires { D.IsAlwaysCallable self.old.body }
         ensures does { CalledAtMut D.FnMut self.old.body tx.old result self.new.body tx.new }
         ensures may { D.IsAlwaysCallable self.new.body }
@@ -101,7 +103,7 @@ impl<B, T, E> OnTx<B, T, E> {
     }
 }
 
-impl<T: Drop, E, B: FnMut(&mut Tx<Core>) -> Result<T, E>> Body for OnTx<B, T, E> {
+impl<T: Drop, E, B: FnMut(&mut Tx<Core>) -> Result<T, E>> Body<Snapshot> for OnTx<B, T, E> {
     type Meaning = Core;
 
     type Functions = ();
@@ -116,7 +118,7 @@ impl<T: Drop, E, B: FnMut(&mut Tx<Core>) -> Result<T, E>> Body for OnTx<B, T, E>
 
     fn functions(&self) -> () {}
 
-    fn run(&mut self, tx: &mut Dosync<Core, ()>) -> Result<T, E>
+    fn run(&mut self, tx: &mut Dosync<Snapshot, Core, ()>) -> Result<T, E>
         requires { B.IsAlwaysCallable self.old.body }
         ensures does { CalledAtMut B.FnMut self.old.body tx.old result self.new.body tx.new }
         ensures may { B.IsAlwaysCallable self.new.body }

@@ -84,7 +84,7 @@ impl From<JobFault> for WorkFault {
 /// Why the receipts don't fit the log.
 #[derive(Clone, Copy, Debug, Drop, PartialEq, Eq, Error)]
 pub enum GatherFault {
-    /// An entry of a transaction or an atom lacks its equal receipt, or a receipt its entry.
+    /// An entry of a transaction or an atom lacks its receipt, or a receipt its entry.
     #[error("log and receipts differ")]
     ReceiptMissing,
     /// The steps of a worker don't rise along the log, or one of them began before the worker's entry before it was there.

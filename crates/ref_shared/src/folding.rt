@@ -78,8 +78,7 @@ impl<M: Meaning, L: Books> Shared<M, L> {
     }
 
     /// Drops the receipts of a share whose entries are folded into the base: see [`ref_world::Booked::forget`]. The lock is held for a look at
-    /// the base, and the receipts are dropped with the lock free. A receipt holds its entry whole, so a checkpoint frees entries only once the
-    /// shares have forgotten them.
+    /// the base, and the receipts are dropped with the lock free.
     pub fn forget<R: Wait>(&self, rt: &R, share: &mut Share<L>)
         ensures { (point : ℕ) × (share.new ≡ forgotten share.old point) }
     {
@@ -106,7 +105,7 @@ fn fold_and_free<M: Meaning, L: Books, F: Functions<M>>(
     // One owner more, so that the base and the log before are dropped when the lock is free again. Where it is refused they are dropped
     // under it.
     let before = held.booked.world.view();
-    let folded = held.booked.world.checkpoint(alloc, funs, point);
+    let folded = held.booked.checkpoint(alloc, funs, point);
     drop(held);
     drop(before);
     folded

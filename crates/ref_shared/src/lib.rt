@@ -21,7 +21,13 @@
 //!
 //! Take it where threads that come and go share refs, atoms and agents; for a program whose threads all begin and end with their world
 //! `ref_program` is shorter. On one thread take `ref_world`, whose calls wait for nobody. `transact` and `transact_when` take a closure,
-//! where functions mean what Core's mean; [`Shared::transact_body`] and [`Shared::transact_body_when`] take a [`Body`] of any meaning.
+//! where functions mean what Core's mean; [`Shared::transact_body`] and [`Shared::transact_body_when`] take a [`Body`] of any meaning, and
+//! its commit compares no value ([`Shared::transact_as`] is for a body that is one over a snapshot alone).
+//!
+//! **One history.** A share knows the history of its world up to some point, and each call that begins, commits or changes an atom lets it know
+//! more. What it knew begins what it knows then, and two shares of one world never know different entries at one point. So a clause of such a
+//! call says what it found under the lock: `begin` reads the values after all that the share then knows, and the entry of a commit or a change
+//! is the last of it.
 //!
 //! **Costs.** Each call takes the lock once, and costs what its call of the world costs; `transact` takes it twice for each try, and once
 //! more where what was committed sent something; `transact_when` does so too, and takes it once more for each call of a body that isn't
@@ -36,11 +42,11 @@
 //!
 //! **Not promised.** Which thread comes first, how often a transaction is tried within its limit and whether it gets through, that a waiter
 //! ever wakes or an action is ever run, and how long anything takes; a call that locks or waits holds its promise where it returns. That
-//! what was found at one lock holds at the next, and in which order two threads deliver their notices. Of the calls on a `Shared` only
-//! `begin`, `commit`, the four that begin with `transact`, `work_once`, those on atoms, `forget` and `finish` have clauses, and
-//! `await_agents` one that says which agent a fault names: what the others do, that a wait ends when it should and not before, that
-//! `transact` delivers the notices and then releases the sends, and that no lock is held over a body, an action, a gate or a sink, is only
-//! tested.
+//! agents, rules and watches which were found at one lock are so at the next, and in which order two threads deliver their notices. Of the
+//! calls on a `Shared` only `begin`, `commit`, those that begin with `transact`, `work_once`, those on atoms, `forget` and `finish` have
+//! clauses, and `await_agents` one that says which agent a fault names: what the others do, that a wait ends when it should and not before,
+//! that `transact` delivers the notices and then releases the sends, and that no lock is held over a body, an action, a gate or a sink, is
+//! only tested.
 #![tactic(auto)]
 
 pub mod bodies;

@@ -4,9 +4,8 @@ ghost use Rattle.std.specs.Bool.{OnTrue, OnFalse};
 ghost use Rattle.ref_shared.specs.Gather.{ReceiptsMatch, has_receipt};
 ghost use Rattle.ref_shared.specs.Marks.{AllMarked, Fits};
 
-use ref_log::{Entry, Same};
+use ref_log::Entry;
 use ref_pvec::PVec;
-use ref_world::LogReceipt;
 use std::alloc::{AllocError, Global};
 
 // Whether the receipts past the base are just the entries that have one, each once.
@@ -14,7 +13,7 @@ pub(crate) fn receipts_match(
     alloc: Global,
     base_point: u64,
     log: &PVec<Entry>,
-    receipts: &[LogReceipt],
+    receipts: &[u64],
 ) -> Result<bool, AllocError>
     requires { base_point + length log.now < 2 ^ 63 }
     ensures yes { IfOk result (λ b. OnTrue b (ReceiptsMatch base_point log.now receipts.now)) }
@@ -22,9 +21,9 @@ pub(crate) fn receipts_match(
 {
     let mut met = vec![in alloc; false; log.len()]?;
     for receipt in receipts {
-        if receipt.point > base_point {
-            let i = (receipt.point - base_point - 1) as usize;
-            if !mark(log, &mut met, i, &receipt.entry) {
+        if *receipt > base_point {
+            let i = (*receipt - base_point - 1) as usize;
+            if !mark(log, &mut met, i) {
                 return Ok(false);
             }
         }
@@ -32,17 +31,17 @@ pub(crate) fn receipts_match(
     Ok(all_marked(log, met.as_slice()))
 }
 
-// Marks the entry that stands at i, where it is this one, has a receipt and isn't marked yet.
-fn mark(log: &PVec<Entry>, met: &mut Vec<bool>, i: usize, entry: &Entry) -> bool
+// Marks the entry that stands at i, where there is one that has a receipt and isn't marked yet.
+fn mark(log: &PVec<Entry>, met: &mut Vec<bool>, i: usize) -> bool
     requires { vec_len met.old ≡ length log.now }
-    ensures yes { OnTrue result (Fits log.now met.old.items i entry.now
+    ensures yes { OnTrue result (Fits log.now met.old.items i
         × (met.new.items ≡ slice_set met.old.items i true)) }
-    ensures no { OnFalse result (Fits log.now met.old.items i entry.now → ⊥) }
+    ensures no { OnFalse result (Fits log.now met.old.items i → ⊥) }
 {
     let Some(here) = log.get(i) else {
         return false;
     };
-    if met[i] || !has_receipt(here) || !here.is_same(entry) {
+    if met[i] || !has_receipt(here) {
         return false;
     }
     met[i] = true;

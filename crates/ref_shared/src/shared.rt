@@ -1,13 +1,13 @@
 //! A world under one lock.
 ghost use Rattle.std.specs.Prelude.{◌≡◌, ℕ, [], true, false, Ok, IfOk, IfErr, OnErr, OnOk};
 ghost use Rattle.ref_log.specs.Replay.{place};
-ghost use Rattle.ref_log.specs.declared.entries.Entry.TheVariants as entries;
 ghost use Rattle.ref_log.specs.declared.notices.Who.TheVariants as who;
 ghost use Rattle.ref_log.specs.declared.operations.Op.TheVariants.{Alter, Set};
 ghost use Rattle.ref_refs.specs.Conflicts.{ConflictFits};
 ghost use Rattle.ref_world.specs.Shares.{all_parts};
 ghost use Rattle.ref_shared.specs.Bodies.{IsFresh};
-ghost use Rattle.ref_shared.specs.Commits.{AreCommitted, AreNotices, HasCommitted, HasReceipt};
+ghost use Rattle.ref_world.specs.History.{point_in, refs_in};
+ghost use Rattle.ref_shared.specs.Commits.{AreCommitted, AreNotices, HasChanged, HasCommitted, HasEnded, HasLearned};
 ghost use Rattle.ref_shared.specs.Gather.{GatherFails, InOrder, ReceiptsMatch};
 
 use crate::faults::GatherFault;
@@ -18,9 +18,9 @@ use ref_atoms::{AtomFault, Cas, Swapped};
 use ref_fun::{Action, Args, Functions, Meaning, Rule};
 use ref_log::{MakeFault, RuleFault, Stamp, WatchFault, Who};
 use ref_refs::CommitFault;
-use ref_tx::{Beginning, Tx};
+use ref_tx::{Snapshot, Tx};
 use ref_value::Value;
-use ref_world::{Booked, Books, Receipt, Share, Totals, View, World};
+use ref_world::{Booked, Books, Opening, Preparing, Receipt, Share, Totals, View, World};
 use std::alloc::{AllocError, Global};
 use std::hint::spin_loop;
 use std::sync::{Condvar, Mutex, MutexGuard, Wait};
@@ -88,16 +88,44 @@ impl<M: Meaning, L: Books> Shared<M, L> {
         self.held.lock(rt)
     }
 
-    /// Begins a transaction over the values as they are now: see [`World::begin`].
-    pub fn begin<R: Wait>(&self, rt: &R, alloc: Global) -> Result<Tx<M>, AllocError>
-        ensures { IfOk result (λ tx. IsFresh tx) }
+    /// Begins a transaction over the values as they are now: see [`World::begin`]. They are the values after all of the history that the share
+    /// then knows.
+    pub fn begin<R: Wait>(
+        &self,
+        rt: &R,
+        alloc: Global,
+        share: &mut Share<L>,
+    ) -> Result<Tx<M>, AllocError>
+        ensures fresh { IfOk result (λ tx. IsFresh tx) }
+        ensures began { IfOk result (λ tx. (tx.read_point ≡ point_in share.new.history)
+            × (tx.began ≡ refs_in M.means share.new.history)) }
+        ensures learned { HasLearned M.means share.old share.new }
     {
-        self.lock(rt).booked.world.begin(alloc)
+        self.begin_as::<Snapshot, R>(rt, alloc, share)
     }
 
-    /// Commits a transaction: see [`Booked::commit_with`]. The caller delivers the notices of the receipt to the watches, and
-    /// then releases the commit's sends by [`Shared::release`]; [`Shared::transact`] does all of it.
-    pub fn commit<R: Wait, F: Functions<M>, S: Beginning>(
+    /// The same, with a beginning of any kind. One that began as [`Known`](ref_world::Known) compares no value when it is committed.
+    pub fn begin_as<S: Opening<M, L>, R: Wait>(
+        &self,
+        rt: &R,
+        alloc: Global,
+        share: &mut Share<L>,
+    ) -> Result<Tx<M, S>, AllocError>
+        ensures fresh { IfOk result (λ tx. IsFresh tx) }
+        ensures began { IfOk result (λ tx. (tx.read_point ≡ point_in share.new.history)
+            × (tx.began ≡ refs_in M.means share.new.history)) }
+        ensures learned { HasLearned M.means share.old share.new }
+    {
+        let mut held = self.lock(rt);
+        S::start(&mut held.booked, alloc, share)
+    }
+
+    /// Commits a transaction: see [`Booked::commit_with`]. Its entry is the last of the history that the share then knows, at the receipt's
+    /// point, and each of its operations was a legal step there.
+    ///
+    /// The caller delivers the notices of the receipt to the watches, and then releases the commit's sends by [`Shared::release`];
+    /// [`Shared::transact`] does all of it.
+    pub fn commit<R: Wait, F: Functions<M>, S: Preparing<M, L>>(
         &self,
         rt: &R,
         alloc: Global,
@@ -107,14 +135,16 @@ impl<M: Meaning, L: Books> Shared<M, L> {
         tx: Tx<M, S>,
     ) -> Result<Receipt, (Tx<M, S>, CommitFault)>
         ensures stamp { IfOk result (λ receipt. receipt.stamp ≡ stamp) }
-        ensures share { IfOk result (λ receipt. HasCommitted stamp tx receipt.point share.old share.new) }
+        ensures share { IfOk result (λ receipt. HasCommitted M.means stamp tx receipt.point share.old share.new) }
         ensures notices { IfOk result (λ receipt. AreCommitted M.means tx receipt.notices.items) }
         ensures conflict { IfErr result (λ e. ConflictFits tx e.1) }
         ensures back { IfErr result (λ e. e.0 ≡ tx) }
-        ensures same { OnErr result (share.new ≡ share.old) }
+        ensures learned { OnErr result (HasLearned M.means share.old share.new) }
     {
         let mut held = self.lock(rt);
-        let committed = held.booked.commit_with(alloc, funs, share, stamp, tx);
+        let booked = &mut held.booked;
+        let committed = booked.commit_with(alloc, funs, share, stamp, tx);
+        booked.inform(share);
         self.free_with_entry(held, committed.is_ok());
         committed
     }
@@ -179,7 +209,7 @@ impl<M: Meaning, L: Books> Shared<M, L> {
         tally: bool,
     ) -> Result<u32, MakeFault> {
         let mut held = self.lock(rt);
-        let made = held.booked.world.make_ref(alloc, funs, value, rule, tally);
+        let made = held.booked.make_ref(alloc, funs, value, rule, tally);
         self.free_with_entry(held, made.is_ok());
         made
     }
@@ -194,7 +224,7 @@ impl<M: Meaning, L: Books> Shared<M, L> {
         rule: Option<Rule>,
     ) -> Result<u32, MakeFault> {
         let mut held = self.lock(rt);
-        let made = held.booked.world.make_atom(alloc, funs, value, rule);
+        let made = held.booked.make_atom(alloc, funs, value, rule);
         self.free_with_entry(held, made.is_ok());
         made
     }
@@ -229,11 +259,14 @@ impl<M: Meaning, L: Books> Shared<M, L> {
     ) -> Result<Swapped, AtomFault>
         ensures new { IfOk result (λ s. place M.means (Alter code args) s.old ≡ Ok s.new) }
         ensures notices { IfOk result (λ s. AreNotices (who.Atom a) s.old s.new s.notices.items) }
-        ensures share { IfOk result (λ s. HasReceipt (entries.Atom a (Alter code args) s.new) share.old share.new) }
-        ensures same { OnErr result (share.new ≡ share.old) }
+        ensures share { IfOk result (λ s. HasChanged M.means a (Alter code args) s.old s.new share.old share.new) }
+        ensures learned { OnErr result (HasLearned M.means share.old share.new) }
     {
         let mut held = self.lock(rt);
-        let swapped = held.booked.swap(alloc, funs, share, a, code, args);
+        let booked = &mut held.booked;
+        booked.inform(share);
+        let swapped = booked.swap(alloc, funs, share, a, code, args);
+        booked.inform(share);
         self.free_with_entry(held, swapped.is_ok());
         swapped
     }
@@ -251,11 +284,14 @@ impl<M: Meaning, L: Books> Shared<M, L> {
     ) -> Result<Swapped, AtomFault>
         ensures new { IfOk result (λ s. s.new ≡ value) }
         ensures notices { IfOk result (λ s. AreNotices (who.Atom a) s.old s.new s.notices.items) }
-        ensures share { OnOk result (HasReceipt (entries.Atom a (Set value) value) share.old share.new) }
-        ensures same { OnErr result (share.new ≡ share.old) }
+        ensures share { IfOk result (λ s. HasChanged M.means a (Set value) s.old value share.old share.new) }
+        ensures learned { OnErr result (HasLearned M.means share.old share.new) }
     {
         let mut held = self.lock(rt);
-        let swapped = held.booked.reset(alloc, funs, share, a, value);
+        let booked = &mut held.booked;
+        booked.inform(share);
+        let swapped = booked.reset(alloc, funs, share, a, value);
+        booked.inform(share);
         self.free_with_entry(held, swapped.is_ok());
         swapped
     }
@@ -273,14 +309,17 @@ impl<M: Meaning, L: Books> Shared<M, L> {
         new: Value,
     ) -> Result<Cas, AtomFault>
         ensures share { IfOk result (λ c. c.done ≡ true
-            → HasReceipt (entries.Atom a (Set new) new) share.old share.new) }
-        ensures unshared { IfOk result (λ c. c.done ≡ false → share.new ≡ share.old) }
+            → HasChanged M.means a (Set new) old.now new share.old share.new) }
+        ensures unshared { IfOk result (λ c. c.done ≡ false → HasLearned M.means share.old share.new) }
         ensures untold { IfOk result (λ c. c.done ≡ false → c.notices.items ≡ []) }
         ensures notices { IfOk result (λ c. c.done ≡ true → AreNotices (who.Atom a) old.now new c.notices.items) }
-        ensures same { OnErr result (share.new ≡ share.old) }
+        ensures learned { OnErr result (HasLearned M.means share.old share.new) }
     {
         let mut held = self.lock(rt);
-        let compared = held.booked.compare_and_set(alloc, funs, share, a, old, new);
+        let booked = &mut held.booked;
+        booked.inform(share);
+        let compared = booked.compare_and_set(alloc, funs, share, a, old, new);
+        booked.inform(share);
         self.free_with_entry(held, matches!(&compared, Ok(Cas { done: true, .. })));
         compared
     }
@@ -357,6 +396,7 @@ impl<M: Meaning, L: Books> Shared<M, L> {
         ensures ok { IfOk result (λ r. ReceiptsMatch r.0.base.point r.0.log share.receipts
             × InOrder r.0.base.point r.0.log) }
         ensures fault { IfErr result (λ e. GatherFails e.0.world.base.point e.0.world.log share.receipts e.2) }
+        ensures history { IfOk result (λ r. HasEnded M.means share.history r.0.base r.0.log) }
         ensures back { IfErr result (λ e. e.1 ≡ share) }
     {
         let Shared {
@@ -369,7 +409,8 @@ impl<M: Meaning, L: Books> Shared<M, L> {
             is_closed: _,
             waiters: _,
         } = held.into_inner();
-        // A world's points end at 2^62.
+        // What the share knows of the history begins it, and a world's points end at 2^62.
+        booked.bounds(share.front());
         let point = booked.world.base().point;
         let _ = booked.world.point();
         let mut share = share;

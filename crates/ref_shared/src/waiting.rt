@@ -1,6 +1,8 @@
 //! Waiting: for the actions that were sent to agents, and for an entry after which a transaction may be ready.
 ghost use Rattle.std.specs.Prelude.{◌≡◌, ◌<◌, IfOk, IfErr, OnErr};
 ghost use Rattle.ref_shared.specs.Sinks.{TakesAll};
+ghost use Rattle.ref_fun.specs.Core.{core_means};
+ghost use Rattle.ref_shared.specs.Commits.{HasLearned};
 ghost use Rattle.ref_shared.specs.Bodies.{calls_of};
 ghost use Rattle.ref_shared.specs.Waits.{Landed, NamesOneOf, WaitFails};
 
@@ -12,8 +14,8 @@ use crate::waiters::Look;
 use ref_fun::{Core, Functions, Meaning};
 use ref_log::Stamp;
 use ref_refs::CommitFault;
-use ref_tx::{Dosync, Tx};
-use ref_world::{Books, Receipt, Share};
+use ref_tx::{Dosync, Snapshot, Tx};
+use ref_world::{Books, Known, Opening, Preparing, Receipt, Share};
 use std::alloc::Global;
 use std::sync::{MutexGuard, Wait};
 
@@ -109,8 +111,8 @@ impl<M: Meaning, L: Books> Shared<M, L> {
         F: Functions<M>,
         T: Drop,
         G: Gate,
-        S: WatchSink,
-        B: Body<Meaning = M, Answer = Option<T>>,
+        K: WatchSink,
+        B: Body<Known<M, L>, Meaning = M, Answer = Option<T>>,
     >(
         &self,
         rt: &R,
@@ -120,23 +122,63 @@ impl<M: Meaning, L: Books> Shared<M, L> {
         stamp: Stamp,
         tries: u32,
         gate: &mut G,
-        sink: &mut S,
+        sink: &mut K,
         body: &mut B,
     ) -> Result<(T, Receipt), WaitFault<B::Fault>>
         requires body { B.may body.old }
         requires tries { 0 < tries }
-        ensures ok { IfOk result (λ r. Landed B.does body.old body.new tries
+        ensures ok { IfOk result (λ r. Landed M.means B.does body.old body.new tries
             r.0 stamp r.1.point share.old share.new) }
         ensures stamp { IfOk result (λ r. r.1.stamp ≡ stamp) }
         ensures fault { IfErr result (λ f. WaitFails B.does body.old body.new tries f) }
-        ensures same { OnErr result (share.new ≡ share.old) }
-        ensures told { IfOk result (λ r. TakesAll S.takes sink.old r.1.notices.items sink.new) }
+        ensures learned { OnErr result (HasLearned M.means share.old share.new) }
+        ensures told { IfOk result (λ r. TakesAll K.takes sink.old r.1.notices.items sink.new) }
+        ensures untold { OnErr result (sink.new ≡ sink.old) }
+        ensures may { B.may body.new }
+    {
+        self.transact_as_when::<Known<M, L>, R, F, T, G, K, B>(
+            rt, alloc, funs, share, stamp, tries, gate, sink, body,
+        )
+    }
+
+    /// As [`Shared::transact_body_when`], with a transaction whose beginning is of any kind, as [`Shared::transact_as`] is to
+    /// [`Shared::transact_body`].
+    pub fn transact_as_when<
+        S: Opening<M, L>,
+        R: Wait,
+        F: Functions<M>,
+        T: Drop,
+        G: Gate,
+        K: WatchSink,
+        B: Body<S, Meaning = M, Answer = Option<T>>,
+    >(
+        &self,
+        rt: &R,
+        alloc: Global,
+        funs: &F,
+        share: &mut Share<L>,
+        stamp: Stamp,
+        tries: u32,
+        gate: &mut G,
+        sink: &mut K,
+        body: &mut B,
+    ) -> Result<(T, Receipt), WaitFault<B::Fault>>
+    where
+        S::Closed: Preparing<M, L>,
+        requires body { B.may body.old }
+        requires tries { 0 < tries }
+        ensures ok { IfOk result (λ r. Landed M.means B.does body.old body.new tries
+            r.0 stamp r.1.point share.old share.new) }
+        ensures stamp { IfOk result (λ r. r.1.stamp ≡ stamp) }
+        ensures fault { IfErr result (λ f. WaitFails B.does body.old body.new tries f) }
+        ensures learned { OnErr result (HasLearned M.means share.old share.new) }
+        ensures told { IfOk result (λ r. TakesAll K.takes sink.old r.1.notices.items sink.new) }
         ensures untold { OnErr result (sink.new ≡ sink.old) }
         ensures may { B.may body.new }
     {
         let mut conflicts = 0u32;
         for _ in rt.forever() {
-            let Ok(tx) = self.begin(rt, alloc) else {
+            let Ok(tx) = self.begin_as::<S, R>(rt, alloc, share) else {
                 return Err(WaitFault::Transact(TransactFault::Memory));
             };
             let mut tx = Dosync {
@@ -222,15 +264,17 @@ impl<L: Books> Shared<Core, L> {
     ) -> Result<(T, Receipt), WaitFault<E>>
         requires body { B.IsAlwaysCallable body }
         requires tries { 0 < tries }
-        ensures ok { IfOk result (λ r. (last : B) × Landed (calls_of B.FnMut) body last tries
+        ensures ok { IfOk result (λ r. (last : B) × Landed core_means (calls_of B.FnMut) body last tries
             r.0 stamp r.1.point share.old share.new) }
         ensures stamp { IfOk result (λ r. r.1.stamp ≡ stamp) }
         ensures fault { IfErr result (λ f. (last : B) × WaitFails (calls_of B.FnMut) body last tries f) }
-        ensures same { OnErr result (share.new ≡ share.old) }
+        ensures learned { OnErr result (HasLearned core_means share.old share.new) }
         ensures told { IfOk result (λ r. TakesAll S.takes sink.old r.1.notices.items sink.new) }
         ensures untold { OnErr result (sink.new ≡ sink.old) }
     {
         let mut body = OnTx::of(body);
-        self.transact_body_when(rt, alloc, funs, share, stamp, tries, gate, sink, &mut body)
+        self.transact_as_when::<Snapshot, R, F, T, G, S, OnTx<B, Option<T>, E>>(
+            rt, alloc, funs, share, stamp, tries, gate, sink, &mut body,
+        )
     }
 }

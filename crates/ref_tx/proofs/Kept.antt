@@ -8,8 +8,8 @@ use Rattle.ref_log.specs.declared.operations.Done.{Done}
 use Rattle.ref_tx.specs.Starts.{HasStarts, flat, kept_at, start_in, start_of}
 
 -- all values are kept
-pub all_kept : (began : List Edn) (dones : List Done) → HasStarts began (λ i r. slice_get began r) dones
-all_kept began dones = record { starts = λ i d here is. refl }
+pub all_kept : (began : List Edn) (start_at : ℕ → ℕ → Option Edn) (dones : List Done) → ((i r : ℕ) → start_at i r ≡ slice_get began r) → HasStarts began start_at dones
+all_kept began start_at dones has_all = record { starts = λ i d here is. has_all i d.r }
 
 pub kept_late : (first second : Option Edn) (others : List (Option Edn)) (i : ℕ) → 2 ≤ i → kept_at first second others i ≡ flat (slice_get others (i - 2))
 kept_late first second others zero h = absurd (omega (arith, h))

@@ -1,5 +1,5 @@
 //! What a transaction holds of the values that it began with.
-ghost use Rattle.std.specs.Prelude.{◌≡◌, ℕ, List, Option, IfOk, drop, map, option_copied, slice_get};
+ghost use Rattle.std.specs.Prelude.{◌≡◌, ℕ, List, Option, IfOk, drop, map, option_copied, refl, slice_get};
 ghost use Rattle.std.specs.Option.{option_map};
 ghost use Rattle.ref_tx.specs.Starts.{HasStarts, flat, kept_at, start_in, start_of};
 ghost use Rattle.ref_value.specs.Edn.{Edn};
@@ -16,12 +16,36 @@ pub trait Beginning: Drop {
     /// The values of all refs in the beginning.
     ghost values: { Self → List Edn };
 
-    /// What is held for the operation of a number, on a ref.
+    /// What the ref of an operation began with, by the operation's number and its ref. It is asked of operations that protect their ref.
     ghost start_at: { Self → ℕ → ℕ → Option Edn };
 
-    /// What is held for the operation of this number, which is on this ref.
+    /// It is the beginning of a transaction that reads as of this point.
+    ghost fits: { Self → ℕ → Type 0 };
+}
+
+/// A beginning that holds the values which its transaction's operations protect, so that they can be compared.
+pub trait Comparable: Beginning {
+    /// What the ref of the operation of this number began with, which is on this ref.
     fn start_of(&self, i: usize, r: u32) -> Option<&Value>
-        ensures { option_copied result ≡ start_at self.now i r };
+        ensures { option_copied result ≡ Self.start_at self.now i r };
+}
+
+/// The beginning of a transaction that is open: it has all values.
+pub trait Readable: Beginning {
+    /// What is left of it once the transaction is closed.
+    type Closed: Beginning;
+
+    /// All refs in the beginning.
+    fn snapshot(&self) -> &Snapshot
+        ensures { result.now.values ≡ Self.values self.now };
+
+    /// What a commit asks for, of a transaction with these operations.
+    fn close(self, alloc: Global, dones: &[Done]) -> Result<Self::Closed, AllocError>
+        ensures values { IfOk result (λ closed. Self.Closed.values closed ≡ Self.values self) }
+        ensures starts { IfOk result (λ closed. HasStarts (Self.values self) (Self.Closed.start_at closed) dones.now) }
+        ensures fits { IfOk result (λ closed. (point : ℕ) → Self.fits self point → Self.Closed.fits closed point) };
+
+    ghost has_all: { (s : Self) (i r : ℕ) → Self.start_at s i r ≡ slice_get (Self.values s) r };
 }
 
 impl Beginning for Snapshot {
@@ -29,8 +53,26 @@ impl Beginning for Snapshot {
 
     ghost start_at = { λ s i r. slice_get s.values r };
 
+    ghost fits = { λ s point. Unit {0} };
+}
+
+impl Comparable for Snapshot {
     fn start_of(&self, _i: usize, r: u32) -> Option<&Value> {
         self.get(r)
+    }
+}
+
+impl Readable for Snapshot {
+    type Closed = Starts;
+
+    ghost has_all = { λ s i r. refl };
+
+    fn snapshot(&self) -> &Snapshot {
+        self
+    }
+
+    fn close(self, alloc: Global, dones: &[Done]) -> Result<Starts, AllocError> {
+        Starts::of(alloc, &self, dones)
     }
 }
 
@@ -68,6 +110,10 @@ impl Beginning for Starts {
 
     ghost start_at = { λ s i r. kept_at s.first s.second s.others.items i };
 
+    ghost fits = { λ s point. Unit {0} };
+}
+
+impl Comparable for Starts {
     #[tactic(auto, using(crate::proofs::Kept::kept_late))]
     fn start_of(&self, i: usize, _r: u32) -> Option<&Value> {
         match i {

@@ -6,7 +6,9 @@ ghost use Rattle.ref_tx.specs.Inner.{inner_value, with_done, with_sent};
 ghost use Rattle.ref_tx.specs.declared.faults.TxFault.TheVariants.{NotMet};
 ghost use Rattle.ref_value.specs.Edn.{Edn};
 
+use crate::beginnings::Readable;
 use crate::faults::TxFault;
+use crate::snapshots::Snapshot;
 use crate::transactions::Tx;
 use ref_fun::{Action, Core, CoreFunctions, Functions, IntoArgs, IntoValue, Meaning, Rule};
 use ref_value::Value;
@@ -16,13 +18,13 @@ use std::marker::Model;
 /// A transaction that is open, with the allocator and the functions that its calls take: what the body of a transaction gets. Its calls are
 /// those of [`Tx`], and take arguments as Rust has them. Contracts see what they see of the [`Tx`].
 #[derive(Drop)]
-pub struct Dosync<M: Meaning = Core, F = CoreFunctions> {
-    pub tx: Tx<M>,
+pub struct Dosync<S: Readable = Snapshot, M: Meaning = Core, F = CoreFunctions> {
+    pub tx: Tx<M, S>,
     pub alloc: Global,
     pub funs: F,
 }
 
-impl<M: Meaning, F> Model for Dosync<M, F> {
+impl<S: Readable, M: Meaning, F> Model for Dosync<S, M, F> {
     ghost use Rattle.std.specs.Coded.{codes};
     ghost use Rattle.ref_value.specs.Code.{edn_code};
     ghost use Rattle.ref_tx.specs.Seen.{TxSeen};
@@ -34,7 +36,7 @@ impl<M: Meaning, F> Model for Dosync<M, F> {
     ghost view = { λ d. d.tx };
 }
 
-impl<M: Meaning, F: Functions<M>> Dosync<M, F> {
+impl<S: Readable, M: Meaning, F: Functions<M>> Dosync<S, M, F> {
     /// The in-transaction value of a ref: Clojure's `deref`, or `@`. It takes no memory.
     pub fn deref(&self, r: u32) -> Result<&Value, TxFault>
         ensures ok { IfOk result (λ v. inner_value M.means self.now r ≡ Some v.now) }

@@ -7,7 +7,7 @@
 //! | Type | Is |
 //! |---|---|
 //! | [`Tx`] | a transaction, open or closed: its operations so far with their answers, and what it sends |
-//! | [`Beginning`] | what a transaction holds of the values that it began with: a [`Snapshot`] while it is open, [`Starts`] once it is closed |
+//! | [`Beginning`], [`Readable`], [`Comparable`] | what a transaction holds of the values that it began with: all while it is open, a [`Snapshot`] or what another crate has for one; once it is closed what a commit asks for, as [`Starts`], which can be compared |
 //! | [`Dosync`] | a [`Tx`] with its allocator and functions, so that its calls are as short as Clojure's |
 //! | [`TxFault`] | why a call of it was refused; the transaction is then as it was |
 //! | [`Snapshot`] | all refs at one point, by number; one that is shared and then gets another value has all else in common with it |
@@ -41,7 +41,7 @@ pub mod snapshots;
 mod tables;
 pub mod transactions;
 
-pub use beginnings::{Beginning, Starts};
+pub use beginnings::{Beginning, Comparable, Readable, Starts};
 pub use dosync::Dosync;
 pub use faults::TxFault;
 pub use snapshots::{Snapshot, Version};

@@ -8,7 +8,7 @@ ghost use Rattle.ref_log.specs.Tally.{is_tally};
 ghost use Rattle.ref_tx.specs.Inner.{IsTx, inner_value, has_ref, is_commuted, refusal, refusal_by, early_refusal, answer_of, and_place, called, send_refusal, unmet, with_done, with_sent};
 ghost use Rattle.ref_tx.specs.declared.faults.TxFault.TheVariants.{NoSuchRef, Memory};
 
-use crate::beginnings::{Beginning, Starts};
+use crate::beginnings::{Beginning, Comparable, Readable};
 use crate::faults::TxFault;
 use crate::snapshots::Snapshot;
 use crate::tables::Table;
@@ -21,8 +21,8 @@ use std::marker::{Model, PhantomData};
 /// A transaction. Contracts see its read point, the values that it began with, its operations with their
 /// answers, what it sends, the number of the tally, and how many agents there were.
 ///
-/// It is open if S is [`Snapshot`], as it is where S isn't written. [`Tx::close`] makes it one that only a commit takes; what contracts see
-/// stays the same.
+/// It is open if S is [`Readable`], as [`Snapshot`] is, which S is where it isn't written. [`Tx::close`] makes it one that only a commit
+/// takes; what contracts see stays the same.
 ///
 /// A call costs a look-up among the refs that the transaction has operated on, and its function.
 #[derive(Drop)]
@@ -61,23 +61,25 @@ impl<M: Meaning, S: Beginning> Model for Tx<M, S> {
 
     ghost invariant = { λ a. IsTx M.means (S.values a.began) a.dones a.tally
         × IsTabled M.means (S.values a.began) a.dones a.table
-        × HasStarts (S.values a.began) (S.start_at a.began) a.dones };
+        × HasStarts (S.values a.began) (S.start_at a.began) a.dones
+        × S.fits a.began a.read_point };
 }
 
-impl<M: Meaning> Tx<M> {
-    /// A transaction that has done nothing. It reads this snapshot, which is that of this point; the tally is the ref of this
+impl<M: Meaning, S: Readable> Tx<M, S> {
+    /// A transaction that has done nothing. It reads this beginning, which is that of this point; the tally is the ref of this
     /// number, and there are so many agents. It takes no memory.
     pub fn start(
         alloc: Global,
         read_point: u64,
-        began: Snapshot,
+        began: S,
         tally: Option<u32>,
         agents: usize,
-    ) -> Tx<M>
+    ) -> Tx<M, S>
+        requires { S.fits began read_point }
         ensures { result
             ≡ record {
               read_point = read_point;
-              began = began.values;
+              began = S.values began;
               dones = [];
               sends = [];
               tally = tally;
@@ -100,13 +102,14 @@ impl<M: Meaning> Tx<M> {
     pub fn began(&self) -> &Snapshot
         ensures { result.now.values ≡ self.now.began }
     {
-        &self.began
+        self.began.snapshot()
     }
 
-    /// The transaction once its body is done, for a commit: nothing more can be done in it. Of the values that it began with it holds those of
-    /// the refs that it protects. It drops all others, so that they can be changed in place. Linear in the number of operations. It takes memory
-    /// for more than two operations; if that is refused, the transaction is dropped.
-    pub fn close(self, alloc: Global) -> Result<Tx<M, Starts>, AllocError>
+    /// The transaction once its body is done, for a commit: nothing more can be done in it. Of the values that it began with it holds what S
+    /// needs for a commit, and drops all others, so that they can be changed in place. That of a [`Snapshot`] holds those of the refs that it
+    /// protects: then it is linear in the number of operations, and takes memory for more than two. If that is refused, the transaction is
+    /// dropped.
+    pub fn close(self, alloc: Global) -> Result<Tx<M, S::Closed>, AllocError>
         ensures { IfOk result (λ tx. tx ≡ self) }
     {
         let Tx {
@@ -119,10 +122,10 @@ impl<M: Meaning> Tx<M> {
             table,
             of,
         } = self;
-        let starts = Starts::of(alloc, &began, dones.as_slice())?;
+        let began = began.close(alloc, dones.as_slice())?;
         Ok(Tx {
             read_point,
-            began: starts,
+            began,
             dones,
             sends,
             tally: number,
@@ -140,7 +143,7 @@ impl<M: Meaning> Tx<M> {
         ensures err { IfErr result (λ f. (f ≡ NoSuchRef) × (has_ref self.now r ≡ false)) }
         ensures none { OnErr result (inner_value M.means self.now r ≡ None) }
     {
-        match self.began.get(r) {
+        match self.began.snapshot().get(r) {
             None => Err(TxFault::NoSuchRef),
             Some(began) => match self.table.last_of(self.dones.as_slice(), r) {
                 Some(answer) => Ok(answer),
@@ -313,6 +316,14 @@ impl<M: Meaning, S: Beginning> Tx<M, S> {
         self.read_point
     }
 
+    /// What it holds of the values that it began with.
+    pub fn beginning(&self) -> &S
+        ensures values { S.values result.now ≡ self.now.began }
+        ensures fits { S.fits result.now self.now.read_point }
+    {
+        &self.began
+    }
+
     /// The operations so far, each with its answer: the in-transaction value after it.
     pub fn dones(&self) -> &[Done]
         ensures value { result.now ≡ self.now.dones }
@@ -348,7 +359,9 @@ impl<M: Meaning, S: Beginning> Tx<M, S> {
     {
         &self.sends
     }
+}
 
+impl<M: Meaning, S: Comparable> Tx<M, S> {
     /// What the ref of an operation had in the beginning, for the operation of this number, where that protects its ref.
     pub fn start_of(&self, i: usize) -> Option<&Value>
         requires { i < length self.now.dones }

@@ -119,7 +119,7 @@ where
     R: Threads + Wait + Sync,
     G: Gate + Send + Drop,
     requires gates { vec_len gates ≡ length plan.now.workers + plan.now.pool }
-    requires blanks { AreBlanks blanks L.commits L.added L.taken }
+    requires blanks { AreBlanks blanks L.commits L.added L.taken L.story }
     ensures orderly { IfOk result (λ out. IsOrderly plan.now out.world out.refused.items) }
     ensures order { IfOk result (λ out. AreInOrder out.refused.items) }
     ensures reasons { IfOk result (λ out. HaveReasons plan.now.workers out.refused.items) }
@@ -159,14 +159,14 @@ fn open_world<F: Functions<Core>, L: Books>(
     plan: &Plan,
     blanks: Blanks,
 ) -> Result<(Booked<Core, L>, Share<L>), Stop>
-    requires { AreBlanks blanks L.commits L.added L.taken }
+    requires { AreBlanks blanks L.commits L.added L.taken L.story }
     ensures refs { IfOk result (λ r. declared_refs core_accepts (F.knows funs.now).preds plan.now.refs ≡ Ok r.0.world.refs) }
     ensures atoms { IfOk result (λ r. declared_atoms core_accepts (F.knows funs.now).preds plan.now.atoms
         ≡ Ok r.0.world.atoms) }
     ensures agents { IfOk result (λ r. declared_agents core_accepts (F.knows funs.now).preds plan.now.agents
         ≡ Ok r.0.world.agents) }
     ensures log { IfOk result (λ r. r.0.world.log ≡ []) }
-    ensures share { IfOk result (λ r. r.1 ≡ whole) }
+    ensures share { IfOk result (λ r. r.1 ≡ whole r.1.history) }
 {
     match Booked::new(alloc, funs, plan.start(), blanks) {
         Ok(opened) => Ok(opened),

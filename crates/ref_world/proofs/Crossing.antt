@@ -56,11 +56,16 @@ use Rattle.ref_agents.specs.contracts.pairs.Pairs.TheInside as InPairs
 use Rattle.std.proofs.sync.ledger.Book.TheSendSync as book
 use Rattle.std.proofs.sync.ledger.Share.TheSendSync as part
 use Rattle.ref_world.specs.contracts.booked.Booked as Booked
+use Rattle.ref_story.proofs.tokens.Seen.TheSendSync as seen
+use Rattle.ref_story.proofs.tokens.Story.TheSendSync as story
 use Rattle.ref_world.specs.contracts.counts.Counts as Counts
 use Rattle.ref_world.specs.contracts.counts.Counts.TheInside as InCounts
+use Rattle.ref_world.specs.contracts.histories.Front as Front
+use Rattle.ref_world.specs.contracts.histories.Front.TheInside as InFront
+use Rattle.ref_world.specs.contracts.histories.History as History
+use Rattle.ref_world.specs.contracts.histories.History.TheInside as InHistory
 use Rattle.ref_world.specs.contracts.ledgers.Ledgers as Ledgers
 use Rattle.ref_world.specs.contracts.ledgers.Ledgers.TheInside as InLedgers
-use Rattle.ref_world.specs.contracts.shares.LogReceipt as LogReceipt
 use Rattle.ref_world.specs.contracts.shares.Share as Share
 use Rattle.ref_world.specs.contracts.shares.Share.TheInside as InShare
 use Rattle.ref_world.specs.contracts.views.View as View
@@ -196,9 +201,6 @@ entry_send = variants_send Entry.enum (
   ),
 )
 
-receipt_send : IsSend LogReceipt.the_row
-receipt_send = declared_send LogReceipt.the_type (search plain depth 60, (entry_send, tt))
-
 pub rule_send : IsSend Rule.the_row
 rule_send = declared_send Rule.the_type (search plain depth 60, (args_send, tt))
 
@@ -333,6 +335,12 @@ module _ (M : RattleType) (g : Meaning.Ghosts M.Denot) where
   ))
 
 module _ (L : RattleType) (gL : Books.Ghosts L.Denot) where
+  pub front_send : IsSend (Front.the_row L gL)
+  front_send = view_send _ _ _ _ _ (declared_send (InFront.the_type L gL) (search plain depth 60, (search (seen.the_send, plain) depth 60, (search plain depth 60, tt))))
+
+  history_send : IsSend (History.the_row L gL)
+  history_send = view_send _ _ _ _ _ (declared_send (InHistory.the_type L gL) (search (story.the_send, plain) depth 60, (search plain depth 60, tt)))
+
   pub share_send : IsSend (Share.the_row L gL)
   share_send = view_send _ _ _ _ _ (declared_send (InShare.the_type L gL) (
     search plain depth 60,
@@ -342,7 +350,7 @@ module _ (L : RattleType) (gL : Books.Ghosts L.Denot) where
         search (part.the_send, plain) depth 60,
         (
           search (part.the_send, plain) depth 60,
-          (search (receipt_send, plain) depth 60, tt),
+          (search plain depth 60, (front_send, tt)),
         ),
       ),
     ),
@@ -359,4 +367,4 @@ module _ (L : RattleType) (gL : Books.Ghosts L.Denot) where
 
   module _ (M : RattleType) (gM : Meaning.Ghosts M.Denot) where
     pub booked_send : IsSend (Booked.the_row M L gM gL)
-    booked_send = declared_send (Booked.the_type M L gM gL) (world_send M gM, (ledgers_send, tt))
+    booked_send = declared_send (Booked.the_type M L gM gL) (world_send M gM, (ledgers_send, (history_send, tt)))

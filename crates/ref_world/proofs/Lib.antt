@@ -3,3 +3,4 @@ pub mod Refusals
 pub mod Starting
 pub mod Crossing
 pub mod Folded
+pub mod Cut

@@ -21,6 +21,7 @@ use Rattle.ref_agents.specs.Agents.{AgentsSeen}
 use Rattle.ref_atoms.specs.Atoms.{AtomsSeen}
 use Rattle.ref_atoms.specs.declared.changes.Change.{Change}
 use Rattle.ref_refs.specs.Commit as refs
+use Rattle.ref_refs.specs.Ready.{CanInstall}
 use Rattle.ref_refs.specs.Seen.{RefsSeen, are_unchanged_since, changed_at}
 use Rattle.ref_refs.specs.Watches.{notices, touched_refs}
 use Rattle.ref_refs.specs.declared.committing.Prepared.{Prepared}
@@ -100,24 +101,10 @@ abbrev pub commit_refusal : Means → Accepts → Known → WorldSeen → TxSeen
 commit_refusal means accepts knows world tx =
     refs.commit_refusal means accepts knows world.refs (point_of world + 1) (length world.agents.agents) (room world.books.added) (room world.books.taken) tx
 
--- What a commit of this transaction that was prepared does, on this world: it has its entry, which is one step from the values now to those
--- that it puts in their places; these keep the rules, the points of last change follow, and the books have room for what it moves.
-pub record IsReady (means : Means) (accepts : Accepts) (world : WorldSeen) (stamp : Stamp) (tx : TxSeen) (p : Prepared) : Type 0 where
-  pub base : p.refs.base ≡ record { values = world.refs.values; lasts = world.refs.lasts }
-  pub values : (atoms : List Edn) → step means (point_of world + 1) (refs.entry_of stamp tx) (record { refs = world.refs.values; atoms = atoms }) ≡ Ok (record { refs = p.refs.values; atoms = atoms })
-  pub fits : fit_tally world.refs.tally tx.dones ≡ true
-  pub made : after_dones means tx.dones (point_of world + 1) tx.dones (Ok world.refs.values) ≡ Ok p.refs.values
-  pub accepted : AreAccepted accepts world.refs.guards p.refs.values
-  pub moved : (r : ℕ) → changed_at p.refs.lasts r ≡ refs.changed_by world.refs.lasts (point_of world + 1) tx.dones r
-  pub all : length p.refs.lasts ≡ length world.refs.lasts
-  pub entry : p.landed.entry ≡ refs.entry_of stamp tx
-  pub notices : p.landed.notices.items ≡ notices world.refs.guards world.refs.values p.refs.values (touched_refs tx.dones)
-  pub inner : (r : ℕ) → is_protected tx.dones r ≡ true → slice_get p.refs.values r ≡ inner_value means tx r
-  pub limit : point_of world + 1 ≤ last_point
-  pub added : p.added ≡ moved_by_dones Added world.refs.tally tx.dones
-  pub taken : p.taken ≡ moved_by_dones Taken world.refs.tally tx.dones
-  pub room_added : world.books.added + p.added ≤ most_booked
-  pub room_taken : world.books.taken + p.taken ≤ most_booked
+-- What a commit of this transaction that was prepared does, on this world: the store of refs can make it at the next point, and the books
+-- have room for what it moves.
+abbrev pub IsReady : Means → Accepts → WorldSeen → Stamp → TxSeen → Prepared → Type 0
+IsReady means accepts world stamp tx p = CanInstall means accepts world.refs (point_of world + 1) (room world.books.added) (room world.books.taken) stamp tx p
 
 -- What a change of an atom that was prepared does, on this world: its entry is one step to the values with this one in its place, which keeps
 -- the rules; it is an entry of an atom, and nothing that the books count.

@@ -4,6 +4,7 @@ ghost use Rattle.std.specs.Prelude.{◌≡◌, ◌+◌, ◌++◌, ◌∷◌, ℕ
 ghost use Rattle.ref_log.specs.Replay.{is_protected, step};
 ghost use Rattle.ref_refs.specs.Commit.{changed_by, entry_of};
 ghost use Rattle.ref_refs.specs.Conflicts.{ConflictFits};
+ghost use Rattle.ref_refs.specs.Ready.{IsOwn};
 ghost use Rattle.ref_refs.specs.Seen.{changed_at};
 ghost use Rattle.ref_refs.specs.Watches.{notices, touched_refs};
 ghost use Rattle.ref_refs.specs.declared.faults.CommitFault.TheVariants as commits;
@@ -18,7 +19,7 @@ use ref_fun::{Functions, Meaning};
 use ref_log::{Entry, Notice, Sent, Shareable as _, Stamp};
 use ref_pvec::PVec;
 use ref_refs::{CommitFault, Landed, Prepared};
-use ref_tx::{Beginning, Tx};
+use ref_tx::{Beginning, Comparable, Tx};
 use std::alloc::{AllocError, Global};
 
 /// What a commit returns: its point, its stamp, and the notices for the watches.
@@ -59,7 +60,7 @@ impl<M: Meaning> World<M> {
     /// send, logarithmic in the number of agents with actions that wait.
     ///
     /// [`Booked::commit_with`](crate::Booked::commit_with) counts the commit in a share, too.
-    pub fn commit<F: Functions<M>, S: Beginning>(
+    pub fn commit<F: Functions<M>, S: Comparable>(
         &mut self,
         alloc: Global,
         funs: &F,
@@ -97,7 +98,7 @@ impl<M: Meaning> World<M> {
     }
 
     // All tests of a commit, and its first growths. It changes nothing.
-    pub(crate) fn prepare<F: Functions<M>, S: Beginning>(
+    pub(crate) fn prepare<F: Functions<M>, S: Comparable>(
         &self,
         alloc: Global,
         funs: &F,
@@ -115,6 +116,35 @@ impl<M: Meaning> World<M> {
         let most_taken = room(self.taken());
         self.refs
             .prepare(alloc, funs, at, agents, most_added, most_taken, stamp, tx)
+    }
+
+    // As `prepare`, of a transaction that was begun on this world: no value is compared.
+    pub(crate) fn prepare_own<F: Functions<M>, S: Beginning>(
+        &self,
+        alloc: Global,
+        funs: &F,
+        stamp: Stamp,
+        tx: &Tx<M, S>,
+    ) -> Result<Prepared, CommitFault>
+        requires { IsOwn self.now.refs tx.now }
+        ensures refused { TellsOrMemory commits.Memory (early_refusal (F.knows funs.now) self.now tx.now)
+            (commit_refusal M.means M.accepts (F.knows funs.now) self.now tx.now) result }
+        ensures ready { IfOk result (IsReady M.means M.accepts self.now stamp tx.now) }
+        ensures conflict { IfErr result (ConflictFits tx.now) }
+    {
+        let next = self.point() + 1;
+        let count = self.agents.len();
+        let (added, taken) = (self.added(), self.taken());
+        self.refs.prepare_own(
+            alloc,
+            funs,
+            next,
+            count,
+            room(added),
+            room(taken),
+            stamp,
+            tx,
+        )
     }
 
     // Makes a commit that was prepared. Where there is no memory for its entry and its sends it changes nothing.

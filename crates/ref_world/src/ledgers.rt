@@ -1,10 +1,12 @@
 //! The books of a world: what all of its shares have together.
-ghost use Rattle.std.specs.Prelude.{◌≡◌, ◌+◌};
+ghost use Rattle.std.specs.Prelude.{◌≡◌, ◌+◌, []};
 ghost use Rattle.ref_world.specs.Seen.{TotalsSeen};
 ghost use Rattle.ref_world.specs.Shares.{AreBlanks, all_parts, whole};
 
+use crate::histories::History;
 use crate::names::{Added, Blanks, Books, Commits, Taken};
 use crate::shares::Share;
+use ref_log::Base;
 use std::alloc::Global;
 use std::marker::Model;
 use std::sync::ledger::Book;
@@ -26,17 +28,25 @@ impl<L: Books> Model for Ledgers<L> {
 }
 
 impl<L: Books> Ledgers<L> {
-    // Books in which nothing stands yet, and the share with all parts.
-    pub(crate) fn open(alloc: Global, blanks: Blanks) -> (Ledgers<L>, Share<L>)
-        requires { AreBlanks blanks L.commits L.added L.taken }
+    // Books in which nothing stands yet, the history of a world that begins with this base, and the share with all parts.
+    pub(crate) fn open(
+        alloc: Global,
+        blanks: Blanks,
+        base: &Base,
+    ) -> (Ledgers<L>, History<L>, Share<L>)
+        requires { AreBlanks blanks L.commits L.added L.taken L.story }
         ensures books { result.0 ≡ record { commits = 0; added = 0; taken = 0 } }
-        ensures share { result.1 ≡ whole }
+        ensures history { result.1 ≡ record { start = base.now; entries = [] } }
+        ensures share { result.2 ≡ whole result.1 }
     {
         let Blanks {
             commits,
             added,
             taken,
+            story,
         } = blanks;
+        let mut history = History::of(story, base);
+        let front = history.front(base.point);
         let (commits, commit_parts) = commits.open::<Commits<L>>();
         let (added, added_parts) = added.open::<Added<L>>();
         let (taken, taken_parts) = taken.open::<Taken<L>>();
@@ -45,8 +55,14 @@ impl<L: Books> Ledgers<L> {
             added,
             taken,
         };
-        let share = Share::whole(Vec::new(alloc), commit_parts, added_parts, taken_parts);
-        (books, share)
+        let share = Share::whole(
+            Vec::new(alloc),
+            commit_parts,
+            added_parts,
+            taken_parts,
+            front,
+        );
+        (books, history, share)
     }
 
     // Counts a commit that added so much to the tally and took so much from it, here and in a share.

@@ -16,12 +16,20 @@
 //! | [`World`] | refs, atoms and agents, at most 2^20 of each, with a base and a log; it counts its commits |
 //! | [`Booked`] | a world with its books: its commits and changes of atoms are counted in a share, too ([`Booked::commit_with`]) |
 //! | [`Start`], [`RefStart`], [`AtomStart`], [`AgentStart`] | what a world begins with ([`World::new`]), and the parts of that |
-//! | [`Share`] | what commits and changes of atoms are counted in. It is split and joined; one with [`ALL_PARTS`] has what the books have |
+//! | [`Share`] | what commits and changes of atoms are counted in, and how far its holder knows the history. It is split and joined; one with [`ALL_PARTS`] has what the books have |
+//! | [`History`], [`Front`] | what the world began with, and each of its entries, as all threads know it; and the history up to some point |
+//! | [`Known`], [`Place`] | the beginning of a transaction at a point of the history, and what is left of it when the transaction is closed |
 //! | [`Books`], [`Blanks`] | which world's books and shares these are: a type parameter; and what its books are made of |
-//! | [`Receipt`], [`LogReceipt`] | what a commit returns; what a share stores of an entry: its point and the whole entry |
+//! | [`Receipt`] | what a commit returns. A share stores the point of each entry that was added with it |
 //! | [`Totals`] | what was counted: how many commits there were, and how much they added to the tally and took from it |
 //! | [`View`] | base and log as they were ([`World::view`]), to be read while the world goes on |
 //! | [`CheckpointFault`] | why [`World::checkpoint`] folded nothing. Other calls have the faults of the stores and of `ref_log` |
+//!
+//! **One history.** Each entry of a world with books is told in one story, which only the world adds to. What a holder of a share was told of it
+//! stays true: a [`Front`] begins each later front of the same world, so two threads never know different pasts. [`Booked::begin`] states
+//! that a transaction begins with the values that the history up to its read point gives, and [`Booked::commit_with`] that what the
+//! transaction protects has not changed between that point and the entry that the commit adds. Nothing of this takes memory or time at run
+//! time, but for the point in a front.
 //!
 //! Take a [`World`] where one thread has all of it, as in `crates/bank`; otherwise, where threads share it, take `ref_shared`. A store
 //! alone will do where there is one kind of reference and no log.
@@ -31,7 +39,8 @@
 //! logarithmic in the number of agents with actions that wait. A checkpoint costs a replay of the entries that it folds, a step for each
 //! ref and atom, and a logarithm of the entries that are left; a join a step for each receipt of the other share. The log holds an entry
 //! until it is folded, a share each receipt until it forgets it ([`Booked::forget`]), and an account each action that ended until a restart or
-//! a fold ([`World::fold_agent`]). A receipt holds its entry too.
+//! a fold ([`World::fold_agent`]). A receipt in a share takes
+//! eight bytes.
 //!
 //! **Not promised.** That a share which was dropped comes back: no other one is whole then. That a transaction of this world has nothing
 //! foreign, or that one of another world is refused. That watches are called and sends released: both are for the caller. Which agent
@@ -41,12 +50,14 @@
 
 mod agents;
 mod atoms;
+pub mod beginnings;
 pub mod booked;
 mod checkpoints;
 mod commits;
 mod counts;
 mod declared;
 pub mod faults;
+pub mod histories;
 pub mod ledgers;
 mod making;
 pub mod names;
@@ -55,13 +66,15 @@ pub mod shares;
 pub mod views;
 pub mod worlds;
 
+pub use beginnings::{Known, Opening, Place, Preparing};
 pub use booked::Booked;
 pub use commits::Receipt;
 pub use counts::MOST_BOOKED;
 pub use faults::CheckpointFault;
+pub use histories::{Act, Front, History};
 pub use ledgers::Ledgers;
 pub use names::{Added, Blanks, Books, Commits, Taken};
 pub use ref_agents::{AgentStart, AtomStart, RefStart, Start, starts};
-pub use shares::{ALL_PARTS, LogReceipt, Share};
+pub use shares::{ALL_PARTS, Share};
 pub use views::View;
 pub use worlds::{Totals, World};

@@ -1,24 +1,19 @@
 //! Shares of what is done to a world.
 ghost use Rattle.std.specs.Prelude.{◌≡◌, ◌≢◌, ◌+◌, ◌<◌, ◌≤◌, ◌==◌, ◌↔◌, [], IsSome, IfSome, IfNone, OnOk, OnErr, IfErr};
+ghost use Rattle.ref_world.specs.History.{Begins};
 ghost use Rattle.ref_world.specs.Shares.{all_parts, forgotten, joined, whole};
 
+use crate::histories::Front;
 use crate::names::{Added, Books, Commits, Taken};
-use ref_log::Entry;
 use std::marker::Model;
 use std::sync::ledger::Share as Part;
 
 /// How many parts all shares of a world have: 2^32.
 pub const ALL_PARTS: u64 = 4_294_967_296;
 
-/// What is stored of a call that added an entry to the log: the entry whole, and its point.
-#[derive(Drop)]
-pub struct LogReceipt {
-    pub point: u64,
-    pub entry: Entry,
-}
-
 /// Some of the 2^32 parts of a world, and what was done with them: how many commits, how much they added to the tally and took from
-/// it, and the receipt of each entry that a commit or a change of an atom added, in the order of the calls, as long as no share was joined.
+/// it, and the receipt of each entry that a commit or a change of an atom added, in the order of the calls, as long as no share was joined. A
+/// receipt is the point of the entry; the history, as far as the share knows it, has the entry there.
 ///
 /// A world comes with one share, which has all parts. Whoever is to change it gets some of them by [`Share::split`]; the calls
 /// that add such an entry take the share and count in it. L names the world's books, so that a share fits no other
@@ -30,7 +25,8 @@ pub struct Share<L: Books> {
     pub(crate) commits: Part<Commits<L>>,
     pub(crate) added: Part<Added<L>>,
     pub(crate) taken: Part<Taken<L>>,
-    pub(crate) receipts: Vec<LogReceipt>,
+    pub(crate) receipts: Vec<u64>,
+    pub(crate) front: Front<L>,
 }
 
 impl<L: Books> Model for Share<L> {
@@ -50,6 +46,7 @@ impl<L: Books> Model for Share<L> {
       added = s.added.amount;
       taken = s.taken.amount;
       receipts = s.receipts.items;
+      history = s.front;
     } };
 
     ghost invariant = { λ s. (s.commits.parts ≡ s.parts) × (s.added.parts ≡ s.parts) × (s.taken.parts ≡ s.parts)
@@ -59,15 +56,16 @@ impl<L: Books> Model for Share<L> {
 impl<L: Books> Share<L> {
     // The share with all parts, of a world in which nothing was done.
     pub(crate) fn whole(
-        receipts: Vec<LogReceipt>,
+        receipts: Vec<u64>,
         commits: Part<Commits<L>>,
         added: Part<Added<L>>,
         taken: Part<Taken<L>>,
+        front: Front<L>,
     ) -> Share<L>
         requires parts { (commits.parts ≡ all_parts) × (added.parts ≡ all_parts) × (taken.parts ≡ all_parts) }
         requires amounts { (commits.amount ≡ 0) × (added.amount ≡ 0) × (taken.amount ≡ 0) }
         requires receipts { receipts.items ≡ [] }
-        ensures { result ≡ whole }
+        ensures { result ≡ whole front }
     {
         Share {
             parts: ALL_PARTS,
@@ -75,6 +73,7 @@ impl<L: Books> Share<L> {
             added,
             taken,
             receipts,
+            front,
         }
     }
 
@@ -94,22 +93,29 @@ impl<L: Books> Share<L> {
         self.parts == ALL_PARTS
     }
 
-    /// The receipts, in the order in which the calls were made; those of a share that was joined stand where [`Share::join`] put
-    /// them.
-    pub fn receipts(&self) -> &[LogReceipt]
+    /// The points of the entries that were added, in the order in which the calls were made; those of a share that was joined stand where
+    /// [`Share::join`] put them.
+    pub fn receipts(&self) -> &[u64]
         ensures { result.now ≡ self.now.receipts }
     {
         self.receipts.as_slice()
     }
 
-    /// Another share with so many of the parts, with which nothing was done; None for 0 of them, and for as many as it has or
+    /// How far the history of the world is known.
+    pub fn front(&self) -> &Front<L>
+        ensures { result.now ≡ self.now.history }
+    {
+        &self.front
+    }
+
+    /// Another share with so many of the parts, with which nothing was done; the history is known as far as here. None for 0 of them, and for as many as it has or
     /// more. It takes no memory.
     pub fn split(&mut self, parts: u64) -> Option<Share<L>>
         ensures when { IsSome result ↔ ((0 < parts) × (parts < self.old.parts)) }
-        ensures some { IfSome result (λ s. s ≡ record whole { parts = parts }) }
+        ensures some { IfSome result (λ s. s ≡ record (whole self.old.history) { parts = parts }) }
         ensures left { IfSome result (λ s. self.new.parts + parts ≡ self.old.parts) }
         ensures same { (self.new.commits ≡ self.old.commits) × (self.new.added ≡ self.old.added)
-            × (self.new.taken ≡ self.old.taken) × (self.new.receipts ≡ self.old.receipts) }
+            × (self.new.taken ≡ self.old.taken) × (self.new.receipts ≡ self.old.receipts) × (self.new.history ≡ self.old.history) }
         ensures none { IfNone result (self.new ≡ self.old) }
     {
         if parts == 0 || parts >= self.parts {
@@ -125,6 +131,7 @@ impl<L: Books> Share<L> {
             added,
             taken,
             receipts: Vec::new(*self.receipts.allocator()),
+            front: self.front.again(),
         })
     }
 
@@ -136,7 +143,7 @@ impl<L: Books> Share<L> {
     pub fn forget(&mut self, point: u64)
         ensures { self.new ≡ forgotten self.old point }
     {
-        self.receipts.retain(|receipt| receipt.point > point);
+        self.receipts.retain(|receipt| *receipt > point);
     }
 
     /// Takes all of another share in. The receipts that were here stand first, in their order, and then the other's, in theirs;
@@ -145,6 +152,7 @@ impl<L: Books> Share<L> {
     /// share back; one without receipts takes no memory.
     pub fn join(&mut self, other: Share<L>) -> Result<(), Share<L>>
         ensures ok { OnOk result (self.new ≡ joined self.old other) }
+        ensures known { OnOk result (Begins self.old.history self.new.history × Begins other.history self.new.history) }
         ensures back { IfErr result (λ s. s ≡ other) }
         ensures err { OnErr result (self.new ≡ self.old) }
         ensures memory { OnErr result (other.receipts ≢ []) }
@@ -159,11 +167,13 @@ impl<L: Books> Share<L> {
             added,
             taken,
             mut receipts,
+            front,
         } = other;
         let _ = self.receipts.append(&mut receipts);
         self.commits.merge(commits);
         self.added.merge(added);
         self.taken.merge(taken);
+        self.front.learn(front);
         self.parts += parts;
         Ok(())
     }

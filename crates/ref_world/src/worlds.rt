@@ -8,7 +8,7 @@ ghost use Rattle.ref_log.specs.declared.faults.MakeFault.TheVariants as makes;
 ghost use Rattle.ref_refs.specs.Seen.{are_unchanged_since};
 ghost use Rattle.ref_world.specs.Starts as starts;
 ghost use Rattle.ref_world.specs.Starts.{first_refusal, start_refusal};
-ghost use Rattle.ref_world.specs.World.{HasLastChanges, are_past, most_booked, point_of};
+ghost use Rattle.ref_world.specs.World.{HasLastChanges, IsReplayed, are_past, most_booked, point_of};
 ghost use Rattle.ref_log.specs.Limits.{last_point};
 
 use crate::counts::Counts;
@@ -121,6 +121,16 @@ impl<M: Meaning> World<M> {
         ensures held { are_past (point_of self.now) self.now.agents.unreleased ≡ true }
     {
         self.base.point + self.log.len() as u64
+    }
+
+    /// What always holds of a world: facts, with nothing to run.
+    pub fn holds(&self)
+        // Every ref and atom holds what the stored entries, replayed one by one on the stored base, give.
+        ensures replayed { IsReplayed M.means self.now.base self.now.log self.now.refs self.now.atoms }
+        // The point of each ref's last change is that of the last entry which made or touched it.
+        ensures lasts { HasLastChanges self.now.base self.now.log self.now.refs }
+    {
+        let _ = &self.base;
     }
 
     /// What the log begins with.

@@ -119,7 +119,7 @@ fn told<L: Books>(
 ) -> Result<String, AllocError> {
     let mut points = Vec::new(alloc);
     for receipt in share.receipts() {
-        points.push(receipt.point)?;
+        points.push(*receipt)?;
     }
     let totals = booked.totals(share);
     let (commits, added, taken) = (totals.commits, totals.added, totals.taken);
@@ -156,7 +156,7 @@ fn forgotten<L: Books>(
         && is_committed(alloc, booked, share, events, 2)?
         && is_committed(alloc, booked, share, events, 3)?;
     let view = booked.world.view()?;
-    let folded = booked.world.checkpoint(alloc, &FULL, 2) == Ok(2);
+    let folded = booked.checkpoint(alloc, &FULL, 2) == Ok(2);
     booked.forget(share);
     let stays = (view.base().point, view.log().len(), view.point()) == (0, 3, 3);
     let world = &booked.world;
@@ -234,7 +234,7 @@ fn counted_in<L: Books>(
     what: Counting,
     blanks: Blanks,
 ) -> Result<String, AllocError>
-    requires { AreBlanks blanks L.commits L.added L.taken }
+    requires { AreBlanks blanks L.commits L.added L.taken L.story }
 {
     let Ok(mut sim) = Sim::<Core, L>::new(alloc, &FULL, start, blanks) else {
         return Err(AllocError);

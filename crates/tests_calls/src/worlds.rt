@@ -83,7 +83,7 @@ fn run_in<L: Books, S: Scenario>(
     scenario: S,
     blanks: Blanks,
 ) -> Result<S::Seen, AllocError>
-    requires { AreBlanks blanks L.commits L.added L.taken }
+    requires { AreBlanks blanks L.commits L.added L.taken L.story }
 {
     let ScriptParts { start, events, .. } = parts;
     let table = if scenario.has_fewer(0) { FEWER } else { FULL };

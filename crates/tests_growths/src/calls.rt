@@ -100,8 +100,8 @@ fn transacted(answer: Result<((), Receipt), TransactFault<Stop>>) -> Said {
 
 impl<'a, R: Input + Wait, L: Books> Lent<'a, R, L> {
     // A transaction in which something was done.
-    fn begun(&self, r: u32) -> Result<Begun, Stop> {
-        let mut tx = self.shared.begin(self.rt, self.alloc)?;
+    fn begun(&self, share: &mut Share<L>, r: u32) -> Result<Begun, Stop> {
+        let mut tx = self.shared.begin(self.rt, self.alloc, share)?;
         body(self.alloc, &mut tx, r, SENT_TO)?;
         Ok(Some(tx))
     }
@@ -205,8 +205,8 @@ impl<'a, R: Input + Wait, L: Books> Lent<'a, R, L> {
     pub(crate) fn try_it(self, share: &mut Share<L>, trial: Trial) -> Result<Made, Stop> {
         self.shared.close(self.rt);
         let (is_commit, is_full) = (trial.call == Call::Commit, trial.state > 0);
-        let mut own = if is_commit { self.begun(0)? } else { None };
-        let mut other = if is_full { self.begun(2)? } else { None };
+        let mut own = if is_commit { self.begun(share, 0)? } else { None };
+        let mut other = if is_full { self.begun(share, 2)? } else { None };
         let (mut answer, mut was_hit) = (Ok(CLOSED), false);
         if trial.times > 0 && trial.call != Call::Finish {
             refuse(self.rt, trial.number);

@@ -191,10 +191,15 @@ fn of_share<L: Books>(share: &mut Share<L>) -> [bool; 3] {
 }
 
 // The failed agent was restarted before.
-fn of_shared<R: Wait, L: Books>(rt: &R, alloc: Global, shared: &Shared<Core, L>) -> [bool; 4] {
+fn of_shared<R: Wait, L: Books>(
+    rt: &R,
+    alloc: Global,
+    shared: &Shared<Core, L>,
+    share: &mut Share<L>,
+) -> [bool; 4] {
     shared.close(rt);
     [
-        shared.begin(rt, alloc).is_ok(),
+        shared.begin(rt, alloc, share).is_ok(),
         shared.value_of(rt, Who::Ref(0)).is_ok(),
         shared.view(rt).is_ok(),
         shared.error_of(rt, H).is_none(),
@@ -239,7 +244,7 @@ impl<R: AllocGlobal + Input + Print + Wait> Use<R> for Calls {
         let called = call_on_world(rt, alloc, &mut booked, &mut share);
         refuse(rt, EACH);
         let shared = Shared::new(booked);
-        let closed = end(rt, "shared", &of_shared(rt, alloc, &shared));
+        let closed = end(rt, "shared", &of_shared(rt, alloc, &shared, &mut share));
         ended.and(called).and(closed)
     }
 }

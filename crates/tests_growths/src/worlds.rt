@@ -171,7 +171,7 @@ fn open<R: AllocGlobal, W: Use<R>, L: Books>(
     what: W,
     blanks: Blanks,
 ) -> Result<W::Out, Stop>
-    requires { AreBlanks blanks L.commits L.added L.taken }
+    requires { AreBlanks blanks L.commits L.added L.taken L.story }
 {
     let (alloc, funs) = (rt.alloc(), &CoreFunctions);
     let Ok(mut sim) = Sim::<Core, L>::new(alloc, funs, start, blanks) else {

@@ -4,7 +4,6 @@ use crate::same::same;
 use crate::worlds::value;
 use ref_log::{Done, Entry, Op, SharedVec, Stamp, Transaction, vector_of};
 use ref_shared::{GatherFault, match_receipts};
-use ref_world::LogReceipt;
 use std::alloc::{AllocError, Global};
 use std::test::Fail;
 
@@ -31,8 +30,6 @@ fn steps_of_a_worker_are_to_rise(rt: HostRuntime) -> Result<(), Fail> {
 }
 
 const STEP_0: Stamp = Stamp { worker: 0, step: 0 };
-
-const STEP_1: Stamp = Stamp { worker: 0, step: 1 };
 
 const OTHER: Stamp = Stamp { worker: 1, step: 0 };
 
@@ -78,16 +75,11 @@ type Row = (
     &'static str,
     u32,
     &'static [Kind],
-    &'static [(u64, Kind)],
+    &'static [u64],
     bool,
 );
 
 fn matched(alloc: Global, row: &Row) -> Result<bool, AllocError> {
-    let mut receipts = Vec::new(alloc);
-    for (point, kind) in row.3 {
-        let (point, entry) = (*point, entry(alloc, kind)?);
-        receipts.push(LogReceipt { point, entry })?;
-    }
     let mut log = Vec::new(alloc);
     for kind in row.2 {
         log.push(entry(alloc, kind)?)?;
@@ -96,7 +88,7 @@ fn matched(alloc: Global, row: &Row) -> Result<bool, AllocError> {
         return Err(AllocError);
     }
     let log = vector_of(alloc, &log)?;
-    match match_receipts(alloc, u64::from(row.1), &log, &receipts) {
+    match match_receipts(alloc, u64::from(row.1), &log, row.3) {
         Ok(()) => Ok(true),
         Err(GatherFault::ReceiptMissing) => Ok(false),
         Err(_) => Err(AllocError),
@@ -105,10 +97,6 @@ fn matched(alloc: Global, row: &Row) -> Result<bool, AllocError> {
 
 const FIVE: Kind = Kind::Set(STEP_0, "5");
 
-const LATER: Kind = Kind::Set(STEP_1, "5");
-
-const SIX: Kind = Kind::Set(STEP_0, "6");
-
 const OTHER_SIX: Kind = Kind::Set(OTHER, "6");
 
 const RESET: Kind = Kind::Reset;
@@ -116,38 +104,24 @@ const RESET: Kind = Kind::Reset;
 const MADE: Kind = Kind::MadeRef;
 
 const RECEIPTS: &[Row] = &[
-    // A receipt is the whole entry at its point.
-    ("the same", 0, &[FIVE], &[(1, FIVE)], true),
+    // A receipt is the point of its entry.
+    ("the same", 0, &[FIVE], &[1], true),
     ("none", 0, &[FIVE], &[], false),
-    ("another stamp", 0, &[FIVE], &[(1, LATER)], false),
-    ("another operation", 0, &[FIVE], &[(1, SIX)], false),
-    ("another point", 0, &[FIVE], &[(2, FIVE)], false),
-    ("twice", 0, &[FIVE], &[(1, FIVE), (1, FIVE)], false),
+    ("another point", 0, &[FIVE], &[2], false),
+    ("twice", 0, &[FIVE], &[1, 1], false),
     // What is made has no receipt, and atoms have one.
     ("an atom's", 0, &[RESET], &[], false),
-    ("its receipt", 0, &[RESET], &[(1, RESET)], true),
+    ("its receipt", 0, &[RESET], &[1], true),
     ("a ref that was made", 0, &[MADE], &[], true),
-    ("a making's", 0, &[MADE], &[(1, MADE)], false),
-    ("no entry", 0, &[], &[(1, FIVE)], false),
+    ("a making's", 0, &[MADE], &[1], false),
+    ("no entry", 0, &[], &[1], false),
     // Receipts match in any order, and past the base.
-    (
-        "in another order",
-        0,
-        &[FIVE, OTHER_SIX],
-        &[(2, OTHER_SIX), (1, FIVE)],
-        true,
-    ),
-    (
-        "up to the base's point",
-        3,
-        &[FIVE],
-        &[(0, OTHER_SIX), (3, LATER), (4, FIVE)],
-        true,
-    ),
+    ("in another order", 0, &[FIVE, OTHER_SIX], &[2, 1], true),
+    ("up to the base's point", 3, &[FIVE], &[0, 3, 4], true),
 ];
 
 #[test]
-fn receipts_are_the_entries_past_the_base(rt: HostRuntime) -> Result<(), Fail> {
+fn receipts_are_the_points_past_the_base(rt: HostRuntime) -> Result<(), Fail> {
     for row in RECEIPTS {
         same(&rt, (row.0, matched(rt.alloc(), row)?), (row.0, row.4));
     }

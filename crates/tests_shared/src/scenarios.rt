@@ -120,7 +120,7 @@ fn run_to_end_in<L: Books, R: Wait, S: Scenario<R>, I: Inspection>(
     inspection: &I,
     blanks: Blanks,
 ) -> Result<(S::Outcome, I::Seen), Stop>
-    requires { AreBlanks blanks L.commits L.added L.taken }
+    requires { AreBlanks blanks L.commits L.added L.taken L.story }
 {
     let (mut booked, mut share) = made::<L>(alloc, start, blanks)?;
     if let Err(stop) = scenario.prepare(alloc, &mut booked, &mut share) {

@@ -76,7 +76,7 @@ pub fn commit_set<L: Books, R: Wait>(
     stamp: Stamp,
     text: &str,
 ) -> Result<u64, Stop> {
-    let mut tx = shared.begin(rt, alloc)?;
+    let mut tx = shared.begin(rt, alloc, share)?;
     let _ = done(tx.ref_set(alloc, 0, value(alloc, text)?))?;
     commit(rt, alloc, shared, share, stamp, tx)
 }

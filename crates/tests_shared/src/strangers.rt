@@ -35,7 +35,7 @@ impl<R: Wait> Scenario<R> for Begun {
         for step in 0..self.commits {
             let _ = commit_set(rt, alloc, shared, share, Stamp { worker: 0, step }, "0")?;
         }
-        let mut tx = shared.begin(rt, alloc)?;
+        let mut tx = shared.begin(rt, alloc, share)?;
         let _ = done(tx.ref_set(alloc, 0, value(alloc, "7")?))?;
         Ok(tx)
     }

@@ -233,7 +233,7 @@ impl<'a, 'b, R: Wait, L: Books> On<'a, 'b, R, L> {
     ) -> (Said, Option<Tx<Core>>) {
         let alloc = self.alloc;
         match (at(call, 0), tx) {
-            ("begin", _) => match self.shared.begin(self.rt, alloc) {
+            ("begin", _) => match self.shared.begin(self.rt, alloc, share) {
                 Ok(tx) => (format!(in alloc; "{}", tx.read_point()), Some(tx)),
                 Err(e) => (Err(e), None),
             },

@@ -113,7 +113,7 @@ pub fn made<L: Books>(
     start: Start,
     blanks: Blanks,
 ) -> Result<(Booked<Core, L>, Share<L>), Stop>
-    requires { AreBlanks blanks L.commits L.added L.taken }
+    requires { AreBlanks blanks L.commits L.added L.taken L.story }
 {
     match Booked::new(alloc, &CoreFunctions, &start, blanks) {
         Ok(made) => Ok(made),

@@ -149,7 +149,7 @@ fn run<L: Books + Send + Sync, R: AllocGlobal + Threads + Wait + Clock + Abort +
     start: Start,
     blanks: Blanks,
 ) -> Result<(), Stop>
-    requires { AreBlanks blanks L.commits L.added L.taken }
+    requires { AreBlanks blanks L.commits L.added L.taken L.story }
 {
     let (mut booked, mut share) = made::<L>(rt.alloc(), start, blanks)?;
     let prepared = match case {

@@ -71,7 +71,7 @@ fn commit_add<R: Wait, L: Books>(
     share: &mut Share<L>,
     stamp: Stamp,
 ) -> Result<(), Stop> {
-    let mut tx = shared.begin(rt, alloc)?;
+    let mut tx = shared.begin(rt, alloc, share)?;
     add(alloc, &mut tx, 0, "1")?;
     commit(rt, alloc, shared, share, stamp, tx).map(drop)
 }

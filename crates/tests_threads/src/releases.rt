@@ -117,7 +117,7 @@ pub(crate) fn see_release<
     L: Books + Send + Sync,
     R: AllocGlobal + Threads + Wait + Clock + Abort + Sync,
 >(rt: &R, shared: &Shared<Core, L>, share: &mut Share<L>) -> Result<(), Stop> {
-    let mut tx = shared.begin(rt, rt.alloc())?;
+    let mut tx = shared.begin(rt, rt.alloc(), share)?;
     send_both(rt.alloc(), &mut tx)?;
     let point = commit(rt, rt.alloc(), shared, share, STAMP, tx)?;
     see_released(rt, shared, Some(point))

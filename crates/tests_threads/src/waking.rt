@@ -62,7 +62,7 @@ pub(crate) fn see_waking<
     R: AllocGlobal + Threads + Wait + Clock + Abort + Sync,
 >(rt: &R, shared: &Shared<Core, L>, share: &mut Share<L>) -> Result<(), Stop> {
     let alloc = rt.alloc();
-    let mut tx = shared.begin(rt, alloc)?;
+    let mut tx = shared.begin(rt, alloc, share)?;
     send_four(alloc, &mut tx)?;
     let point = commit(rt, alloc, shared, share, STAMP, tx)?;
     let plus_one = action(alloc, PLUS, "1")?;

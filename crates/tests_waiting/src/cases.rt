@@ -91,7 +91,7 @@ fn run<L: Books + Send + Sync, R: AllocGlobal + Threads + Wait + Clock + Abort +
     start: Start,
     blanks: Blanks,
 ) -> Result<bool, Stop>
-    requires { AreBlanks blanks L.commits L.added L.taken }
+    requires { AreBlanks blanks L.commits L.added L.taken L.story }
 {
     let (booked, mut share) = made::<L>(rt.alloc(), start, blanks)?;
     let shared = Shared::new(booked);

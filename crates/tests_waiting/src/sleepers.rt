@@ -149,7 +149,7 @@ fn commit_four<L: Books, R: AllocGlobal + Wait>(
     shared: &Shared<Core, L>,
     share: &mut Share<L>,
 ) -> Result<u64, Stop> {
-    let mut tx = shared.begin(rt, rt.alloc())?;
+    let mut tx = shared.begin(rt, rt.alloc(), share)?;
     send_four(rt.alloc(), &mut tx)?;
     commit(rt, rt.alloc(), shared, share, STAMP, tx)
 }

@@ -30,7 +30,7 @@ fn refusal_in<L: Books>(
     events: &[Event],
     blanks: Blanks,
 ) -> Result<Option<DumpMakeFault>, Fail>
-    requires { AreBlanks blanks L.commits L.added L.taken }
+    requires { AreBlanks blanks L.commits L.added L.taken L.story }
 {
     match Sim::<Core, L>::new(alloc, &CoreFunctions, start, blanks) {
         Ok(mut sim) => {

@@ -7,8 +7,8 @@ use crate::running::workers::Run;
 use ref_fun::{Core, Functions, share_rule};
 use ref_log::{Op, Shareable as _, Stamp};
 use ref_plan::{PlannedOp, Step};
-use ref_shared::{Gate, Quiet};
-use ref_tx::{Tx, TxFault};
+use ref_shared::{Body, Gate, Quiet};
+use ref_tx::{Dosync, Readable, Tx, TxFault};
 use ref_world::{Books, Share};
 use std::alloc::Global;
 use std::sync::Wait;
@@ -57,7 +57,7 @@ fn run_transaction<F: Functions<Core>, L: Books, R: Wait, G: Gate>(
 ) -> Outcome {
     let (alloc, funs) = (run.alloc, run.funs);
     of_transaction(
-        run.shared.transact(
+        run.shared.transact_body(
             rt,
             alloc,
             funs,
@@ -66,28 +66,46 @@ fn run_transaction<F: Functions<Core>, L: Books, R: Wait, G: Gate>(
             run.tries.max(1),
             gate,
             &mut Quiet,
-            |tx: &mut Tx<Core>| run_ops(alloc, funs, tx, ops),
+            &mut Operations { funs, ops },
         ),
     )
 }
 
 // The body of a transaction: its operations in order, up to the first that is refused.
-fn run_ops<F: Functions<Core>>(
-    alloc: Global,
-    funs: &F,
-    tx: &mut Tx<Core>,
-    ops: &[PlannedOp],
-) -> Result<(), TxFault> {
-    for op in ops {
-        run_op(alloc, funs, tx, op)?;
-    }
-    Ok(())
+#[derive(Drop)]
+struct Operations<'a, F> {
+    funs: &'a F,
+    ops: &'a [PlannedOp],
 }
 
-fn run_op<F: Functions<Core>>(
+impl<'a, F: Functions<Core>, S: Readable> Body<S> for Operations<'a, F> {
+    type Meaning = Core;
+
+    type Functions = ();
+
+    type Answer = ();
+
+    type Fault = TxFault;
+
+    ghost may = { λ _. Unit {0} };
+
+    ghost does = { λ _ _ _ _ _. Unit {0} };
+
+    fn functions(&self) -> () {}
+
+    fn run(&mut self, tx: &mut Dosync<S, Core, ()>) -> Result<(), TxFault> {
+        let alloc = tx.alloc;
+        for op in self.ops {
+            run_op(alloc, self.funs, &mut tx.tx, op)?;
+        }
+        Ok(())
+    }
+}
+
+fn run_op<F: Functions<Core>, S: Readable>(
     alloc: Global,
     funs: &F,
-    tx: &mut Tx<Core>,
+    tx: &mut Tx<Core, S>,
     op: &PlannedOp,
 ) -> Result<(), TxFault> {
     match op {
@@ -97,10 +115,10 @@ fn run_op<F: Functions<Core>>(
     }
 }
 
-fn run_on_ref<F: Functions<Core>>(
+fn run_on_ref<F: Functions<Core>, S: Readable>(
     alloc: Global,
     funs: &F,
-    tx: &mut Tx<Core>,
+    tx: &mut Tx<Core, S>,
     r: u32,
     op: &Op,
 ) -> Result<(), TxFault> {

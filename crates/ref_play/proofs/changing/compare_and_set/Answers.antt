@@ -23,7 +23,7 @@ returns-in-Err g c = λ s actor.
     let old : SimSeen = record s { world = c.args.booked.now.world; share = c.args.share.now } in
     let new : SimSeen = record s { world = c.compare_and_set.new.self.world; share = c.compare_and_set.new.share } in
     subst (λ x. Serves means accepts knows old actor (acts.CompareAndSet c.args.n c.args.old.now x) (replies.CompareAndSet (Err c.in-Err.fault)) new) c.in-Ok.ensures
-    (refused_world means accepts knows old actor c.compare_and_set.new.self.world c.compare_and_set.new.share (acts.CompareAndSet c.args.n c.args.old.now c.in-Ok.new) (replies.CompareAndSet (Err c.in-Err.fault)) refl did.err did.same
+    (refused_world means accepts knows old actor c.compare_and_set.new.self.world c.compare_and_set.new.share (acts.CompareAndSet c.args.n c.args.old.now c.in-Ok.new) (replies.CompareAndSet (Err c.in-Err.fault)) refl did.err.0 did.same
     (Err c.in-Err.fault, refl, late_fault faults.Memory _ _ c.in-Err.fault did.refused, tt, (refl, refl)))
 
 pub returns-in-Ok-compare_and_set : goal.returns-in-Ok-compare_and_set
@@ -35,4 +35,4 @@ returns-in-Ok-compare_and_set g c = λ s actor.
     let old : SimSeen = record s { world = c.args.booked.now.world; share = c.args.share.now } in
     let new : SimSeen = record s { world = c.compare_and_set.new.self.world; share = c.compare_and_set.new.share } in
     subst (λ x. Serves means accepts knows old actor (acts.CompareAndSet c.args.n c.args.old.now x) (replies.CompareAndSet (Ok c.in-Ok-compare_and_set.compared)) new) c.in-Ok.ensures
-    (compare_made means accepts knows old actor c.args.n c.args.old.now c.in-Ok.new c.compare_and_set.new.self.world c.compare_and_set.new.share c.in-Ok-compare_and_set.compared did.refused did.done did.entry did.notices did.share did.unset did.unshared did.untold)
+    (compare_made means accepts knows old actor c.args.n c.args.old.now c.in-Ok.new c.compare_and_set.new.self.world c.compare_and_set.new.share c.compare_and_set.new.self.history c.in-Ok-compare_and_set.compared did.refused did.done did.entry did.notices did.share (λ is. (did.unset is).0) did.unshared did.untold)

@@ -23,5 +23,5 @@ returns-in-Err g c = λ s actor.
     let old : SimSeen = record s { world = c.args.booked.now.world; share = c.args.share.now } in
     let new : SimSeen = record s { world = c.reset.new.self.world; share = c.reset.new.share } in
     subst (λ x. Serves means accepts knows old actor (acts.Reset c.args.n x) (replies.Reset (Err c.in-Err.fault)) new) c.in-Ok.ensures
-    (refused_world means accepts knows old actor c.reset.new.self.world c.reset.new.share (acts.Reset c.args.n c.in-Ok.value) (replies.Reset (Err c.in-Err.fault)) refl did.err did.same
+    (refused_world means accepts knows old actor c.reset.new.self.world c.reset.new.share (acts.Reset c.args.n c.in-Ok.value) (replies.Reset (Err c.in-Err.fault)) refl did.err.0 did.same
     (Err c.in-Err.fault, refl, late_fault faults.Memory _ _ c.in-Err.fault did.refused, tt, (refl, refl)))

@@ -23,5 +23,5 @@ returns-in-Err g c = λ s actor.
     let old : SimSeen = record s { world = c.args.booked.now.world; share = c.args.share.now } in
     let new : SimSeen = record s { world = c.swap.new.self.world; share = c.swap.new.share } in
     subst (λ x. Serves means accepts knows old actor (acts.Swap c.args.n c.args.code x) (replies.Swap (Err c.in-Err.fault)) new) c.in-Ok.ensures
-    (refused_world means accepts knows old actor c.swap.new.self.world c.swap.new.share (acts.Swap c.args.n c.args.code c.in-Ok.args) (replies.Swap (Err c.in-Err.fault)) refl did.err did.same
+    (refused_world means accepts knows old actor c.swap.new.self.world c.swap.new.share (acts.Swap c.args.n c.args.code c.in-Ok.args) (replies.Swap (Err c.in-Err.fault)) refl did.err.0 did.same
     (Err c.in-Err.fault, refl, late_fault faults.Memory _ _ c.in-Err.fault did.refused, tt, (refl, refl)))

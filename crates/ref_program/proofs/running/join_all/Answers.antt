@@ -14,5 +14,5 @@ loop-one-preserved g c =
       count = omega (arith, n, step.1, was.count);
       parts = omega (arith, step.1, was.parts, joined_parts c.loop-one.share c.join.new.self c.in-Some.one.share both, left.0.1);
       rest = rw n left.1;
-      done = rw n (have_joined _ _ _ _ _ both was.done left.0.0);
+      done = rw n (have_joined _ _ _ _ _ both c.in_default.ensures.known was.done left.0.0);
     }

@@ -7,5 +7,5 @@ abbrev pub invariant-loop : goal.invariant-loop
 invariant-loop g l = record {
   parts : AreFresh l.parts.items;
   count : vec_len l.parts ≡ l.counter;
-  rest : l.share ≡ record whole { parts = all_parts - l.counter };
+  rest : l.share ≡ record (whole l.share.history) { parts = all_parts - l.counter };
 }

@@ -1,18 +1,18 @@
-use Rattle.std.proofs.Common.{rules}
+use Rattle.std.proofs.Common.{refl, rules}
 use Rattle.std.proofs.lemmas.Bool.{OnTrue_at, OnTrue_from}
 use Rattle.ref_shared.proofs.Marking.{all_met_at, marks_at, misses_at, skips_at}
 use Rattle.ref_shared.proofs.matching.receipts_match.Goals.{then-receipt-base_point+else-not-mark, else-receipt-base_point}
 use Rattle.ref_shared.proofs.matching.receipts_match.Goals as goal
 
 pub returns-then-not-mark-clause-no : goal.returns-then-not-mark-clause-no
-returns-then-not-mark-clause-no c = misses_at _ _ _ _ _ _ c.loop-receipt.invariant.0 c.loop-receipt-test.true c.receipt-item.is c.if-receipt-base_point.true c.if-not-mark.ensures.no
+returns-then-not-mark-clause-no c = misses_at _ _ _ _ _ _ c.loop-receipt.invariant.0 c.loop-receipt-test.true refl c.if-receipt-base_point.true c.if-not-mark.ensures.no
 
 pub loop-receipt-preserved : goal.loop-receipt-preserved
 loop-receipt-preserved c = elim c.if-receipt-base_point.branch [
   | then-receipt-base_point+else-not-mark w ↦
       let fits = w.if-not-mark.ensures.yes in
-      rw (w.met-is, fits.1) (marks_at _ _ _ _ _ _ c.loop-receipt.invariant.0 c.loop-receipt-test.true c.receipt-item.is w.if-receipt-base_point.true c.loop-receipt.invariant.1 fits.0, search rules)
-  | else-receipt-base_point w ↦ rw w.met-is (skips_at _ _ _ _ _ _ c.loop-receipt.invariant.0 c.loop-receipt-test.true c.receipt-item.is w.if-receipt-base_point.false, c.loop-receipt.invariant.1)
+      rw (w.met-is, fits.1) (marks_at _ _ _ _ _ _ c.loop-receipt.invariant.0 c.loop-receipt-test.true refl w.if-receipt-base_point.true c.loop-receipt.invariant.1 fits.0, search rules)
+  | else-receipt-base_point w ↦ rw w.met-is (skips_at _ _ _ _ _ _ c.loop-receipt.invariant.0 c.loop-receipt-test.true refl w.if-receipt-base_point.false, c.loop-receipt.invariant.1)
 ]
 
 pub returns-clause-yes : goal.returns-clause-yes

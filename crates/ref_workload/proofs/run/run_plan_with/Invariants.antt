@@ -1,4 +1,4 @@
 use Rattle.ref_workload.proofs.run.run_plan_with.Given as goal
 
 abbrev pub ghosts-run_booked : goal.ghosts-run_booked
-ghosts-run_booked g a = record { commits = a.blanks.commits.name; added = a.blanks.added.name; taken = a.blanks.taken.name }
+ghosts-run_booked g a = record { commits = a.blanks.commits.name; added = a.blanks.added.name; taken = a.blanks.taken.name; story = a.blanks.story.name }

@@ -1,4 +1,4 @@
 use Rattle.tests_waiting.proofs.cases.found.Given as goal
 
 abbrev pub ghosts-run : goal.ghosts-run
-ghosts-run g a = record { commits = a.blanks.commits.name; added = a.blanks.added.name; taken = a.blanks.taken.name }
+ghosts-run g a = record { commits = a.blanks.commits.name; added = a.blanks.added.name; taken = a.blanks.taken.name; story = a.blanks.story.name }

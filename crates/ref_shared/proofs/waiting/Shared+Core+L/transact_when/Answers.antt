@@ -5,11 +5,11 @@ use Rattle.ref_shared.specs.declared.bodies.OnTx.{OnTx}
 use Rattle.ref_shared.proofs.Within.{if_wait_fails, if_landed}
 use Rattle.ref_shared.proofs.waiting.Shared+Core+L.transact_when.Goals as goal
 
-pub transact_body_when-requires-clause-body : goal.transact_body_when-requires-clause-body
-transact_body_when-requires-clause-body g c = rw c.of-body.ensures (search (of_calls, rules))
+pub transact_as_when-requires-clause-body : goal.transact_as_when-requires-clause-body
+transact_as_when-requires-clause-body g c = rw c.of-body.ensures (search (of_calls, rules))
 
 pub returns-clause-ok : goal.returns-clause-ok
-returns-clause-ok g c = if_landed (λ (w : OnTx g.row.B.Denot (Option g.row.T.Denot) g.row.E.Denot). w.body) (calls_of g.B.FnMut) _ _ _ _ _ _ _ _ c.of-body.ensures c.transact_body_when.ensures.ok
+returns-clause-ok g c = if_landed _ (λ (w : OnTx g.row.B.Denot (Option g.row.T.Denot) g.row.E.Denot). w.body) (calls_of g.B.FnMut) _ _ _ _ _ _ _ _ c.of-body.ensures c.transact_as_when.ensures.ok
 
 pub returns-clause-fault : goal.returns-clause-fault
-returns-clause-fault g c = if_wait_fails (λ (w : OnTx g.row.B.Denot (Option g.row.T.Denot) g.row.E.Denot). w.body) (calls_of g.B.FnMut) _ _ _ _ _ c.of-body.ensures c.transact_body_when.ensures.fault
+returns-clause-fault g c = if_wait_fails (λ (w : OnTx g.row.B.Denot (Option g.row.T.Denot) g.row.E.Denot). w.body) (calls_of g.B.FnMut) _ _ _ _ _ c.of-body.ensures c.transact_as_when.ensures.fault

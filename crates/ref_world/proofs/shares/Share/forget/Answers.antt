@@ -1,8 +1,7 @@
-use Rattle.std.proofs.Common.{nat_lt, refl, rules, sym}
+use Rattle.std.proofs.Common.{ℕ, nat_lt, refl, rules, sym}
 use Rattle.std.proofs.lemmas.Fn.{filter_same}
-use Rattle.ref_world.specs.declared.shares.LogReceipt.{LogReceipt}
 use Rattle.ref_world.proofs.shares.Share.forget.Goals as goal
 
 pub returns : goal.returns
 returns g c =
-    rw (sym c.self.view_is, filter_same _ (λ (r : LogReceipt). nat_lt c.args.point r.point) _ (λ x b f' k. search rules) _ _ c.retain.ensures.filtered) refl
+    rw (sym c.self.view_is, filter_same _ (λ (p : ℕ). nat_lt c.args.point p) _ (λ x b f' k. search rules) _ _ c.retain.ensures.filtered) refl

@@ -1,4 +1,4 @@
-use Rattle.std.proofs.Common.{rules, ◌≡◌, ◌∙◌, ℕ, ◌+◌, ◌++◌, ◌∷◌, [], true, Ok, ap, refl, subst, sym}
+use Rattle.std.proofs.Common.{rules, ◌≡◌, ◌∙◌, ℕ, ◌+◌, ◌++◌, ◌∷◌, [], true, Ok, ap, arith, refl, subst, sym}
 use Rattle.ref_log.specs.Replay.{point_after, step}
 use Rattle.ref_log.specs.Tally.{IsMoved, moved_by_dones}
 use Rattle.ref_log.specs.declared.counting.Side.TheVariants.{Taken}
@@ -40,5 +40,5 @@ invariant_of-self-2 g c =
     let by_added = subst (λ k. IsMoved w.refs.tally p.refs.values w.books.start (w.books.added + k) (w.books.taken + moved_by_dones Taken w.refs.tally tx.dones)) (sym ready.added) by_dones in
     let by_taken = subst (λ k. IsMoved w.refs.tally p.refs.values w.books.start (w.books.added + p.added) (w.books.taken + k)) (sym ready.taken) by_added in
     let holds = subst (λ vs. IsMoved w.refs.tally vs w.books.start (w.books.added + p.added) (w.books.taken + p.taken)) (sym c.install.ensures.values) by_taken in
-    let books = books_committed w.base.value log w.refs.tally w.refs.values w.books is e after.tally after.values p.added p.taken c.book.new.self ready.fits refl c.install.ensures.rest.0 ready.added ready.taken ready.room_added ready.room_taken holds c.book.ensures in
+    let books = books_committed w.base.value log w.refs.tally w.refs.values w.books is e after.tally after.values p.added p.taken c.book.new.self ready.fits refl c.install.ensures.rest.0 ready.added ready.taken (omega (arith, ready.room_added, is.most_added)) (omega (arith, ready.room_taken, is.most_taken)) holds c.book.ensures in
     subst (λ l. IsWorld means w.base.value l after w.atoms c.write-written.new.agents.unreleased × AreBooks w.base.value l after.tally after.values c.book.new.self) (sym items) (entered, books)

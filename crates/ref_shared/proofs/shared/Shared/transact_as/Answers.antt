@@ -1,7 +1,9 @@
-use Rattle.std.proofs.Common.{rules, refl, arith, ◌∷◌, Ok, Err}
+use Rattle.std.proofs.Common.{rules, refl, subst, arith, [], ◌∷◌, ◌∙◌, Ok, Err}
 use Rattle.ref_shared.specs.Bodies.{IsRetried}
+use Rattle.ref_shared.specs.Commits.{HasCommitted}
+use Rattle.ref_shared.proofs.Learned.{committed_then, later_itself, later_then, learned_twice}
 use Rattle.ref_shared.proofs.Chains.{all_earlier, all_more, final, one_more}
-use Rattle.ref_shared.proofs.shared.Shared.transact_body.Goals as goal
+use Rattle.ref_shared.proofs.shared.Shared.transact_as.Goals as goal
 
 pub returns-in-Err-clause-fault : goal.returns-in-Err-clause-fault
 returns-in-Err-clause-fault g c =
@@ -9,7 +11,7 @@ returns-in-Err-clause-fault g c =
       record { began = _; answer = Err c.in-Err.e; left = _ },
       so_far.0,
       one_more _ _ _ _ _ _ _ _ so_far.1 so_far.2 so_far.3 c.loop-attempt.invariant.room
-          (record { fresh = c.in-Ok.ensures; called = c.in-Err.ensures.does }),
+          (record { fresh = c.in-Ok.ensures.fresh; called = c.in-Err.ensures.does }),
       refl,
     )
 
@@ -20,9 +22,10 @@ returns-in-Ok-commit-clause-ok g c =
       call = record { began = _; answer = Ok c.in-Ok-run.answer; left = _ };
       earlier = so_far.0;
       calls = one_more _ _ _ _ _ _ _ _ so_far.1 so_far.2 so_far.3 c.loop-attempt.invariant.room
-          (record { fresh = c.in-Ok.ensures; called = c.in-Ok-run.ensures.does });
+          (record { fresh = c.in-Ok.ensures.fresh; called = c.in-Ok-run.ensures.does });
       answered = refl;
-      landed = search rules;
+      landed = subst (λ t. HasCommitted g.M.Meaning.means c.args.stamp t c.in-Ok-commit.receipt.point c.args.share.now c.commit.new.share) (c.in-Ok-close.ensures ∙ c.tx.view_is)
+          (committed_then _ _ _ _ _ _ _ _ c.loop-attempt.invariant.share c.begin_as.ensures.learned c.in-Ok-commit.ensures.share);
     }
 
 pub returns-then-attempt-tries-clause-fault : goal.returns-then-attempt-tries-clause-fault
@@ -31,7 +34,7 @@ returns-then-attempt-tries-clause-fault g c =
       record { began = _; answer = Ok c.in-Ok-run.answer; left = _ },
       so_far.0,
       one_more _ _ _ _ _ _ _ _ so_far.1 so_far.2 so_far.3 c.loop-attempt.invariant.room
-          (record { fresh = c.in-Ok.ensures; called = c.in-Ok-run.ensures.does }),
+          (record { fresh = c.in-Ok.ensures.fresh; called = c.in-Ok-run.ensures.does }),
       refl,
       refl,
       omega (arith, so_far.2, c.if-attempt-tries.true),
@@ -43,11 +46,11 @@ loop-attempt-preserved g c =
     let so_far = c.loop-attempt.invariant.called in
     record {
       body = c.in-Ok-run.ensures.may;
-      share = search rules;
+      share = later_then _ _ _ (later_then _ _ _ c.loop-attempt.invariant.share c.begin_as.ensures.learned.later) c.in-Err-commit.ensures.learned.later;
       sink = search rules;
       called = (
         (record { began = _; answer = Ok c.in-Ok-run.answer; left = _ }) ∷ so_far.0,
-        (_, so_far.1, record { fresh = c.in-Ok.ensures; called = c.in-Ok-run.ensures.does }),
+        (_, so_far.1, record { fresh = c.in-Ok.ensures.fresh; called = c.in-Ok-run.ensures.does }),
         omega (arith, so_far.2),
         all_more IsRetried _ so_far.0 (record { answered = refl; conflict = c.in-Conflict.conflict; fits = search rules }) so_far.3,
       );
@@ -59,7 +62,7 @@ returns-in-Memory-clause-fault g c =
     let so_far = c.loop-attempt.invariant.called in (
       (record { began = _; answer = Ok c.in-Ok-run.answer; left = _ }) ∷ so_far.0,
       one_more _ _ _ _ _ _ _ _ so_far.1 so_far.2 so_far.3 c.loop-attempt.invariant.room
-          (record { fresh = c.in-Ok.ensures; called = c.in-Ok-run.ensures.does }),
+          (record { fresh = c.in-Ok.ensures.fresh; called = c.in-Ok-run.ensures.does }),
     )
 
 pub returns-in_default-fault-clause-fault : goal.returns-in_default-fault-clause-fault
@@ -68,7 +71,7 @@ returns-in_default-fault-clause-fault g c =
       record { began = _; answer = Ok c.in-Ok-run.answer; left = _ },
       so_far.0,
       one_more _ _ _ _ _ _ _ _ so_far.1 so_far.2 so_far.3 c.loop-attempt.invariant.room
-          (record { fresh = c.in-Ok.ensures; called = c.in-Ok-run.ensures.does }),
+          (record { fresh = c.in-Ok.ensures.fresh; called = c.in-Ok-run.ensures.does }),
       refl,
       final _ c.in_default-fault.not-Conflict c.in_default-fault.not-Memory,
     )
@@ -85,5 +88,23 @@ returns-in_default-close-clause-fault g c =
     let so_far = c.loop-attempt.invariant.called in (
       (record { began = _; answer = Ok c.in-Ok-run.answer; left = _ }) ∷ so_far.0,
       one_more _ _ _ _ _ _ _ _ so_far.1 so_far.2 so_far.3 c.loop-attempt.invariant.room
-          (record { fresh = c.in-Ok.ensures; called = c.in-Ok-run.ensures.does }),
+          (record { fresh = c.in-Ok.ensures.fresh; called = c.in-Ok-run.ensures.does }),
     )
+
+pub loop-attempt-init : goal.loop-attempt-init
+loop-attempt-init g c = record {
+  body = c.requires.body;
+  share = later_itself _;
+  sink = refl;
+  called = ([], refl, refl, search rules);
+  room = c.requires.tries;
+}
+
+pub returns-then-attempt-tries-clause-learned : goal.returns-then-attempt-tries-clause-learned
+returns-then-attempt-tries-clause-learned g c = learned_twice _ _ _ _ _ c.loop-attempt.invariant.share c.begin_as.ensures.learned c.in-Err-commit.ensures.learned
+
+pub returns-in-Memory-clause-learned : goal.returns-in-Memory-clause-learned
+returns-in-Memory-clause-learned g c = learned_twice _ _ _ _ _ c.loop-attempt.invariant.share c.begin_as.ensures.learned c.in-Err-commit.ensures.learned
+
+pub returns-in_default-fault-clause-learned : goal.returns-in_default-fault-clause-learned
+returns-in_default-fault-clause-learned g c = learned_twice _ _ _ _ _ c.loop-attempt.invariant.share c.begin_as.ensures.learned c.in-Err-commit.ensures.learned

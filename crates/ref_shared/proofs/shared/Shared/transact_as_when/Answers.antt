@@ -1,14 +1,16 @@
-use Rattle.std.proofs.Common.{rules, refl, ap, arith, [], ◌∷◌, ◌∙◌, Ok, Err, inl, inr}
+use Rattle.std.proofs.Common.{rules, refl, subst, ap, arith, [], ◌∷◌, ◌∙◌, Ok, Err, inl, inr}
 use Rattle.std.specs.Prelude.{is_some}
+use Rattle.ref_shared.specs.Commits.{HasCommitted}
 use Rattle.ref_shared.specs.Waits.{IsCalledAgain}
 use Rattle.ref_shared.proofs.Again.{again_earlier, not_ready, one_more, tried_more, tried_same}
+use Rattle.ref_shared.proofs.Learned.{committed_then, later_itself, later_then, learned_twice}
 use Rattle.ref_shared.proofs.Chains.{all_more, final}
-use Rattle.ref_shared.proofs.shared.Shared.transact_body_when.Goals as goal
+use Rattle.ref_shared.proofs.shared.Shared.transact_as_when.Goals as goal
 
 pub loop-init : goal.loop-init
 loop-init g c = record {
   body = c.requires.body;
-  share = refl;
+  share = later_itself _;
   sink = refl;
   called = ([], refl, refl, search rules);
   room = c.requires.tries;
@@ -27,7 +29,7 @@ returns-in-Err-clause-fault g c =
       record { began = _; answer = Err c.in-Err.e; left = _ },
       so_far.0,
       one_more _ _ _ _ _ _ _ _ so_far.1 so_far.2 so_far.3 c.loop.invariant.room
-          (record { fresh = c.in-Ok.ensures; called = c.in-Err.ensures.does }),
+          (record { fresh = c.in-Ok.ensures.fresh; called = c.in-Err.ensures.does }),
       refl,
     )
 
@@ -37,7 +39,7 @@ returns-then-not-wait_past-clause-fault g c =
       record { began = _; answer = Ok c.in-Ok-run.answer; left = _ },
       so_far.0,
       one_more _ _ _ _ _ _ _ _ so_far.1 so_far.2 so_far.3 c.loop.invariant.room
-          (record { fresh = c.in-Ok.ensures; called = c.in-Ok-run.ensures.does }),
+          (record { fresh = c.in-Ok.ensures.fresh; called = c.in-Ok-run.ensures.does }),
       search rules,
     )
 
@@ -46,11 +48,11 @@ loop-preserved-in_default-answer g c =
     let so_far = c.loop.invariant.called in
     record {
       body = c.in-Ok-run.ensures.may;
-      share = search rules;
+      share = later_then _ _ _ c.loop.invariant.share c.begin_as.ensures.learned.later;
       sink = search rules;
       called = (
         (record { began = _; answer = Ok c.in-Ok-run.answer; left = _ }) ∷ so_far.0,
-        (_, so_far.1, record { fresh = c.in-Ok.ensures; called = c.in-Ok-run.ensures.does }),
+        (_, so_far.1, record { fresh = c.in-Ok.ensures.fresh; called = c.in-Ok-run.ensures.does }),
         tried_same _ _ (Ok c.in-Ok-run.answer) so_far.0 (ap is_some (not_ready _ c.in_default-answer.not-Some)) ∙ so_far.2,
         all_more IsCalledAgain _ so_far.0 (inl (ap Ok (not_ready _ c.in_default-answer.not-Some))) so_far.3,
       );
@@ -64,9 +66,10 @@ returns-in-Ok-commit-clause-ok g c =
       call = record { began = _; answer = Ok c.in-Ok-run.answer; left = _ };
       earlier = so_far.0;
       calls = one_more _ _ _ _ _ _ _ _ so_far.1 so_far.2 so_far.3 c.loop.invariant.room
-          (record { fresh = c.in-Ok.ensures; called = c.in-Ok-run.ensures.does });
+          (record { fresh = c.in-Ok.ensures.fresh; called = c.in-Ok-run.ensures.does });
       answered = search rules;
-      landed = search rules;
+      landed = subst (λ t. HasCommitted g.M.Meaning.means c.args.stamp t c.in-Ok-commit.receipt.point c.args.share.now c.commit.new.share) (c.in-Ok-close.ensures ∙ c.tx.view_is)
+          (committed_then _ _ _ _ _ _ _ _ c.loop.invariant.share c.begin_as.ensures.learned c.in-Ok-commit.ensures.share);
     }
 
 pub returns-then-conflicts-tries-clause-fault : goal.returns-then-conflicts-tries-clause-fault
@@ -75,7 +78,7 @@ returns-then-conflicts-tries-clause-fault g c =
       record { began = _; answer = Ok c.in-Ok-run.answer; left = _ },
       so_far.0,
       one_more _ _ _ _ _ _ _ _ so_far.1 so_far.2 so_far.3 c.loop.invariant.room
-          (record { fresh = c.in-Ok.ensures; called = c.in-Ok-run.ensures.does }),
+          (record { fresh = c.in-Ok.ensures.fresh; called = c.in-Ok-run.ensures.does }),
       search rules,
       refl,
       tried_more _ _ (Ok c.in-Ok-run.answer) so_far.0 (ap is_some c.in-Some-answer.is) ∙ omega (arith, so_far.2, c.if-conflicts-tries.true),
@@ -87,7 +90,7 @@ returns-in-Memory-clause-fault g c =
     let so_far = c.loop.invariant.called in (
       (record { began = _; answer = Ok c.in-Ok-run.answer; left = _ }) ∷ so_far.0,
       one_more _ _ _ _ _ _ _ _ so_far.1 so_far.2 so_far.3 c.loop.invariant.room
-          (record { fresh = c.in-Ok.ensures; called = c.in-Ok-run.ensures.does }),
+          (record { fresh = c.in-Ok.ensures.fresh; called = c.in-Ok-run.ensures.does }),
     )
 
 pub returns-in_default-fault : goal.returns-in_default-fault
@@ -100,11 +103,11 @@ returns-in_default-fault g c =
         record { began = _; answer = Ok c.in-Ok-run.answer; left = _ },
         so_far.0,
         one_more _ _ _ _ _ _ _ _ so_far.1 so_far.2 so_far.3 c.loop.invariant.room
-            (record { fresh = c.in-Ok.ensures; called = c.in-Ok-run.ensures.does }),
+            (record { fresh = c.in-Ok.ensures.fresh; called = c.in-Ok-run.ensures.does }),
         ap is_some c.in-Some-answer.is,
         final _ c.in_default-fault.not-Conflict c.in_default-fault.not-Memory,
       );
-      same = search rules;
+      learned = learned_twice _ _ _ _ _ c.loop.invariant.share c.begin_as.ensures.learned c.in-Err-commit.ensures.learned;
       told = tt;
       untold = search rules;
       may = c.in-Ok-run.ensures.may;
@@ -116,11 +119,11 @@ loop-preserved g c =
     let is_value = ap is_some c.in-Some-answer.is in
     record {
       body = c.in-Ok-run.ensures.may;
-      share = search rules;
+      share = later_then _ _ _ (later_then _ _ _ c.loop.invariant.share c.begin_as.ensures.learned.later) c.in-Err-commit.ensures.learned.later;
       sink = search rules;
       called = (
         (record { began = _; answer = Ok c.in-Ok-run.answer; left = _ }) ∷ so_far.0,
-        (_, so_far.1, record { fresh = c.in-Ok.ensures; called = c.in-Ok-run.ensures.does }),
+        (_, so_far.1, record { fresh = c.in-Ok.ensures.fresh; called = c.in-Ok-run.ensures.does }),
         tried_more _ _ (Ok c.in-Ok-run.answer) so_far.0 is_value ∙ omega (arith, so_far.2),
         all_more IsCalledAgain _ so_far.0
             (inr (record { answered = is_value; conflict = c.in-Conflict.conflict; fits = search rules })) so_far.3,
@@ -133,5 +136,5 @@ returns-in_default-close-clause-fault g c =
     let so_far = c.loop.invariant.called in (
       (record { began = _; answer = Ok c.in-Ok-run.answer; left = _ }) ∷ so_far.0,
       one_more _ _ _ _ _ _ _ _ so_far.1 so_far.2 so_far.3 c.loop.invariant.room
-          (record { fresh = c.in-Ok.ensures; called = c.in-Ok-run.ensures.does }),
+          (record { fresh = c.in-Ok.ensures.fresh; called = c.in-Ok-run.ensures.does }),
     )

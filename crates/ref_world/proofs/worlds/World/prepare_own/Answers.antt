@@ -1,0 +1,37 @@
+use Rattle.std.proofs.Common.{◌≡◌, ◌∙◌, ◌+◌, IfOk, length, ap, sym}
+use Rattle.ref_log.specs.Replay.{point_after}
+use Rattle.ref_log.specs.Told.{TellsOrMemory}
+use Rattle.ref_refs.specs.Commit as refs
+use Rattle.ref_refs.specs.Conflicts.{refusal-fits, told-fits}
+use Rattle.ref_refs.specs.Ready.{CanInstall}
+use Rattle.ref_refs.specs.declared.faults.CommitFault.TheVariants.{Memory}
+use Rattle.ref_world.specs.Seen.{WorldSeen}
+use Rattle.ref_world.specs.World.{point_of, room}
+use Rattle.ref_world.proofs.Refusals.{conflict_told, same_at}
+use Rattle.ref_world.proofs.worlds.World.prepare_own.Goals as goal
+
+pub returns-clause-refused : goal.returns-clause-refused
+returns-clause-refused g c =
+    let w = c.self.inside in
+    let knows = g.F.Functions.knows c.args.funs.now in
+    let tx = c.args.tx.now in
+    let at : c.point-next.result ≡ point_after w.base.value w.log = c.point-next.ensures.value ∙ ap point_of (sym c.self.view_is) in
+    let agents : c.len-count.result ≡ length w.agents.agents = c.len-count.ensures.value in
+    let added : c.room.result ≡ room w.books.added = c.room.ensures ∙ ap room (c.added-added.ensures.value ∙ ap (λ (x : WorldSeen). x.books.added) (sym c.self.view_is)) in
+    let taken : c.room-2.result ≡ room w.books.taken = c.room-2.ensures ∙ ap room (c.taken-taken.ensures.value ∙ ap (λ (x : WorldSeen). x.books.taken) (sym c.self.view_is)) in
+    rw (← c.self.view_is) (same_at (λ p n a t. TellsOrMemory Memory (refs.early_refusal knows w.refs (p + 1) n tx) (refs.commit_refusal g.M.Meaning.means g.M.Meaning.accepts knows w.refs (p + 1) n a t tx) c.prepare_own.result) at agents added taken c.prepare_own.ensures.refused)
+
+pub returns-clause-conflict : goal.returns-clause-conflict
+returns-clause-conflict g c =
+    let refusal = refusal-fits c.args.tx.now g.M.Meaning.means g.M.Meaning.accepts (g.F.Functions.knows c.args.funs.now) c.self.inside.refs (c.point-next.result + 1) c.len-count.result c.room.result c.room-2.result in
+    conflict_told c.args.tx.now _ _ c.prepare_own.result c.prepare_own.ensures.refused (λ fault tells. told-fits c.args.tx.now _ _ fault tells refusal)
+
+pub returns-clause-ready : goal.returns-clause-ready
+returns-clause-ready g c =
+    let w = c.self.inside in
+    let tx = c.args.tx.now in
+    let at : c.point-next.result ≡ point_after w.base.value w.log = c.point-next.ensures.value ∙ ap point_of (sym c.self.view_is) in
+    let agents : c.len-count.result ≡ length w.agents.agents = c.len-count.ensures.value in
+    let added : c.room.result ≡ room w.books.added = c.room.ensures ∙ ap room (c.added-added.ensures.value ∙ ap (λ (x : WorldSeen). x.books.added) (sym c.self.view_is)) in
+    let taken : c.room-2.result ≡ room w.books.taken = c.room-2.ensures ∙ ap room (c.taken-taken.ensures.value ∙ ap (λ (x : WorldSeen). x.books.taken) (sym c.self.view_is)) in
+    rw (← c.self.view_is) (same_at (λ p n a t. IfOk c.prepare_own.result (CanInstall g.M.Meaning.means g.M.Meaning.accepts w.refs (p + 1) a t c.args.stamp tx)) at agents added taken c.prepare_own.ensures.ready)
