@@ -1,5 +1,5 @@
 //! What a thread has.
-ghost use Rattle.std.specs.Prelude.{◌≡◌, ◌⊎◌, ◌+◌, ◌<◌, true, false, List, Ok, IfOk, IfErr, OnErr, OnOk};
+ghost use Rattle.std.specs.Prelude.{◌≡◌, ◌⊎◌, ◌+◌, ◌<◌, ◌≤◌, true, false, List, Ok, IfOk, IfErr, OnErr, OnOk};
 ghost use Rattle.ref_fun.specs.Core.{core_means};
 ghost use Rattle.ref_fun.specs.declared.actions.Action.{Action};
 ghost use Rattle.ref_log.specs.Replay.{place};
@@ -10,13 +10,15 @@ ghost use Rattle.ref_program.specs.Seen.{IsSameWorker};
 ghost use Rattle.ref_program.specs.Stamps.{HasNoStamp, IsNext, IsNoEarlier};
 ghost use Rattle.ref_refs.specs.declared.faults.CommitFault.TheVariants as commits;
 ghost use Rattle.ref_shared.specs.Bodies.{Committed, FaultComes, calls_of};
-ghost use Rattle.ref_shared.specs.Commits.{AreNotices, HasChanged, IsLater};
+ghost use Rattle.ref_shared.specs.Commits.{AreNotices, HasChanged, HasLearned, IsLater, IsValueIn};
 ghost use Rattle.ref_shared.specs.Sinks.{TakesAll};
 ghost use Rattle.ref_shared.specs.Waits.{Landed, NamesOneOf, WaitFails};
 ghost use Rattle.ref_shared.specs.declared.faults.TransactFault.TheVariants as transacts;
 ghost use Rattle.ref_shared.specs.declared.faults.WaitFault.TheVariants as waits;
 ghost use Rattle.ref_value.specs.Edn.{Edn};
+ghost use Rattle.ref_world.specs.History.{point_in};
 ghost use Rattle.ref_world.specs.Shares.{forgotten};
+ghost use Rattle.ref_world.specs.declared.faults.CheckpointFault.TheVariants as checkpoints;
 
 use crate::stamps::Stamps;
 use ref_agents::SendFault;
@@ -134,7 +136,7 @@ impl<'a, L: Books, R: Wait, M: Meaning, F: Functions<M>, S: WatchSink> Worker<'a
             self.old.next self.new.point self.old.share self.new.share) }
         ensures fault { IfErr result (λ f. HasNoStamp self.old.next self.old.workers
             × (f ≡ transacts.Commit commits.PointLimit) × (body.new ≡ body.old)
-            ⊎ FaultComes B.does body.old body.new self.old.tries f) }
+            ⊎ FaultComes M.means self.new.share.history B.does body.old body.new self.old.tries f) }
         ensures same { OnErr result (IsLater self.old.share self.new.share × (self.new.sink ≡ self.old.sink)
             × (self.new.point ≡ self.old.point)) }
         ensures told { OnOk result ((notices : List Notice) × TakesAll S.takes self.old.sink notices self.new.sink) }
@@ -158,7 +160,7 @@ impl<'a, L: Books, R: Wait, M: Meaning, F: Functions<M>, S: WatchSink> Worker<'a
             self.old.next self.new.point self.old.share self.new.share) }
         ensures fault { IfErr result (λ f. HasNoStamp self.old.next self.old.workers
             × (f ≡ transacts.Commit commits.PointLimit) × (body.new ≡ body.old)
-            ⊎ FaultComes B.does body.old body.new self.old.tries f) }
+            ⊎ FaultComes M.means self.new.share.history B.does body.old body.new self.old.tries f) }
         ensures same { OnErr result (IsLater self.old.share self.new.share × (self.new.sink ≡ self.old.sink)
             × (self.new.point ≡ self.old.point)) }
         ensures told { OnOk result ((notices : List Notice) × TakesAll S.takes self.old.sink notices self.new.sink) }
@@ -199,7 +201,7 @@ impl<'a, L: Books, R: Wait, M: Meaning, F: Functions<M>, S: WatchSink> Worker<'a
             self.old.next self.new.point self.old.share self.new.share) }
         ensures fault { IfErr result (λ f. HasNoStamp self.old.next self.old.workers
             × (f ≡ waits.Transact (transacts.Commit commits.PointLimit)) × (body.new ≡ body.old)
-            ⊎ WaitFails B.does body.old body.new self.old.tries f) }
+            ⊎ WaitFails M.means self.new.share.history B.does body.old body.new self.old.tries f) }
         ensures same { OnErr result (IsLater self.old.share self.new.share × (self.new.sink ≡ self.old.sink)
             × (self.new.point ≡ self.old.point)) }
         ensures told { OnOk result ((notices : List Notice) × TakesAll S.takes self.old.sink notices self.new.sink) }
@@ -223,7 +225,7 @@ impl<'a, L: Books, R: Wait, M: Meaning, F: Functions<M>, S: WatchSink> Worker<'a
             self.old.next self.new.point self.old.share self.new.share) }
         ensures fault { IfErr result (λ f. HasNoStamp self.old.next self.old.workers
             × (f ≡ waits.Transact (transacts.Commit commits.PointLimit)) × (body.new ≡ body.old)
-            ⊎ WaitFails B.does body.old body.new self.old.tries f) }
+            ⊎ WaitFails M.means self.new.share.history B.does body.old body.new self.old.tries f) }
         ensures same { OnErr result (IsLater self.old.share self.new.share × (self.new.sink ≡ self.old.sink)
             × (self.new.point ≡ self.old.point)) }
         ensures told { OnOk result ((notices : List Notice) × TakesAll S.takes self.old.sink notices self.new.sink) }
@@ -339,9 +341,17 @@ impl<'a, L: Books, R: Wait, M: Meaning, F: Functions<M>, S: WatchSink> Worker<'a
         self.shared.send(self.rt, g, action)
     }
 
-    /// The value of a reference now: Clojure's `deref` outside of a transaction.
-    pub fn value_of(&self, who: Who) -> Result<Option<Value>, AllocError> {
-        self.shared.value_of(self.rt, who)
+    /// The value of a reference now: Clojure's `deref` outside of a transaction. That of a ref or atom is the one after all of the history that
+    /// the worker then knows.
+    pub fn value_of(&mut self, who: Who) -> Result<Option<Value>, AllocError>
+        ensures value { IfOk result (IsValueIn M.means self.new.share.history who) }
+        ensures learned { HasLearned M.means self.old.share self.new.share }
+        ensures rest { self.new ≡ record self.old { share = self.new.share } }
+    {
+        let mut front = self.share.front().again();
+        let value = self.shared.value_of(self.rt, &mut front, who);
+        self.share.catch_up(front);
+        value
     }
 
     /// Waits until these agents have done what was sent to them by now: Clojure's `await`. A crew without helpers runs nothing: there it waits
@@ -364,11 +374,24 @@ impl<'a, L: Books, R: Wait, M: Meaning, F: Functions<M>, S: WatchSink> Worker<'a
     }
 
     /// Folds the entries up to a point into the base, in bites of so many, between which the lock is free. It returns how many these were.
-    pub fn checkpoint(&self, point: u64, bite: u32) -> Result<u64, CheckpointFault>
+    pub fn checkpoint(&mut self, point: u64, bite: u32) -> Result<u64, CheckpointFault>
         requires { 0 < bite }
+        ensures point { OnOk result (point ≤ point_in self.new.share.history) }
+        ensures absent { IfErr result (λ f. f ≡ checkpoints.NoSuchPoint → point_in self.new.share.history < point) }
+        ensures learned { HasLearned M.means self.old.share self.new.share }
+        ensures rest { self.new ≡ record self.old { share = self.new.share } }
     {
-        self.shared
-            .checkpoint_in_bites(self.rt, self.alloc, &self.funs, point, bite)
+        let mut front = self.share.front().again();
+        let folded = self.shared.checkpoint_in_bites(
+            self.rt,
+            self.alloc,
+            &self.funs,
+            &mut front,
+            point,
+            bite,
+        );
+        self.share.catch_up(front);
+        folded
     }
 
     /// Folds the actions that an agent has handled into its start. It returns whether it did: the agent is there, and nothing that its last
@@ -392,7 +415,7 @@ impl<'a, L: Books, R: Wait, S: WatchSink> Worker<'a, L, R, Core, CoreFunctions, 
             self.old.next self.new.point self.old.share self.new.share) }
         ensures fault { IfErr result (λ f. HasNoStamp self.old.next self.old.workers
             × (f ≡ transacts.Commit commits.PointLimit)
-            ⊎ (last : D) × FaultComes (calls_of D.FnMut) body last self.old.tries f) }
+            ⊎ (last : D) × FaultComes core_means self.new.share.history (calls_of D.FnMut) body last self.old.tries f) }
         ensures same { OnErr result (IsLater self.old.share self.new.share × (self.new.sink ≡ self.old.sink)
             × (self.new.point ≡ self.old.point)) }
         ensures told { OnOk result ((notices : List Notice) × TakesAll S.takes self.old.sink notices self.new.sink) }
@@ -416,7 +439,7 @@ impl<'a, L: Books, R: Wait, S: WatchSink> Worker<'a, L, R, Core, CoreFunctions, 
             self.old.next self.new.point self.old.share self.new.share) }
         ensures fault { IfErr result (λ f. HasNoStamp self.old.next self.old.workers
             × (f ≡ waits.Transact (transacts.Commit commits.PointLimit))
-            ⊎ (last : D) × WaitFails (calls_of D.FnMut) body last self.old.tries f) }
+            ⊎ (last : D) × WaitFails core_means self.new.share.history (calls_of D.FnMut) body last self.old.tries f) }
         ensures same { OnErr result (IsLater self.old.share self.new.share × (self.new.sink ≡ self.old.sink)
             × (self.new.point ≡ self.old.point)) }
         ensures told { OnOk result ((notices : List Notice) × TakesAll S.takes self.old.sink notices self.new.sink) }

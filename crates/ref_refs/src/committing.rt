@@ -101,8 +101,8 @@ impl<M: Meaning> RefStore<M> {
         ensures tally { OnOk result (tally_value self.new.tally self.new.values
             ≡ moved (tally_value self.old.tally self.old.values) (moved_by_dones Added self.old.tally tx.dones)
             (moved_by_dones Taken self.old.tally tx.dones)) }
-        // A conflict is returned with a ref that the transaction protects, its read point and a later point.
-        ensures conflict { IfErr result (λ e. ConflictFits tx e.1) }
+        // A conflict is returned with a ref that the transaction protects, its read point and the later point of its last change.
+        ensures conflict { IfErr result (λ e. ConflictFits tx (changed_at self.old.lasts) e.1) }
         ensures back { IfErr result (λ e. e.0 ≡ tx) }
         ensures err { OnErr result (self.new ≡ self.old) }
     {

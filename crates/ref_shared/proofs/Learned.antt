@@ -1,5 +1,5 @@
 -- What is known of the history along several calls.
-use Rattle.std.proofs.Common.{◌≡◌, ◌≤◌, ℕ, ◌+◌, true, [], ◌∷◌, ◌++◌, Option, None, Some, Result, Ok, Err, OnOk, IfOk, length, slice_get, ap, refl, subst, sym, ◌∙◌, arith, length-append}
+use Rattle.std.proofs.Common.{◌≡◌, ◌≤◌, ℕ, ◌+◌, true, [], ◌∷◌, ◌++◌, Option, None, Some, Result, Ok, Err, OnErr, OnOk, IfErr, IfOk, List, length, slice_get, ap, refl, subst, sym, ◌∙◌, arith, length-append}
 use Rattle.std.specs.Ordering.{eq_by_cmp}
 use Rattle.ref_value.specs.Edn.{Edn}
 use Rattle.ref_value.specs.Order.{edn_cmp}
@@ -15,19 +15,24 @@ use Rattle.ref_log.specs.declared.counting.Side.TheVariants.{Added, Taken}
 use Rattle.ref_log.specs.declared.entries.Entry.{Entry}
 use Rattle.ref_log.specs.declared.entries.Entry.TheVariants.{Atom}
 use Rattle.ref_log.specs.declared.entries.Stamp.{Stamp}
+use Rattle.ref_log.specs.declared.notices.Who.{Who}
+use Rattle.ref_log.specs.declared.notices.Who.TheVariants as who
 use Rattle.ref_log.specs.declared.operations.Op.{Op}
 use Rattle.ref_log.specs.declared.operations.Op.TheVariants.{Set}
 use Rattle.ref_log.specs.declared.states.PlainState.{PlainState}
 use Rattle.ref_refs.specs.Commit.{entry_of}
+use Rattle.ref_refs.specs.Conflicts.{ConflictFits, fits_too}
+use Rattle.ref_refs.specs.Seen.{changed_at}
+use Rattle.ref_refs.specs.declared.faults.CommitFault.{CommitFault}
 use Rattle.ref_tx.specs.Seen.{TxSeen}
-use Rattle.ref_world.specs.History.{Begins, IsLegal, atoms_in, atoms_of, changed_in, point_in, refs_in, state_in, upto, with_entry}
+use Rattle.ref_world.specs.History.{Begins, IsLegal, atoms_in, atoms_of, changed_in, point_in, refs_in, refs_of, state_in, upto, with_entry}
 use Rattle.ref_world.specs.HistoryLaws.{begins_itself, begins_then}
 use Rattle.ref_world.specs.Seen.{HistorySeen, ShareSeen, WorldSeen}
 use Rattle.ref_world.specs.Shares.{knowing, with_commit, with_receipt}
 use Rattle.ref_world.specs.World as worlds
 use Rattle.ref_world.specs.World.{point_of, values_now}
 use Rattle.ref_world.specs.declared.commits.Receipt.{Receipt}
-use Rattle.ref_shared.specs.Commits.{HasChanged, HasCommitted, HasEntered, HasLearned, HasReceipt, IsLater}
+use Rattle.ref_shared.specs.Commits.{HasChanged, HasCommitted, HasEntered, HasLearned, HasMade, HasReceipt, IsLater, IsValueIn}
 
 pub later_itself : (s : ShareSeen) → IsLater s s
 later_itself s = record { same = refl; known = begins_itself s.history }
@@ -64,9 +69,9 @@ committed_then means stamp tx point one two three four first next last =
 
 -- ---- what a call under the lock leaves, where what it found is at hand
 
-abbrev entered : (means : Means) (e : Entry) (point : ℕ) (old new : ShareSeen) (before after : HistorySeen)
-    → Begins old.history before → after ≡ with_entry before e → new.history ≡ after → IsLegal means after → point ≡ point_in after
-    → HasEntered means e point old.history new.history
+abbrev entered : (means : Means) (e : Entry) (point : ℕ) (old new before after : HistorySeen)
+    → Begins old before → after ≡ with_entry before e → new ≡ after → IsLegal means after → point ≡ point_in after
+    → HasEntered means e point old new
 entered means e point old new before after known grows now legal at = record {
   found = before;
   known = known;
@@ -100,10 +105,41 @@ committed (Ok receipt) means stamp tx old mid new world later before after lands
           ∙ (ap (λ s. knowing s after) made
           ∙ (ap (λ k. knowing (with_commit old k adds takes) after) (sym receipts.0)
           ∙ ap (λ h. knowing (with_commit old receipt.point adds takes) h) (sym now)));
-      entered = entered means e receipt.point old new before after known grows now legal at;
+      entered = entered means e receipt.point old.history new.history before after known grows now legal at;
       began = began;
       unchanged = unchanged;
     }
+
+-- A conflict is one that the history shows.
+pub conflicted : {T : Type 0} (r : Result T (TxSeen × CommitFault)) (means : Means) (tx : TxSeen) (mid new : ShareSeen) (world later : WorldSeen) (before after : HistorySeen)
+    → IfErr r (λ e. ConflictFits tx (changed_at world.refs.lasts) e.1) → OnErr r ((later ≡ world) × (after ≡ before))
+    → new ≡ knowing mid after → ((k : ℕ) → changed_in after k ≡ changed_at later.refs.lasts k)
+    → IfErr r (λ e. ConflictFits tx (changed_in new.history) e.1)
+conflicted (Ok x) means tx mid new world later before after fits same informed lasts = tt
+conflicted (Err e) means tx mid new world later before after fits same informed lasts =
+    let now : new.history ≡ after = ap (λ (s : ShareSeen). s.history) informed in
+    fits_too tx (changed_at world.refs.lasts) (changed_in new.history) e.1
+    (λ k. ap (λ h. changed_in h k) now ∙ (lasts k ∙ ap (λ (w : WorldSeen). changed_at w.refs.lasts k) same.0)) fits
+
+-- A reference was made.
+pub was_made : {F : Type 0} (r : Result ℕ F) (means : Means) (e : Entry) (all : HistorySeen → List Edn) (values : List Edn) (first new before after : HistorySeen)
+    → Begins first before → all before ≡ values
+    → OnOk r (after ≡ with_entry before e) → IfOk r (λ n. n ≡ length values)
+    → new ≡ after → IsLegal means after
+    → IfOk r (λ n. HasMade means e all n first new)
+was_made (Err f) means e all values first new before after begins held grows count told legal = tt
+was_made (Ok n) means e all values first new before after begins held grows count told legal = record {
+  point = point_in after;
+  entered = entered means e (point_in after) first new before after begins grows told legal refl;
+  number = count ∙ ap length (sym held);
+}
+
+-- The value of a reference is the one that the history gives it.
+pub value_shown : (means : Means) (h : HistorySeen) (world : WorldSeen) (who : Who) → state_in means h ≡ Ok (values_now world.refs world.atoms)
+    → IsValueIn means h who (value_at world who)
+value_shown means h world (who.Ref r) state = ap (λ s. slice_get (refs_of s) r) (sym state)
+value_shown means h world (who.Atom a) state = ap (λ s. slice_get (atoms_of s) a) (sym state)
+value_shown means h world (who.Agent g) state = tt
 
 -- One change of an atom.
 abbrev changed : (means : Means) (a : ℕ) (op : Op) (was value : Edn) (old mid new : ShareSeen) (world later : WorldSeen) (before after : HistorySeen)
@@ -125,7 +161,7 @@ changed means a op was value old mid new world later before after lands made gro
       receipt = record {
         point = point_of world + 1;
         share = informed ∙ (ap (λ s. knowing s after) made ∙ ap (λ h. knowing (with_receipt old (point_of world + 1)) h) (sym now));
-        entered = entered means e (point_of world + 1) old new before after known grows now legal at;
+        entered = entered means e (point_of world + 1) old.history new.history before after known grows now legal at;
       };
       had = ap (λ s. slice_get (atoms_of s) a) state ∙ had;
     }

@@ -1,5 +1,5 @@
 -- What a call under the lock leaves in a share, and what is then known of the history that it found there.
-use Rattle.std.specs.Prelude.{◌≡◌, ◌≤◌, ℕ, List, Option, Some, true, slice_get}
+use Rattle.std.specs.Prelude.{◌≡◌, ◌≤◌, ℕ, List, Option, Some, true, length, slice_get}
 use Rattle.ref_value.specs.Edn.{Edn}
 use Rattle.ref_fun.specs.Meaning.{Means}
 use Rattle.ref_log.specs.Replay.{is_protected}
@@ -12,6 +12,7 @@ use Rattle.ref_log.specs.declared.entries.Stamp.{Stamp}
 use Rattle.ref_log.specs.declared.guards.Guard.{Guard}
 use Rattle.ref_log.specs.declared.notices.Notice.{Notice}
 use Rattle.ref_log.specs.declared.notices.Who.{Who}
+use Rattle.ref_log.specs.declared.notices.Who.TheVariants as who
 use Rattle.ref_log.specs.declared.operations.Op.{Op}
 use Rattle.ref_log.specs.declared.states.Base.{Base}
 use Rattle.ref_refs.specs.Commit.{entry_of}
@@ -31,6 +32,11 @@ pub record IsLater (old new : ShareSeen) : Type 0 where
 pub record HasLearned (means : Means) (old new : ShareSeen) : Type 0 where
   pub later : IsLater old new
   pub legal : IsLegal means new.history
+
+-- So it is of a front.
+pub record HasCaughtUp (means : Means) (old new : HistorySeen) : Type 0 where
+  pub known : Begins old new
+  pub legal : IsLegal means new
 
 -- An entry stands at this point of the history, and is the last that is known. What was known begins what the lock found, and each entry was
 -- a legal step on what stood before it.
@@ -76,6 +82,18 @@ pub record HasReceipt (means : Means) (e : Entry) (old new : ShareSeen) : Type 0
 pub record HasChanged (means : Means) (a : ℕ) (op : Op) (before after : Edn) (old new : ShareSeen) : Type 0 where
   pub receipt : HasReceipt means (Atom a op after) old new
   pub had : slice_get (atoms_in means receipt.entered.found) a ≡ Some before
+
+-- A reference was made, with this number: there were so many of its kind.
+pub record HasMade (means : Means) (e : Entry) (all : HistorySeen → List Edn) (number : ℕ) (old new : HistorySeen) : Type 0 where
+  pub point : ℕ
+  pub entered : HasEntered means e point old new
+  pub number : number ≡ length (all entered.found)
+
+-- What the history says of the value of a reference: that of a ref or atom after all of it, and of an agent nothing.
+abbrev pub IsValueIn : Means → HistorySeen → Who → Option Edn → Type 0
+IsValueIn means h (who.Ref r) v = v ≡ slice_get (refs_in means h) r
+IsValueIn means h (who.Atom a) v = v ≡ slice_get (atoms_in means h) a
+IsValueIn means h (who.Agent g) v = Unit {0}
 
 -- What a world was taken out with: a history of legal steps, which what was known of it begins, and of which base and log are parts.
 pub record HasEnded (means : Means) (known : HistorySeen) (base : Base) (log : List Entry) : Type 0 where

@@ -1,5 +1,5 @@
 -- Those who wait: for actions of agents to be gone, and for a transaction that isn't ready.
-use Rattle.std.specs.Prelude.{◌≡◌, ◌+◌, ◌-◌, ◌^◌, ◌≤◌, ◌==◌, ◌||◌, ℕ, Bool, true, false, if◌then◌else◌, is_some, nat_le, nat_lt, min, unwrap_or, List, [], ◌∷◌, filter, length, Option, None, Some, Result, Ok, Err}
+use Rattle.std.specs.Prelude.{◌≡◌, ◌+◌, ◌-◌, ◌^◌, ◌≤◌, ◌<◌, ◌==◌, ◌||◌, ℕ, Bool, true, false, if◌then◌else◌, is_some, nat_le, nat_lt, min, unwrap_or, List, [], ◌∷◌, filter, length, Option, None, Some, Result, Ok, Err}
 use Rattle.std.specs.List.{All, IsAmong}
 use Rattle.std.specs.BTreeMap.{BTreeMap, get}
 use Rattle.std.specs.Ordering.{nat_cmp}
@@ -12,9 +12,9 @@ use Rattle.ref_agents.specs.declared.ends.Finished.TheVariants.{Changed, Failed,
 use Rattle.ref_fun.specs.Meaning.{Means}
 use Rattle.ref_log.specs.declared.entries.Stamp.{Stamp}
 use Rattle.ref_refs.specs.Conflicts.{IsConflictOf}
-use Rattle.ref_refs.specs.declared.faults.Conflict.{Conflict}
-use Rattle.ref_world.specs.Seen.{ShareSeen}
-use Rattle.ref_shared.specs.Bodies.{Doing, Call, Called, IsFinal, earlier_of}
+use Rattle.ref_world.specs.History.{changed_in, point_in}
+use Rattle.ref_world.specs.Seen.{HistorySeen, ShareSeen}
+use Rattle.ref_shared.specs.Bodies.{Doing, Call, Called, IsFinal, WasInConflict, earlier_of, seeing}
 use Rattle.ref_shared.specs.Commits.{HasCommitted}
 use Rattle.ref_shared.specs.declared.faults.AwaitFault.{AwaitFault}
 use Rattle.ref_shared.specs.declared.faults.AwaitFault.TheVariants as awaits
@@ -147,44 +147,49 @@ abbrev pub tried : {T E : Type 0} → List (Call (Result (Option T) E)) → List
 tried calls = filter (λ call. is_value call.answer) calls
 
 -- A call after which the commit of what it left was in conflict.
-pub record IsInConflict {T E : Type 0} (call : Call (Result (Option T) E)) : Type 0 where
+pub record IsInConflict {T E : Type 0} (known : HistorySeen) (call : Call (Result (Option T) E)) : Type 0 where
   pub answered : is_value call.answer ≡ true
-  pub conflict : Conflict
-  pub fits : IsConflictOf call.left conflict
+  pub conflict : WasInConflict known call
 
--- A call after which the body is called again: it wasn't ready, or the commit of what it left was in conflict.
-abbrev pub IsCalledAgain : {T E : Type 0} → Call (Result (Option T) E) → Type 0
-IsCalledAgain call = (call.answer ≡ Ok None) ⊎ IsInConflict call
+-- A call that wasn't ready, where an entry came after its transaction began.
+pub record IsOvertaken {T E : Type 0} (known : HistorySeen) (call : Call (Result (Option T) E)) : Type 0 where
+  pub waits : call.answer ≡ Ok None
+  pub later : call.began.read_point < point_in known
 
--- These are all calls of the body that there were, and after at most so many of them a commit was tried. Each but the last wasn't ready
--- or ended in a conflict.
-pub record AllWaits {B T E : Type 0} (does : Doing B (Result (Option T) E)) (body last : B) (calls : List (Call (Result (Option T) E))) (tries : ℕ) : Type 0 where
-  pub called : Called does body calls last
+-- A call after which the body is called again: it wasn't ready, and an entry came since; or the commit of what it left was in conflict.
+abbrev pub IsCalledAgain : {T E : Type 0} → HistorySeen → Call (Result (Option T) E) → Type 0
+IsCalledAgain known call = IsOvertaken known call ⊎ IsInConflict known call
+
+-- These are all calls of the body that there were, and after at most so many of them a commit was tried. Each got a transaction that began
+-- with the values after a beginning of the history that is known. Each but the last wasn't ready or ended in a conflict.
+pub record AllWaits {B T E : Type 0} (means : Means) (known : HistorySeen) (does : Doing B (Result (Option T) E)) (body last : B) (calls : List (Call (Result (Option T) E))) (tries : ℕ) : Type 0 where
+  pub called : Called (seeing means known does) body calls last
   pub few : length (tried calls) ≤ tries
-  pub again : All IsCalledAgain (earlier_of calls)
+  pub again : All (IsCalledAgain known) (earlier_of calls)
 
 -- The last call of the body returned this value, and what it left was committed.
 pub record Landed {B T E : Type 0} (means : Means) (does : Doing B (Result (Option T) E)) (body last : B) (tries : ℕ) (answer : T) (stamp : Stamp) (point : ℕ) (old new : ShareSeen) : Type 0 where
   pub call : Call (Result (Option T) E)
   pub earlier : List (Call (Result (Option T) E))
-  pub calls : AllWaits does body last (call ∷ earlier) tries
+  pub calls : AllWaits means new.history does body last (call ∷ earlier) tries
   pub answered : call.answer ≡ Ok (Some answer)
   pub landed : HasCommitted means stamp call.left point old new
 
--- When a transaction that waits fails: closed behind a last call that wasn't ready; giving up after all tries, with a conflict of what
--- the last call left; with a body's fault as the last call returned it; with a commit's fault behind a last call that returned a value.
-abbrev pub WaitFails : {B T E : Type 0} → Doing B (Result (Option T) E) → B → B → ℕ → WaitFault E → Type 0
-WaitFails {B} {T} {E} does body last tries waits.Closed =
-    (call : Call (Result (Option T) E)) × (earlier : List (Call (Result (Option T) E))) × AllWaits does body last (call ∷ earlier) tries
-    × (call.answer ≡ Ok None)
-WaitFails {B} {T} {E} does body last tries (waits.Transact (transacts.GaveUp n conflict)) =
-    (call : Call (Result (Option T) E)) × (earlier : List (Call (Result (Option T) E))) × AllWaits does body last (call ∷ earlier) tries
-    × (is_value call.answer ≡ true) × (n ≡ tries) × (length (tried (call ∷ earlier)) ≡ tries) × IsConflictOf call.left conflict
-WaitFails {B} {T} {E} does body last tries (waits.Transact (transacts.Body e)) =
-    (call : Call (Result (Option T) E)) × (earlier : List (Call (Result (Option T) E))) × AllWaits does body last (call ∷ earlier) tries
+-- When a transaction that waits fails: closed behind a last call that wasn't ready, if no entry came since it began; giving up after all
+-- tries, with a conflict of what the last call left, as the history shows that is known then; with a body's fault as the last call returned
+-- it; with a commit's fault behind a last call that returned a value.
+abbrev pub WaitFails : {B T E : Type 0} → Means → HistorySeen → Doing B (Result (Option T) E) → B → B → ℕ → WaitFault E → Type 0
+WaitFails {B} {T} {E} means known does body last tries waits.Closed =
+    (call : Call (Result (Option T) E)) × (earlier : List (Call (Result (Option T) E))) × AllWaits means known does body last (call ∷ earlier) tries
+    × (call.answer ≡ Ok None) × (point_in known ≤ call.began.read_point)
+WaitFails {B} {T} {E} means known does body last tries (waits.Transact (transacts.GaveUp n conflict)) =
+    (call : Call (Result (Option T) E)) × (earlier : List (Call (Result (Option T) E))) × AllWaits means known does body last (call ∷ earlier) tries
+    × (is_value call.answer ≡ true) × (n ≡ tries) × (length (tried (call ∷ earlier)) ≡ tries) × IsConflictOf call.left (changed_in known) conflict
+WaitFails {B} {T} {E} means known does body last tries (waits.Transact (transacts.Body e)) =
+    (call : Call (Result (Option T) E)) × (earlier : List (Call (Result (Option T) E))) × AllWaits means known does body last (call ∷ earlier) tries
     × (call.answer ≡ Err e)
-WaitFails {B} {T} {E} does body last tries (waits.Transact (transacts.Commit fault)) =
-    (call : Call (Result (Option T) E)) × (earlier : List (Call (Result (Option T) E))) × AllWaits does body last (call ∷ earlier) tries
+WaitFails {B} {T} {E} means known does body last tries (waits.Transact (transacts.Commit fault)) =
+    (call : Call (Result (Option T) E)) × (earlier : List (Call (Result (Option T) E))) × AllWaits means known does body last (call ∷ earlier) tries
     × (is_value call.answer ≡ true) × IsFinal fault
-WaitFails {B} {T} {E} does body last tries (waits.Transact transacts.Memory) =
-    (calls : List (Call (Result (Option T) E))) × AllWaits does body last calls tries
+WaitFails {B} {T} {E} means known does body last tries (waits.Transact transacts.Memory) =
+    (calls : List (Call (Result (Option T) E))) × AllWaits means known does body last calls tries

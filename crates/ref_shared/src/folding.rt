@@ -1,12 +1,15 @@
 //! What a program that stays up folds: the log, the receipts of shares, and the accounts of agents.
-ghost use Rattle.std.specs.Prelude.{◌≡◌, ◌<◌, ℕ};
+ghost use Rattle.std.specs.Prelude.{◌≡◌, ◌<◌, ◌≤◌, ◌+◌, ℕ, max, IfErr, IfOk, OnOk};
+ghost use Rattle.ref_shared.specs.Commits.{HasCaughtUp};
+ghost use Rattle.ref_world.specs.History.{point_in};
 ghost use Rattle.ref_world.specs.Shares.{forgotten};
+ghost use Rattle.ref_world.specs.declared.faults.CheckpointFault.TheVariants as checkpoints;
 
 use crate::shared::{Held, Shared};
 use ref_fun::{Functions, Meaning};
-use ref_world::{Books, CheckpointFault, Share};
+use ref_world::{Books, CheckpointFault, Front, Share};
 use std::alloc::{AllocError, Global};
-use std::sync::{MutexGuard, Wait};
+use std::sync::Wait;
 
 impl<M: Meaning, L: Books> Shared<M, L> {
     /// Folds the entries up to this point into the base, and returns how many these were: see [`ref_world::World::checkpoint`]. The
@@ -18,9 +21,18 @@ impl<M: Meaning, L: Books> Shared<M, L> {
         rt: &R,
         alloc: Global,
         funs: &F,
+        front: &mut Front<L>,
         point: u64,
-    ) -> Result<u64, CheckpointFault> {
-        fold_and_free(self.lock(rt), alloc, funs, point)
+    ) -> Result<u64, CheckpointFault>
+        ensures learned { HasCaughtUp M.means front.old front.new }
+        ensures point { OnOk result (point ≤ point_in front.new) }
+    {
+        let mut held = self.lock(rt);
+        let before = held.booked.world.view();
+        let folded = held.fold(alloc, funs, front, point);
+        drop(held);
+        drop(before);
+        folded
     }
 
     /// Folds the entries up to this point into the base, so many at a time, and returns how many it folded: the lock is free between two
@@ -35,46 +47,47 @@ impl<M: Meaning, L: Books> Shared<M, L> {
         rt: &R,
         alloc: Global,
         funs: &F,
+        front: &mut Front<L>,
         point: u64,
         bite: u32,
     ) -> Result<u64, CheckpointFault>
         requires { 0 < bite }
+        ensures learned { HasCaughtUp M.means front.old front.new }
+        ensures point { OnOk result (point ≤ point_in front.new) }
+        ensures absent { IfErr result (λ f. f ≡ checkpoints.NoSuchPoint → point_in front.new < point) }
     {
         let mut folded = 0u64;
         for _ in rt.forever() {
-            match self.fold_bite(rt, alloc, funs, point, bite)? {
-                0 => return Ok(folded),
-                count => folded = folded.saturating_add(count),
+            match self.fold_bite(rt, alloc, funs, front, point, bite) {
+                Ok(0) => return Ok(folded),
+                Ok(count) => folded = folded.saturating_add(count),
+                Err(fault) => return Err(fault),
             }
         }
         unreachable!()
     }
 
-    // Folds at most so many entries up to this point, and returns how many. 0 only where all up to it are folded.
+    // One bite. What it drops of base and log is dropped with the lock free.
     fn fold_bite<R: Wait, F: Functions<M>>(
         &self,
         rt: &R,
         alloc: Global,
         funs: &F,
+        front: &mut Front<L>,
         point: u64,
         bite: u32,
     ) -> Result<u64, CheckpointFault>
         requires { 0 < bite }
+        ensures learned { HasCaughtUp M.means front.old front.new }
+        ensures point { OnOk result (point ≤ point_in front.new) }
+        ensures absent { IfErr result (λ f. f ≡ checkpoints.NoSuchPoint → point_in front.new < point) }
     {
-        let held = self.lock(rt);
-        if point > held.booked.world.point() {
-            return Err(CheckpointFault::NoSuchPoint);
-        }
-        let base = held.booked.world.base().point;
-        if point <= base {
-            return Ok(0);
-        }
-        let to = if point - base < bite as u64 {
-            point
-        } else {
-            base + bite as u64
-        };
-        fold_and_free(held, alloc, funs, to)
+        let mut held = self.lock(rt);
+        let before = held.booked.world.view();
+        let folded = held.fold_bite(alloc, funs, front, point, bite);
+        drop(held);
+        drop(before);
+        folded
     }
 
     /// Drops the receipts of a share whose entries are folded into the base: see [`ref_world::Booked::forget`]. The lock is held for a look at
@@ -94,19 +107,53 @@ impl<M: Meaning, L: Books> Shared<M, L> {
     }
 }
 
-// Folds the entries up to this point, frees the lock, and returns how many these were.
-fn fold_and_free<M: Meaning, L: Books, F: Functions<M>>(
-    held: MutexGuard<'_, Held<M, L>>,
-    alloc: Global,
-    funs: &F,
-    point: u64,
-) -> Result<u64, CheckpointFault> {
-    let mut held = held;
-    // One owner more, so that the base and the log before are dropped when the lock is free again. Where it is refused they are dropped
-    // under it.
-    let before = held.booked.world.view();
-    let folded = held.booked.checkpoint(alloc, funs, point);
-    drop(held);
-    drop(before);
-    folded
+impl<M: Meaning, L: Books> Held<M, L> {
+    // Folds the entries up to this point, and returns how many these were.
+    fn fold<F: Functions<M>>(
+        &mut self,
+        alloc: Global,
+        funs: &F,
+        front: &mut Front<L>,
+        point: u64,
+    ) -> Result<u64, CheckpointFault>
+        ensures learned { HasCaughtUp M.means front.old front.new }
+        ensures point { OnOk result (point ≤ point_in front.new) }
+        ensures count { IfOk result (λ n. n + self.old.booked.world.base.point ≡ point) }
+    {
+        self.booked.tell(front);
+        self.booked.checkpoint(alloc, funs, point)
+    }
+
+    // Folds at most so many entries up to this point, and returns how many: 0 only where all up to it are folded.
+    fn fold_bite<F: Functions<M>>(
+        &mut self,
+        alloc: Global,
+        funs: &F,
+        front: &mut Front<L>,
+        point: u64,
+        bite: u32,
+    ) -> Result<u64, CheckpointFault>
+        requires { 0 < bite }
+        ensures learned { HasCaughtUp M.means front.old front.new }
+        ensures point { OnOk result (point ≤ point_in front.new) }
+        ensures absent { IfErr result (λ f. f ≡ checkpoints.NoSuchPoint → point_in front.new < point) }
+        ensures count { IfOk result (λ n. (n ≤ bite) × (n ≡ 0 → point ≤ self.old.booked.world.base.point)
+            × (n + self.old.booked.world.base.point ≤ max point self.old.booked.world.base.point)) }
+    {
+        let present = self.booked.world.point();
+        self.booked.tell(front);
+        if point > present {
+            return Err(CheckpointFault::NoSuchPoint);
+        }
+        let base = self.booked.world.base().point;
+        if point <= base {
+            return Ok(0);
+        }
+        let to = if point - base < bite as u64 {
+            point
+        } else {
+            base + bite as u64
+        };
+        self.booked.checkpoint(alloc, funs, to)
+    }
 }

@@ -18,6 +18,7 @@
 //! | [`WaitFault`], [`AwaitFault`] | why a transaction that waits came to no commit, and why not all was done that was waited for |
 //! | [`match_receipts`], [`GatherFault`] | the comparison of a log with receipts, which `finish` makes, and why they don't fit |
 //! | [`folded_receipts_say_nothing`] | a law of it: [`Shared::forget`] changes nothing that it says |
+//! | [`theorems`] | laws of what threads commit, to cite |
 //!
 //! Take it where threads that come and go share refs, atoms and agents; for a program whose threads all begin and end with their world
 //! `ref_program` is shorter. On one thread take `ref_world`, whose calls wait for nobody. `transact` and `transact_when` take a closure,
@@ -43,10 +44,11 @@
 //! **Not promised.** Which thread comes first, how often a transaction is tried within its limit and whether it gets through, that a waiter
 //! ever wakes or an action is ever run, and how long anything takes; a call that locks or waits holds its promise where it returns. That
 //! agents, rules and watches which were found at one lock are so at the next, and in which order two threads deliver their notices. Of the
-//! calls on a `Shared` only `begin`, `commit`, those that begin with `transact`, `work_once`, those on atoms, `forget` and `finish` have
-//! clauses, and `await_agents` one that says which agent a fault names: what the others do, that a wait ends when it should and not before,
-//! that `transact` delivers the notices and then releases the sends, and that no lock is held over a body, an action, a gate or a sink, is
-//! only tested.
+//! calls on a `Shared` only `begin`, `commit`, those that begin with `transact`, `work_once`, those on atoms, `value_of`, `make_ref`,
+//! `make_atom`, `forget` and `finish` have clauses, the checkpoints those that say which points are there, and `await_agents` one that says
+//! which agent a fault names: what the others do, that a wait ends when it should and not before, how many entries are folded, that
+//! `transact` delivers the notices and then releases the sends, and that no lock is held over a body, an action, a gate or a sink, is only
+//! tested.
 #![tactic(auto)]
 
 pub mod bodies;
@@ -57,6 +59,7 @@ mod gathering;
 mod matching;
 mod order;
 mod shared;
+pub mod theorems;
 mod transacting;
 mod waiters;
 mod waiting;

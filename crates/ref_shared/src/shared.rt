@@ -6,8 +6,9 @@ ghost use Rattle.ref_log.specs.declared.operations.Op.TheVariants.{Alter, Set};
 ghost use Rattle.ref_refs.specs.Conflicts.{ConflictFits};
 ghost use Rattle.ref_world.specs.Shares.{all_parts};
 ghost use Rattle.ref_shared.specs.Bodies.{IsFresh};
-ghost use Rattle.ref_world.specs.History.{point_in, refs_in};
-ghost use Rattle.ref_shared.specs.Commits.{AreCommitted, AreNotices, HasChanged, HasCommitted, HasEnded, HasLearned};
+ghost use Rattle.ref_world.specs.History.{atoms_in, changed_in, point_in, refs_in};
+ghost use Rattle.ref_log.specs.declared.entries.Entry.TheVariants as entries;
+ghost use Rattle.ref_shared.specs.Commits.{AreCommitted, AreNotices, HasCaughtUp, HasChanged, HasCommitted, HasEnded, HasLearned, HasMade, IsValueIn};
 ghost use Rattle.ref_shared.specs.Gather.{GatherFails, InOrder, ReceiptsMatch};
 
 use crate::faults::GatherFault;
@@ -20,7 +21,7 @@ use ref_log::{MakeFault, RuleFault, Stamp, WatchFault, Who};
 use ref_refs::CommitFault;
 use ref_tx::{Snapshot, Tx};
 use ref_value::Value;
-use ref_world::{Booked, Books, Opening, Preparing, Receipt, Share, Totals, View, World};
+use ref_world::{Booked, Books, Front, Opening, Preparing, Receipt, Share, Totals, View, World};
 use std::alloc::{AllocError, Global};
 use std::hint::spin_loop;
 use std::sync::{Condvar, Mutex, MutexGuard, Wait};
@@ -137,7 +138,8 @@ impl<M: Meaning, L: Books> Shared<M, L> {
         ensures stamp { IfOk result (λ receipt. receipt.stamp ≡ stamp) }
         ensures share { IfOk result (λ receipt. HasCommitted M.means stamp tx receipt.point share.old share.new) }
         ensures notices { IfOk result (λ receipt. AreCommitted M.means tx receipt.notices.items) }
-        ensures conflict { IfErr result (λ e. ConflictFits tx e.1) }
+        // A conflict is one that the history shows: the ref's last change there came after the read point.
+        ensures conflict { IfErr result (λ e. ConflictFits tx (changed_in share.new.history) e.1) }
         ensures back { IfErr result (λ e. e.0 ≡ tx) }
         ensures learned { OnErr result (HasLearned M.means share.old share.new) }
     {
@@ -168,10 +170,20 @@ impl<M: Meaning, L: Books> Shared<M, L> {
         had_carries
     }
 
-    /// The value of a reference now, if it is there: of an agent its state. It takes no memory, but std can refuse one more
-    /// owner.
-    pub fn value_of<R: Wait>(&self, rt: &R, who: Who) -> Result<Option<Value>, AllocError> {
-        match self.lock(rt).booked.world.value_of(who) {
+    /// The value of a reference now, if it is there: of a ref or atom that after all of the history that is then known, of an agent its
+    /// state. It takes no memory, but std can refuse one more owner.
+    pub fn value_of<R: Wait>(
+        &self,
+        rt: &R,
+        front: &mut Front<L>,
+        who: Who,
+    ) -> Result<Option<Value>, AllocError>
+        ensures value { IfOk result (IsValueIn M.means front.new who) }
+        ensures learned { HasCaughtUp M.means front.old front.new }
+    {
+        let mut held = self.lock(rt);
+        held.booked.tell(front);
+        match held.booked.world.value_of(who) {
             Some(value) => Ok(Some(value.share()?)),
             None => Ok(None),
         }
@@ -198,33 +210,47 @@ impl<M: Meaning, L: Books> Shared<M, L> {
         self.lock(rt).booked.world.remove_watch(who, key)
     }
 
-    /// Makes a ref: see [`World::make_ref`].
+    /// Makes a ref: see [`World::make_ref`]. Its entry is the last of the history that is then known.
     pub fn make_ref<R: Wait, F: Functions<M>>(
         &self,
         rt: &R,
         alloc: Global,
         funs: &F,
+        front: &mut Front<L>,
         value: Value,
         rule: Option<Rule>,
         tally: bool,
-    ) -> Result<u32, MakeFault> {
+    ) -> Result<u32, MakeFault>
+        ensures made { IfOk result (λ r. HasMade M.means (entries.MadeRef value) (refs_in M.means) r front.old front.new) }
+        ensures learned { OnErr result (HasCaughtUp M.means front.old front.new) }
+    {
         let mut held = self.lock(rt);
-        let made = held.booked.make_ref(alloc, funs, value, rule, tally);
+        let booked = &mut held.booked;
+        booked.tell(front);
+        let made = booked.make_ref(alloc, funs, value, rule, tally);
+        booked.tell(front);
         self.free_with_entry(held, made.is_ok());
         made
     }
 
-    /// Makes an atom: see [`World::make_atom`].
+    /// Makes an atom: see [`World::make_atom`]. Its entry is the last of the history that is then known.
     pub fn make_atom<R: Wait, F: Functions<M>>(
         &self,
         rt: &R,
         alloc: Global,
         funs: &F,
+        front: &mut Front<L>,
         value: Value,
         rule: Option<Rule>,
-    ) -> Result<u32, MakeFault> {
+    ) -> Result<u32, MakeFault>
+        ensures made { IfOk result (λ a. HasMade M.means (entries.MadeAtom value) (atoms_in M.means) a front.old front.new) }
+        ensures learned { OnErr result (HasCaughtUp M.means front.old front.new) }
+    {
         let mut held = self.lock(rt);
-        let made = held.booked.make_atom(alloc, funs, value, rule);
+        let booked = &mut held.booked;
+        booked.tell(front);
+        let made = booked.make_atom(alloc, funs, value, rule);
+        booked.tell(front);
         self.free_with_entry(held, made.is_ok());
         made
     }

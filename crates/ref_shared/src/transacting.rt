@@ -54,7 +54,7 @@ impl<M: Meaning, L: Books> Shared<M, L> {
         ensures ok { IfOk result (λ r. Committed M.means B.does body.old body.new tries
             (Ok r.0) stamp r.1.point share.old share.new) }
         ensures stamp { IfOk result (λ r. r.1.stamp ≡ stamp) }
-        ensures fault { IfErr result (λ f. FaultComes B.does body.old body.new tries f) }
+        ensures fault { IfErr result (λ f. FaultComes M.means share.new.history B.does body.old body.new tries f) }
         ensures learned { OnErr result (HasLearned M.means share.old share.new) }
         ensures told { IfOk result (λ r. TakesAll K.takes sink.old r.1.notices.items sink.new) }
         ensures untold { OnErr result (sink.new ≡ sink.old) }
@@ -94,7 +94,7 @@ impl<M: Meaning, L: Books> Shared<M, L> {
         ensures ok { IfOk result (λ r. Committed M.means B.does body.old body.new tries
             (Ok r.0) stamp r.1.point share.old share.new) }
         ensures stamp { IfOk result (λ r. r.1.stamp ≡ stamp) }
-        ensures fault { IfErr result (λ f. FaultComes B.does body.old body.new tries f) }
+        ensures fault { IfErr result (λ f. FaultComes M.means share.new.history B.does body.old body.new tries f) }
         ensures learned { OnErr result (HasLearned M.means share.old share.new) }
         ensures told { IfOk result (λ r. TakesAll K.takes sink.old r.1.notices.items sink.new) }
         ensures untold { OnErr result (sink.new ≡ sink.old) }
@@ -183,7 +183,7 @@ impl<L: Books> Shared<Core, L> {
         ensures ok { IfOk result (λ r. (last : B)
             × Committed core_means (calls_of B.FnMut) body last tries (Ok r.0) stamp r.1.point share.old share.new) }
         ensures stamp { IfOk result (λ r. r.1.stamp ≡ stamp) }
-        ensures fault { IfErr result (λ f. (last : B) × FaultComes (calls_of B.FnMut) body last tries f) }
+        ensures fault { IfErr result (λ f. (last : B) × FaultComes core_means share.new.history (calls_of B.FnMut) body last tries f) }
         ensures learned { OnErr result (HasLearned core_means share.old share.new) }
         ensures told { IfOk result (λ r. TakesAll S.takes sink.old r.1.notices.items sink.new) }
         ensures untold { OnErr result (sink.new ≡ sink.old) }

@@ -1,5 +1,6 @@
 //! Waiting: for the actions that were sent to agents, and for an entry after which a transaction may be ready.
-ghost use Rattle.std.specs.Prelude.{◌≡◌, ◌<◌, IfOk, IfErr, OnErr};
+ghost use Rattle.std.specs.Prelude.{◌≡◌, ◌<◌, IfOk, IfErr, OnErr, nat_lt};
+ghost use Rattle.ref_world.specs.History.{point_in};
 ghost use Rattle.ref_shared.specs.Sinks.{TakesAll};
 ghost use Rattle.ref_fun.specs.Core.{core_means};
 ghost use Rattle.ref_shared.specs.Commits.{HasLearned};
@@ -67,14 +68,16 @@ impl<M: Meaning, L: Books> Shared<M, L> {
     }
 
     // Waits for an entry past this point. False where the shared world is closed and there is none.
-    fn wait_past<R: Wait>(&self, rt: &R, point: u64) -> bool {
+    fn wait_past<R: Wait>(&self, rt: &R, share: &mut Share<L>, point: u64) -> bool
+        ensures past { result ≡ nat_lt point (point_in share.new.history) }
+        ensures learned { HasLearned M.means share.old share.new }
+    {
         let mut held = self.lock(rt);
         for _ in rt.forever() {
-            if held.booked.world.point() > point {
-                return true;
-            }
-            if held.is_closed {
-                return false;
+            let has_come = held.booked.world.point() > point;
+            if has_come || held.is_closed {
+                held.booked.inform(share);
+                return has_come;
             }
             held.waiters.for_entries = held.waiters.for_entries.saturating_add(1);
             held = self.moved.wait(rt, held);
@@ -130,7 +133,7 @@ impl<M: Meaning, L: Books> Shared<M, L> {
         ensures ok { IfOk result (λ r. Landed M.means B.does body.old body.new tries
             r.0 stamp r.1.point share.old share.new) }
         ensures stamp { IfOk result (λ r. r.1.stamp ≡ stamp) }
-        ensures fault { IfErr result (λ f. WaitFails B.does body.old body.new tries f) }
+        ensures fault { IfErr result (λ f. WaitFails M.means share.new.history B.does body.old body.new tries f) }
         ensures learned { OnErr result (HasLearned M.means share.old share.new) }
         ensures told { IfOk result (λ r. TakesAll K.takes sink.old r.1.notices.items sink.new) }
         ensures untold { OnErr result (sink.new ≡ sink.old) }
@@ -170,7 +173,7 @@ impl<M: Meaning, L: Books> Shared<M, L> {
         ensures ok { IfOk result (λ r. Landed M.means B.does body.old body.new tries
             r.0 stamp r.1.point share.old share.new) }
         ensures stamp { IfOk result (λ r. r.1.stamp ≡ stamp) }
-        ensures fault { IfErr result (λ f. WaitFails B.does body.old body.new tries f) }
+        ensures fault { IfErr result (λ f. WaitFails M.means share.new.history B.does body.old body.new tries f) }
         ensures learned { OnErr result (HasLearned M.means share.old share.new) }
         ensures told { IfOk result (λ r. TakesAll K.takes sink.old r.1.notices.items sink.new) }
         ensures untold { OnErr result (sink.new ≡ sink.old) }
@@ -186,6 +189,7 @@ impl<M: Meaning, L: Books> Shared<M, L> {
                 alloc,
                 funs: body.functions(),
             };
+            let point = tx.tx.read_point();
             gate.pass(Spot::BeforeBody);
             let answer = match body.run(&mut tx) {
                 Ok(answer) => answer,
@@ -195,9 +199,8 @@ impl<M: Meaning, L: Books> Shared<M, L> {
             let Dosync { tx, .. } = tx;
             let Some(answer) = answer else {
                 // What the transaction began with is dropped before the thread sleeps.
-                let point = tx.read_point();
                 drop(tx);
-                if !self.wait_past(rt, point) {
+                if !self.wait_past(rt, share, point) {
                     return Err(WaitFault::Closed);
                 }
                 continue;
@@ -267,7 +270,7 @@ impl<L: Books> Shared<Core, L> {
         ensures ok { IfOk result (λ r. (last : B) × Landed core_means (calls_of B.FnMut) body last tries
             r.0 stamp r.1.point share.old share.new) }
         ensures stamp { IfOk result (λ r. r.1.stamp ≡ stamp) }
-        ensures fault { IfErr result (λ f. (last : B) × WaitFails (calls_of B.FnMut) body last tries f) }
+        ensures fault { IfErr result (λ f. (last : B) × WaitFails core_means share.new.history (calls_of B.FnMut) body last tries f) }
         ensures learned { OnErr result (HasLearned core_means share.old share.new) }
         ensures told { IfOk result (λ r. TakesAll S.takes sink.old r.1.notices.items sink.new) }
         ensures untold { OnErr result (sink.new ≡ sink.old) }

@@ -4,3 +4,4 @@ pub mod Starting
 pub mod Crossing
 pub mod Folded
 pub mod Cut
+pub mod Legal

@@ -23,10 +23,10 @@ pub memory_told : (means : Means) (accepts : Accepts) (knows : Known) (world : W
 memory_told means accepts knows world tx none = (λ other. absurd (other refl), λ memory. first_none (early_refusal knows world tx) _ none)
 
 -- A conflict that is returned is one of the transaction.
-pub conflict_told : {T : Type 0} (tx : TxSeen) (early reason : Option CommitFault) (r : Result T CommitFault)
-    → TellsOrMemory Memory early reason r → ((fault : CommitFault) → TellsFault Memory early reason fault → ConflictFits tx fault) → IfErr r (ConflictFits tx)
-conflict_told tx early reason (Ok x) told fits = tt
-conflict_told tx early reason (Err fault) told fits = fits fault told
+pub conflict_told : {T : Type 0} (tx : TxSeen) (changed : ℕ → ℕ) (early reason : Option CommitFault) (r : Result T CommitFault)
+    → TellsOrMemory Memory early reason r → ((fault : CommitFault) → TellsFault Memory early reason fault → ConflictFits tx changed fault) → IfErr r (ConflictFits tx changed)
+conflict_told tx changed early reason (Ok x) told fits = tt
+conflict_told tx changed early reason (Err fault) told fits = fits fault told
 
 -- what holds at what the calls found, at what the world has
 pub same_at : {p p' n n' a a' t t' : ℕ} (P : ℕ → ℕ → ℕ → ℕ → Type 0) → p ≡ p' → n ≡ n' → a ≡ a' → t ≡ t' → P p n a t → P p' n' a' t'

@@ -7,6 +7,7 @@ pub mod Shares
 pub mod Starts
 pub mod Checkpoint
 pub mod History
+pub mod Theorems
 -- Proved of them, for the crates above: what is always so stays so with an entry more.
 pub mod Entered
 pub mod HistoryLaws

@@ -5,6 +5,7 @@ ghost use Rattle.ref_value.specs.Code.{edn_code};
 ghost use Rattle.ref_log.specs.Replay.{is_protected};
 ghost use Rattle.ref_log.specs.Told.{TellsOrMemory};
 ghost use Rattle.ref_refs.specs.Conflicts.{ConflictFits};
+ghost use Rattle.ref_refs.specs.Seen.{changed_at};
 ghost use Rattle.ref_refs.specs.declared.faults.CommitFault.TheVariants as commits;
 ghost use Rattle.ref_world.specs.History.{Begins, IsLegal, changed_in, point_in, refs_in, upto};
 ghost use Rattle.ref_world.specs.Shares.{knowing};
@@ -76,7 +77,7 @@ pub trait Preparing<M: Meaning, L: Books>: Beginning {
         ensures refused { TellsOrMemory commits.Memory (early_refusal (F.knows funs.now) booked.old.world tx.now)
             (commit_refusal M.means M.accepts (F.knows funs.now) booked.old.world tx.now) result }
         ensures ready { IfOk result (IsReady M.means M.accepts booked.old.world stamp tx.now) }
-        ensures conflict { IfErr result (ConflictFits tx.now) }
+        ensures conflict { IfErr result (ConflictFits tx.now (changed_at booked.old.world.refs.lasts)) }
         // What it protects hasn't changed since its read point, and it began with the values that these refs had there.
         ensures unchanged { OnOk result ((r : ℕ) → is_protected tx.now.dones r ≡ true
             → changed_in booked.old.history r ≤ tx.now.read_point) }

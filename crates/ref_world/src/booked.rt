@@ -159,7 +159,22 @@ impl<M: Meaning, L: Books> Booked<M, L> {
         self.history.bounds(front);
     }
 
-    /// The share gets to know the history up to now: each of its entries was a legal step, and what was known before begins it.
+    /// The front gets to know the history up to now: each of its entries was a legal step, and what was known before begins it.
+    pub fn tell(&mut self, front: &mut Front<L>)
+        ensures all { front.new ≡ self.old.history }
+        ensures known { Begins front.old self.old.history }
+        ensures legal { IsLegal M.means self.old.history }
+        ensures point { point_in self.old.history ≡ point_of self.old.world }
+        ensures values { state_in M.means self.old.history ≡ Ok (values_now self.old.world.refs self.old.world.atoms) }
+        ensures lasts { (r : ℕ) → changed_in self.old.history r ≡ changed_at self.old.world.refs.lasts r }
+        ensures same { (self.new.world ≡ self.old.world) × (self.new.history ≡ self.old.history) }
+    {
+        let point = self.world.point();
+        self.bounds(front);
+        *front = self.history.front(point);
+    }
+
+    /// The same of a share, by its front.
     pub fn inform(&mut self, share: &mut Share<L>)
         ensures share { share.new ≡ knowing share.old self.old.history }
         ensures known { Begins share.old.history self.old.history }
@@ -218,8 +233,8 @@ impl<M: Meaning, L: Books> Booked<M, L> {
             → slice_get tx.began r ≡ slice_get (refs_in M.means (upto self.old.history tx.read_point)) r) }
         ensures unchanged { OnOk result ((r : ℕ) → is_protected tx.dones r ≡ true
             → changed_in self.old.history r ≤ tx.read_point) }
-        // A conflict is returned with a ref that the transaction protects, its read point and a later point.
-        ensures conflict { IfErr result (λ e. ConflictFits tx e.1) }
+        // A conflict is returned with a ref that the transaction protects, its read point and the later point of its last change.
+        ensures conflict { IfErr result (λ e. ConflictFits tx (changed_at self.old.world.refs.lasts) e.1) }
         ensures back { IfErr result (λ e. e.0 ≡ tx) }
         ensures err { OnErr result ((self.new.world ≡ self.old.world) × (self.new.history ≡ self.old.history)) }
         ensures same { OnErr result (share.new ≡ share.old) }
@@ -261,7 +276,7 @@ impl<M: Meaning, L: Books> Booked<M, L> {
         ensures refused { TellsOrMemory commits.Memory (early_refusal (F.knows funs.now) self.old.world tx.now)
             (commit_refusal M.means M.accepts (F.knows funs.now) self.old.world tx.now) result }
         ensures ready { IfOk result (IsReady M.means M.accepts self.old.world stamp tx.now) }
-        ensures conflict { IfErr result (ConflictFits tx.now) }
+        ensures conflict { IfErr result (ConflictFits tx.now (changed_at self.old.world.refs.lasts)) }
         ensures unchanged { OnOk result ((r : ℕ) → is_protected tx.now.dones r ≡ true
             → changed_in self.old.history r ≤ tx.now.read_point) }
         ensures began { OnOk result ((r : ℕ) → is_protected tx.now.dones r ≡ true
@@ -286,7 +301,7 @@ impl<M: Meaning, L: Books> Booked<M, L> {
         ensures refused { TellsOrMemory commits.Memory (early_refusal (F.knows funs.now) self.old.world tx.now)
             (commit_refusal M.means M.accepts (F.knows funs.now) self.old.world tx.now) result }
         ensures ready { IfOk result (IsReady M.means M.accepts self.old.world stamp tx.now) }
-        ensures conflict { IfErr result (ConflictFits tx.now) }
+        ensures conflict { IfErr result (ConflictFits tx.now (changed_at self.old.world.refs.lasts)) }
         ensures unchanged { OnOk result ((r : ℕ) → is_protected tx.now.dones r ≡ true
             → changed_in self.old.history r ≤ tx.now.read_point) }
         ensures began { OnOk result ((r : ℕ) → is_protected tx.now.dones r ≡ true

@@ -82,8 +82,8 @@ impl<M: Meaning> World<M> {
         ensures receipt { IfOk result (λ receipt. (receipt.point ≡ point_of self.old + 1) × (receipt.stamp ≡ stamp)) }
         ensures notices { IfOk result (λ receipt. receipt.notices.items
             ≡ notices self.old.refs.guards self.old.refs.values self.new.refs.values (touched_refs tx.dones)) }
-        // A conflict is returned with a ref that the transaction protects, its read point and a later point.
-        ensures conflict { IfErr result (λ e. ConflictFits tx e.1) }
+        // A conflict is returned with a ref that the transaction protects, its read point and the later point of its last change.
+        ensures conflict { IfErr result (λ e. ConflictFits tx (changed_at self.old.refs.lasts) e.1) }
         ensures back { IfErr result (λ e. e.0 ≡ tx) }
         ensures err { OnErr result (self.new ≡ self.old) }
     {
@@ -108,7 +108,7 @@ impl<M: Meaning> World<M> {
         ensures refused { TellsOrMemory commits.Memory (early_refusal (F.knows funs.now) self.now tx.now)
             (commit_refusal M.means M.accepts (F.knows funs.now) self.now tx.now) result }
         ensures ready { IfOk result (IsReady M.means M.accepts self.now stamp tx.now) }
-        ensures conflict { IfErr result (ConflictFits tx.now) }
+        ensures conflict { IfErr result (ConflictFits tx.now (changed_at self.now.refs.lasts)) }
     {
         let at = self.point() + 1;
         let agents = self.agents.len();
@@ -130,7 +130,7 @@ impl<M: Meaning> World<M> {
         ensures refused { TellsOrMemory commits.Memory (early_refusal (F.knows funs.now) self.now tx.now)
             (commit_refusal M.means M.accepts (F.knows funs.now) self.now tx.now) result }
         ensures ready { IfOk result (IsReady M.means M.accepts self.now stamp tx.now) }
-        ensures conflict { IfErr result (ConflictFits tx.now) }
+        ensures conflict { IfErr result (ConflictFits tx.now (changed_at self.now.refs.lasts)) }
     {
         let next = self.point() + 1;
         let count = self.agents.len();

@@ -22,6 +22,7 @@
 //! | [`Books`], [`Blanks`] | which world's books and shares these are: a type parameter; and what its books are made of |
 //! | [`Receipt`] | what a commit returns. A share stores the point of each entry that was added with it |
 //! | [`Totals`] | what was counted: how many commits there were, and how much they added to the tally and took from it |
+//! | [`theorems`] | laws of every legal history, to cite of what threads did |
 //! | [`View`] | base and log as they were ([`World::view`]), to be read while the world goes on |
 //! | [`CheckpointFault`] | why [`World::checkpoint`] folded nothing. Other calls have the faults of the stores and of `ref_log` |
 //!
@@ -63,6 +64,7 @@ mod making;
 pub mod names;
 mod references;
 pub mod shares;
+pub mod theorems;
 pub mod views;
 pub mod worlds;
 

@@ -1,7 +1,7 @@
 //! Shares of what is done to a world.
 ghost use Rattle.std.specs.Prelude.{◌≡◌, ◌≢◌, ◌+◌, ◌<◌, ◌≤◌, ◌==◌, ◌↔◌, [], IsSome, IfSome, IfNone, OnOk, OnErr, IfErr};
 ghost use Rattle.ref_world.specs.History.{Begins};
-ghost use Rattle.ref_world.specs.Shares.{all_parts, forgotten, joined, whole};
+ghost use Rattle.ref_world.specs.Shares.{all_parts, forgotten, joined, knowing, whole};
 
 use crate::histories::Front;
 use crate::names::{Added, Books, Commits, Taken};
@@ -106,6 +106,14 @@ impl<L: Books> Share<L> {
         ensures { result.now ≡ self.now.history }
     {
         &self.front
+    }
+
+    /// Knows the history up to this front, which what it knew begins.
+    pub fn catch_up(&mut self, front: Front<L>)
+        requires { Begins self.old.history front }
+        ensures { self.new ≡ knowing self.old front }
+    {
+        self.front = front;
     }
 
     /// Another share with so many of the parts, with which nothing was done; the history is known as far as here. None for 0 of them, and for as many as it has or

@@ -12,8 +12,8 @@ use ref_events::ScriptParts;
 use ref_fun::Core;
 use ref_play::{Event, Sim};
 use ref_refs::CommitFault;
-use ref_tx::{Beginning, Starts, Tx};
-use ref_world::{ALL_PARTS, Blanks, Booked, Books, Share, World};
+use ref_tx::{Starts, Tx};
+use ref_world::{ALL_PARTS, Blanks, Booked, Books, Preparing, Share, World};
 use std::alloc::{AllocError, Global};
 use std::marker::Brand;
 use std::test::Fail;
@@ -165,7 +165,7 @@ fn forgotten<L: Books>(
 }
 
 // Whether a transaction is refused for this fault.
-fn is_refused<L: Books, S: Beginning>(
+fn is_refused<L: Books, S: Preparing<Core, L>>(
     alloc: Global,
     booked: &mut Booked<Core, L>,
     share: &mut Share<L>,
@@ -180,7 +180,7 @@ fn is_refused<L: Books, S: Beginning>(
 }
 
 // What comes of a commit. A refused one is refused again, for the same fault, and the share counts nothing.
-fn committed<L: Books, S: Beginning>(
+fn committed<L: Books, S: Preparing<Core, L>>(
     alloc: Global,
     booked: &mut Booked<Core, L>,
     share: &mut Share<L>,

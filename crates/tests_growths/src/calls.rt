@@ -205,7 +205,11 @@ impl<'a, R: Input + Wait, L: Books> Lent<'a, R, L> {
     pub(crate) fn try_it(self, share: &mut Share<L>, trial: Trial) -> Result<Made, Stop> {
         self.shared.close(self.rt);
         let (is_commit, is_full) = (trial.call == Call::Commit, trial.state > 0);
-        let mut own = if is_commit { self.begun(share, 0)? } else { None };
+        let mut own = if is_commit {
+            self.begun(share, 0)?
+        } else {
+            None
+        };
         let mut other = if is_full { self.begun(share, 2)? } else { None };
         let (mut answer, mut was_hit) = (Ok(CLOSED), false);
         if trial.times > 0 && trial.call != Call::Finish {

@@ -198,9 +198,10 @@ fn of_shared<R: Wait, L: Books>(
     share: &mut Share<L>,
 ) -> [bool; 4] {
     shared.close(rt);
+    let mut front = share.front().again();
     [
         shared.begin(rt, alloc, share).is_ok(),
-        shared.value_of(rt, Who::Ref(0)).is_ok(),
+        shared.value_of(rt, &mut front, Who::Ref(0)).is_ok(),
         shared.view(rt).is_ok(),
         shared.error_of(rt, H).is_none(),
     ]

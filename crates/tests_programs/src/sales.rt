@@ -61,7 +61,9 @@ fn sell(tx: &mut Dosync, till: u32) -> Result<(), Fault> {
 }
 
 // What this worker has sent to a till is there now.
-fn is_paid<L: Books, R: Wait>(worker: &Worker<'_, L, R>, till: u32) -> Result<(), Fault> {
+fn is_paid<L: Books, R: Wait>(worker: &mut Worker<'_, L, R>, till: u32) -> Result<(), Fault>
+    ensures { worker.new.share.commits ≡ worker.old.share.commits }
+{
     let state = worker.value_of(Who::Agent(till))?;
     match state.as_ref().and_then(int_of) {
         Some(paid) if paid >= PAID => Ok(()),

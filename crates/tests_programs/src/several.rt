@@ -120,7 +120,7 @@ fn set_when_led(tx: &mut Dosync) -> Result<Option<()>, Fault> {
 }
 
 fn has_value<L: Books, R: Wait>(
-    worker: &Worker<'_, L, R, Core, CoreFunctions, Ear>,
+    worker: &mut Worker<'_, L, R, Core, CoreFunctions, Ear>,
     who: Who,
     wanted: Option<i64>,
 ) -> Result<(), Fault> {

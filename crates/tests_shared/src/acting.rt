@@ -10,7 +10,7 @@ use ref_atoms::{AtomFault, Cas, Swapped};
 use ref_fun::{Core, CoreFunctions};
 use ref_log::Who;
 use ref_shared::{Open, Shared, Worked};
-use ref_world::{Books, Share};
+use ref_world::{Books, Front, Share};
 use std::alloc::Global;
 use std::sync::Wait;
 
@@ -46,7 +46,7 @@ fn compared(alloc: Global, answer: Result<Cas, AtomFault>) -> Said {
 
 impl<'a, 'b, R: Wait, L: Books> On<'a, 'b, R, L> {
     // The numbers of the first nine of one kind that are there, in order.
-    fn values(&self, kind: &str) -> Said {
+    fn values(&self, front: &Front<L>, kind: &str) -> Said {
         let mut list = text(self.alloc, "")?;
         for n in 0..9u32 {
             let who = match kind {
@@ -54,19 +54,19 @@ impl<'a, 'b, R: Wait, L: Books> On<'a, 'b, R, L> {
                 "a" => Who::Atom(n),
                 _ => Who::Agent(n),
             };
-            if let Some(n) = int_at(self.rt, self.shared, who) {
+            if let Some(n) = int_at(self.rt, self.shared, front, who) {
                 add_item(&mut list, &format!(in self.alloc; "{n}")?)?;
             }
         }
         Ok(list)
     }
 
-    pub(crate) fn reference(&self, call: &[&str]) -> Said {
+    pub(crate) fn reference(&self, front: &Front<L>, call: &[&str]) -> Said {
         let (rt, alloc, shared, funs) = (self.rt, self.alloc, self.shared, &CoreFunctions);
         let (who, word) = (who_at(call, 1), at(call, 2));
         match at(call, 0) {
-            "value" => number(alloc, int_at(rt, shared, who)),
-            "values" => self.values(at(call, 1)),
+            "value" => number(alloc, int_at(rt, shared, front, who)),
+            "values" => self.values(front, at(call, 1)),
             "rule" => fault(
                 alloc,
                 shared.set_validator(rt, funs, who, rule_at(alloc, call, 2)?),
@@ -79,13 +79,13 @@ impl<'a, 'b, R: Wait, L: Books> On<'a, 'b, R, L> {
         }
     }
 
-    pub(crate) fn make(&self, call: &[&str]) -> Said {
+    pub(crate) fn make(&self, front: &mut Front<L>, call: &[&str]) -> Said {
         let (rt, alloc, shared, funs) = (self.rt, self.alloc, self.shared, &CoreFunctions);
         let (new, rule) = (value(alloc, at(call, 2))?, rule_at(alloc, call, 3)?);
         let made = match at(call, 1) {
-            "ref" => shared.make_ref(rt, alloc, funs, new, rule, false),
-            "tally" => shared.make_ref(rt, alloc, funs, new, rule, true),
-            "atom" => shared.make_atom(rt, alloc, funs, new, rule),
+            "ref" => shared.make_ref(rt, alloc, funs, front, new, rule, false),
+            "tally" => shared.make_ref(rt, alloc, funs, front, new, rule, true),
+            "atom" => shared.make_atom(rt, alloc, funs, front, new, rule),
             "agent" => shared.make_agent(rt, alloc, funs, new, rule, ErrorMode::Fail),
             _ => shared.make_agent(rt, alloc, funs, new, rule, ErrorMode::Continue),
         };
@@ -158,19 +158,22 @@ impl<'a, 'b, R: Wait, L: Books> On<'a, 'b, R, L> {
     }
 
     // Folds, releases or closes.
-    pub(crate) fn end(&self, call: &[&str]) -> Said {
+    pub(crate) fn end(&self, front: &mut Front<L>, call: &[&str]) -> Said {
         let (rt, alloc, shared) = (self.rt, self.alloc, self.shared);
         let (g, point) = (index_at(call, 1), u64::from(number_at(call, 1)));
         match at(call, 0) {
             "fold" => truth(alloc, shared.fold_agent(rt, g)),
             "release" if point > 0 => truth::<AtomFault>(alloc, Ok(shared.release(rt, point))),
             "release" => truth::<AtomFault>(alloc, Ok(shared.release_carried(rt, g))),
-            "checkpoint" => said(alloc, shared.checkpoint(rt, alloc, &CoreFunctions, point)),
+            "checkpoint" => said(
+                alloc,
+                shared.checkpoint(rt, alloc, &CoreFunctions, front, point),
+            ),
             "bites" => {
                 let (funs, bite) = (table_at(call, 3), count_at(call, 2));
                 said(
                     alloc,
-                    shared.checkpoint_in_bites(rt, alloc, &funs, point, bite),
+                    shared.checkpoint_in_bites(rt, alloc, &funs, front, point, bite),
                 )
             }
             _ => {

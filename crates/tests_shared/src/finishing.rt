@@ -71,13 +71,7 @@ fn entry(alloc: Global, kind: &Kind) -> Result<Entry, AllocError> {
 }
 
 // Its name, the point of the base, what a log has past it, the receipts, and whether they match.
-type Row = (
-    &'static str,
-    u32,
-    &'static [Kind],
-    &'static [u64],
-    bool,
-);
+type Row = (&'static str, u32, &'static [Kind], &'static [u64], bool);
 
 fn matched(alloc: Global, row: &Row) -> Result<bool, AllocError> {
     let mut log = Vec::new(alloc);

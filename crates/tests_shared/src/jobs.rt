@@ -5,7 +5,7 @@ use ref_fun::{Action, Core, CoreFunctions};
 use ref_log::Who;
 use ref_shared::{Open, Quiet, Shared, WorkFault, Worked};
 use ref_tx::Tx;
-use ref_world::{Books, Start};
+use ref_world::{Books, Front, Start};
 use std::alloc::{AllocError, Global};
 use std::sync::Wait;
 
@@ -37,9 +37,10 @@ pub fn send_four(alloc: Global, tx: &mut Tx<Core>) -> Result<(), Stop> {
 pub fn agents_at<L: Books, R: Wait>(
     rt: &R,
     shared: &Shared<Core, L>,
+    front: &Front<L>,
 ) -> (Option<i64>, Option<i64>) {
     (
-        int_at(rt, shared, Who::Agent(0)),
-        int_at(rt, shared, Who::Agent(1)),
+        int_at(rt, shared, front, Who::Agent(0)),
+        int_at(rt, shared, front, Who::Agent(1)),
     )
 }

@@ -99,17 +99,17 @@ impl<'a, 'b, R: Wait, L: Books> On<'a, 'b, R, L> {
     fn make_call(&self, share: &mut Share<L>, acts: &mut Acts, call: &str) -> Said {
         let (head, body) = call.split_once(": ").unwrap_or((call, ""));
         let call = words(self.alloc, head)?;
-        let call = call.as_slice();
+        let (call, mut front) = (call.as_slice(), share.front().again());
         match at(call, 0) {
-            "value" | "values" | "rule" | "watch" | "unwatch" => self.reference(call),
-            "make" => self.make(call),
+            "value" | "values" | "rule" | "watch" | "unwatch" => self.reference(&front, call),
+            "make" => self.make(&mut front, call),
             "swap" | "reset" | "compare" => self.atom(share, call),
             "begin" | "commit" | "t" | "u" => self.open(share, acts, call, body),
             "transact" | "when" => self.transacted(share, acts, call, body),
             "stranger" | "leave" => self.foreign(share, acts, call),
             "last" => format!(in self.alloc; "{} {} {}", acts.begun, acts.called, acts.receipts),
             "receipts" | "forget" => self.receipts(share, call),
-            "fold" | "release" | "checkpoint" | "bites" | "close" => self.end(call),
+            "fold" | "release" | "checkpoint" | "bites" | "close" => self.end(&mut front, call),
             "await" => self.await_all(call),
             "work" => self.work(call),
             _ => self.agent(call),

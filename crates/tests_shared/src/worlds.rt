@@ -12,7 +12,7 @@ use ref_pvec::PVec;
 use ref_shared::Shared;
 use ref_tx::Tx;
 use ref_world::{
-    AgentStart, AtomStart, Blanks, Booked, Books, RefStart, Share, Start, Totals, World,
+    AgentStart, AtomStart, Blanks, Booked, Books, Front, RefStart, Share, Start, Totals, World,
 };
 use std::alloc::{AllocError, AllocFailed, Global};
 use std::sync::Wait;
@@ -134,8 +134,13 @@ pub fn closed<L: Books>(
 }
 
 /// The number that a reference holds now, if it is there and holds one.
-pub fn int_at<L: Books, R: Wait>(rt: &R, shared: &Shared<Core, L>, who: Who) -> Option<i64> {
-    int_of(&shared.value_of(rt, who).ok()??)
+pub fn int_at<L: Books, R: Wait>(
+    rt: &R,
+    shared: &Shared<Core, L>,
+    front: &Front<L>,
+    who: Who,
+) -> Option<i64> {
+    int_of(&shared.value_of(rt, &mut front.again(), who).ok()??)
 }
 
 /// Whom a notice is of, whether its key is `:k`, and the numbers before and after.

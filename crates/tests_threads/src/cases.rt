@@ -82,10 +82,12 @@ fn see<L: Books + Send + Sync, R: AllocGlobal + Threads + Wait + Clock + Abort +
         Case::Transaction(place, seen, waits) => {
             looks::see_transaction(rt, shared, share, place, seen, waits)
         }
-        Case::Action(place, seen) => looks::see_action(rt, shared, place, seen),
-        Case::Carried => next_actions::see_carried(rt, shared),
-        Case::Watched => next_actions::see_watched(rt, shared),
-        Case::Passing(awaits, value) => next_actions::see_passing(rt, shared, awaits, value),
+        Case::Action(place, seen) => looks::see_action(rt, shared, share.front(), place, seen),
+        Case::Carried => next_actions::see_carried(rt, shared, share.front()),
+        Case::Watched => next_actions::see_watched(rt, shared, share.front()),
+        Case::Passing(awaits, value) => {
+            next_actions::see_passing(rt, shared, share.front(), awaits, value)
+        }
         _ => see_waking(rt, case, shared, share),
     }
 }
@@ -99,13 +101,15 @@ fn see_waking<L: Books + Send + Sync, R: AllocGlobal + Threads + Wait + Clock + 
     match case {
         Case::Release => releases::see_release(rt, shared, share),
         Case::Transact => releases::see_transact(rt, shared, share),
-        Case::CarriedRelease => releases::see_released(rt, shared, None),
-        Case::Meeting => side_by_side::see_meeting(rt, shared),
-        Case::Turns(code, value) => side_by_side::see_turns(rt, shared, code, value),
-        Case::Holding => side_by_side::see_holding(rt, shared),
+        Case::CarriedRelease => releases::see_released(rt, shared, share.front(), None),
+        Case::Meeting => side_by_side::see_meeting(rt, shared, share.front()),
+        Case::Turns(code, value) => {
+            side_by_side::see_turns(rt, shared, share.front(), code, value)
+        }
+        Case::Holding => side_by_side::see_holding(rt, shared, share.front()),
         Case::Waking => waking::see_waking(rt, shared, share),
-        Case::Restart => waking::see_restart(rt, shared),
-        Case::HandingOn => waking::see_handing_on(rt, shared),
+        Case::Restart => waking::see_restart(rt, shared, share.front()),
+        Case::HandingOn => waking::see_handing_on(rt, shared, share.front()),
         Case::Close => waking::see_close(rt, shared),
         _ => Err(Stop::Refused),
     }

@@ -4,7 +4,7 @@ use crate::same::same;
 use ref_fun::{Core, CoreFunctions};
 use ref_log::{Stamp, replay_plain};
 use ref_shared::Shared;
-use ref_world::{Books, CheckpointFault, Share, Totals, View, World};
+use ref_world::{Books, CheckpointFault, Front, Share, Totals, View, World};
 use std::alloc::{AllocError, Global};
 use std::process::Abort;
 use std::sync::Wait;
@@ -21,10 +21,11 @@ fn fold<R: Wait, L: Books>(
     rt: &R,
     alloc: Global,
     shared: &Shared<Core, L>,
+    mut front: Front<L>,
 ) -> Result<Vec<Result<u64, CheckpointFault>>, AllocError> {
     let mut answers = Vec::new(alloc);
     for point in [2, 2, 1, 4] {
-        answers.push(shared.checkpoint(rt, alloc, &CoreFunctions, point))?;
+        answers.push(shared.checkpoint(rt, alloc, &CoreFunctions, &mut front, point))?;
     }
     Ok(answers)
 }
@@ -48,10 +49,10 @@ pub(crate) fn see<L: Books + Send + Sync, R: AllocGlobal + Threads + Wait + Cloc
     for step in 0..3u32 {
         commit_add(rt, alloc, shared, share, Stamp { worker: 0, step })?;
     }
-    let view = shared.view(rt)?;
+    let (view, front) = (shared.view(rt)?, share.front().again());
     let (answers, viewed) = thread::join(
         rt,
-        move || fold(rt, alloc, shared),
+        move || fold(rt, alloc, shared, front),
         move || read(alloc, view),
     );
     let none = CheckpointFault::NoSuchPoint;

@@ -12,7 +12,7 @@ use ref_log::{Notice, Who};
 use ref_shared::{Gate, Shared, Spot, WatchSink, Worked};
 use ref_tx::Tx;
 use ref_value::Value;
-use ref_world::{Books, Share};
+use ref_world::{Books, Front, Share};
 use std::alloc::Global;
 use std::process::Abort;
 use std::sync::Wait;
@@ -89,13 +89,15 @@ type Look = Result<(Option<i64>, Work), Stop>;
 fn look<R: AllocGlobal + Wait + Clock, L: Books>(
     rt: &R,
     shared: &Shared<Core, L>,
+    front: &Front<L>,
     who: Who,
     flags: &Flags,
 ) -> Look {
     if !wait_for(rt, &flags.first) {
         return Err(Stop::Late);
     }
-    let seen = (int_at(rt, shared, who), work(rt, rt.alloc(), shared));
+    let now = int_at(rt, shared, front, who);
+    let seen = (now, work(rt, rt.alloc(), shared));
     flags.second.store(true, Ordering::SeqCst);
     Ok(seen)
 }
@@ -147,10 +149,12 @@ fn transact_and_look<L: Books + Send + Sync, R: AllocGlobal + Threads + Wait + C
     waits: bool,
     flags: &Flags,
 ) -> ((Share<L>, bool), Look) {
+    let front = share.front().again();
+    let known = &front;
     let (mine, seen) = thread::join(
         rt,
         move || transact(rt, shared, share, place, waits, flags),
-        move || look(rt, shared, Who::Ref(0), flags),
+        move || look(rt, shared, known, Who::Ref(0), flags),
     );
     (mine, seen)
 }
@@ -223,7 +227,7 @@ fn act<R: AllocGlobal + Wait + Clock, L: Books>(
 pub(crate) fn see_action<
     L: Books + Send + Sync,
     R: AllocGlobal + Threads + Wait + Clock + Abort + Sync,
->(rt: &R, shared: &Shared<Core, L>, place: Place, seen: i64) -> Result<(), Stop> {
+>(rt: &R, shared: &Shared<Core, L>, front: &Front<L>, place: Place, seen: i64) -> Result<(), Stop> {
     watch(rt, rt.alloc(), shared, Who::Agent(1), ":k")?;
     send(rt, rt.alloc(), shared, 1, PLUS, "4")?;
     shared.close(rt);
@@ -232,7 +236,7 @@ pub(crate) fn see_action<
     let (is_ok, looked) = thread::join(
         rt,
         move || act(rt, shared, place, lent),
-        move || look(rt, shared, Who::Agent(1), lent),
+        move || look(rt, shared, front, Who::Agent(1), lent),
     );
     same(rt, (place, looked), (place, Ok((Some(seen), CLOSED))));
     same(

@@ -10,7 +10,7 @@ use ref_fun::codes::PLUS;
 use ref_fun::{Action, Carries, Core, CoreFunctions};
 use ref_log::{Notice, Who};
 use ref_shared::{Shared, WatchSink, Worked};
-use ref_world::Books;
+use ref_world::{Books, Front};
 use std::alloc::{AllocError, Global};
 use std::process::Abort;
 use std::sync::Wait;
@@ -35,13 +35,13 @@ fn carrying(alloc: Global, text: &str) -> Result<Action, AllocError> {
 pub(crate) fn see_carried<
     L: Books + Send + Sync,
     R: AllocGlobal + Threads + Wait + Clock + Abort + Sync,
->(rt: &R, shared: &Shared<Core, L>) -> Result<(), Stop> {
+>(rt: &R, shared: &Shared<Core, L>, front: &Front<L>) -> Result<(), Stop> {
     let alloc = rt.alloc();
     done(shared.send(rt, 0, carrying(alloc, "1")?))?;
     let turns = take_turns(rt, alloc, shared);
     let next = (Ok(Worked::Did(1)), true);
     same(rt, turns, (next, (Ok(Worked::Did(0)), true)));
-    same(rt, agents_at(rt, shared), (Some(1), Some(4)));
+    same(rt, agents_at(rt, shared, front), (Some(1), Some(4)));
     Ok(())
 }
 
@@ -82,7 +82,7 @@ fn work_watched<R: Wait + Clock, L: Books>(
 pub(crate) fn see_watched<
     L: Books + Send + Sync,
     R: AllocGlobal + Threads + Wait + Clock + Abort + Sync,
->(rt: &R, shared: &Shared<Core, L>) -> Result<(), Stop> {
+>(rt: &R, shared: &Shared<Core, L>, front: &Front<L>) -> Result<(), Stop> {
     let alloc = rt.alloc();
     watch(rt, alloc, shared, Who::Agent(0), ":k")?;
     send(rt, alloc, shared, 0, PLUS, "1")?;
@@ -96,7 +96,7 @@ pub(crate) fn see_watched<
     );
     let did = (Ok(Worked::Did(0)), true);
     same(rt, (next, first), (did, did));
-    same(rt, agents_at(rt, shared), (Some(3), Some(0)));
+    same(rt, agents_at(rt, shared, front), (Some(3), Some(0)));
     Ok(())
 }
 
@@ -125,7 +125,13 @@ fn wait_next<R: AllocGlobal + Wait + Clock, L: Books>(
 pub(crate) fn see_passing<
     L: Books + Send + Sync,
     R: AllocGlobal + Threads + Wait + Clock + Abort + Sync,
->(rt: &R, shared: &Shared<Core, L>, awaits: bool, value: i64) -> Result<(), Stop> {
+>(
+    rt: &R,
+    shared: &Shared<Core, L>,
+    front: &Front<L>,
+    awaits: bool,
+    value: i64,
+) -> Result<(), Stop> {
     let alloc = rt.alloc();
     done(shared.set_error_mode(rt, 0, ErrorMode::Continue))?;
     done(shared.send(rt, 0, carrying(alloc, ":k")?))?;
@@ -142,7 +148,7 @@ pub(crate) fn see_passing<
     same(rt, next, (true, true));
     same(rt, first, (Ok(Worked::Did(0)), true));
     same(rt, shared.await_agents(rt, alloc, &[1]), Ok(()));
-    same(rt, agents_at(rt, shared), (Some(value), Some(0)));
+    same(rt, agents_at(rt, shared, front), (Some(value), Some(0)));
     Ok(())
 }
 

@@ -12,7 +12,7 @@ use ref_fun::codes::PLUS;
 use ref_fun::{Action, Carries, Core, CoreFunctions};
 use ref_shared::{Open, Quiet, Shared};
 use ref_tx::Tx;
-use ref_world::{Books, Share, World};
+use ref_world::{Books, Front, Share, World};
 use std::alloc::{AllocError, Global};
 use std::process::Abort;
 use std::sync::Wait;
@@ -91,7 +91,7 @@ fn release_to_two<R: AllocGlobal + Wait + Clock, L: Books>(
 pub(crate) fn see_released<
     L: Books + Send + Sync,
     R: AllocGlobal + Threads + Wait + Clock + Abort + Sync,
->(rt: &R, shared: &Shared<Core, L>, point: Option<u64>) -> Result<(), Stop> {
+>(rt: &R, shared: &Shared<Core, L>, front: &Front<L>, point: Option<u64>) -> Result<(), Stop> {
     let flags = Flags::new();
     let lent = &flags;
     let (works, woke) = thread::join(
@@ -100,7 +100,7 @@ pub(crate) fn see_released<
         move || release_to_two(rt, shared, point, lent),
     );
     same(rt, (works, woke), (((true, true), (true, true)), true));
-    same(rt, agents_at(rt, shared), (Some(1), Some(4)));
+    same(rt, agents_at(rt, shared, front), (Some(1), Some(4)));
     Ok(())
 }
 
@@ -120,7 +120,7 @@ pub(crate) fn see_release<
     let mut tx = shared.begin(rt, rt.alloc(), share)?;
     send_both(rt.alloc(), &mut tx)?;
     let point = commit(rt, rt.alloc(), shared, share, STAMP, tx)?;
-    see_released(rt, shared, Some(point))
+    see_released(rt, shared, share.front(), Some(point))
 }
 
 // ---- By a `transact`, which releases what it sent
@@ -155,7 +155,7 @@ pub(crate) fn see_transact<
     let (part, woke) = woke;
     done(share.join(part))?;
     same(rt, (works, woke), (((true, true), (true, true)), true));
-    same(rt, agents_at(rt, shared), (Some(1), Some(4)));
+    same(rt, agents_at(rt, shared, share.front()), (Some(1), Some(4)));
     Ok(())
 }
 

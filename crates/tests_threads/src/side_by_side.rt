@@ -9,7 +9,7 @@ use ref_fun::codes::{MINUS, PLUS};
 use ref_fun::{Core, CoreFunctions, Functions};
 use ref_log::Who;
 use ref_shared::{Gate, Quiet, Shared, Spot, Worked};
-use ref_world::Books;
+use ref_world::{Books, Front};
 use std::alloc::Global;
 use std::process::Abort;
 use std::sync::Wait;
@@ -39,7 +39,7 @@ pub(crate) fn work_and_meet<R: AllocGlobal + Wait + Clock, L: Books>(
 pub(crate) fn see_meeting<
     L: Books + Send + Sync,
     R: AllocGlobal + Threads + Wait + Clock + Abort + Sync,
->(rt: &R, shared: &Shared<Core, L>) -> Result<(), Stop> {
+>(rt: &R, shared: &Shared<Core, L>, front: &Front<L>) -> Result<(), Stop> {
     send(rt, rt.alloc(), shared, 0, PLUS, "1")?;
     send(rt, rt.alloc(), shared, 1, PLUS, "2")?;
     let flags = Flags::new();
@@ -50,7 +50,7 @@ pub(crate) fn see_meeting<
         move || work_and_meet(rt, shared, &lent.second, &lent.first),
     );
     same(rt, (one, two), ((true, true), (true, true)));
-    same(rt, agents_at(rt, shared), (Some(1), Some(2)));
+    same(rt, agents_at(rt, shared, front), (Some(1), Some(2)));
     Ok(())
 }
 
@@ -103,14 +103,14 @@ pub(crate) fn take_turns<L: Books + Send + Sync, R: Threads + Wait + Clock + Syn
 pub(crate) fn see_turns<
     L: Books + Send + Sync,
     R: AllocGlobal + Threads + Wait + Clock + Abort + Sync,
->(rt: &R, shared: &Shared<Core, L>, code: u32, value: i64) -> Result<(), Stop> {
+>(rt: &R, shared: &Shared<Core, L>, front: &Front<L>, code: u32, value: i64) -> Result<(), Stop> {
     let alloc = rt.alloc();
     done(shared.set_error_mode(rt, 0, ErrorMode::Continue))?;
     send(rt, alloc, shared, 0, code, "1")?;
     send(rt, alloc, shared, 0, PLUS, "2")?;
     let did = (Ok(Worked::Did(0)), true);
     same(rt, take_turns(rt, alloc, shared), (did, did));
-    same(rt, int_at(rt, shared, Who::Agent(0)), Some(value));
+    same(rt, int_at(rt, shared, front, Who::Agent(0)), Some(value));
     Ok(())
 }
 
@@ -168,7 +168,7 @@ fn work_beside<R: AllocGlobal + Wait + Clock, L: Books>(
 pub(crate) fn see_holding<
     L: Books + Send + Sync,
     R: AllocGlobal + Threads + Wait + Clock + Abort + Sync,
->(rt: &R, shared: &Shared<Core, L>) -> Result<(), Stop> {
+>(rt: &R, shared: &Shared<Core, L>, front: &Front<L>) -> Result<(), Stop> {
     send(rt, rt.alloc(), shared, 0, PLUS, "1")?;
     send(rt, rt.alloc(), shared, 1, PLUS, "2")?;
     let flags = Flags::new();
@@ -190,7 +190,7 @@ pub(crate) fn see_holding<
         works == of_both || works == (of_both.1, of_both.0),
         true,
     );
-    same(rt, agents_at(rt, shared), (Some(1), Some(2)));
+    same(rt, agents_at(rt, shared, front), (Some(1), Some(2)));
     Ok(())
 }
 

@@ -7,7 +7,7 @@ use ref_fun::{Core, CoreFunctions};
 use ref_log::{Notice, Stamp, Who};
 use ref_shared::{Gate, Open, Quiet, Shared, Spot, WatchSink};
 use ref_tx::Tx;
-use ref_world::{Books, Share, Totals, World};
+use ref_world::{Books, Front, Share, Totals, World};
 use std::alloc::Global;
 use std::process::Abort;
 use std::sync::Wait;
@@ -72,7 +72,11 @@ pub(crate) fn see_sum<
     let refused = (mine.1, theirs.1);
     join_both(share, mine.0, theirs.0)?;
     same(rt, refused, (0, 0));
-    same(rt, int_at(rt, shared, Who::Ref(0)), Some(200));
+    same(
+        rt,
+        int_at(rt, shared, share.front(), Who::Ref(0)),
+        Some(200),
+    );
     Ok(())
 }
 
@@ -194,7 +198,7 @@ pub(crate) fn see_overtaking<
         read: Some(10),
     };
     same(rt, (held, meanwhile), (Ok(wanted), Ok(1)));
-    same(rt, int_at(rt, shared, Who::Ref(0)), Some(11));
+    same(rt, int_at(rt, shared, share.front(), Who::Ref(0)), Some(11));
     Ok(())
 }
 
@@ -293,12 +297,13 @@ fn add_told<R: AllocGlobal + Wait + Clock, L: Books>(
 fn look<R: Wait + Clock, L: Books>(
     rt: &R,
     shared: &Shared<Core, L>,
+    front: &Front<L>,
     flags: &Flags,
 ) -> Result<Option<i64>, Stop> {
     if !wait_for(rt, &flags.first) {
         return Err(Stop::Late);
     }
-    let now = int_at(rt, shared, Who::Ref(0));
+    let now = int_at(rt, shared, front, Who::Ref(0));
     flags.second.store(true, Ordering::SeqCst);
     Ok(now)
 }
@@ -310,12 +315,13 @@ pub(crate) fn see_telling<
 >(rt: &R, shared: &Shared<Core, L>, share: &mut Share<L>) -> Result<(), Stop> {
     watch(rt, rt.alloc(), shared, Who::Ref(0), ":k")?;
     let part = share.split(1).ok_or(Stop::Refused)?;
+    let front = share.front();
     let flags = Flags::new();
     let lent = &flags;
     let (mine, seen) = thread::join(
         rt,
         move || add_told(rt, shared, part, lent),
-        move || look(rt, shared, lent),
+        move || look(rt, shared, front, lent),
     );
     let (part, told) = mine;
     done(share.join(part))?;

@@ -11,7 +11,7 @@ use ref_fun::{Action, Core, CoreFunctions, FunTable};
 use ref_log::Who;
 use ref_shared::{Shared, WorkFault, Worked};
 use ref_value::Value;
-use ref_world::{Books, Share};
+use ref_world::{Books, Front, Share};
 use std::alloc::Global;
 use std::process::Abort;
 use std::sync::Wait;
@@ -75,7 +75,7 @@ pub(crate) fn see_waking<
     );
     let wanted = (Ok(Worked::Did(0)), Ok(Worked::Did(1)), CLOSED);
     same(rt, (works, woke), (wanted, true));
-    same(rt, agents_at(rt, shared), (Some(1), Some(4)));
+    same(rt, agents_at(rt, shared, share.front()), (Some(1), Some(4)));
     Ok(())
 }
 
@@ -114,7 +114,7 @@ fn restart<R: Wait + Clock, L: Books>(
 pub(crate) fn see_restart<
     L: Books + Send + Sync,
     R: AllocGlobal + Threads + Wait + Clock + Abort + Sync,
->(rt: &R, shared: &Shared<Core, L>) -> Result<(), Stop> {
+>(rt: &R, shared: &Shared<Core, L>, front: &Front<L>) -> Result<(), Stop> {
     let alloc = rt.alloc();
     send(rt, alloc, shared, 0, MINUS, "5")?;
     send(rt, alloc, shared, 0, PLUS, "2")?;
@@ -128,7 +128,7 @@ pub(crate) fn see_restart<
         move || restart(rt, alloc, shared, ten, lent),
     );
     same(rt, (worked, woke), (Ok(Worked::Did(0)), true));
-    same(rt, int_at(rt, shared, Who::Agent(0)), Some(12));
+    same(rt, int_at(rt, shared, front, Who::Agent(0)), Some(12));
     Ok(())
 }
 
@@ -149,7 +149,7 @@ fn work_without<R: Wait + Clock, L: Books>(
 pub(crate) fn see_handing_on<
     L: Books + Send + Sync,
     R: AllocGlobal + Threads + Wait + Clock + Abort + Sync,
->(rt: &R, shared: &Shared<Core, L>) -> Result<(), Stop> {
+>(rt: &R, shared: &Shared<Core, L>, front: &Front<L>) -> Result<(), Stop> {
     let alloc = rt.alloc();
     send(rt, alloc, shared, 0, PLUS, "1")?;
     let flags = Flags::new();
@@ -161,7 +161,7 @@ pub(crate) fn see_handing_on<
     );
     same(rt, first, (Err(WorkFault::NoSuchFun(PLUS)), true));
     same(rt, next, (Ok(Worked::Did(0)), true));
-    same(rt, int_at(rt, shared, Who::Agent(0)), Some(1));
+    same(rt, int_at(rt, shared, front, Who::Agent(0)), Some(1));
     Ok(())
 }
 

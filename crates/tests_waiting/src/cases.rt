@@ -56,7 +56,7 @@ fn see<L: Books + Send + Sync, R: AllocGlobal + Threads + Wait + Clock + Abort +
         Case::Misses(steps) => return awaits::misses_failure(rt, shared, steps),
         Case::Awaits(waiting, wanted) => awaits::see(rt, shared, waiting, wanted),
         Case::Takes => many::see_taking(rt, shared, share),
-        Case::Sends => many::see_awaiting(rt, shared),
+        Case::Sends => many::see_awaiting(rt, shared, share.front()),
         Case::Wakes => sleepers::see_waking(rt, shared, share),
         Case::Closes => sleepers::see_closing(rt, shared, share),
         Case::Turns => turns::see(rt, shared),

@@ -6,7 +6,7 @@ use ref_fun::{Core, CoreFunctions};
 use ref_log::{Stamp, Who};
 use ref_shared::{Open, Quiet, Shared};
 use ref_tx::Tx;
-use ref_world::{Books, Share};
+use ref_world::{Books, Front, Share};
 use std::alloc::Global;
 use std::process::Abort;
 use std::sync::Wait;
@@ -150,7 +150,7 @@ pub(crate) fn see_taking<
     done(share.join(part))?;
     done(share.join(third))?;
     same(rt, (counts, went), (Some((25, 25)), true));
-    same(rt, int_at(rt, shared, Who::Ref(0)), Some(0));
+    same(rt, int_at(rt, shared, share.front(), Who::Ref(0)), Some(0));
     Ok(())
 }
 
@@ -189,11 +189,12 @@ impl Unit {
 fn is_at_least<R: Wait, L: Books>(
     rt: &R,
     shared: &Shared<Core, L>,
+    front: &Front<L>,
     g: u32,
     unit: Unit,
     least: u32,
 ) -> bool {
-    match int_at(rt, shared, Who::Agent(g)) {
+    match int_at(rt, shared, front, Who::Agent(g)) {
         Some(sum) => unit.count_in(sum) >= i64::from(least),
         None => false,
     }
@@ -203,6 +204,7 @@ fn is_at_least<R: Wait, L: Books>(
 fn send_and_await<R: AllocGlobal + Wait, L: Books>(
     rt: &R,
     shared: &Shared<Core, L>,
+    front: &Front<L>,
     unit: Unit,
     sent: u32,
 ) -> Result<bool, Stop> {
@@ -210,19 +212,22 @@ fn send_and_await<R: AllocGlobal + Wait, L: Books>(
     send(rt, alloc, shared, 0, PLUS, unit.text())?;
     send(rt, alloc, shared, 1, PLUS, unit.text())?;
     done(shared.await_agents(rt, alloc, &[0, 1]))?;
-    Ok(is_at_least(rt, shared, 0, unit, sent) && is_at_least(rt, shared, 1, unit, sent))
+    let of_g = is_at_least(rt, shared, front, 0, unit, sent);
+    Ok(of_g && is_at_least(rt, shared, front, 1, unit, sent))
 }
 
 // Does that in each round, and says when it has ended. It returns in how many rounds all was well.
 fn await_in_rounds<R: AllocGlobal + Wait, L: Books>(
     rt: &R,
     shared: &Shared<Core, L>,
+    front: Front<L>,
     unit: Unit,
     ended: &AtomicBool,
 ) -> u32 {
     let mut count = 0u32;
     for round in 0..ROUNDS {
-        if send_and_await(rt, shared, unit, round.saturating_add(1)) == Ok(true) {
+        let sent = round.saturating_add(1);
+        if send_and_await(rt, shared, &front, unit, sent) == Ok(true) {
             count = count.saturating_add(1);
         }
     }
@@ -233,12 +238,14 @@ fn await_in_rounds<R: AllocGlobal + Wait, L: Books>(
 fn two_await<L: Books + Send + Sync, R: AllocGlobal + Threads + Wait + Sync>(
     rt: &R,
     shared: &Shared<Core, L>,
+    front: Front<L>,
     flags: &Flags,
 ) -> (u32, u32) {
+    let other = front.again();
     let (one, two) = thread::join(
         rt,
-        move || await_in_rounds(rt, shared, Unit::One, &flags.first),
-        move || await_in_rounds(rt, shared, Unit::Thousand, &flags.second),
+        move || await_in_rounds(rt, shared, front, Unit::One, &flags.first),
+        move || await_in_rounds(rt, shared, other, Unit::Thousand, &flags.second),
     );
     (one, two)
 }
@@ -262,12 +269,13 @@ type Awaited = ((u32, u32), (Result<u32, Stop>, bool));
 fn await_and_run<L: Books + Send + Sync, R: AllocGlobal + Threads + Wait + Clock + Sync>(
     rt: &R,
     shared: &Shared<Core, L>,
+    front: Front<L>,
 ) -> Awaited {
     let flags = Flags::new();
     let lent = &flags;
     let (awaited, ran) = thread::join(
         rt,
-        move || two_await(rt, shared, lent),
+        move || two_await(rt, shared, front, lent),
         move || run_and_close(rt, shared, lent),
     );
     (awaited, ran)
@@ -276,9 +284,14 @@ fn await_and_run<L: Books + Send + Sync, R: AllocGlobal + Threads + Wait + Clock
 pub(crate) fn see_awaiting<
     L: Books + Send + Sync,
     R: AllocGlobal + Threads + Wait + Clock + Abort + Sync,
->(rt: &R, shared: &Shared<Core, L>) -> Result<(), Stop> {
-    same(rt, await_and_run(rt, shared), ((25, 25), (Ok(100), true)));
-    same(rt, agents_at(rt, shared), (Some(25_025), Some(25_025)));
+>(rt: &R, shared: &Shared<Core, L>, front: &Front<L>) -> Result<(), Stop> {
+    let awaited = await_and_run(rt, shared, front.again());
+    same(rt, awaited, ((25, 25), (Ok(100), true)));
+    same(
+        rt,
+        agents_at(rt, shared, front),
+        (Some(25_025), Some(25_025)),
+    );
     Ok(())
 }
 

@@ -63,7 +63,7 @@ impl<R: Wait> Scenario<R> for AtSink {
         rt: &R,
         alloc: Global,
         shared: &Shared<Core, L>,
-        _share: &mut Share<L>,
+        share: &mut Share<L>,
     ) -> Result<Seen, Stop> {
         watch(rt, alloc, shared, Who::Agent(0), ":k")?;
         send_two(rt, alloc, shared)?;
@@ -82,7 +82,7 @@ impl<R: Wait> Scenario<R> for AtSink {
             at_sink: sink.told,
             later,
             next,
-            values: agents_at(rt, shared),
+            values: agents_at(rt, shared, share.front()),
         })
     }
 }
@@ -142,7 +142,7 @@ impl<R: Wait> Scenario<R> for AtEnd {
         rt: &R,
         alloc: Global,
         shared: &Shared<Core, L>,
-        _share: &mut Share<L>,
+        share: &mut Share<L>,
     ) -> Result<Heard, Stop> {
         send_two(rt, alloc, shared)?;
         shared.close(rt);
@@ -159,7 +159,7 @@ impl<R: Wait> Scenario<R> for AtEnd {
             at_sink: sink.ended,
             folded,
             next,
-            values: agents_at(rt, shared),
+            values: agents_at(rt, shared, share.front()),
         })
     }
 }

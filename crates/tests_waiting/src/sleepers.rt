@@ -7,7 +7,7 @@ use crate::whens::{nudge, wait_in_vain};
 use ref_fun::Core;
 use ref_fun::codes::PLUS;
 use ref_shared::{AwaitFault, Shared, Worked};
-use ref_world::{Books, Share};
+use ref_world::{Books, Front, Share};
 use std::process::Abort;
 use std::sync::Wait;
 use std::sync::atomic::Ordering;
@@ -64,6 +64,7 @@ fn wake_worker<R: AllocGlobal + Wait + Clock, L: Books>(
 fn wake_and_close<R: AllocGlobal + Wait + Clock, L: Books>(
     rt: &R,
     shared: &Shared<Core, L>,
+    front: &Front<L>,
     point: u64,
     agent: &Flags,
     when: &Flags,
@@ -73,7 +74,7 @@ fn wake_and_close<R: AllocGlobal + Wait + Clock, L: Books>(
     shared.close(rt);
     let ended = wait_for(rt, &when.third);
     if !ended {
-        nudge(rt, rt.alloc(), shared);
+        nudge(rt, rt.alloc(), shared, front);
     }
     woke && ended
 }
@@ -129,6 +130,8 @@ fn three_wait_and_wake<L: Books + Send + Sync, R: AllocGlobal + Threads + Wait +
     share: Share<L>,
     point: u64,
 ) -> (Three, bool) {
+    let front = share.front().again();
+    let known = &front;
     let flags = ThreeFlags {
         agent: Flags::new(),
         when: Flags::new(),
@@ -138,7 +141,17 @@ fn three_wait_and_wake<L: Books + Send + Sync, R: AllocGlobal + Threads + Wait +
     let (three, woke) = thread::join(
         rt,
         move || three_wait(rt, shared, share, &lent.agent, &lent.when, &lent.work),
-        move || wake_and_close(rt, shared, point, &lent.agent, &lent.when, &lent.work),
+        move || {
+            wake_and_close(
+                rt,
+                shared,
+                known,
+                point,
+                &lent.agent,
+                &lent.when,
+                &lent.work,
+            )
+        },
     );
     (three, woke)
 }
@@ -163,7 +176,7 @@ pub(crate) fn see_waking<
     let (three, woke) = three_wait_and_wake(rt, shared, part, point);
     let (g, h) = (Ok(Worked::Did(0)), Ok(Worked::Did(1)));
     same(rt, (three, woke), ((Ok(()), Some(1), (g, g, h)), true));
-    same(rt, agents_at(rt, shared), (Some(2), Some(4)));
+    same(rt, agents_at(rt, shared, share.front()), (Some(2), Some(4)));
     Ok(())
 }
 
@@ -178,6 +191,7 @@ fn a_send_wakes_a_worker_beside_others_who_wait(rt: HostRuntime) -> Result<(), F
 fn close_on_both<R: AllocGlobal + Wait + Clock, L: Books>(
     rt: &R,
     shared: &Shared<Core, L>,
+    front: &Front<L>,
     agent: &Flags,
     when: &Flags,
 ) -> bool {
@@ -186,7 +200,7 @@ fn close_on_both<R: AllocGlobal + Wait + Clock, L: Books>(
     shared.close(rt);
     let both = wait_for(rt, &agent.third) && wait_for(rt, &when.third);
     if !both {
-        nudge(rt, rt.alloc(), shared);
+        nudge(rt, rt.alloc(), shared, front);
     }
     were_there && !early && both
 }
@@ -196,12 +210,14 @@ fn two_wait_and_close<L: Books + Send + Sync, R: AllocGlobal + Threads + Wait + 
     shared: &Shared<Core, L>,
     share: Share<L>,
 ) -> (Two, bool) {
+    let front = share.front().again();
+    let known = &front;
     let (agent, when) = (Flags::new(), Flags::new());
     let (agent, when) = (&agent, &when);
     let (two, woke) = thread::join(
         rt,
         move || two_wait(rt, shared, share, agent, when),
-        move || close_on_both(rt, shared, agent, when),
+        move || close_on_both(rt, shared, known, agent, when),
     );
     (two, woke)
 }

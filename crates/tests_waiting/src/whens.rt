@@ -6,7 +6,7 @@ use ref_fun::{Core, CoreFunctions};
 use ref_log::{Stamp, Who};
 use ref_shared::{Open, Quiet, Shared, WaitFault};
 use ref_tx::Tx;
-use ref_world::{Books, Share};
+use ref_world::{Books, Front, Share};
 use std::alloc::Global;
 use std::process::Abort;
 use std::sync::Wait;
@@ -81,18 +81,20 @@ fn make_ref<R: Wait, L: Books>(
     rt: &R,
     alloc: Global,
     shared: &Shared<Core, L>,
+    front: &Front<L>,
 ) -> Result<(), Stop> {
-    let new = value(alloc, "7")?;
-    done(shared.make_ref(rt, alloc, &CoreFunctions, new, None, false)).map(drop)
+    let (new, mut front) = (value(alloc, "7")?, front.again());
+    done(shared.make_ref(rt, alloc, &CoreFunctions, &mut front, new, None, false)).map(drop)
 }
 
 pub(crate) fn make_atom<R: Wait, L: Books>(
     rt: &R,
     alloc: Global,
     shared: &Shared<Core, L>,
+    front: &Front<L>,
 ) -> Result<(), Stop> {
-    let new = value(alloc, "7")?;
-    done(shared.make_atom(rt, alloc, &CoreFunctions, new, None)).map(drop)
+    let (new, mut front) = (value(alloc, "7")?, front.again());
+    done(shared.make_atom(rt, alloc, &CoreFunctions, &mut front, new, None)).map(drop)
 }
 
 fn enter<R: Wait, L: Books>(
@@ -117,15 +119,20 @@ fn enter<R: Wait, L: Books>(
             let set = shared.compare_and_set(rt, alloc, &CoreFunctions, share, 0, &old, new);
             done(set).map(drop)
         }
-        Kind::MakeRef => make_ref(rt, alloc, shared),
-        Kind::MakeAtom => make_atom(rt, alloc, shared),
+        Kind::MakeRef => make_ref(rt, alloc, shared, share.front()),
+        Kind::MakeAtom => make_atom(rt, alloc, shared, share.front()),
     }
 }
 
 // Wakes all who wait for an entry, so that a test ends which has failed.
-pub(crate) fn nudge<R: Wait, L: Books>(rt: &R, alloc: Global, shared: &Shared<Core, L>) {
-    let _ = make_ref(rt, alloc, shared);
-    let _ = make_atom(rt, alloc, shared);
+pub(crate) fn nudge<R: Wait, L: Books>(
+    rt: &R,
+    alloc: Global,
+    shared: &Shared<Core, L>,
+    front: &Front<L>,
+) {
+    let _ = make_ref(rt, alloc, shared, front);
+    let _ = make_atom(rt, alloc, shared, front);
 }
 
 // Makes an entry while the other waits. It returns the share, and whether the other was woken in time.
@@ -141,7 +148,7 @@ fn enter_and_wake<R: AllocGlobal + Wait + Clock, L: Books>(
     let woke = wait_for(rt, &flags.second);
     shared.close(rt);
     if !woke {
-        nudge(rt, rt.alloc(), shared);
+        nudge(rt, rt.alloc(), shared, share.front());
     }
     (share, was_there && woke && entered.is_ok())
 }
@@ -186,7 +193,11 @@ pub(crate) fn see_entry<
         bodies: 2,
     };
     same(rt, (added, woke), (wanted, true));
-    same(rt, int_at(rt, shared, Who::Ref(0)), Some(value));
+    same(
+        rt,
+        int_at(rt, shared, share.front(), Who::Ref(0)),
+        Some(value),
+    );
     Ok(())
 }
 
@@ -250,6 +261,7 @@ pub(crate) fn wait_in_vain<R: AllocGlobal + Wait + Clock, L: Books>(
 fn close_on<R: AllocGlobal + Wait + Clock, L: Books>(
     rt: &R,
     shared: &Shared<Core, L>,
+    front: &Front<L>,
     flags: &Flags,
 ) -> bool {
     flags.first.store(true, Ordering::SeqCst);
@@ -258,7 +270,7 @@ fn close_on<R: AllocGlobal + Wait + Clock, L: Books>(
     shared.close(rt);
     let woke = wait_for(rt, &flags.third);
     if !woke {
-        nudge(rt, rt.alloc(), shared);
+        nudge(rt, rt.alloc(), shared, front);
     }
     was_there && woke && !early
 }
@@ -268,12 +280,12 @@ fn wait_and_close<L: Books + Send + Sync, R: AllocGlobal + Threads + Wait + Cloc
     shared: &Shared<Core, L>,
     share: Share<L>,
 ) -> (Option<u32>, bool) {
-    let flags = Flags::new();
-    let lent = &flags;
+    let (flags, front) = (Flags::new(), share.front().again());
+    let (lent, known) = (&flags, &front);
     let (bodies, woke) = thread::join(
         rt,
         move || wait_in_vain(rt, shared, share, lent),
-        move || close_on(rt, shared, lent),
+        move || close_on(rt, shared, known, lent),
     );
     (bodies, woke)
 }

@@ -1,7 +1,8 @@
 use denote.Param.Send.{sendable}
 use Rattle.std.proofs.Crossing as std
+use Rattle.ref_world.proofs.Crossing.{front_send}
 use Rattle.tests_threads.proofs.Crossing.{crosses}
 use Rattle.tests_waiting.proofs.many.two_await.Goals as goal
 
 pub join-one-requires-send-F : goal.join-one-requires-send-F
-join-one-requires-send-F g c κs within = search (crosses, std.crosses, sendable) depth 60
+join-one-requires-send-F g c κs within = search (front_send, crosses, std.crosses, sendable) depth 60

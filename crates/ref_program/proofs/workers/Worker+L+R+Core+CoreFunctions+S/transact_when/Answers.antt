@@ -12,4 +12,4 @@ pub returns-clause-ok : goal.returns-clause-ok
 returns-clause-ok g c = if_landed _ (λ (w : OnDosync g.row.D.Denot (Option g.row.T.Denot) g.row.E.Denot). w.body) (calls_of g.D.FnMut) _ _ _ _ _ _ _ _ _ c.of-body.ensures c.transact_as_when.ensures.ok
 
 pub returns-clause-fault : goal.returns-clause-fault
-returns-clause-fault g c = if_wait_fails _ _ (λ (w : OnDosync g.row.D.Denot (Option g.row.T.Denot) g.row.E.Denot). w.body) (calls_of g.D.FnMut) _ _ _ _ _ (λ f p. (p.0, p.1)) c.of-body.ensures c.transact_as_when.ensures.fault
+returns-clause-fault g c = if_wait_fails _ _ _ _ (λ (w : OnDosync g.row.D.Denot (Option g.row.T.Denot) g.row.E.Denot). w.body) (calls_of g.D.FnMut) _ _ _ _ _ (λ f p. (p.0, p.1)) c.of-body.ensures c.transact_as_when.ensures.fault

@@ -7,4 +7,4 @@ pub returns-clause-ok : goal.returns-clause-ok
 returns-clause-ok g c = if_committed _ (λ (w : OnTx g.row.B.Denot g.row.T.Denot g.row.E.Denot). w.body) (calls_of g.B.FnMut) _ _ _ _ _ _ _ _ c.of-body.ensures c.transact_as.ensures.ok
 
 pub returns-clause-fault : goal.returns-clause-fault
-returns-clause-fault g c = if_fault_comes (λ (w : OnTx g.row.B.Denot g.row.T.Denot g.row.E.Denot). w.body) (calls_of g.B.FnMut) _ _ _ _ _ c.of-body.ensures c.transact_as.ensures.fault
+returns-clause-fault g c = if_fault_comes _ _ (λ (w : OnTx g.row.B.Denot g.row.T.Denot g.row.E.Denot). w.body) (calls_of g.B.FnMut) _ _ _ _ _ c.of-body.ensures c.transact_as.ensures.fault

@@ -12,4 +12,4 @@ pub returns-clause-ok : goal.returns-clause-ok
 returns-clause-ok g c = if_landed _ (λ (w : OnTx g.row.B.Denot (Option g.row.T.Denot) g.row.E.Denot). w.body) (calls_of g.B.FnMut) _ _ _ _ _ _ _ _ c.of-body.ensures c.transact_as_when.ensures.ok
 
 pub returns-clause-fault : goal.returns-clause-fault
-returns-clause-fault g c = if_wait_fails (λ (w : OnTx g.row.B.Denot (Option g.row.T.Denot) g.row.E.Denot). w.body) (calls_of g.B.FnMut) _ _ _ _ _ c.of-body.ensures c.transact_as_when.ensures.fault
+returns-clause-fault g c = if_wait_fails _ _ (λ (w : OnTx g.row.B.Denot (Option g.row.T.Denot) g.row.E.Denot). w.body) (calls_of g.B.FnMut) _ _ _ _ _ c.of-body.ensures c.transact_as_when.ensures.fault

@@ -24,7 +24,7 @@ returns-clause-refused g c =
 pub returns-clause-conflict : goal.returns-clause-conflict
 returns-clause-conflict g c =
     let refusal = refusal-fits c.args.tx.now g.M.Meaning.means g.M.Meaning.accepts (g.F.Functions.knows c.args.funs.now) c.self.inside.refs (c.point-next.result + 1) c.len-count.result c.room.result c.room-2.result in
-    conflict_told c.args.tx.now _ _ c.prepare_own.result c.prepare_own.ensures.refused (λ fault tells. told-fits c.args.tx.now _ _ fault tells refusal)
+    rw (← c.self.view_is) (conflict_told c.args.tx.now _ _ _ c.prepare_own.result c.prepare_own.ensures.refused (λ fault tells. told-fits c.args.tx.now _ _ _ fault tells refusal))
 
 pub returns-clause-ready : goal.returns-clause-ready
 returns-clause-ready g c =
