@@ -31,7 +31,7 @@ use ref_shared::{
 };
 use ref_tx::{Dosync, Snapshot};
 use ref_value::Value;
-use ref_world::{Books, CheckpointFault, Known, Opening, Preparing, Receipt, Share};
+use ref_world::{Books, CheckpointFault, Front, Known, Opening, Preparing, Receipt, Share};
 use std::alloc::{AllocError, Global};
 use std::marker::Model;
 use std::sync::Wait;
@@ -124,6 +124,13 @@ impl<'a, L: Books, R: Wait, M: Meaning, F: Functions<M>, S: WatchSink> Worker<'a
         ensures { result ≡ self.now.point }
     {
         self.point
+    }
+
+    /// How far this worker knows the history of the world.
+    pub fn front(&self) -> &Front<L>
+        ensures { result.now ≡ self.now.share.history }
+    {
+        self.share.front()
     }
 
     /// Runs a body on a transaction and commits it, as [`Worker::transact`]: a [`Body`] may be of a meaning of the program's own.
@@ -382,14 +389,9 @@ impl<'a, L: Books, R: Wait, M: Meaning, F: Functions<M>, S: WatchSink> Worker<'a
         ensures rest { self.new ≡ record self.old { share = self.new.share } }
     {
         let mut front = self.share.front().again();
-        let folded = self.shared.checkpoint_in_bites(
-            self.rt,
-            self.alloc,
-            &self.funs,
-            &mut front,
-            point,
-            bite,
-        );
+        let folded = self
+            .shared
+            .checkpoint_in_bites(self.rt, self.alloc, &self.funs, &mut front, point, bite);
         self.share.catch_up(front);
         folded
     }

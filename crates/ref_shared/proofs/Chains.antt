@@ -40,9 +40,9 @@ pub called_later : {B R : Type 0} (means : Means) (one two : HistorySeen) (does 
     → Begins one two → Called (seeing means one does) first calls last → Called (seeing means two does) first calls last
 called_later means one two does first last [] more same = same
 called_later means one two does first last (call ∷ earlier) more so = (
-    so.0,
-    called_later means one two does first so.0 earlier more so.1,
-    record { fresh = so.2.fresh; called = (so.2.called.0, has_begun_later means one two call.began more so.2.called.1) },
+  so.0,
+  called_later means one two does first so.0 earlier more so.1,
+  record { fresh = so.2.fresh; called = (so.2.called.0, has_begun_later means one two call.began more so.2.called.1) },
 )
 
 pub in_conflict_later : {R : Type 0} (one two : HistorySeen) (call : Call R) → Begins one two → WasInConflict one call → WasInConflict two call

@@ -15,8 +15,6 @@ use Rattle.ref_log.specs.declared.counting.Side.TheVariants.{Added, Taken}
 use Rattle.ref_log.specs.declared.entries.Entry.{Entry}
 use Rattle.ref_log.specs.declared.entries.Entry.TheVariants.{Atom}
 use Rattle.ref_log.specs.declared.entries.Stamp.{Stamp}
-use Rattle.ref_log.specs.declared.notices.Who.{Who}
-use Rattle.ref_log.specs.declared.notices.Who.TheVariants as who
 use Rattle.ref_log.specs.declared.operations.Op.{Op}
 use Rattle.ref_log.specs.declared.operations.Op.TheVariants.{Set}
 use Rattle.ref_log.specs.declared.states.PlainState.{PlainState}
@@ -25,14 +23,14 @@ use Rattle.ref_refs.specs.Conflicts.{ConflictFits, fits_too}
 use Rattle.ref_refs.specs.Seen.{changed_at}
 use Rattle.ref_refs.specs.declared.faults.CommitFault.{CommitFault}
 use Rattle.ref_tx.specs.Seen.{TxSeen}
-use Rattle.ref_world.specs.History.{Begins, IsLegal, atoms_in, atoms_of, changed_in, point_in, refs_in, refs_of, state_in, upto, with_entry}
+use Rattle.ref_world.specs.History.{Begins, IsLegal, atoms_in, atoms_of, changed_in, point_in, refs_in, state_in, upto, with_entry}
 use Rattle.ref_world.specs.HistoryLaws.{begins_itself, begins_then}
 use Rattle.ref_world.specs.Seen.{HistorySeen, ShareSeen, WorldSeen}
 use Rattle.ref_world.specs.Shares.{knowing, with_commit, with_receipt}
 use Rattle.ref_world.specs.World as worlds
 use Rattle.ref_world.specs.World.{point_of, values_now}
 use Rattle.ref_world.specs.declared.commits.Receipt.{Receipt}
-use Rattle.ref_shared.specs.Commits.{HasChanged, HasCommitted, HasEntered, HasLearned, HasMade, HasReceipt, IsLater, IsValueIn}
+use Rattle.ref_shared.specs.Commits.{HasChanged, HasCommitted, HasEntered, HasLearned, HasMade, HasReceipt, IsLater}
 
 pub later_itself : (s : ShareSeen) → IsLater s s
 later_itself s = record { same = refl; known = begins_itself s.history }
@@ -131,15 +129,17 @@ was_made (Err f) means e all values first new before after begins held grows cou
 was_made (Ok n) means e all values first new before after begins held grows count told legal = record {
   point = point_in after;
   entered = entered means e (point_in after) first new before after begins grows told legal refl;
-  number = count ∙ ap length (sym held);
+  count = count ∙ ap length (sym held);
 }
 
--- The value of a reference is the one that the history gives it.
-pub value_shown : (means : Means) (h : HistorySeen) (world : WorldSeen) (who : Who) → state_in means h ≡ Ok (values_now world.refs world.atoms)
-    → IsValueIn means h who (value_at world who)
-value_shown means h world (who.Ref r) state = ap (λ s. slice_get (refs_of s) r) (sym state)
-value_shown means h world (who.Atom a) state = ap (λ s. slice_get (atoms_of s) a) (sym state)
-value_shown means h world (who.Agent g) state = tt
+-- A share was told of the history.
+pub informed : (means : Means) (old new : ShareSeen) (found : HistorySeen) → new ≡ knowing old found → Begins old.history found → IsLegal means found → HasLearned means old new
+informed means old new found is known legal =
+    let now : new.history ≡ found = ap (λ (s : ShareSeen). s.history) is in
+    record {
+      later = record { same = is ∙ ap (knowing old) (sym now); known = subst (Begins old.history) (sym now) known };
+      legal = subst (IsLegal means) (sym now) legal;
+    }
 
 -- One change of an atom.
 abbrev changed : (means : Means) (a : ℕ) (op : Op) (was value : Edn) (old mid new : ShareSeen) (world later : WorldSeen) (before after : HistorySeen)

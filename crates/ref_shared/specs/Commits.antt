@@ -87,7 +87,7 @@ pub record HasChanged (means : Means) (a : ℕ) (op : Op) (before after : Edn) (
 pub record HasMade (means : Means) (e : Entry) (all : HistorySeen → List Edn) (number : ℕ) (old new : HistorySeen) : Type 0 where
   pub point : ℕ
   pub entered : HasEntered means e point old new
-  pub number : number ≡ length (all entered.found)
+  pub count : number ≡ length (all entered.found)
 
 -- What the history says of the value of a reference: that of a ref or atom after all of it, and of an agent nothing.
 abbrev pub IsValueIn : Means → HistorySeen → Who → Option Edn → Type 0

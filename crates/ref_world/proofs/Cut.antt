@@ -436,10 +436,10 @@ get_below (x ∷ xs) zero below = (x, refl)
 get_below (x ∷ xs) (suc r) below = get_below xs r (omega (arith, below))
 
 -- What was known up to a point that has come begins the history, and comes to that point at least.
-upto_known : (h : HistorySeen) (point : ℕ) → Begins (upto h point) h
+pub upto_known : (h : HistorySeen) (point : ℕ) → Begins (upto h point) h
 upto_known h point = record { more = drop (point - h.start.point) h.entries; start = refl; entries = sym (take-append-drop (point - h.start.point) h.entries) }
 
-upto_far : (h : HistorySeen) (point : ℕ) → point ≤ point_in h → point ≤ point_in (upto h point)
+pub upto_far : (h : HistorySeen) (point : ℕ) → point ≤ point_in h → point ≤ point_in (upto h point)
 upto_far h point most =
     let count = length-take-le (point - h.start.point) h.entries (omega (arith, most)) in
     omega (arith, count)

@@ -39,8 +39,7 @@ pub entries_follow : (means : Means) → EntriesFollow means
 entries_follow means one h e begins legal =
     let whole = of_ok (state_in means h) legal in
     let after = state_before means (with_entry one e) h whole.0 begins whole.1 in
-    let before = state_before means one h whole.0 (begins_then one (with_entry one e) h (begins_more one e) begins) whole.1 in
-    (
+    let before = state_before means one h whole.0 (begins_then one (with_entry one e) h (begins_more one e) begins) whole.1 in (
       before.0,
       after.0,
       before.1,

@@ -1,8 +1,6 @@
 //! How a run ends early. A row is what goes wrong, and what the fault says that the run ends with.
 use crate::same::same;
-use ref_fun::Rule;
 use ref_program::prelude::*;
-use std::alloc::AllocError;
 use std::process::Abort;
 use std::test::Fail;
 
@@ -99,16 +97,12 @@ fn call_shared<L: Books, R: Wait>(worker: &Worker<'_, L, R>, wrong: Wrong) -> Re
         Wrong::Mode => Ok(shared.set_error_mode(rt, NONE, ErrorMode::Continue)?),
         Wrong::Restart => Ok(shared.restart(rt, &CoreFunctions, G, edn(alloc, "1")?, false)?),
         _ => {
-            let (value, rule) = (edn(alloc, "-1")?, at_least_zero(alloc)?);
-            let made = shared.make_agent(rt, alloc, &CoreFunctions, value, rule, ErrorMode::Fail);
+            let mut front = worker.front().again();
+            let value = edn(alloc, "-1")?;
+            let made = shared.make_ref(rt, alloc, &CoreFunctions, &mut front, value, None, true);
             Ok(made.map(drop)?)
         }
     }
-}
-
-fn at_least_zero(alloc: Global) -> Result<Option<Rule>, AllocError> {
-    let (code, args) = (AT_LEAST, 0i64.into_args(alloc)?);
-    Ok(Some(Rule { code, args }))
 }
 
 fn transact<L: Books, R: Wait>(worker: &mut Worker<'_, L, R>, wrong: Wrong) -> Result<(), Fault> {
@@ -155,7 +149,10 @@ const ROWS: &[(Wrong, &str)] = &[
     (Wrong::Rule, "there is no such reference"),
     (Wrong::Mode, "there is no such agent"),
     (Wrong::Restart, "the agent is not failed"),
-    (Wrong::NotMade, "the rule doesn't accept the value"),
+    (
+        Wrong::NotMade,
+        "a tally has to be the only one, and to start with an integer of 0 or more",
+    ),
     (Wrong::Ref, "no such ref"),
     (Wrong::Commit, "the rule of ref 0 doesn't accept its value"),
     (Wrong::Agent, "agent 0 is failed"),

@@ -42,6 +42,7 @@ returns-then-not-wait_past-clause-fault g c =
       one_more _ _ _ _ _ _ _ _ _ _ _ (begins_then _ _ _ c.begin_as.ensures.learned.later.known c.wait_past.ensures.learned.later.known) so_far.1 so_far.2 so_far.3 c.loop.invariant.room
           (record { fresh = c.in-Ok.ensures.fresh; called = (c.in-Ok-run.ensures.does, begun _ _ _ _ _ c.begin_as.ensures.learned c.in-Ok.ensures.began c.wait_past.ensures.learned.later.known) }),
       search rules,
+      search rules,
     )
 
 pub loop-preserved-in_default-answer : goal.loop-preserved-in_default-answer
