@@ -31,6 +31,7 @@ pub mod pools;
 mod releases;
 #[cfg(test)]
 mod same;
+pub mod seats;
 #[cfg(test)]
 mod side_by_side;
 #[cfg(test)]
