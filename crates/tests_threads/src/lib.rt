@@ -11,6 +11,7 @@
 //! | `checkpoints` | views and checkpoints, a view read by another thread |
 //! | `looks` | by two: at each step between, the lock is free |
 //! | `waking`, `releases`, `next_actions` | by two or three: who waits for an agent is woken |
+//! | [`seats`] | what two threads come to that sell the last seats: the contract says it, whatever their order |
 //! | [`flags`], [`waits`] | how far threads have come; waiting for another thread |
 //! | [`pools`] | running actions |
 #![tactic(auto)]

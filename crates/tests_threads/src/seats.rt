@@ -296,3 +296,32 @@ fn take_or_ensure<S: Readable>(tx: &mut Dosync<S>) -> Result<bool, TxFault>
         Ok(false)
     }
 }
+
+#[cfg(test)]
+mod tests {
+    use super::*;
+    use crate::same::same;
+    use ref_log::Who;
+    use std::test::Fail;
+
+    // How many seats there are, how often each thread tries, how many both sell, and how many are left.
+    const SALES: &[(u32, u32, u32, i64)] = &[
+        (0, 10, 0, 0),
+        (15, 10, 15, 0),
+        (23, 10, 20, 3),
+        (1_500, 1_000, 1_500, 0),
+    ];
+
+    #[test]
+    fn two_threads_sell_each_seat_once(rt: HostRuntime) -> Result<(), Fail> {
+        for (seats, tries, wanted, left) in SALES {
+            let end = sell_last_seats(&rt, *seats, *tries)?;
+            let sold = end.first.saturating_add(end.second);
+            let found = end.world.value_of(Who::Ref(SEATS)).and_then(int_of);
+            let commits = u64::from(*tries).saturating_mul(2);
+            same(&rt, (sold, found), (*wanted, Some(*left)));
+            same(&rt, end.totals.commits, commits);
+        }
+        Ok(())
+    }
+}
