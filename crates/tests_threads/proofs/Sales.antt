@@ -13,6 +13,7 @@ use Rattle.ref_log.specs.declared.entries.Entry.{Entry}
 use Rattle.ref_log.specs.declared.entries.Stamp.{Stamp}
 use Rattle.ref_log.specs.declared.faults.MakeFault.{MakeFault}
 use Rattle.ref_log.specs.declared.notices.Who.{Who}
+use Rattle.ref_log.specs.declared.notices.Who.TheVariants.{Ref}
 use Rattle.ref_log.specs.declared.operations.Done.{Done}
 use Rattle.ref_log.specs.declared.operations.Op.{Op}
 use Rattle.ref_log.specs.declared.operations.Op.TheVariants.{Alter}
@@ -21,6 +22,7 @@ use Rattle.ref_log.specs.declared.states.PlainState.{PlainState}
 use Rattle.ref_agents.specs.declared.starts.RefStart.{RefStart}
 use Rattle.ref_atoms.specs.Atoms.{AtomsSeen}
 use Rattle.ref_refs.specs.Commit.{entry_of}
+use Rattle.ref_refs.specs.Make.{make_refusal, with_ref}
 use Rattle.ref_refs.specs.Seen.{RefsSeen}
 use Rattle.ref_tx.specs.Inner.{and_place, given, inner_value, with_done}
 use Rattle.ref_tx.specs.Laws.{value_after-here}
@@ -31,7 +33,7 @@ use Rattle.ref_world.specs.History.{Begins, with_entry}
 use Rattle.ref_world.specs.HistoryLaws.{begins_itself, begins_more, begins_then}
 use Rattle.ref_world.specs.Seen.{HistorySeen, ShareSeen, WorldSeen}
 use Rattle.ref_world.specs.Shares.{all_parts, joined, whole}
-use Rattle.ref_world.specs.Starts.{base_of, declared_refs, or_refused}
+use Rattle.ref_world.specs.Starts.{base_of, declared_refs, no_refs, or_refused}
 use Rattle.ref_world.specs.World.{IsReplayed, values_now}
 use Rattle.ref_shared.specs.Bodies.{Committed}
 use Rattle.ref_shared.specs.Commits.{HasEnded}
@@ -90,7 +92,7 @@ module _ {B : Type 0} (body last : B) (tries : ℕ) (sold : Bool) (stamp : Stamp
   left_so : are_try sold is.call.left.dones ≡ true
   left_so =
       let call = is.calls.called.2 in
-      subst (λ (answer : Result Bool TxFault). IfOk answer (λ sold. are_try sold is.call.left.dones ≡ true)) is.answered (call.called call.fresh.dones)
+      subst (λ (answer : Result Bool TxFault). IfOk answer (λ sold. are_try sold is.call.left.dones ≡ true)) is.answered (call.called.0 call.fresh.dones)
 
   pub tried : HasTried stamp.worker sold old new
   tried =
@@ -180,7 +182,7 @@ pub opened : (accepts : Accepts) (knows : ℕ → Bool) (seats : ℕ) (starts : 
     → history ≡ record { start = base; entries = [] } → share ≡ whole history → IsOpen seats share
 opened accepts knows seats starts refs atoms base history share one made based told is =
     let alone : declared_refs accepts knows (record { value = int (pos seats); rule = None; tally = false } ∷ []) ≡ Ok refs = ap (declared_refs accepts knows) (sym one) ∙ made in
-    let values : refs.values ≡ int (pos seats) ∷ [] = ap (λ (r : RefsSeen). r.values) (made-is _ _ _ refs alone) in
+    let values : refs.values ≡ int (pos seats) ∷ [] = ap (λ (r : RefsSeen). r.values) (made-is (Ref 0) (make_refusal accepts knows no_refs 0 (int (pos seats)) None false) (with_ref no_refs 0 (int (pos seats)) None false) refs alone) in
     let known : share.history ≡ history = ap (λ (s : ShareSeen). s.history) is in
     let start : share.history.start ≡ base = ap (λ (h : HistorySeen). h.start) (known ∙ told) in
     record {
