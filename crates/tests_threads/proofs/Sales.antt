@@ -6,23 +6,17 @@ use Rattle.ref_value.specs.Edn.{Edn, int}
 use Rattle.ref_fun.specs.Core.{core_means, core_takes}
 use Rattle.ref_fun.specs.Integers.{int_value, is_i64}
 use Rattle.ref_fun.specs.declared.faults.Cause.TheVariants.{Overflow}
-use Rattle.ref_fun.specs.Rule.{Accepts}
 use Rattle.ref_log.specs.Replay.{replay}
 use Rattle.ref_log.specs.Tally.{commits_of}
 use Rattle.ref_log.specs.declared.entries.Entry.{Entry}
 use Rattle.ref_log.specs.declared.entries.Stamp.{Stamp}
-use Rattle.ref_log.specs.declared.faults.MakeFault.{MakeFault}
-use Rattle.ref_log.specs.declared.notices.Who.{Who}
-use Rattle.ref_log.specs.declared.notices.Who.TheVariants.{Ref}
 use Rattle.ref_log.specs.declared.operations.Done.{Done}
 use Rattle.ref_log.specs.declared.operations.Op.{Op}
 use Rattle.ref_log.specs.declared.operations.Op.TheVariants.{Alter}
 use Rattle.ref_log.specs.declared.states.Base.{Base}
 use Rattle.ref_log.specs.declared.states.PlainState.{PlainState}
-use Rattle.ref_agents.specs.declared.starts.RefStart.{RefStart}
 use Rattle.ref_atoms.specs.Atoms.{AtomsSeen}
 use Rattle.ref_refs.specs.Commit.{entry_of}
-use Rattle.ref_refs.specs.Make.{make_refusal, with_ref}
 use Rattle.ref_refs.specs.Seen.{RefsSeen}
 use Rattle.ref_tx.specs.Inner.{and_place, given, inner_value, with_done}
 use Rattle.ref_tx.specs.Laws.{value_after-here}
@@ -33,7 +27,6 @@ use Rattle.ref_world.specs.History.{Begins, with_entry}
 use Rattle.ref_world.specs.HistoryLaws.{begins_itself, begins_more, begins_then}
 use Rattle.ref_world.specs.Seen.{HistorySeen, ShareSeen, WorldSeen}
 use Rattle.ref_world.specs.Shares.{all_parts, joined, whole}
-use Rattle.ref_world.specs.Starts.{base_of, declared_refs, no_refs, or_refused}
 use Rattle.ref_world.specs.World.{IsReplayed, values_now}
 use Rattle.ref_shared.specs.Bodies.{Committed}
 use Rattle.ref_shared.specs.Commits.{HasEnded}
@@ -171,25 +164,7 @@ have_sold tries first second share part rest one two all fresh cut left commits 
       misses = omega (arith, first_sold.misses, second_sold.misses);
     }
 
--- ---- the world at its start and at its end
-
-made-is : {Store : Type 0} (who : Who) (refused : Option MakeFault) (store after : Store) → or_refused who refused store ≡ Ok after → after ≡ store
-made-is who None store after is = cc
-made-is who (Some fault) store after is = absurd cc
-
-pub opened : (accepts : Accepts) (knows : ℕ → Bool) (seats : ℕ) (starts : List RefStart) (refs : RefsSeen) (atoms : AtomsSeen) (base : Base) (history : HistorySeen) (share : ShareSeen)
-    → starts ≡ record { value = int (pos seats); rule = None; tally = false } ∷ [] → declared_refs accepts knows starts ≡ Ok refs → base ≡ base_of refs atoms
-    → history ≡ record { start = base; entries = [] } → share ≡ whole history → IsOpen seats share
-opened accepts knows seats starts refs atoms base history share one made based told is =
-    let alone : declared_refs accepts knows (record { value = int (pos seats); rule = None; tally = false } ∷ []) ≡ Ok refs = ap (declared_refs accepts knows) (sym one) ∙ made in
-    let values : refs.values ≡ int (pos seats) ∷ [] = ap (λ (r : RefsSeen). r.values) (made-is (Ref 0) (make_refusal accepts knows no_refs 0 (int (pos seats)) None false) (with_ref no_refs 0 (int (pos seats)) None false) refs alone) in
-    let known : share.history ≡ history = ap (λ (s : ShareSeen). s.history) is in
-    let start : share.history.start ≡ base = ap (λ (h : HistorySeen). h.start) (known ∙ told) in
-    record {
-      fresh = is ∙ ap whole (sym known);
-      free = ap (λ (b : Base). slice_get b.refs 0) (start ∙ based) ∙ ap (λ l. slice_get l 0) values;
-      commits = ap (λ (b : Base). b.commits) (start ∙ based);
-    }
+-- ---- the world at its end
 
 pub came_to : (known : HistorySeen) (commits booked : ℕ) (base : Base) (log : List Entry) (refs : RefsSeen) (atoms : AtomsSeen) → HasEnded core_means known base log → IsReplayed core_means base log refs atoms
     → booked ≡ base.commits + commits_of log → booked ≡ commits → CameTo known commits refs.values
@@ -231,3 +206,13 @@ sold_out seats tries first second commits start share values begun sold came sam
       sold = sym all_sold ∙ (end.sold ∙ ap (min seats) tried);
       count = same ∙ total;
     }
+
+-- So it is of what a call returns that takes the world out.
+pub if_sold_out : {X E : Type 0} (r : Result X E) (first_of second_of commits_of : X → ℕ) (values_of : X → List Edn) (seats tries first second : ℕ) (start share : ShareSeen)
+    → IsOpen seats start → HaveSold tries first second start.history share → IfOk r (λ x. (first_of x ≡ first) × (second_of x ≡ second)) → IfOk r (λ x. commits_of x ≡ share.commits)
+    → IfOk r (λ x. CameTo share.history share.commits (values_of x)) → IfOk r (λ x. IsSoldOut seats tries (first_of x) (second_of x) (commits_of x) (values_of x))
+if_sold_out (Err e) first_of second_of commits_of values_of seats tries first second start share begun sold same commits values = tt
+if_sold_out (Ok x) first_of second_of commits_of values_of seats tries first second start share begun sold same commits values =
+    let all = sold_out seats tries first second (commits_of x) start share (values_of x) begun sold values commits in
+    let both = all.sold in
+    record { left = all.left; sold = omega (arith, both, same.0, same.1); count = all.count }
