@@ -1,12 +1,9 @@
 -- What the calls of a try leave, what both threads leave together, and what a world comes to by it.
-use Rattle.std.proofs.Common.{◌≡◌, ◌≤◌, ◌<◌, ◌+◌, ◌-◌, ◌*◌, ◌==◌, ℕ, zero, suc, ℤ, pos, negsuc, ◌-ℤ◌, ◌<ℤ◌, Bool, true, false, min, List, [], ◌∷◌, ◌++◌, Option, Some, None, Result, Ok, Err, IfOk, if◌then◌else◌, slice_get, refl, ap, sym, subst, ◌∙◌, arith}
+use Rattle.std.proofs.Common.{◌≡◌, ◌≤◌, ◌+◌, ◌-◌, ◌*◌, ℕ, zero, suc, ℤ, pos, negsuc, ◌-ℤ◌, ◌<ℤ◌, Bool, true, false, min, List, [], ◌∷◌, ◌++◌, Some, Result, Ok, Err, IfOk, slice_get, refl, ap, sym, subst, ◌∙◌, arith}
 use Rattle.std.proofs.lemmas.Bool.{eq-eqb}
 use Rattle.std.proofs.lemmas.Int.{ints}
 use Rattle.ref_value.specs.Edn.{Edn, int}
-use Rattle.ref_fun.specs.Core.{core_means, core_takes}
-use Rattle.ref_fun.specs.Integers.{int_value, is_i64}
-use Rattle.ref_fun.specs.declared.faults.Cause.TheVariants.{Overflow}
-use Rattle.ref_log.specs.Replay.{replay}
+use Rattle.ref_fun.specs.Core.{core_means}
 use Rattle.ref_log.specs.Tally.{commits_of}
 use Rattle.ref_log.specs.declared.entries.Entry.{Entry}
 use Rattle.ref_log.specs.declared.entries.Stamp.{Stamp}
@@ -14,7 +11,6 @@ use Rattle.ref_log.specs.declared.operations.Done.{Done}
 use Rattle.ref_log.specs.declared.operations.Op.{Op}
 use Rattle.ref_log.specs.declared.operations.Op.TheVariants.{Alter}
 use Rattle.ref_log.specs.declared.states.Base.{Base}
-use Rattle.ref_log.specs.declared.states.PlainState.{PlainState}
 use Rattle.ref_atoms.specs.Atoms.{AtomsSeen}
 use Rattle.ref_refs.specs.Commit.{entry_of}
 use Rattle.ref_refs.specs.Seen.{RefsSeen}
@@ -25,12 +21,12 @@ use Rattle.ref_tx.specs.declared.faults.TxFault.{TxFault}
 use Rattle.ref_world.proofs.Cut.{cut_commits, cut_state}
 use Rattle.ref_world.specs.History.{Begins, with_entry}
 use Rattle.ref_world.specs.HistoryLaws.{begins_itself, begins_more, begins_then}
-use Rattle.ref_world.specs.Seen.{HistorySeen, ShareSeen, WorldSeen}
+use Rattle.ref_world.specs.Seen.{HistorySeen, ShareSeen}
 use Rattle.ref_world.specs.Shares.{all_parts, joined, whole}
 use Rattle.ref_world.specs.World.{IsReplayed, values_now}
 use Rattle.ref_shared.specs.Bodies.{Committed}
 use Rattle.ref_shared.specs.Commits.{HasEnded}
-use Rattle.tests_threads.specs.Seats.{are_try, CameTo, DoesTry, HasSold, HasTried, HaveSold, IsOpen, IsSoldOut, is_number, is_try, tries_by, tries_in, tries_of}
+use Rattle.tests_threads.specs.Seats.{are_try, CameTo, DoesTry, HasSold, HasTried, HaveSold, IsOpen, IsSoldOut, is_number, is_try, tries_by, tries_of}
 use Rattle.tests_threads.proofs.Tries.{ends, one_less, some_less, tries_by-both, tries_by-two, tries_of-most}
 
 -- ---- a body

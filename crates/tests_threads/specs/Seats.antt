@@ -1,5 +1,5 @@
 -- Tries to sell a seat, in transactions. Ref 0 holds how many seats are free.
-use Rattle.std.specs.Prelude.{◌≡◌, ◌≤◌, ◌+◌, ◌-◌, ◌*◌, ◌==◌, ◌&&◌, ℕ, pos, negsuc, min, Bool, true, false, if◌then◌else◌, List, [], ◌∷◌, Option, Some, Result, Ok, IfOk, slice_get}
+use Rattle.std.specs.Prelude.{◌≡◌, ◌≤◌, ◌+◌, ◌-◌, ◌*◌, ◌==◌, ◌&&◌, ℕ, pos, negsuc, min, Bool, true, false, if◌then◌else◌, List, [], ◌∷◌, Some, Result, Ok, IfOk, slice_get}
 use Rattle.ref_value.specs.Edn.{Edn, int}
 use Rattle.ref_fun.specs.Core.{core_means}
 use Rattle.ref_log.specs.Replay.{is_ensure}
