@@ -23,7 +23,7 @@ use tests_shared::worlds::Stop;
 // The ref that holds how many seats are free.
 const SEATS: u32 = 0;
 
-// How often a try begins anew at most.
+// How often a try is made at most: it begins anew if it is in conflict.
 const ATTEMPTS: u32 = 1_000_000;
 
 /// What came of it: the world, its totals, and how many seats each of the two threads sold.
@@ -35,10 +35,10 @@ pub struct Sold {
     pub second: u32,
 }
 
-/// Two threads share a world with one ref, the number of free seats, and each tries so often to sell one of them.
+/// Two threads share a world with one ref, the number of free seats. Each of them tries so many times to sell one.
 ///
-/// A try is a transaction: it takes a seat if one is free, and else ensures that none is. It counts as a commit in both cases. Each seat is sold
-/// once, and as many as there are tries, if there are as many.
+/// A try is a transaction: it takes a seat if one is free, and else ensures that none is; both are committed. Together the threads sell as many
+/// seats as there are, or as they try for if these are fewer. It fails if memory is refused, or a try is in conflict a million times.
 pub fn sell_last_seats<R: AllocGlobal + Threads + Wait + Sync>(
     rt: &R,
     seats: u32,
