@@ -1,6 +1,6 @@
 //! Shares and views, and what is left at the end of a list of events; and commits that a share counts, which are refused as those of a world
 //! without books.
-ghost use Rattle.std.specs.Prelude.{◌≡◌};
+ghost use Rattle.ref_play.specs.Sims.{HaveSameBooks};
 ghost use Rattle.ref_world.specs.Shares.{AreBlanks};
 
 use crate::looks::{STAMP, transaction};
@@ -54,7 +54,7 @@ fn ends_leave_a_whole_share(rt: HostRuntime) -> Result<(), Fail> {
 }
 
 fn jobs(alloc: Global, world: &mut World<Core>) -> Result<Vec<(u32, u64)>, AllocError>
-    ensures books { world.new.books ≡ world.old.books }
+    ensures books { HaveSameBooks world.old world.new }
 {
     let mut all = Vec::new(alloc);
     // A job that came back would come without end.

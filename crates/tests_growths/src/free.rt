@@ -2,6 +2,7 @@
 ghost use Rattle.std.specs.Prelude.{◌≡◌, ◌≤◌, length};
 ghost use Rattle.ref_fun.specs.Core.{core_accepts};
 ghost use Rattle.ref_fun.specs.Limits.{most_arguments};
+ghost use Rattle.ref_play.specs.Sims.{HaveSameBooks};
 
 use crate::calls::Call;
 use crate::refusing::{EACH, refuse, was_refused};
@@ -109,7 +110,7 @@ fn of_world(alloc: Global, world: &World<Core>, rule: &Rule) -> [bool; 18] {
 }
 
 fn of_reference(world: &mut World<Core>, who: Who, key: &Value) -> [bool; 3]
-    ensures books { world.new.books ≡ world.old.books }
+    ensures books { HaveSameBooks world.old world.new }
 {
     [
         world.value_of(who).is_some(),
@@ -119,7 +120,7 @@ fn of_reference(world: &mut World<Core>, who: Who, key: &Value) -> [bool; 3]
 }
 
 fn take(world: &mut World<Core>) -> Option<Job>
-    ensures books { world.new.books ≡ world.old.books }
+    ensures books { HaveSameBooks world.old world.new }
 {
     match world.take() {
         Ok(job) => job,
@@ -128,26 +129,26 @@ fn take(world: &mut World<Core>) -> Option<Job>
 }
 
 fn sets_mode(world: &mut World<Core>) -> bool
-    ensures books { world.new.books ≡ world.old.books }
+    ensures books { HaveSameBooks world.old world.new }
 {
     world.set_error_mode(G, ErrorMode::Continue).is_ok()
 }
 
 fn folds(world: &mut World<Core>) -> bool
-    ensures books { world.new.books ≡ world.old.books }
+    ensures books { HaveSameBooks world.old world.new }
 {
     matches!(world.fold_agent(G), Ok(true))
 }
 
 fn restarts(world: &mut World<Core>, zero: Value) -> bool
-    ensures books { world.new.books ≡ world.old.books }
+    ensures books { HaveSameBooks world.old world.new }
 {
     world.restart(&CoreFunctions, H, zero, false).is_ok()
 }
 
 // Puts a job back, and forsakes it when it is taken again.
 fn puts_back(world: &mut World<Core>, job: Job) -> bool
-    ensures books { world.new.books ≡ world.old.books }
+    ensures books { HaveSameBooks world.old world.new }
 {
     let (is_back, job) = match world.put_back(job) {
         Ok(()) => (true, take(world)),
@@ -161,7 +162,7 @@ fn puts_back(world: &mut World<Core>, job: Job) -> bool
 
 // Takes a job, runs it and puts it back; takes it again and forsakes it. The sends of the commit at point 2 are held.
 fn of_agents(alloc: Global, world: &mut World<Core>, zero: Value) -> [bool; 6]
-    ensures books { world.new.books ≡ world.old.books }
+    ensures books { HaveSameBooks world.old world.new }
 {
     let Some(job) = take(world) else {
         return [false; 6];

@@ -170,7 +170,8 @@ fn carrying_both(alloc: Global) -> Result<Action, AllocError> {
 
 // Runs a job, and releases nothing of what its action carried.
 fn end_job(alloc: Global, world: &mut World<Core>, job: Job) -> Result<(), Stop>
-    ensures books { world.new.books ≡ world.old.books }
+    ensures same { (world.new.books ≡ world.old.books) × (world.new.base ≡ world.old.base)
+        × (world.new.log ≡ world.old.log) }
 {
     let ran = match job.run(alloc, &CoreFunctions) {
         Ok(ran) => ran,
@@ -188,7 +189,8 @@ fn end_job(alloc: Global, world: &mut World<Core>, job: Job) -> Result<(), Stop>
 
 // Sends that action, and ends it. `work_once` releases what it ended itself, so this is done before the world is shared.
 pub(crate) fn carry_both(alloc: Global, world: &mut World<Core>) -> Result<(), Stop>
-    ensures books { world.new.books ≡ world.old.books }
+    ensures same { (world.new.books ≡ world.old.books) × (world.new.base ≡ world.old.base)
+        × (world.new.log ≡ world.old.log) }
 {
     done(world.send(0, carrying_both(alloc)?))?;
     match done(world.take())? {
