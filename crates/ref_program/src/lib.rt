@@ -36,7 +36,7 @@
 //! which this holds, one for each worker.
 //!
 //! **Costs.** Those of `ref_shared`. A worker stores a receipt of each of its commits and changes of atoms until it forgets those that are
-//! folded ([`Worker::forget`]), 24 bytes and the entry.
+//! folded ([`Worker::forget`]), eight bytes each.
 //!
 //! **Not promised.** That a worker gets on: a body may be tried again until its tries are used up, and a wait may last. That an action is ever
 //! run: without a helper none is.

@@ -132,7 +132,7 @@ was_made (Ok n) means e all values first new before after begins held grows coun
   count = count ∙ ap length (sym held);
 }
 
--- A share was told of the history.
+-- A share was brought up to the history.
 pub informed : (means : Means) (old new : ShareSeen) (found : HistorySeen) → new ≡ knowing old found → Begins old.history found → IsLegal means found → HasLearned means old new
 informed means old new found is known legal =
     let now : new.history ≡ found = ap (λ (s : ShareSeen). s.history) is in
@@ -166,7 +166,7 @@ changed means a op was value old mid new world later before after lands made gro
       had = ap (λ s. slice_get (atoms_of s) a) state ∙ had;
     }
 
--- What was known first is not asked for again: the share that was told of the history found by the lock, and then made the change.
+-- What was known first is not asked for again: the share that knew the history found under the lock, and then made the change.
 from_learned : (means : Means) (a : ℕ) (op : Op) (was value : Edn) (first old new : ShareSeen) (before : HistorySeen)
     → old ≡ knowing first before → Begins first.history before → HasChanged means a op was value old new → HasChanged means a op was value first new
 from_learned means a op was value first old new before informed known is =

@@ -120,7 +120,7 @@ impl<M: Meaning, L: Books> Held<M, L> {
         ensures point { OnOk result (point ≤ point_in front.new) }
         ensures count { IfOk result (λ n. n + self.old.booked.world.base.point ≡ point) }
     {
-        self.booked.tell(front);
+        self.booked.inform_front(front);
         self.booked.checkpoint(alloc, funs, point)
     }
 
@@ -141,7 +141,7 @@ impl<M: Meaning, L: Books> Held<M, L> {
             × (n + self.old.booked.world.base.point ≤ max point self.old.booked.world.base.point)) }
     {
         let present = self.booked.world.point();
-        self.booked.tell(front);
+        self.booked.inform_front(front);
         if point > present {
             return Err(CheckpointFault::NoSuchPoint);
         }

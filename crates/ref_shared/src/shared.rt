@@ -182,7 +182,7 @@ impl<M: Meaning, L: Books> Shared<M, L> {
         ensures learned { HasCaughtUp M.means front.old front.new }
     {
         let mut held = self.lock(rt);
-        held.booked.tell(front);
+        held.booked.inform_front(front);
         match held.booked.world.value_of(who) {
             Some(value) => Ok(Some(value.share()?)),
             None => Ok(None),
@@ -226,9 +226,9 @@ impl<M: Meaning, L: Books> Shared<M, L> {
     {
         let mut held = self.lock(rt);
         let booked = &mut held.booked;
-        booked.tell(front);
+        booked.inform_front(front);
         let made = booked.make_ref(alloc, funs, value, rule, tally);
-        booked.tell(front);
+        booked.inform_front(front);
         self.free_with_entry(held, made.is_ok());
         made
     }
@@ -248,9 +248,9 @@ impl<M: Meaning, L: Books> Shared<M, L> {
     {
         let mut held = self.lock(rt);
         let booked = &mut held.booked;
-        booked.tell(front);
+        booked.inform_front(front);
         let made = booked.make_atom(alloc, funs, value, rule);
-        booked.tell(front);
+        booked.inform_front(front);
         self.free_with_entry(held, made.is_ok());
         made
     }

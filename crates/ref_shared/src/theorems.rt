@@ -1,4 +1,5 @@
-//! Laws of what threads commit. Each function's contract is a law; none does anything. Whoever calls one may use its law.
+//! Laws of the transactions that threads commit. The contract of each function is a law, and none changes anything. To use a law, call its
+//! function.
 ghost use Rattle.ref_shared.specs.Theorems.{NoUpdateIsLost};
 
 use ref_fun::Meaning;

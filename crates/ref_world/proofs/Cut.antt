@@ -40,7 +40,7 @@ use Rattle.ref_world.specs.World.{HasLastChanges, IsReplayed, commit_refusal, ea
 use Rattle.ref_world.specs.declared.histories.Act.{Act}
 use Rattle.ref_world.specs.declared.histories.Act.TheVariants.{Began, Entered}
 
--- ---- told
+-- ---- what is recorded
 
 pub entries_told-both : (acts more : List Act) → entries_told (acts ++ more) ≡ entries_told acts ++ entries_told more
 entries_told-both [] more = refl
@@ -50,7 +50,7 @@ entries_told-both (Entered e ∷ acts) more = ap (λ l. e ∷ l) (entries_told-b
 start_told-both : (acts more : List Act) → HasBegun acts → start_told (acts ++ more) ≡ start_told acts
 start_told-both acts more has = ap (λ l. start_told (l ++ more)) has.begins ∙ sym (ap start_told has.begins)
 
--- A history that has begun is longer by an entry that is told.
+-- A history that has begun is longer by an entry that is recorded.
 pub begun_more : (acts : List Act) (e : Entry) → HasBegun acts → HasBegun (acts ++ Entered e ∷ [])
 begun_more acts e has = record { base = has.base; later = has.later ++ Entered e ∷ []; begins = ap (λ l. l ++ Entered e ∷ []) has.begins }
 
@@ -59,7 +59,7 @@ told_more acts e has =
     ap (λ s. record { start = s; entries = entries_told (acts ++ Entered e ∷ []) }) (start_told-both acts (Entered e ∷ []) has)
     ∙ ap (λ l. record { start = start_told acts; entries = l }) (entries_told-both acts (Entered e ∷ []))
 
--- What was told first begins what is told later.
+-- What was recorded first begins what is recorded later.
 pub told_begins : (acts all : List Act) → IsPrefix acts all → HasBegun acts → Begins (told acts) (told all)
 told_begins acts all first has = record {
   more = entries_told first.0;

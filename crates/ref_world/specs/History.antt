@@ -85,9 +85,9 @@ pub record IsCut (means : Means) (h : HistorySeen) (base : Base) (log : List Ent
   pub changed : (r : ℕ) → slice_index_or base.last r 0 ≡ last_change h.start (first_in h base.point) r
   pub commits : base.commits ≡ h.start.commits + commits_of (first_in h base.point)
 
--- ---- how it is told: what the world began with, and then each entry
+-- ---- how it is recorded: what the world began with, and then each entry
 
--- where nothing is told
+-- where nothing is recorded
 abbrev nothing : Base
 nothing = record { point = 0; refs = []; last = []; atoms = []; tally = None; commits = 0; added = 0; taken = 0 }
 

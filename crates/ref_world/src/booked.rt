@@ -55,7 +55,7 @@ use std::alloc::{AllocError, Global};
 use std::snapshot::Snapshot;
 
 /// A world whose commits are counted in shares, by books that L names: what stands in the books is what all of its shares have together,
-/// and so are the world's own numbers. Its history tells all that changed its refs and atoms since it was made: base and log are parts of it.
+/// and so are the world's own numbers. Its history has all that changed its refs and atoms since it was made: base and log are parts of it.
 ///
 /// The calls here are those that count in a share, add an entry, move entries into the base, or begin a transaction. All others are calls of the
 /// world, `booked.world.send(..)`. A program that changed the world's numbers past the books, or its log past the history, would have no proof.
@@ -159,8 +159,8 @@ impl<M: Meaning, L: Books> Booked<M, L> {
         self.history.bounds(front);
     }
 
-    /// The front gets to know the history up to now: each of its entries was a legal step, and what was known before begins it.
-    pub fn tell(&mut self, front: &mut Front<L>)
+    /// The front then knows the history up to now: each of its entries was a legal step, and what was known before begins it.
+    pub fn inform_front(&mut self, front: &mut Front<L>)
         ensures all { front.new ≡ self.old.history }
         ensures known { Begins front.old self.old.history }
         ensures legal { IsLegal M.means self.old.history }
@@ -184,9 +184,7 @@ impl<M: Meaning, L: Books> Booked<M, L> {
         ensures lasts { (r : ℕ) → changed_in self.old.history r ≡ changed_at self.old.world.refs.lasts r }
         ensures same { (self.new.world ≡ self.old.world) × (self.new.history ≡ self.old.history) }
     {
-        let point = self.world.point();
-        self.bounds(&share.front);
-        share.front = self.history.front(point);
+        self.inform_front(&mut share.front);
     }
 
     /// Commits a transaction as [`World::commit`] does. The share gets the commit, what it adds to the tally and takes from it, and its

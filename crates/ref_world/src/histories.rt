@@ -10,7 +10,7 @@ use ref_value::Value;
 use std::marker::{Model, PhantomData};
 use std::snapshot::Snapshot;
 
-/// What the history of a world tells: what the world began with, and then each entry. None of these is made at run time.
+/// What the history of a world is made of: what the world began with, and then each entry. None of these is made at run time.
 #[derive(Drop)]
 pub enum Act {
     Began(Base),

@@ -26,7 +26,7 @@
 //! | [`View`] | base and log as they were ([`World::view`]), to be read while the world goes on |
 //! | [`CheckpointFault`] | why [`World::checkpoint`] folded nothing. Other calls have the faults of the stores and of `ref_log` |
 //!
-//! **One history.** Each entry of a world with books is told in one story, which only the world adds to. What a holder of a share was told of it
+//! **One history.** Each entry of a world with books is recorded in one story, which only the world adds to. What a holder of a share knows of it
 //! stays true: a [`Front`] begins each later front of the same world, so two threads never know different pasts. [`Booked::begin`] states
 //! that a transaction begins with the values that the history up to its read point gives, and [`Booked::commit_with`] that what the
 //! transaction protects has not changed between that point and the entry that the commit adds. Nothing of this takes memory or time at run

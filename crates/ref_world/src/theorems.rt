@@ -1,4 +1,4 @@
-//! Laws of every legal history. Each function's contract is a law; none does anything. Whoever calls one may use its law.
+//! Laws of every legal history. The contract of each function is a law, and its body is empty. To use a law, call its function.
 ghost use Rattle.ref_world.specs.Theorems.{BeginningsAreLegal, EntriesFollow, PartsAddUp, UnchangedStays};
 
 use ref_fun::Meaning;

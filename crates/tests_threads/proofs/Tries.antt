@@ -99,7 +99,7 @@ below (x ∷ xs) v is =
     let more : length (x ∷ xs) ≡ suc (length xs) = refl in
     omega (arith, more)
 
--- What the number of free seats is after an operation that keeps its ref.
+-- What the number of free seats is after an operation that protects its ref.
 answered : (d : Done) (values after : List Edn) (v : Edn) → d.r ≡ 0 → slice_get values 0 ≡ Some v → after ≡ slice_set values d.r d.answer → slice_get after 0 ≡ Some d.answer
 answered d values after v at there is =
     ap (λ l. slice_get l 0) (is ∙ ap (λ r. slice_set values r d.answer) at) ∙ slice_get-slice_set-here values 0 d.answer (below values v there)

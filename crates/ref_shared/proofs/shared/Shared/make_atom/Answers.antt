@@ -10,11 +10,11 @@ pub returns-clause-made : goal.returns-clause-made
 returns-clause-made g c =
     let means = g.M.Meaning.means in
     let first = c.args.front.now in
-    let found = c.tell.new.self in
-    let same = c.tell.ensures.same in
-    let begins : Begins first found.history = subst (Begins first) (sym same.1) c.tell.ensures.known in
+    let found = c.inform_front.new.self in
+    let same = c.inform_front.ensures.same in
+    let begins : Begins first found.history = subst (Begins first) (sym same.1) c.inform_front.ensures.known in
     let state : state_in means found.history ≡ Ok (values_now found.world.refs found.world.atoms) =
-    ap (state_in means) same.1 ∙ (c.tell.ensures.values ∙ ap (λ (w : WorldSeen). Ok (values_now w.refs w.atoms)) (sym same.0)) in
+    ap (state_in means) same.1 ∙ (c.inform_front.ensures.values ∙ ap (λ (w : WorldSeen). Ok (values_now w.refs w.atoms)) (sym same.0)) in
     let made = c.make_atom-made in
-    was_made made.result means (MadeAtom c.args.value) (atoms_in means) found.world.atoms.values first c.tell-2.new.front found.history made.new.self.history
-    begins (ap atoms_of state) made.ensures.history made.ensures.number c.tell-2.ensures.all c.tell-2.ensures.legal
+    was_made made.result means (MadeAtom c.args.value) (atoms_in means) found.world.atoms.values first c.inform_front-2.new.front found.history made.new.self.history
+    begins (ap atoms_of state) made.ensures.history made.ensures.number c.inform_front-2.ensures.all c.inform_front-2.ensures.legal
