@@ -8,6 +8,8 @@
 //! |---|---|
 //! | [`write_piece`] | writes what waits, if that is at least a [`PIECE`] |
 //! | [`write_rest`] | writes what waits |
+//! | [`write_value`] | appends the text of a value, and writes it in pieces while it goes |
+//! | [`write_value_line`] | writes what waits, then the text of a value and a newline, in pieces |
 //!
 //! Guaranteed, as `Remains` says: what was written, and what waits behind it, are all that was appended. If a call fails, a beginning of
 //! it was written, and not all of it if the writer failed.
@@ -15,6 +17,8 @@
 
 pub mod faults;
 pub mod pieces;
+pub mod values;
 
 pub use faults::OutputFault;
 pub use pieces::{PIECE, write_piece, write_rest};
+pub use values::{write_value, write_value_line};
