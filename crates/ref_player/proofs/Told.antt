@@ -1,9 +1,6 @@
 -- What a play of a script is, and what the faults of a text and of its value say.
-use Rattle.std.proofs.Common.{◌≡◌, ℕ, Bool, true, false, List, ◌++◌, Option, Some, inl, inr, ap, subst}
-use Rattle.std.specs.Prelude.{◌≢◌, Result, Ok, Err, IfErr, IsErrAnd, OnOk}
-use Rattle.ref_output.specs.Pieces.{BreaksOff, WritesIn, WritesOne}
-use Rattle.ref_output.specs.declared.faults.OutputFault.{OutputFault}
-use Rattle.ref_output.specs.declared.faults.OutputFault.TheVariants as outputs
+use Rattle.std.proofs.Common.{◌≡◌, ℕ, List, [], ◌++◌, Option, Some, inl, inr, ap, subst}
+use Rattle.std.specs.Prelude.{◌≢◌, Result, Ok, Err, IfErr, IsErrAnd}
 use Rattle.ref_value.specs.Edn.{Edn}
 use Rattle.ref_edn.specs.Grammar.{IsText}
 use Rattle.ref_edn.specs.declared.faults.ReadFault.{ReadFault}
@@ -19,25 +16,26 @@ use Rattle.ref_verdict.specs.Verdict.{verdict_on}
 use Rattle.ref_verdict.specs.declared.reports.Verdict.TheVariants as verdicts
 use Rattle.ref_audit.specs.Dumped.{dumped}
 use Rattle.ref_world.specs.Seen.{WorldSeen}
-use Rattle.ref_workload.specs.declared.faults.RunFault.{RunFault}
-use Rattle.ref_workload.specs.declared.faults.RunFault.TheVariants as runs
+use Rattle.ref_audit.specs.Report.{reported}
+use Rattle.ref_workload.specs.Outputs.{dump_in, end_text}
+use Rattle.ref_workload.specs.declared.outputs.OutputForm.{OutputForm}
 use Rattle.ref_play.specs.Sims.{SimSeen}
 use Rattle.ref_play.specs.declared.events.Event.{Event}
 use Rattle.ref_play.specs.declared.events.Reply.{Reply}
 use Rattle.ref_events.specs.Documents.{IsScript, ScriptSeen}
 use Rattle.ref_events.specs.declared.faults.ScriptFault.{ScriptFault}
 use Rattle.ref_events.specs.declared.faults.ScriptFault.TheVariants as scripts
-use Rattle.ref_player.specs.Faults.{output_fault_of, script_fault_of, text_fault_of}
+use Rattle.ref_player.specs.Faults.{script_fault_of, text_fault_of}
 use Rattle.ref_log.specs.declared.faults.MakeFault.{MakeFault}
 use Rattle.ref_log.specs.declared.faults.MakeFault.TheVariants as makes
 use Rattle.ref_log.specs.declared.notices.Who.{Who}
 use Rattle.ref_player.specs.Lines.{event_lines}
-use Rattle.ref_player.specs.Plays.{Begins, IsAtFault, IsDumpIf, IsLeft, IsPlayOf, IsPlayedFrom, IsStartLine, Plays, end_text, shown, start_refusal}
+use Rattle.ref_player.specs.Plays.{Begins, IsAtFault, IsPlayOf, IsPlayedFrom, IsStartLine, Plays, start_refusal}
 use Rattle.ref_player.specs.declared.faults.PlayFault.{PlayFault}
 
 -- ---- a play of a script, from its parts
 
-module _ (dump : Bool) (script : ScriptSeen) (knows : Known) (core : HasCore knows) (first : SimSeen) where
+module _ (form : OutputForm) (script : ScriptSeen) (knows : Known) (core : HasCore knows) (first : SimSeen) where
   begins_of : (refs : List RefStart) (atoms : List AtomStart) (agents : List AgentStart) → refs ≡ script.refs → atoms ≡ script.atoms → agents ≡ script.agents
       → Begins knows refs atoms agents first → Begins knows script.refs script.atoms script.agents first
   begins_of refs atoms agents is_refs is_atoms is_agents begins =
@@ -47,24 +45,24 @@ module _ (dump : Bool) (script : ScriptSeen) (knows : Known) (core : HasCore kno
 
   pub play_of_parts : (names : NamesSeen) (refs : List RefStart) (atoms : List AtomStart) (agents : List AgentStart) (events : List Event) (forms : List Edn)
       → names ≡ script.names → refs ≡ script.refs → atoms ≡ script.atoms → agents ≡ script.agents → events ≡ script.events → forms ≡ script.forms
-      → Begins knows refs atoms agents first → (output : List ℕ) → IsPlayedFrom knows first events forms names dump output → IsPlayOf dump script output
+      → Begins knows refs atoms agents first → (output : List ℕ) → IsPlayedFrom knows first events forms names form output → IsPlayOf form script output
   play_of_parts names refs atoms agents events forms is_names is_refs is_atoms is_agents is_events is_forms begins output played = inr (record {
     knows = knows;
     core = core;
     first = first;
     begins = begins_of refs atoms agents is_refs is_atoms is_agents begins;
     played =
-        subst (λ l. IsPlayedFrom knows first l script.forms script.names dump output) is_events
-        (subst (λ l. IsPlayedFrom knows first events l script.names dump output) is_forms
-        (subst (λ (n : NamesSeen). IsPlayedFrom knows first events forms n dump output) is_names played));
+        subst (λ l. IsPlayedFrom knows first l script.forms script.names form output) is_events
+        (subst (λ l. IsPlayedFrom knows first events l script.names form output) is_forms
+        (subst (λ (n : NamesSeen). IsPlayedFrom knows first events forms n form output) is_names played));
   })
 
 -- ---- a start that is refused, from the parts of a script
 
-module _ (dump : Bool) (script : ScriptSeen) (knows : Known) (core : HasCore knows) (who : Who) (fault : MakeFault) where
+module _ (form : OutputForm) (script : ScriptSeen) (knows : Known) (core : HasCore knows) (who : Who) (fault : MakeFault) where
   pub refused_of_parts : (refs : List RefStart) (atoms : List AtomStart) (agents : List AgentStart) → refs ≡ script.refs → atoms ≡ script.atoms → agents ≡ script.agents
       → (fault ≢ makes.Memory → start_refusal knows refs atoms agents ≡ Some (who, fault))
-      → (output : List ℕ) → IsStartLine who fault output → IsPlayOf dump script output
+      → (output : List ℕ) → IsStartLine who fault output → IsPlayOf form script output
   refused_of_parts refs atoms agents is_refs is_atoms is_agents why output is = inl (record {
     knows = knows;
     core = core;
@@ -78,50 +76,17 @@ module _ (dump : Bool) (script : ScriptSeen) (knows : Known) (core : HasCore kno
 
 -- ---- what is written, and what a fault leaves
 
-shown_is : (dump : Bool) (names : NamesSeen) (world : WorldSeen) (d : Option Edn) → IsDumpIf dump world d → end_text names world d ≡ shown dump names world
-shown_is true names world d is = ap (end_text names world) is
-shown_is false names world d is = ap (end_text names world) is
-
 -- the lines of a play, and what ends its output
-pub played_from : (knows : Known) (first : SimSeen) (events : List Event) (forms : List Edn) (names : NamesSeen) (dump : Bool) (replies : List Reply) (world : WorldSeen) (d : Option Edn)
-    → Plays knows first events replies world → verdict_on (dump_of (dumped world)) ≡ Ok verdicts.Ok → IsDumpIf dump world d
-    → IsPlayedFrom knows first events forms names dump (event_lines 0 forms replies ++ end_text names world d)
-played_from knows first events forms names dump replies world d plays audited is = record {
+pub played_from : (knows : Known) (first : SimSeen) (events : List Event) (forms : List Edn) (names : NamesSeen) (form : OutputForm) (replies : List Reply) (world : WorldSeen) (d : Option Edn)
+    → Plays knows first events replies world → verdict_on (dump_of (dumped world)) ≡ Ok verdicts.Ok → d ≡ dump_in form world
+    → IsPlayedFrom knows first events forms names form (event_lines 0 forms replies ++ end_text d (reported names world [] verdicts.Ok))
+played_from knows first events forms names form replies world d plays audited is = record {
   replies = replies;
   world = world;
   plays = plays;
   audited = audited;
-  output_is = ap (λ (l : List ℕ). event_lines 0 forms replies ++ l) (shown_is dump names world d is);
+  output_is = ap (λ (e : Option Edn). event_lines 0 forms replies ++ end_text e (reported names world [] verdicts.Ok)) is;
 }
-
--- an output of one kind is one of another
-module _ (P Q : List ℕ → Type 0) (a b : Option (List ℕ)) (h : (output : List ℕ) → P output → Q output) where
-  as_other : {Writes : Option (List ℕ) → Option (List ℕ) → List ℕ → Type 0} → WritesIn Writes P a b → WritesIn Writes Q a b
-  as_other w = record { output = w.output; is_one = h w.output w.is_one; written = w.written }
-
-  left_as : (f : RunFault) → IsLeft P f a b → IsLeft Q f a b
-  left_as runs.Write w = (as_other w)
-  left_as runs.Memory (inl same) = inl same
-  left_as runs.Memory (inr w) = inr (as_other w)
-  left_as runs.Read same = same
-  left_as runs.InputTooLong same = same
-  left_as (runs.NotEdn fault) same = same
-  left_as (runs.Plan fault) same = same
-  left_as runs.Internal same = same
-
-  pub wrote_told : {T E : Type 0} (r : Result T E) → OnOk r (WritesOne P a b) → OnOk r (WritesOne Q a b)
-  wrote_told (Ok x) w = (as_other w)
-  wrote_told (Err f) w = tt
-
-  pub left_told : {T : Type 0} (r : Result T RunFault) → IfErr r (λ f. IsLeft P f a b) → IfErr r (λ f. IsLeft Q f a b)
-  left_told (Ok x) w = tt
-  left_told (Err f) w = left_as f w
-
--- this output is of the kind
-module _ (P : List ℕ → Type 0) (a b : Option (List ℕ)) (output : List ℕ) (is : P output) where
-  pub left_by_output : (f : OutputFault) → BreaksOff f a b output → IsLeft P (output_fault_of f) a b
-  left_by_output outputs.Write w = (record { output = output; is_one = is; written = w })
-  left_by_output outputs.Memory w = inr (record { output = output; is_one = is; written = w })
 
 -- ---- faults
 

@@ -1,8 +1,6 @@
 -- The faults of a play, and which of them others become.
 use Rattle.std.specs.Prelude.{◌≡◌, ℕ, Result, Ok, Err}
 use Rattle.ref_edn.specs.declared.faults.ReadFault.{ReadFault}
-use Rattle.ref_output.specs.declared.faults.OutputFault.{OutputFault}
-use Rattle.ref_output.specs.declared.faults.OutputFault.TheVariants as outputs
 use Rattle.ref_workload.specs.RunFaults.{edn_fault_of}
 use Rattle.ref_workload.specs.Streams as streams
 use Rattle.ref_workload.specs.declared.faults.RunFault.{RunFault}
@@ -19,11 +17,6 @@ text_fault_of fault = plays.Run (edn_fault_of fault)
 abbrev pub script_fault_of : ScriptFault → PlayFault
 script_fault_of scripts.Memory = plays.Run runs.Memory
 script_fault_of fault = plays.Script fault
-
--- the fault of a run for one of an output
-abbrev pub output_fault_of : OutputFault → RunFault
-output_fault_of outputs.Write = runs.Write
-output_fault_of outputs.Memory = runs.Memory
 
 -- faults of a play and of its output
 abbrev pub IsOfOutput : RunFault → Type 0

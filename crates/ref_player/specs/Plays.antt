@@ -1,9 +1,8 @@
 -- What a play of a list of events reads and writes.
-use Rattle.std.specs.Prelude.{◌≡◌, ◌≢◌, ◌⊎◌, ℕ, Bool, true, false, List, [], ◌∷◌, ◌++◌, Option, None, Some, Ok}
+use Rattle.std.specs.Prelude.{◌≡◌, ◌≢◌, ◌⊎◌, ℕ, List, [], ◌++◌, Option, None, Some, Ok}
 use Rattle.std.specs.Option.{option_or}
 use Rattle.ref_value.specs.Edn.{Edn}
 use Rattle.ref_edn.specs.Grammar.{IsText}
-use Rattle.ref_edn.specs.Printed.{printed}
 use Rattle.ref_fun.specs.Calls.{HasCore, Known}
 use Rattle.ref_fun.specs.Core.{core_accepts, core_means}
 use Rattle.ref_agents.specs.declared.starts.AgentStart.{AgentStart}
@@ -22,10 +21,10 @@ use Rattle.ref_world.specs.Seen.{WorldSeen}
 use Rattle.ref_world.specs.Shares.{whole}
 use Rattle.ref_world.specs.Starts.{base_of, books_of, declared_agents, declared_atoms, declared_refs, refusal_of}
 use Rattle.ref_world.specs.World.{with_agents}
-use Rattle.ref_output.specs.Pieces.{AppendsFront, WritesFront, WritesPart}
-use Rattle.ref_workload.specs.Streams.{IsFaultOfOne, IsInputAtFault, Wrote}
-use Rattle.ref_workload.specs.declared.faults.RunFault.{RunFault}
+use Rattle.ref_workload.specs.Outputs.{IsLeft, dump_in, end_text}
+use Rattle.ref_workload.specs.Streams.{IsFaultOfOne, IsInputAtFault}
 use Rattle.ref_workload.specs.declared.faults.RunFault.TheVariants as runs
+use Rattle.ref_workload.specs.declared.outputs.OutputForm.{OutputForm}
 use Rattle.ref_play.specs.Sims.{IsPlayed, SimSeen, Stands, all_back, jobs_of, machine_of, txs_of}
 use Rattle.ref_play.specs.declared.events.Event.{Event}
 use Rattle.ref_play.specs.declared.events.Reply.{Reply}
@@ -68,20 +67,9 @@ pub record Plays (knows : Known) (first : SimSeen) (events : List Event) (replie
   pub plays : PlaysTo knows first events replies last
   pub world_is : world ≡ ended last
 
--- the dump of a world, if it is asked for
-abbrev pub IsDumpIf : Bool → WorldSeen → Option Edn → Type 0
-IsDumpIf true world dump = dump ≡ Some (dumped world)
-IsDumpIf false world dump = dump ≡ None
-
--- a printed dump and a newline, or else the report of a world
-abbrev pub end_text : NamesSeen → WorldSeen → Option Edn → List ℕ
-end_text names world (Some dump) = printed dump ++ 10 ∷ []
-end_text names world None = reported names world [] verdicts.Ok
-
 -- the printed dump of a world and a newline, or else its report
-abbrev pub shown : Bool → NamesSeen → WorldSeen → List ℕ
-shown true names world = end_text names world (Some (dumped world))
-shown false names world = end_text names world None
+abbrev pub shown : OutputForm → NamesSeen → WorldSeen → List ℕ
+shown form names world = end_text (dump_in form world) (reported names world [] verdicts.Ok)
 
 -- The line of a start that is refused, if that isn't for lack of memory.
 abbrev pub IsStartLine : Who → MakeFault → List ℕ → Type 0
@@ -97,32 +85,32 @@ pub record IsRefusedStart (script : ScriptSeen) (output : List ℕ) : Type 0 whe
 
 -- The output is the lines of a play of these events from here on, and then the report or the dump of the world that it came to. The audit
 -- of that world's dump says ok.
-pub record IsPlayedFrom (knows : Known) (first : SimSeen) (events : List Event) (forms : List Edn) (names : NamesSeen) (dump : Bool) (output : List ℕ) : Type 0 where
+pub record IsPlayedFrom (knows : Known) (first : SimSeen) (events : List Event) (forms : List Edn) (names : NamesSeen) (form : OutputForm) (output : List ℕ) : Type 0 where
   pub replies : List Reply
   pub world : WorldSeen
   pub plays : Plays knows first events replies world
   pub audited : verdict_on (dump_of (dumped world)) ≡ Ok verdicts.Ok
-  pub output_is : output ≡ event_lines 0 forms replies ++ shown dump names world
+  pub output_is : output ≡ event_lines 0 forms replies ++ shown form names world
 
 -- The output is that of a play of these events on the world that is declared.
-pub record IsPlayedOut (dump : Bool) (script : ScriptSeen) (output : List ℕ) : Type 0 where
+pub record IsPlayedOut (form : OutputForm) (script : ScriptSeen) (output : List ℕ) : Type 0 where
   pub knows : Known
   pub core : HasCore knows
   pub first : SimSeen
   pub begins : Begins knows script.refs script.atoms script.agents first
-  pub played : IsPlayedFrom knows first script.events script.forms script.names dump output
+  pub played : IsPlayedFrom knows first script.events script.forms script.names form output
 
 -- The start is refused, or the events are played: a world that begins with the references has none of them refused.
-abbrev pub IsPlayOf : Bool → ScriptSeen → List ℕ → Type 0
-IsPlayOf dump script output = IsRefusedStart script output ⊎ IsPlayedOut dump script output
+abbrev pub IsPlayOf : OutputForm → ScriptSeen → List ℕ → Type 0
+IsPlayOf form script output = IsRefusedStart script output ⊎ IsPlayedOut form script output
 
 -- The text is a list of events, and the output is that of a play of them.
-pub record IsPlay (dump : Bool) (text output : List ℕ) : Type 0 where
+pub record IsPlay (form : OutputForm) (text output : List ℕ) : Type 0 where
   pub value : Edn
   pub script : ScriptSeen
   pub belongs : IsText text value
   pub lawful : IsScript value script
-  pub play : IsPlayOf dump script output
+  pub play : IsPlayOf form script output
 
 -- what a fault says of the text that was there to read
 abbrev pub IsAtFault : List ℕ → PlayFault → Type 0
@@ -130,18 +118,7 @@ IsAtFault text (plays.Run (runs.Plan fault)) = ⊥
 IsAtFault text (plays.Run fault) = IsInputAtFault IsText IsFaultOfOne text fault
 IsAtFault text (plays.Script fault) = (fault ≢ scripts.Memory) × ((value : Edn) × IsText text value × ((script : ScriptSeen) → IsScript value script → ⊥))
 
--- What a fault leaves of an output of this kind: if the writer failed, a part of it; for lack of memory, nothing or a beginning of it; and
--- before any other fault, nothing.
-abbrev pub IsLeft : (List ℕ → Type 0) → RunFault → Option (List ℕ) → Option (List ℕ) → Type 0
-IsLeft IsOne runs.Write old new = WritesPart IsOne old new
-IsLeft IsOne runs.Memory old new = WritesFront IsOne old new
-IsLeft IsOne fault old new = new ≡ old
-
--- the same of a play
+-- what a fault leaves of an output of this kind
 abbrev pub IsLeftByPlay : (List ℕ → Type 0) → PlayFault → Option (List ℕ) → Option (List ℕ) → Type 0
 IsLeftByPlay IsOne (plays.Run fault) old new = IsLeft IsOne fault old new
 IsLeftByPlay IsOne (plays.Script fault) old new = new ≡ old
-
--- A beginning of the output was written, or all of it.
-abbrev pub HasBegun : (List ℕ → List ℕ → Type 0) → Option (List ℕ) → Option (List ℕ) → Option (List ℕ) → Option (List ℕ) → Type 0
-HasBegun Gives before after old new = Wrote AppendsFront Gives before after old new

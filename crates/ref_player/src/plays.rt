@@ -11,8 +11,10 @@ ghost use Rattle.ref_play.specs.Sims.{Stands, machine_of};
 ghost use Rattle.ref_log.specs.declared.faults.MakeFault.TheVariants as makes;
 ghost use Rattle.ref_output.specs.Pieces.{BreaksOff, CountsWrites, WritesOne};
 ghost use Rattle.ref_player.specs.Lines.{event_lines, start_line};
-ghost use Rattle.ref_player.specs.Faults.{IsOfOutput, output_fault_of};
-ghost use Rattle.ref_player.specs.Plays.{Begins, IsDumpIf, IsLeft, IsPlayOf, IsPlayedFrom, IsStartLine, Plays, PlaysTo, end_text, start_refusal};
+ghost use Rattle.ref_player.specs.Faults.{IsOfOutput};
+ghost use Rattle.ref_player.specs.Plays.{Begins, IsPlayOf, IsPlayedFrom, IsStartLine, Plays, PlaysTo, start_refusal};
+ghost use Rattle.ref_audit.specs.Report.{reported};
+ghost use Rattle.ref_workload.specs.Outputs.{IsLeft, end_text};
 ghost use Rattle.ref_workload.specs.Run.{IsOfPlan};
 ghost use Rattle.ref_workload.specs.Streams.{CountsWrites as CountsRunWrites};
 ghost use Rattle.ref_world.specs.Shares.{AreBlanks};
@@ -20,19 +22,20 @@ ghost use Rattle.ref_world.specs.Shares.{AreBlanks};
 use crate::lines::{start_line, write_lines};
 use ref_agents::Start;
 use ref_audit::{Verdict, report};
-use ref_edn::{Sink, print};
+use ref_edn::Sink;
 use ref_events::{Script, ScriptParts};
 use ref_forms::Names;
 use ref_fun::{Core, Functions};
 use ref_log::{MakeFault, Who};
-use ref_output::{OutputFault, write_rest};
+use ref_output::{OutputFault, write_rest, write_value_line};
 use ref_play::{Event, Reply, Sim};
 use ref_value::{Items, Value};
-use ref_workload::RunFault;
+use ref_workload::outputs::output_fault;
 use ref_workload::streams::write_output;
-use ref_workload::texts::{audited, check_audit};
+use ref_workload::texts::audited_dump;
+use ref_workload::{OutputForm, RunFault};
 use ref_world::{Blanks, Books, World};
-use std::alloc::{AllocError, Global};
+use std::alloc::Global;
 use std::marker::Brand;
 
 // The world that is declared, on which no actor has acted, or why there is none.
@@ -126,42 +129,27 @@ fn play<F: Functions<Core>, L: Books>(
     }
 }
 
-// The dump of a world, if it is asked for. The world is audited in any case.
-fn audited_dump<F: Functions<Core>>(
-    alloc: Global,
-    funs: &F,
-    world: &World<Core>,
-    dump: bool,
-) -> Result<Option<Value>, RunFault>
-    requires { HasCore (F.knows funs.now) }
-    ensures audited { OnOk result (verdict_on (dump_of (dumped world.now)) ≡ Ok verdicts.Ok) }
-    ensures dump { IfOk result (λ dumped. IsDumpIf dump world.now dumped) }
-    ensures inner { IfErr result IsOfPlan }
-{
-    if dump {
-        let dumped = audited(alloc, funs, world)?;
-        return Ok(Some(dumped));
-    }
-    check_audit(alloc, funs, world)?;
-    Ok(None)
-}
-
-// Appends a dump and a newline, or else the report of a world.
-fn append_end(
+// Writes what waits, and then a dump and a newline, or else the report of a world.
+fn write_end<W: Sink>(
     alloc: Global,
     names: &Names,
     world: &World<Core>,
     dumped: &Option<Value>,
-    out: &mut Vec<u8>,
-) -> Result<(), AllocError>
-    ensures { OnOk result (out.new.items ≡ out.old.items ++ end_text names.now world.now dumped.now) }
+    writer: &mut W,
+    waiting: &mut Vec<u8>,
+) -> Result<(), OutputFault>
+    ensures ok { OnOk result (Appends (W.written writer.old) (W.written writer.new)
+        (waiting.old.items ++ end_text dumped.now (reported names.now world.now [] verdicts.Ok))) }
+    ensures err { IfErr result (λ f. BreaksOff f (W.written writer.old) (W.written writer.new)
+        (waiting.old.items ++ end_text dumped.now (reported names.now world.now [] verdicts.Ok))) }
+    ensures writes { CountsWrites (W.failures writer.old) (W.failures writer.new) result }
 {
     match dumped {
-        Some(dumped) => {
-            print(alloc, dumped, out)?;
-            out.extend_from_slice(b"\n")
+        Some(dumped) => write_value_line(alloc, dumped, writer, waiting),
+        None => {
+            report(alloc, names, world, &[], &Verdict::Ok, waiting)?;
+            write_rest(writer, waiting)
         }
-        None => report(alloc, names, world, &[], &Verdict::Ok, out),
     }
 }
 
@@ -175,9 +163,11 @@ fn write_played<W: Sink>(
     writer: &mut W,
 ) -> Result<(), OutputFault>
     ensures ok { OnOk result (Appends (W.written writer.old) (W.written writer.new)
-        (event_lines 0 forms.now played.now.replies.items ++ end_text names.now played.now.world dumped.now)) }
+        (event_lines 0 forms.now played.now.replies.items
+            ++ end_text dumped.now (reported names.now played.now.world [] verdicts.Ok))) }
     ensures err { IfErr result (λ f. BreaksOff f (W.written writer.old) (W.written writer.new)
-        (event_lines 0 forms.now played.now.replies.items ++ end_text names.now played.now.world dumped.now)) }
+        (event_lines 0 forms.now played.now.replies.items
+            ++ end_text dumped.now (reported names.now played.now.world [] verdicts.Ok))) }
     ensures writes { CountsWrites (W.failures writer.old) (W.failures writer.new) result }
 {
     let mut waiting = Vec::new(alloc);
@@ -188,18 +178,14 @@ fn write_played<W: Sink>(
         writer,
         &mut waiting,
     )?;
-    append_end(alloc, names, &played.world, dumped, &mut waiting)?;
-    write_rest(writer, &mut waiting)
-}
-
-// The fault of a run for one of an output.
-fn output_fault(fault: OutputFault) -> RunFault
-    ensures { result ≡ output_fault_of fault }
-{
-    match fault {
-        OutputFault::Write => RunFault::Write,
-        OutputFault::Memory => RunFault::Memory,
-    }
+    write_end(
+        alloc,
+        names,
+        &played.world,
+        dumped,
+        writer,
+        &mut waiting,
+    )
 }
 
 // Plays the events on a world, and writes what comes of it.
@@ -210,19 +196,19 @@ fn write_play<F: Functions<Core>, L: Books, W: Sink>(
     forms: &Items,
     sim: Sim<Core, L>,
     events: &[Event],
-    dump: bool,
+    form: OutputForm,
     writer: &mut W,
 ) -> Result<(), RunFault>
     requires { HasCore (F.knows funs.now) }
-    ensures ok { OnOk result (WritesOne (IsPlayedFrom (F.knows funs.now) sim events.now forms.now names.now dump)
+    ensures ok { OnOk result (WritesOne (IsPlayedFrom (F.knows funs.now) sim events.now forms.now names.now form)
         (W.written writer.old) (W.written writer.new)) }
-    ensures left { IfErr result (λ f. IsLeft (IsPlayedFrom (F.knows funs.now) sim events.now forms.now names.now dump) f
+    ensures left { IfErr result (λ f. IsLeft (IsPlayedFrom (F.knows funs.now) sim events.now forms.now names.now form) f
         (W.written writer.old) (W.written writer.new)) }
     ensures inner { IfErr result IsOfOutput }
     ensures writes { CountsRunWrites (W.failures writer.old) (W.failures writer.new) result }
 {
     let played = play(alloc, funs, sim, events)?;
-    let dumped = audited_dump(alloc, funs, &played.world, dump)?;
+    let dumped = audited_dump(alloc, funs, &played.world, form)?;
     match write_played(alloc, names, forms, &played, &dumped, writer) {
         Ok(()) => Ok(()),
         Err(fault) => Err(output_fault(fault)),
@@ -254,16 +240,16 @@ pub fn write_script<F: Functions<Core>, W: Sink>(
     alloc: Global,
     funs: &F,
     script: Script,
-    dump: bool,
+    form: OutputForm,
     writer: &mut W,
 ) -> Result<(), RunFault>
     requires { HasCore (F.knows funs.now) }
-    ensures ok { OnOk result (WritesOne (IsPlayOf dump script) (W.written writer.old) (W.written writer.new)) }
-    ensures left { IfErr result (λ f. IsLeft (IsPlayOf dump script) f (W.written writer.old) (W.written writer.new)) }
+    ensures ok { OnOk result (WritesOne (IsPlayOf form script) (W.written writer.old) (W.written writer.new)) }
+    ensures left { IfErr result (λ f. IsLeft (IsPlayOf form script) f (W.written writer.old) (W.written writer.new)) }
     ensures inner { IfErr result IsOfOutput }
     ensures writes { CountsRunWrites (W.failures writer.old) (W.failures writer.new) result }
 {
-    match write_in::<F, Brand, W>(alloc, funs, script, dump, Blanks::new(), writer) {
+    match write_in::<F, Brand, W>(alloc, funs, script, form, Blanks::new(), writer) {
         Ok(()) => Ok(()),
         Err(fault) => Err(fault),
     }
@@ -274,14 +260,14 @@ fn write_in<F: Functions<Core>, L: Books, W: Sink>(
     alloc: Global,
     funs: &F,
     script: Script,
-    dump: bool,
+    form: OutputForm,
     blanks: Blanks,
     writer: &mut W,
 ) -> Result<(), RunFault>
     requires core { HasCore (F.knows funs.now) }
     requires blanks { AreBlanks blanks L.commits L.added L.taken L.story }
-    ensures ok { OnOk result (WritesOne (IsPlayOf dump script) (W.written writer.old) (W.written writer.new)) }
-    ensures left { IfErr result (λ f. IsLeft (IsPlayOf dump script) f (W.written writer.old) (W.written writer.new)) }
+    ensures ok { OnOk result (WritesOne (IsPlayOf form script) (W.written writer.old) (W.written writer.new)) }
+    ensures left { IfErr result (λ f. IsLeft (IsPlayOf form script) f (W.written writer.old) (W.written writer.new)) }
     ensures inner { IfErr result IsOfOutput }
     ensures writes { CountsRunWrites (W.failures writer.old) (W.failures writer.new) result }
 {
@@ -294,7 +280,7 @@ fn write_in<F: Functions<Core>, L: Books, W: Sink>(
     match begin::<F, L>(alloc, funs, &start, blanks) {
         Ok(sim) => {
             let events = events.as_slice();
-            write_play(alloc, funs, &names, &forms, sim, events, dump, writer)
+            write_play(alloc, funs, &names, &forms, sim, events, form, writer)
         }
         Err((who, fault)) => write_refused(alloc, who, fault, writer),
     }

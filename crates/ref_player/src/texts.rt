@@ -4,7 +4,8 @@ ghost use Rattle.ref_edn.specs.Streams.{ConsumesUpTo};
 ghost use Rattle.ref_fun.specs.Calls.{HasCore};
 ghost use Rattle.ref_player.specs.Faults.{CountsReads, CountsWrites, IsOfText};
 ghost use Rattle.ref_output.specs.Pieces.{WritesOne};
-ghost use Rattle.ref_player.specs.Plays.{HasBegun, IsAtFault, IsLeftByPlay, IsPlay};
+ghost use Rattle.ref_player.specs.Plays.{IsAtFault, IsLeftByPlay, IsPlay};
+ghost use Rattle.ref_workload.specs.Outputs.{HasBegun};
 ghost use Rattle.ref_player.specs.declared.faults.PlayFault.TheVariants as plays;
 ghost use Rattle.ref_workload.specs.Streams.{HasBrokenOff, HasWritten};
 ghost use Rattle.ref_workload.specs.declared.faults.RunFault.TheVariants as runs;
@@ -15,6 +16,7 @@ use crate::plays::write_script;
 use ref_edn::{Sink, Source, read_one};
 use ref_events::script_of;
 use ref_fun::{Core, Functions};
+use ref_workload::OutputForm;
 use ref_workload::streams::read_input;
 use std::alloc::Global;
 
@@ -29,19 +31,19 @@ pub fn play_events<F: Functions<Core>, I: Source, O: Sink>(
     funs: &F,
     reader: &mut I,
     writer: &mut O,
-    dump: bool,
+    form: OutputForm,
 ) -> Result<(), PlayFault>
     requires { HasCore (F.knows funs.now) }
     // It reads no further than one byte past what an input may have.
     ensures taken { ConsumesUpTo (I.left reader.old) (I.left reader.new) (most_input + 1) }
-    ensures ok { OnOk result (HasWritten (IsPlay dump) (I.left reader.old) (I.left reader.new) (O.written writer.old)
+    ensures ok { OnOk result (HasWritten (IsPlay form) (I.left reader.old) (I.left reader.new) (O.written writer.old)
         (O.written writer.new)) }
     // The text, its value or its length is at fault, where the fault says so.
     ensures fault { IfErr result (λ f. IfSome (I.left reader.old) (λ text. IsAtFault text f)) }
     ensures write { IfErr result (λ f. f ≡ plays.Run runs.Write
-        → HasBrokenOff (IsPlay dump) (I.left reader.old) (I.left reader.new) (O.written writer.old) (O.written writer.new)) }
+        → HasBrokenOff (IsPlay form) (I.left reader.old) (I.left reader.new) (O.written writer.old) (O.written writer.new)) }
     ensures memory { IfErr result (λ f. f ≡ plays.Run runs.Memory → (O.written writer.new ≡ O.written writer.old)
-        ⊎ HasBegun (IsPlay dump) (I.left reader.old) (I.left reader.new) (O.written writer.old) (O.written writer.new)) }
+        ⊎ HasBegun (IsPlay form) (I.left reader.old) (I.left reader.new) (O.written writer.old) (O.written writer.new)) }
     // Before any other fault nothing was written.
     ensures silent { IfErr result (λ f. f ≢ plays.Run runs.Write → f ≢ plays.Run runs.Memory
         → O.written writer.new ≡ O.written writer.old) }
@@ -49,7 +51,7 @@ pub fn play_events<F: Functions<Core>, I: Source, O: Sink>(
     ensures writes { CountsWrites (O.failures writer.old) (O.failures writer.new) result }
 {
     let input = read_input(alloc, reader)?;
-    play_text(alloc, funs, &input, dump, writer)
+    play_text(alloc, funs, &input, form, writer)
 }
 
 /// Plays the list of events that a text writes, as [`play_events`] does, and writes what comes of it.
@@ -57,19 +59,19 @@ pub fn play_text<F: Functions<Core>, O: Sink>(
     alloc: Global,
     funs: &F,
     text: &[u8],
-    dump: bool,
+    form: OutputForm,
     writer: &mut O,
 ) -> Result<(), PlayFault>
     requires { HasCore (F.knows funs.now) }
-    ensures ok { OnOk result (WritesOne (IsPlay dump text.now) (O.written writer.old) (O.written writer.new)) }
+    ensures ok { OnOk result (WritesOne (IsPlay form text.now) (O.written writer.old) (O.written writer.new)) }
     ensures fault { IfErr result (λ f. IsAtFault text.now f) }
-    ensures left { IfErr result (λ f. IsLeftByPlay (IsPlay dump text.now) f (O.written writer.old) (O.written writer.new)) }
+    ensures left { IfErr result (λ f. IsLeftByPlay (IsPlay form text.now) f (O.written writer.old) (O.written writer.new)) }
     ensures inner { IfErr result IsOfText }
     ensures writes { CountsWrites (O.failures writer.old) (O.failures writer.new) result }
 {
     let value = read_one(alloc, text)?;
     let script = script_of(alloc, &value)?;
-    match write_script(alloc, funs, script, dump, writer) {
+    match write_script(alloc, funs, script, form, writer) {
         Ok(()) => Ok(()),
         Err(fault) => Err(PlayFault::Run(fault)),
     }

@@ -1,4 +1,5 @@
--- To be read and believed: Orderly, Reasons, Streams, Run, and RunFaults. Marks is for private functions. What a workload and
+-- To be read and believed: Orderly, Reasons, Streams, Outputs, Run, and RunFaults. OutputLaws is proved of Outputs, and Marks is for
+-- private functions. What a workload and
 -- its plan are stands in ref_plan.
 pub use Rattle.ref_plan.specs.Plan
 pub use Rattle.ref_plan.specs.Words
@@ -13,5 +14,7 @@ pub mod Orderly
 pub mod Reasons
 pub mod RunFaults
 pub mod Streams
+pub mod Outputs
+pub mod OutputLaws
 pub mod Run
 pub mod Marks

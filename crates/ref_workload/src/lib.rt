@@ -11,6 +11,7 @@
 //! | [`order`] | whether a world and the refused steps are those of a run of the plan |
 //! | [`progress`] | counters by which another thread sees how far a run is ([`Progress`]) |
 //! | [`texts`] | the run of a workload from its text ([`run_text`]), or from a reader to a writer ([`run_workload`]) |
+//! | [`outputs`] | what is written of a run ([`OutputForm`], [`Output`]), in pieces ([`write_ran`]) |
 //! | [`streams`] | an input that is read whole, and an output that is written whole |
 //! | [`faults`] | why a workload isn't run to its end ([`RunFault`]) |
 //!
@@ -21,6 +22,7 @@
 
 pub mod faults;
 pub mod order;
+pub mod outputs;
 pub mod progress;
 pub mod run;
 mod running;
@@ -29,6 +31,7 @@ pub mod texts;
 
 pub use faults::{RunFault, Stop};
 pub use order::is_orderly;
+pub use outputs::{Output, OutputForm, write_ran};
 pub use progress::Progress;
 pub use ref_plan::{Plan, PlanFault, PlannedOp, Step, plan, plan_faults, plans};
 pub use run::{RunOut, run_plan, run_plan_with};

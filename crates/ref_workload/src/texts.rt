@@ -1,23 +1,26 @@
 //! The run of a workload, from its bytes to its report or its dump.
-ghost use Rattle.std.specs.Prelude.{◌≡◌, ◌≢◌, ◌+◌, ◌++◌, ◌∷◌, [], Ok, IfOk, IfErr, IfSome, OnOk, length, vec_len};
+ghost use Rattle.std.specs.Prelude.{◌≡◌, ◌≢◌, ◌⊎◌, ◌+◌, Ok, IfOk, IfErr, IfSome, OnOk, length, vec_len};
 ghost use Rattle.ref_edn.specs.Streams.{ConsumesUpTo};
 ghost use Rattle.ref_fun.specs.Calls.{HasCore};
-ghost use Rattle.ref_edn.specs.Printed.{printed};
 ghost use Rattle.ref_audit.specs.DumpForm.{dump_of};
 ghost use Rattle.ref_audit.specs.Dumped.{dumped};
 ghost use Rattle.ref_audit.specs.Report.{reported};
 ghost use Rattle.ref_audit.specs.Verdict.{verdict_on};
 ghost use Rattle.ref_verdict.specs.declared.reports.Verdict.TheVariants as verdicts;
-ghost use Rattle.ref_workload.specs.Run.{IsAtFault, IsOfPlan, IsOfText, IsPlanRun, IsRun};
+ghost use Rattle.ref_output.specs.Pieces.{WritesOne};
+ghost use Rattle.ref_workload.specs.Outputs.{HasBegun, IsLeft, dump_in, output_text};
+ghost use Rattle.ref_workload.specs.Run.{IsAtFault, IsOfPlan, IsOfText, IsOfTextOrOutput, IsPlanRun, IsRun};
 ghost use Rattle.ref_workload.specs.Streams.{CountsReads, CountsWrites, HasBrokenOff, HasWritten};
 ghost use Rattle.ref_workload.specs.Streams.{most_input};
 
 use crate::faults::RunFault;
+use crate::outputs::{Output, OutputForm, write_ran};
 use crate::progress::Progress;
 use crate::run::{RunOut, run_plan_with};
-use crate::streams::{read_input, write_output};
+use crate::streams::read_input;
 use ref_audit::{DumpFault, DumpMakeFault, Verdict, audit, audit_world, dump, report};
-use ref_edn::{Sink, Source, print, read_one};
+use ref_compact::compact;
+use ref_edn::{Sink, Source, read_one};
 use ref_fun::{Core, Functions};
 use ref_plan::Plan;
 use ref_plan::plan::plan;
@@ -33,14 +36,16 @@ use std::thread::Threads;
 pub struct Options {
     /// How often a transaction is tried that is in conflict, at least once.
     pub tries: u32,
-    /// Whether the dump of the run is written instead of its report.
-    pub dump: bool,
+    /// What is written of the run.
+    pub form: OutputForm,
 }
 
 /// Reads a workload to its end, runs it by a table of Core's functions, with a thread for each worker next to a pool, audits what came
 /// of it, and writes the report, or the dump that was audited and a newline.
 ///
-/// Nothing is written before the run has ended. The reader is read to its end or to one byte more than a workload may have.
+/// Nothing is written before the run has ended and its world is audited. A dump is then written in pieces of some 64 KiB while its text is
+/// made, so that where memory is refused a beginning of it may be written. The reader is read to its end or to one byte more than a workload
+/// may have.
 pub fn run_workload<F, R, I, O>(
     rt: &R,
     alloc: Global,
@@ -58,26 +63,56 @@ where
     // It reads no further than one byte past what a workload may have.
     ensures taken { ConsumesUpTo (I.left reader.old) (I.left reader.new) (most_input + 1) }
     ensures ok { IfOk result (λ verdict. (verdict ≡ verdicts.Ok)
-        × HasWritten (IsRun options.dump) (I.left reader.old) (I.left reader.new) (O.written writer.old)
+        × HasWritten (IsRun options.form) (I.left reader.old) (I.left reader.new) (O.written writer.old)
         (O.written writer.new)) }
     // The text, its value or its length is at fault, where the fault says so.
     ensures fault { IfErr result (λ f. IfSome (I.left reader.old) (λ text. IsAtFault text f)) }
     ensures write { IfErr result (λ f. f ≡ RunFault.Write
-        → HasBrokenOff (IsRun options.dump) (I.left reader.old) (I.left reader.new) (O.written writer.old)
+        → HasBrokenOff (IsRun options.form) (I.left reader.old) (I.left reader.new) (O.written writer.old)
         (O.written writer.new)) }
+    ensures memory { IfErr result (λ f. f ≡ RunFault.Memory → (O.written writer.new ≡ O.written writer.old)
+        ⊎ HasBegun (IsRun options.form) (I.left reader.old) (I.left reader.new) (O.written writer.old) (O.written writer.new)) }
     // Before any other fault nothing was written.
-    ensures silent { IfErr result (λ f. f ≢ RunFault.Write → O.written writer.new ≡ O.written writer.old) }
+    ensures silent { IfErr result (λ f. f ≢ RunFault.Write → f ≢ RunFault.Memory
+        → O.written writer.new ≡ O.written writer.old) }
     ensures reads { CountsReads (I.failures reader.old) (I.failures reader.new) result }
     ensures writes { CountsWrites (O.failures writer.old) (O.failures writer.new) result }
 {
-    let progress = Progress::new();
     let input = read_input(alloc, reader)?;
-    let output = run_text(rt, alloc, funs, &input, options, &progress)?;
-    write_output(writer, &output)?;
-    Ok(Verdict::Ok)
+    match write_run(rt, alloc, funs, &input, options, writer) {
+        Ok(()) => Ok(Verdict::Ok),
+        Err(fault) => Err(fault),
+    }
 }
 
-/// Runs the workload that a text writes, as [`run_workload`] does, and answers what is to be written of it. `progress` counts how
+// Runs the workload that a text writes, and writes what comes of it.
+fn write_run<F, R, O>(
+    rt: &R,
+    alloc: Global,
+    funs: &F,
+    text: &[u8],
+    options: Options,
+    writer: &mut O,
+) -> Result<(), RunFault>
+where
+    F: Functions<Core> + Sync,
+    R: Threads + Wait + Sync,
+    O: Sink,
+    requires { HasCore (F.knows funs.now) }
+    ensures ok { OnOk result (WritesOne (IsRun options.form text.now) (O.written writer.old) (O.written writer.new)) }
+    ensures fault { IfErr result (λ f. IsAtFault text.now f) }
+    ensures left { IfErr result (λ f. IsLeft (IsRun options.form text.now) f (O.written writer.old) (O.written writer.new)) }
+    ensures inner { IfErr result IsOfTextOrOutput }
+    ensures writes { CountsWrites (O.failures writer.old) (O.failures writer.new) result }
+{
+    let progress = Progress::new();
+    match run_text(rt, alloc, funs, text, options, &progress) {
+        Ok(output) => write_ran(alloc, &output, writer),
+        Err(fault) => Err(fault),
+    }
+}
+
+/// Runs the workload that a text writes, as [`run_workload`] does, and returns what is to be written of it. `progress` counts how
 /// far the run is.
 pub fn run_text<F: Functions<Core> + Sync, R: Threads + Wait + Sync>(
     rt: &R,
@@ -86,9 +121,9 @@ pub fn run_text<F: Functions<Core> + Sync, R: Threads + Wait + Sync>(
     text: &[u8],
     options: Options,
     progress: &Progress,
-) -> Result<Vec<u8>, RunFault>
+) -> Result<Output, RunFault>
     requires { HasCore (F.knows funs.now) }
-    ensures ok { IfOk result (λ output. IsRun options.dump text.now output.items) }
+    ensures ok { IfOk result (λ output. IsRun options.form text.now (output_text output)) }
     ensures fault { IfErr result (λ f. IsAtFault text.now f) }
     ensures inner { IfErr result IsOfText }
 {
@@ -110,23 +145,52 @@ fn output_of_plan<F, R>(
     plan: &Plan,
     options: Options,
     progress: &Progress,
-) -> Result<Vec<u8>, RunFault>
+) -> Result<Output, RunFault>
 where
     F: Functions<Core> + Sync,
     R: Threads + Wait + Sync,
     requires { HasCore (F.knows funs.now) }
-    ensures ok { IfOk result (λ output. IsPlanRun options.dump plan.now output.items) }
+    ensures ok { IfOk result (λ output. IsPlanRun options.form plan.now (output_text output)) }
     ensures inner { IfErr result IsOfPlan }
 {
     let gates = open_gates(alloc, plan)?;
     let ran = run_plan_with(rt, alloc, funs, plan, options.tries, gates, progress);
     let out = ran?;
-    if options.dump {
-        let dumped = audited(alloc, funs, &out.world)?;
-        dump_line(alloc, &dumped)
-    } else {
-        check_audit(alloc, funs, &out.world)?;
-        report_of(alloc, plan, &out)
+    match audited_dump(alloc, funs, &out.world, options.form)? {
+        Some(dumped) => Ok(Output::Dump(dumped)),
+        None => match report_of(alloc, plan, &out) {
+            Ok(text) => Ok(Output::Report(text)),
+            Err(fault) => Err(fault),
+        },
+    }
+}
+
+/// The dump of a world in this form, if one is asked for. The world is audited in any case. A world that a plan was run in, or a list of
+/// events played, has a dump.
+pub fn audited_dump<F: Functions<Core>>(
+    alloc: Global,
+    funs: &F,
+    world: &World<Core>,
+    form: OutputForm,
+) -> Result<Option<Value>, RunFault>
+    requires { HasCore (F.knows funs.now) }
+    ensures audited { OnOk result (verdict_on (dump_of (dumped world.now)) ≡ Ok verdicts.Ok) }
+    ensures dump { IfOk result (λ dumped. dumped ≡ dump_in form world.now) }
+    ensures inner { IfErr result IsOfPlan }
+{
+    match form {
+        OutputForm::Report => {
+            check_audit(alloc, funs, world)?;
+            Ok(None)
+        }
+        OutputForm::Dump => Ok(Some(audited(alloc, funs, world)?)),
+        OutputForm::CompactDump => {
+            let dumped = audited(alloc, funs, world)?;
+            match compact(alloc, &dumped) {
+                Ok(compacted) => Ok(Some(compacted)),
+                Err(_) => Err(RunFault::Memory),
+            }
+        }
     }
 }
 
@@ -144,8 +208,8 @@ fn open_gates(alloc: Global, plan: &Plan) -> Result<Vec<Open>, RunFault>
     }
 }
 
-/// The dump of a world, which was audited and is ok. A world that a plan was run in has one.
-pub fn audited<F: Functions<Core>>(
+// The dump of a world, which was audited and is ok.
+fn audited<F: Functions<Core>>(
     alloc: Global,
     funs: &F,
     world: &World<Core>,
@@ -169,8 +233,8 @@ pub fn audited<F: Functions<Core>>(
     }
 }
 
-/// Audits a world without its dump: no form is made of what nobody reads.
-pub fn check_audit<F: Functions<Core>>(
+// Audits a world without its dump: no form is made of what nobody reads.
+fn check_audit<F: Functions<Core>>(
     alloc: Global,
     funs: &F,
     world: &World<Core>,
@@ -184,18 +248,6 @@ pub fn check_audit<F: Functions<Core>>(
         Err(DumpMakeFault::Memory) => Err(RunFault::Memory),
         Ok(_) | Err(_) => Err(RunFault::Internal),
     }
-}
-
-// The line of a dump.
-fn dump_line(alloc: Global, dumped: &Value) -> Result<Vec<u8>, RunFault>
-    ensures ok { IfOk result (λ line. line.items ≡ printed dumped.now ++ 10 ∷ []) }
-    ensures inner { IfErr result IsOfPlan }
-{
-    let mut line = Vec::new(alloc);
-    if print(alloc, dumped, &mut line).is_err() || line.push(b'\n').is_err() {
-        return Err(RunFault::Memory);
-    }
-    Ok(line)
 }
 
 // The report of a run whose world was audited.

@@ -8,6 +8,8 @@ use Rattle.ref_history.specs.declared.drawing.frames.Part.{Part}
 use Rattle.ref_history.specs.declared.looks.Look.{Look as Looked}
 use Rattle.ref_history.specs.declared.looks.Look.TheVariants as looks
 use Rattle.ref_history.specs.declared.places.Choice.{Choice}
+use Rattle.ref_workload.specs.declared.outputs.OutputForm.{OutputForm}
+use Rattle.ref_workload.specs.declared.outputs.OutputForm.TheVariants.{Report, Dump, CompactDump}
 use Rattle.ref_workload.specs.declared.texts.Options.{Options}
 use Rattle.refrun.specs.declared.commands.Request.{Request}
 use Rattle.refrun.specs.declared.commands.Request.TheVariants.{ByCore, Check, Print}
@@ -63,25 +65,31 @@ IsLookOf name rows (looks.History choice) = (name ≡ codes "history") × IsHist
 IsLookOf name rows (looks.Changes choice) = (name ≡ codes "history") × IsHistoryOf rows (looks.Changes choice)
 IsLookOf name rows (looks.At point) = (name ≡ codes "at") × IsPoint 0 (one_of (codes "point") rows) point
 
+-- What is written of a run or a play: a compact dump if one is asked for, else a dump if that is, and else the report.
+abbrev pub IsForm : List Row → OutputForm → Type 0
+IsForm rows CompactDump = IsFlag (one_of (codes "compact") rows) true
+IsForm rows Dump = IsFlag (one_of (codes "compact") rows) false × IsFlag (one_of (codes "dump") rows) true
+IsForm rows Report = IsFlag (one_of (codes "compact") rows) false × IsFlag (one_of (codes "dump") rows) false
+
 -- The options of a run are those that stand under their names.
 pub record AreOptions (rows : List Row) (options : Options) (tells : Bool) : Type 0 where
   pub tries : IsTries (one_of (codes "tries") rows) options.tries
-  pub dump : IsFlag (one_of (codes "dump") rows) options.dump
+  pub form : IsForm rows options.form
   pub progress : IsFlag (one_of (codes "progress") rows) tells
 
 -- A run with the options that stand under their names.
 abbrev pub IsRunOf : List Row → Task → Type 0
 IsRunOf rows (Run options tells) = AreOptions rows options tells
 IsRunOf rows (Audit is_large) = ⊥
-IsRunOf rows (Play dump) = ⊥
+IsRunOf rows (Play form) = ⊥
 IsRunOf rows (Look look is_large) = ⊥
 IsRunOf rows (Draw part is_large) = ⊥
 
--- A play with the option that stands under its name.
+-- A play with the options that stand under their names.
 abbrev pub IsPlayOf : List Row → Task → Type 0
 IsPlayOf rows (Run options tells) = ⊥
 IsPlayOf rows (Audit is_large) = ⊥
-IsPlayOf rows (Play dump) = IsFlag (one_of (codes "dump") rows) dump
+IsPlayOf rows (Play form) = IsForm rows form
 IsPlayOf rows (Look look is_large) = ⊥
 IsPlayOf rows (Draw part is_large) = ⊥
 
@@ -89,7 +97,7 @@ IsPlayOf rows (Draw part is_large) = ⊥
 abbrev pub IsRequest : Text → List Row → Request → Type 0
 IsRequest name rows (ByCore (Run options tells)) = (name ≡ codes "run") × AreOptions rows options tells
 IsRequest name rows (ByCore (Audit is_large)) = (name ≡ codes "audit") × IsFlag (one_of (codes "large") rows) is_large
-IsRequest name rows (ByCore (Play dump)) = (name ≡ codes "play") × IsFlag (one_of (codes "dump") rows) dump
+IsRequest name rows (ByCore (Play form)) = (name ≡ codes "play") × IsForm rows form
 IsRequest name rows (ByCore (Look look is_large)) = IsLookOf name rows look × IsFlag (one_of (codes "large") rows) is_large
 IsRequest name rows (ByCore (Draw part is_large)) = (name ≡ codes "draw") × IsPart rows part × IsFlag (one_of (codes "large") rows) is_large
 IsRequest name rows Check = name ≡ codes "check"

@@ -2,6 +2,7 @@
 use Rattle.std.specs.Prelude.{◌≡◌, ◌≢◌, ◌⊎◌, ℕ, List, Option, IfSome, Result, Ok, Err}
 use Rattle.ref_verdict.specs.declared.reports.Verdict.{Verdict}
 use Rattle.ref_verdict.specs.declared.reports.Verdict.TheVariants as verdicts
+use Rattle.ref_workload.specs.Outputs as outputs
 use Rattle.ref_workload.specs.Run as runs
 use Rattle.ref_workload.specs.Streams as streams
 use Rattle.ref_workload.specs.declared.faults.RunFault.TheVariants as run_faults
@@ -27,16 +28,16 @@ play_fault_of (play_faults.Script fault) = faults.Script fault
 abbrev pub most_of_task : Task → ℕ
 most_of_task (Run options tells) = streams.most_input
 most_of_task (Audit is_large) = inputs.most_of is_large
-most_of_task (Play dump) = streams.most_input
+most_of_task (Play form) = streams.most_input
 most_of_task (Look look is_large) = inputs.most_of is_large
 most_of_task (Draw part is_large) = inputs.most_of is_large
 
 -- The whole output was written: of a run its report or its dump, of an audit the line of its verdict, of a play its lines and its
 -- report or its dump, of a dump what is shown of it. What was left to read and what was written are named before and after.
 abbrev pub IsDone : NamesSeen → Task → Verdict → Option (List ℕ) → Option (List ℕ) → Option (List ℕ) → Option (List ℕ) → Type 0
-IsDone names (Run options tells) verdict before after old new = (verdict ≡ verdicts.Ok) × streams.HasWritten (runs.IsRun options.dump) before after old new
+IsDone names (Run options tells) verdict before after old new = (verdict ≡ verdicts.Ok) × streams.HasWritten (runs.IsRun options.form) before after old new
 IsDone names (Audit is_large) verdict before after old new = inputs.HasWritten (inputs.most_of is_large) (audits.IsAuditOf verdict) before after old new
-IsDone names (Play dump) verdict before after old new = (verdict ≡ verdicts.Ok) × streams.HasWritten (plays.IsPlay dump) before after old new
+IsDone names (Play form) verdict before after old new = (verdict ≡ verdicts.Ok) × streams.HasWritten (plays.IsPlay form) before after old new
 IsDone names (Look look is_large) verdict before after old new = inputs.HasWritten (inputs.most_of is_large) (looks.IsLookOf names look verdict) before after old new
 IsDone names (Draw part is_large) verdict before after old new = (verdict ≡ verdicts.Ok) × inputs.HasWritten (inputs.most_of is_large) looks.IsPageOf before after old new
 
@@ -46,15 +47,17 @@ IsFaultOf (Run options tells) before (faults.Run fault) = IfSome before (λ text
 IsFaultOf (Audit is_large) before (faults.Audit fault) = IfSome before (λ text. audits.IsAtFault (inputs.most_of is_large) text fault)
 IsFaultOf (Look look is_large) before (faults.Audit fault) = IfSome before (λ text. audits.IsAtFault (inputs.most_of is_large) text fault)
 IsFaultOf (Draw part is_large) before (faults.Audit fault) = IfSome before (λ text. audits.IsAtFault (inputs.most_of is_large) text fault)
-IsFaultOf (Play dump) before (faults.Run fault) = IfSome before (λ text. plays.IsAtFault text (play_faults.Run fault))
-IsFaultOf (Play dump) before (faults.Script fault) = IfSome before (λ text. plays.IsAtFault text (play_faults.Script fault))
+IsFaultOf (Play form) before (faults.Run fault) = IfSome before (λ text. plays.IsAtFault text (play_faults.Run fault))
+IsFaultOf (Play form) before (faults.Script fault) = IfSome before (λ text. plays.IsAtFault text (play_faults.Script fault))
 IsFaultOf task before fault = ⊥
 
 -- What a fault leaves: if the writer failed, a part of the output was written, from its start on; for lack of memory, nothing or a
 -- beginning of it, where it is written while it is made; and before any other fault, nothing.
 abbrev pub IsLeft : NamesSeen → Task → Fault → Option (List ℕ) → Option (List ℕ) → Option (List ℕ) → Option (List ℕ) → Type 0
 IsLeft names (Run options tells) (faults.Run fault) before after old new =
-    (fault ≡ run_faults.Write → streams.HasBrokenOff (runs.IsRun options.dump) before after old new) × (fault ≢ run_faults.Write → new ≡ old)
+    (fault ≡ run_faults.Write → streams.HasBrokenOff (runs.IsRun options.form) before after old new)
+    × (fault ≡ run_faults.Memory → (new ≡ old) ⊎ outputs.HasBegun (runs.IsRun options.form) before after old new)
+    × (fault ≢ run_faults.Write → fault ≢ run_faults.Memory → new ≡ old)
 IsLeft names (Audit is_large) (faults.Audit fault) before after old new =
     (fault ≡ audit_faults.Write → inputs.HasBrokenOff (inputs.most_of is_large) audits.IsAudit before after old new) × (fault ≢ audit_faults.Write → new ≡ old)
 IsLeft names (Look look is_large) (faults.Audit fault) before after old new =
@@ -65,11 +68,11 @@ IsLeft names (Draw part is_large) (faults.Audit fault) before after old new =
     (fault ≡ audit_faults.Write → inputs.HasBrokenOff (inputs.most_of is_large) looks.IsPageOf before after old new)
     × (fault ≡ audit_faults.Memory → (new ≡ old) ⊎ inputs.HasBegun (inputs.most_of is_large) looks.IsPageOf before after old new)
     × (fault ≢ audit_faults.Write → fault ≢ audit_faults.Memory → new ≡ old)
-IsLeft names (Play dump) (faults.Run fault) before after old new =
-    (fault ≡ run_faults.Write → streams.HasBrokenOff (plays.IsPlay dump) before after old new)
-    × (fault ≡ run_faults.Memory → (new ≡ old) ⊎ plays.HasBegun (plays.IsPlay dump) before after old new)
+IsLeft names (Play form) (faults.Run fault) before after old new =
+    (fault ≡ run_faults.Write → streams.HasBrokenOff (plays.IsPlay form) before after old new)
+    × (fault ≡ run_faults.Memory → (new ≡ old) ⊎ outputs.HasBegun (plays.IsPlay form) before after old new)
     × (fault ≢ run_faults.Write → fault ≢ run_faults.Memory → new ≡ old)
-IsLeft names (Play dump) (faults.Script fault) before after old new = new ≡ old
+IsLeft names (Play form) (faults.Script fault) before after old new = new ≡ old
 IsLeft names task fault before after old new = ⊥
 
 -- Only the fault for it reports a read that failed, and so for a write.

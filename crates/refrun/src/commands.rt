@@ -3,14 +3,14 @@ ghost use Rattle.std.specs.Prelude.{◌≡◌, ◌≢◌, IfSome, IsNone, false,
 ghost use Rattle.clap.specs.Simple.{subcommand_rows_of};
 ghost use Rattle.clap.specs.Matches.{found_of};
 ghost use Rattle.clap.specs.Walk.{one_of, rows_of};
-ghost use Rattle.refrun.specs.Commands.{IsRequest, IsChoice, IsFlag, IsHistoryOf, IsNumber, IsPart, IsPlayOf, IsPoint, IsRunOf, IsTries, IsWanted, is_command};
+ghost use Rattle.refrun.specs.Commands.{IsRequest, IsChoice, IsFlag, IsForm, IsHistoryOf, IsNumber, IsPart, IsPlayOf, IsPoint, IsRunOf, IsTries, IsWanted, is_command};
 
 use crate::tasks::Task;
 use clap::{Arg, ArgAction, ArgMatches, Command, Error, value_parser};
 use ref_calls::{Sentence, functions, predicates};
 use ref_explain::FORMAT_VERSION;
 use ref_history::{Choice, Look, Part};
-use ref_workload::Options;
+use ref_workload::{Options, OutputForm};
 use std::alloc::{AllocError, Global};
 use std::env::Env;
 use std::io;
@@ -131,6 +131,9 @@ const NAMES: &str = "Takes the names of references from the workload in this fil
 
 const PRINT: &str = "Reads EDN from standard input, and prints each element on a line";
 
+const COMPACT: &str =
+    "Prints the dump, with a long answer that is there already written as the point of its entry";
+
 const LARGE: &str = "Takes up to 4 GiB of input, in place of 16 MiB";
 
 const EXPLAIN: &str = "Explains on standard error what is wrong";
@@ -229,6 +232,7 @@ fn command<'a>(alloc: Global, texts: &'a Texts) -> Result<Command<'a>, AllocErro
             alloc,
             "Prints the dump of the world that it came to instead of the report",
         ))?
+        .arg(compact(alloc))?
         .arg(explain(alloc, EXPLAIN))?;
     let history = history(alloc)?;
     let at = at(alloc)?;
@@ -272,6 +276,13 @@ fn dump<'a>(alloc: Global, help: &'a str) -> Arg<'a> {
         .long("dump")
         .action(ArgAction::SetTrue)
         .help(help)
+}
+
+fn compact<'a>(alloc: Global) -> Arg<'a> {
+    Arg::new(alloc, "compact")
+        .long("compact")
+        .action(ArgAction::SetTrue)
+        .help(COMPACT)
 }
 
 fn names<'a>(alloc: Global) -> Arg<'a> {
@@ -365,12 +376,14 @@ fn run<'a>(alloc: Global, more: &'a str) -> Result<Command<'a>, AllocError> {
         .long("strict")
         .action(ArgAction::SetTrue)
         .conflicts_with("dump")?
+        .conflicts_with("compact")?
         .help("Ends with the status 7 where a step was refused");
     Command::new(alloc, "run")
         .about(RUN)
         .after_help(more)
         .arg(tries)?
         .arg(dump(alloc, "Prints the dump of the run instead of its report"))?
+        .arg(compact(alloc))?
         .arg(progress)?
         .arg(strict)?
         .arg(explain(
@@ -502,18 +515,31 @@ fn run_of(matches: &ArgMatches) -> Task
     Task::Run {
         options: Options {
             tries: tries_of(matches),
-            dump: has_flag(matches, "dump"),
+            form: form_of(matches),
         },
         tells: has_flag(matches, "progress"),
     }
 }
 
-// A play with the option that stands in the command.
+// A play with the options that stand in the command.
 fn play_of(matches: &ArgMatches) -> Task
     ensures { IsPlayOf (rows_of (found_of matches.now)) result }
 {
     Task::Play {
-        dump: has_flag(matches, "dump"),
+        form: form_of(matches),
+    }
+}
+
+// What is written of a run or a play.
+fn form_of(matches: &ArgMatches) -> OutputForm
+    ensures { IsForm (rows_of (found_of matches.now)) result }
+{
+    if has_flag(matches, "compact") {
+        OutputForm::CompactDump
+    } else if has_flag(matches, "dump") {
+        OutputForm::Dump
+    } else {
+        OutputForm::Report
     }
 }
 

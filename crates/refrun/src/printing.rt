@@ -4,8 +4,7 @@ ghost use Rattle.std.specs.Io.KnownBytes.{Appends, IsAtEnd};
 ghost use Rattle.ref_edn.specs.Printed.{printed};
 ghost use Rattle.ref_edn.specs.Streams.{ConsumesUpTo};
 ghost use Rattle.ref_output.specs.Pieces.{BreaksOff, CountsWrites as CountsOutput, WritesOne};
-ghost use Rattle.ref_player.specs.Faults.{output_fault_of};
-ghost use Rattle.ref_player.specs.Plays.{IsLeft};
+ghost use Rattle.ref_workload.specs.Outputs.{IsLeft};
 ghost use Rattle.refrun.specs.Inputs.{HasBegun, HasBrokenOff, HasWritten, most_of};
 ghost use Rattle.refrun.specs.Printing.{IsAtFault, IsOfElements, IsOfPrinting, IsPrintOf, newline, printed_lines};
 ghost use Rattle.ref_workload.specs.Streams.{CountsReads, CountsWrites, IsOfInput};
@@ -15,6 +14,7 @@ use ref_edn::{InputFault, Sink, Source, print, read_all, read_to_end};
 use ref_output::{OutputFault, write_piece, write_rest};
 use ref_value::Value;
 use ref_workload::RunFault;
+use ref_workload::outputs::output_fault;
 use std::alloc::{AllocError, Global};
 
 /// Reads a text of any number of EDN elements to its end, and writes each element on a line: the one text that is
@@ -86,17 +86,7 @@ fn write_elements<W: Sink>(alloc: Global, text: &[u8], writer: &mut W) -> Result
     let values = read_all(alloc, text)?;
     match write_lines(alloc, &values, writer) {
         Ok(()) => Ok(()),
-        Err(fault) => Err(run_fault(fault)),
-    }
-}
-
-// The fault of a command for one of its output.
-fn run_fault(fault: OutputFault) -> RunFault
-    ensures { result ≡ output_fault_of fault }
-{
-    match fault {
-        OutputFault::Write => RunFault::Write,
-        OutputFault::Memory => RunFault::Memory,
+        Err(fault) => Err(output_fault(fault)),
     }
 }
 

@@ -19,6 +19,7 @@ use ref_audit::{Names, Verdict};
 use ref_edn::{Sink, Source};
 use ref_explain::{RefusedSteps, Remembering, Watching};
 use ref_fun::{Core, Functions};
+use ref_workload::OutputForm;
 use ref_workload::streams::MOST_INPUT;
 use std::sync::Wait;
 use std::thread::Threads;
@@ -69,8 +70,8 @@ where
 // Whether a dump is asked for.
 fn is_dump(request: Request) -> bool {
     match request {
-        Request::ByCore(Task::Run { options, .. }) => options.dump,
-        Request::ByCore(Task::Play { dump }) => dump,
+        Request::ByCore(Task::Run { options, .. }) => options.form != OutputForm::Report,
+        Request::ByCore(Task::Play { form }) => form != OutputForm::Report,
         _ => false,
     }
 }

@@ -13,7 +13,7 @@ use ref_edn::{Sink, Source};
 use ref_fun::{Core, Functions};
 use ref_history::{Look, Part};
 use ref_player::{PlayFault, play_events};
-use ref_workload::{Options, run_workload};
+use ref_workload::{Options, OutputForm, run_workload};
 use std::alloc::Global;
 use std::sync::Wait;
 use std::thread::Threads;
@@ -32,8 +32,8 @@ pub(crate) enum Task {
         is_large: bool,
     },
     Play {
-        /// Whether the dump is written instead of the report.
-        dump: bool,
+        /// What is written behind the replies.
+        form: OutputForm,
     },
     Look {
         look: Look,
@@ -115,7 +115,7 @@ where
                 Err(fault) => Err(Fault::Audit(fault)),
             }
         }
-        Task::Play { dump } => match play_events(alloc, funs, reader, writer, dump) {
+        Task::Play { form } => match play_events(alloc, funs, reader, writer, form) {
             Ok(()) => Ok(Verdict::Ok),
             Err(fault) => Err(fault_of(fault)),
         },

@@ -1,18 +1,20 @@
 //! Progress of a run while it lasts.
-ghost use Rattle.std.specs.Prelude.{◌+◌, ◌≡◌, ◌≢◌, IfOk, IfErr, IfSome};
+ghost use Rattle.std.specs.Prelude.{◌+◌, ◌≡◌, ◌≢◌, ◌⊎◌, IfOk, IfErr, IfSome, OnOk};
 ghost use Rattle.std.specs.Thread.{IsSync};
 ghost use Rattle.ref_edn.specs.Streams.{ConsumesUpTo};
 ghost use Rattle.ref_fun.specs.Calls.{HasCore};
 ghost use Rattle.ref_verdict.specs.declared.reports.Verdict.TheVariants as verdicts;
-ghost use Rattle.ref_workload.specs.Run.{IsAtFault, IsOfText, IsRun};
+ghost use Rattle.ref_output.specs.Pieces.{WritesOne};
+ghost use Rattle.ref_workload.specs.Outputs.{HasBegun, IsLeft, output_text};
+ghost use Rattle.ref_workload.specs.Run.{IsAtFault, IsOfText, IsOfTextOrOutput, IsRun};
 ghost use Rattle.ref_workload.specs.Streams.{CountsReads, CountsWrites, HasBrokenOff, HasWritten};
 ghost use Rattle.ref_workload.specs.Streams.{most_input};
 
 use ref_audit::Verdict;
 use ref_edn::{Sink, Source};
 use ref_fun::{Core, Functions};
-use ref_workload::streams::{read_input, write_output};
-use ref_workload::{Options, Progress, RunFault, run_text};
+use ref_workload::streams::read_input;
+use ref_workload::{Options, Output, Progress, RunFault, run_text, write_ran};
 use std::alloc::Global;
 use std::sync::Wait;
 use std::sync::atomic::{AtomicBool, Ordering};
@@ -48,22 +50,52 @@ where
     // It reads no further than one byte past what a workload may have.
     ensures taken { ConsumesUpTo (I.left reader.old) (I.left reader.new) (most_input + 1) }
     ensures ok { IfOk result (λ verdict. (verdict ≡ verdicts.Ok)
-        × HasWritten (IsRun options.dump) (I.left reader.old) (I.left reader.new) (O.written writer.old)
+        × HasWritten (IsRun options.form) (I.left reader.old) (I.left reader.new) (O.written writer.old)
         (O.written writer.new)) }
     // The text, its value or its length is at fault, where the fault says so.
     ensures fault { IfErr result (λ f. IfSome (I.left reader.old) (λ text. IsAtFault text f)) }
     ensures write { IfErr result (λ f. f ≡ RunFault.Write
-        → HasBrokenOff (IsRun options.dump) (I.left reader.old) (I.left reader.new) (O.written writer.old)
+        → HasBrokenOff (IsRun options.form) (I.left reader.old) (I.left reader.new) (O.written writer.old)
         (O.written writer.new)) }
+    ensures memory { IfErr result (λ f. f ≡ RunFault.Memory → (O.written writer.new ≡ O.written writer.old)
+        ⊎ HasBegun (IsRun options.form) (I.left reader.old) (I.left reader.new) (O.written writer.old) (O.written writer.new)) }
     // Before any other fault nothing was written.
-    ensures silent { IfErr result (λ f. f ≢ RunFault.Write → O.written writer.new ≡ O.written writer.old) }
+    ensures silent { IfErr result (λ f. f ≢ RunFault.Write → f ≢ RunFault.Memory
+        → O.written writer.new ≡ O.written writer.old) }
     ensures reads { CountsReads (I.failures reader.old) (I.failures reader.new) result }
     ensures writes { CountsWrites (O.failures writer.old) (O.failures writer.new) result }
 {
     let input = read_input(alloc, reader)?;
-    let output = run_beside(rt, alloc, funs, &input, options)?;
-    write_output(writer, &output)?;
-    Ok(Verdict::Ok)
+    match write_beside(rt, alloc, funs, &input, options, writer) {
+        Ok(()) => Ok(Verdict::Ok),
+        Err(fault) => Err(fault),
+    }
+}
+
+// Runs a workload's text, with a thread that shows how far the run is, and writes what comes of it.
+fn write_beside<F, R, O>(
+    rt: &R,
+    alloc: Global,
+    funs: &F,
+    text: &[u8],
+    options: Options,
+    writer: &mut O,
+) -> Result<(), RunFault>
+where
+    F: Functions<Core> + Sync,
+    R: Threads + Wait + Clock + Eprint + Sync,
+    O: Sink,
+    requires { HasCore (F.knows funs.now) }
+    ensures ok { OnOk result (WritesOne (IsRun options.form text.now) (O.written writer.old) (O.written writer.new)) }
+    ensures fault { IfErr result (λ f. IsAtFault text.now f) }
+    ensures left { IfErr result (λ f. IsLeft (IsRun options.form text.now) f (O.written writer.old) (O.written writer.new)) }
+    ensures inner { IfErr result IsOfTextOrOutput }
+    ensures writes { CountsWrites (O.failures writer.old) (O.failures writer.new) result }
+{
+    match run_beside(rt, alloc, funs, text, options) {
+        Ok(output) => write_ran(alloc, &output, writer),
+        Err(fault) => Err(fault),
+    }
 }
 
 // Runs a workload's text, with a thread that shows how far the run is.
@@ -73,12 +105,12 @@ fn run_beside<F, R>(
     funs: &F,
     text: &[u8],
     options: Options,
-) -> Result<Vec<u8>, RunFault>
+) -> Result<Output, RunFault>
 where
     F: Functions<Core> + Sync,
     R: Threads + Wait + Clock + Eprint + Sync,
     requires { HasCore (F.knows funs.now) }
-    ensures ok { IfOk result (λ output. IsRun options.dump text.now output.items) }
+    ensures ok { IfOk result (λ output. IsRun options.form text.now (output_text output)) }
     ensures fault { IfErr result (λ f. IsAtFault text.now f) }
     ensures inner { IfErr result IsOfText }
 {
@@ -87,9 +119,9 @@ where
     thread::scope(
         thread::scope_env(),
         rt,
-        |scope| -> Result<Vec<u8>, RunFault>
+        |scope| -> Result<Output, RunFault>
             requires { IsSync F.row × HasCore (F.knows funs.now) }
-            ensures ok { IfOk result (λ output. IsRun options.dump text.entry.now output.items) }
+            ensures ok { IfOk result (λ output. IsRun options.form text.entry.now (output_text output)) }
             ensures fault { IfErr result (λ f. IsAtFault text.entry.now f) }
             ensures inner { IfErr result IsOfText }
         {

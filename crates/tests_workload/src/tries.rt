@@ -7,7 +7,7 @@ use ref_audit::Verdict;
 use ref_edn::{Counted, Value};
 use ref_fun::codes::{INC, PLUS};
 use ref_fun::{CallFault, Core, CoreFunctions, Functions, has_core};
-use ref_workload::{Options, run_workload};
+use ref_workload::{Options, OutputForm, run_workload};
 use std::alloc::Global;
 use std::process::Abort;
 use std::sync::Wait;
@@ -112,7 +112,10 @@ fn check<R: AllocGlobal + Threads + Wait + Clock + Sync + Abort>(
     }
     let mut reader = Counted::new(TEXT.as_bytes());
     let mut writer = Counted::new(Vec::new(alloc));
-    let options = Options { tries, dump: false };
+    let options = Options {
+        tries,
+        form: OutputForm::Report,
+    };
     let answer = run_workload(rt, alloc, &funs, &mut reader, &mut writer, options);
     assert_eq!(rt; str::from_utf8(writer.inner.as_slice())?, report);
     assert_eq!(rt; answer, Ok(Verdict::Ok));

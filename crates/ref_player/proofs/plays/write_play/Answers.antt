@@ -1,4 +1,5 @@
-use Rattle.ref_player.proofs.Told.{left_by_output, played_from}
+use Rattle.ref_workload.specs.OutputLaws.{left_by_output}
+use Rattle.ref_player.proofs.Told.{played_from}
 use Rattle.ref_player.proofs.plays.write_play.Goals as goal
 
 pub returns-in-Ok-clause-ok : goal.returns-in-Ok-clause-ok
