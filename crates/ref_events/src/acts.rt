@@ -195,7 +195,7 @@ fn world_act_in(word: WorldWord, parts: Iter<'_>) -> Result<Act, Wrong>
 fn making_act_in(alloc: Global, word: MakingWord, parts: Iter<'_>) -> Result<Act, Wrong>
     ensures { Reads (making_said word parts.entry) result }
 {
-    match made_in(alloc, parts) {
+    match made_in(alloc, word, parts) {
         Ok(made) => making_of(word, made),
         Err(wrong) => Err(wrong),
     }

@@ -23,8 +23,12 @@ pub(crate) struct Made<'a> {
     rest: Iter<'a>,
 }
 
-/// A value, and a rule or nil, which may be left out.
-pub(crate) fn made_in(alloc: Global, mut parts: Iter<'_>) -> Result<Made<'_>, Wrong>
+/// A value, and a rule or nil, which may be left out. A wrong form behind the rule comes before a wrong function in it.
+pub(crate) fn made_in(
+    alloc: Global,
+    word: MakingWord,
+    mut parts: Iter<'_>,
+) -> Result<Made<'_>, Wrong>
     ensures some { IfOk result (λ m. made_said parts.entry ≡ Some (m.value, m.rule, m.rest)) }
     ensures none { IfErr result (λ w. w ≢ Wrong.Memory → made_said parts.entry ≡ None) }
 {
@@ -33,7 +37,10 @@ pub(crate) fn made_in(alloc: Global, mut parts: Iter<'_>) -> Result<Made<'_>, Wr
     };
     let rule = match parts.next() {
         None => None,
-        Some(rule) => rule_in::<AnyValue>(alloc, rule)?,
+        Some(rule) => match rule_in::<AnyValue>(alloc, rule) {
+            Ok(rule) => rule,
+            Err(wrong) => return Err(wrong.worse(misfit(word, parts))),
+        },
     };
     Ok(Made {
         value: value.share()?,
@@ -51,6 +58,18 @@ fn mode_marked(mut parts: Iter<'_>) -> Option<ErrorMode>
         (Some(mode), None) => mode_in(mode),
         _ => None,
     }
+}
+
+// Whether what stands behind the rule has a wrong form.
+fn misfit(word: MakingWord, mut rest: Iter<'_>) -> Option<Wrong>
+    ensures { result ≢ Some Wrong.Memory }
+{
+    let is_mark = match word {
+        MakingWord::MakeRef => is_marked(b"tally", rest).is_some(),
+        MakingWord::MakeAtom => rest.next().is_none(),
+        MakingWord::MakeAgent => mode_marked(rest).is_some(),
+    };
+    if is_mark { None } else { Some(Wrong::Form) }
 }
 
 /// The act that makes a reference of these.
