@@ -211,6 +211,47 @@ def replay(refs, atoms, name, more):
         {":made-ref": refs, ":made-atom": atoms}[name[1]].append(more[0])
 
 
+# ---- version 4: answers that are left out, or written as the points of entries
+
+
+# how many parts stand before an answer
+FRONTS = {":set": 3, ":alter": 4, ":commute": 4, ":ensure": 2, ":swap": 4}
+
+
+def with_answer(form, latest, point):
+    """An operation with its answer written out, by the latest answers and their points, of which this is one from now on."""
+    front = FRONTS[form[0][1]]
+    number, rest = form[1][1], form[front:]
+    if form[0] == word(":set") and len(form) == front:
+        rest = form[2:3]
+    elif len(rest) == 2:
+        answer, its_point = latest[number]
+        assert rest == (word(":as"), ("int", its_point))
+        rest = (answer,)
+    [answer] = rest
+    if number < len(latest):
+        latest[number] = (answer, point)
+    return *form[:front], answer
+
+
+def written_out(parts):
+    """The entries with all answers, in order."""
+    point = parts["point"]
+    refs, atoms = [(it[1][0], point) for it in parts["base-refs"]], [(it, point) for it in parts["base-atoms"]]
+    for _, (name, *more) in parts["entries"]:
+        point += 1
+        if name == word(":tx"):
+            more[3] = "vector", tuple(("vector", with_answer(it, refs, point)) for _, it in more[3][1])
+        elif name == word(":swap"):
+            _, *more = with_answer((name, *more), atoms, point)
+        elif name == word(":reset"):
+            if more[0][1] < len(atoms):
+                atoms[more[0][1]] = (more[1], point)
+        else:
+            {":made-ref": refs, ":made-atom": atoms}[name[1]].append((more[0], point))
+        yield "vector", (name, *more)
+
+
 # ---- the audit
 
 
@@ -253,6 +294,8 @@ def audit(dump):
     """Raises a `No` with what is wrong first."""
     parts = {key[1][1:]: value[1] for key, value in dump[1]}
     tally = next(value for key, value in dump[1] if key == word(":tally"))
+    if parts["dump"] == 4:
+        parts["entries"] = tuple(written_out(parts))
     refs, atoms = [it[1][0] for it in parts["base-refs"]], list(parts["base-atoms"])
     for at, (name, *more) in enumerate(it[1] for it in parts["entries"]):
         try:

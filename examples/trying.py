@@ -51,6 +51,7 @@ EMPTY_DUMP = {
 }  # fmt: skip
 VERSION_2 = {":dump": "2", ":folded": "[0 0 0]", ":taken": "0"}
 VERSION_3 = {**VERSION_2, ":dump": "3"}
+VERSION_4 = {**VERSION_2, ":dump": "4"}
 
 
 def dump_of(keys, version={}):
@@ -60,7 +61,7 @@ def dump_of(keys, version={}):
 
 
 def text_of(head):
-    """The text of a row: behind `<<`, with escapes behind `<<\\`, or as the keys of a dump behind `<<+`, or `<<2` and `<<3` in versions 2 and 3.
+    """The text of a row: behind `<<`, with escapes behind `<<\\`, or as the keys of a dump behind `<<+`, or `<<2` to `<<4` in versions 2 to 4.
 
     The escapes are \\n, \\x and two digits, \\\\, and \\*N'PART', which is N times the part.
     """
@@ -70,6 +71,8 @@ def text_of(head):
         return dump_of(head[4:], VERSION_2)
     if head.startswith("<<3"):
         return dump_of(head[4:], VERSION_3)
+    if head.startswith("<<4"):
+        return dump_of(head[4:], VERSION_4)
     if not head.startswith("<<\\"):
         return head[3:].encode()
     repeated = re.sub(r"\\\*(\d+)'([^']*)'", lambda it: it[2] * int(it[1]), head[4:])

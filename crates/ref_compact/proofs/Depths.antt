@@ -28,7 +28,7 @@ pub ruleset shallow_values = (shallow, too_deep, too_deep_map)
 
 -- ---- the old form is made anew
 
-items_of-list_of : (xs : Items) → items_of (list_of xs) ≡ xs
+pub items_of-list_of : (xs : Items) → items_of (list_of xs) ≡ xs
 items_of-list_of no_items = refl
 items_of-list_of (item x xs) = ap (item x) (items_of-list_of xs)
 

@@ -1,2 +1,7 @@
 pub mod Depths
+pub mod Long
 pub mod Keys
+pub mod Again
+pub mod NoDeeper
+pub mod Parts
+pub mod Whole

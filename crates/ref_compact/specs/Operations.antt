@@ -40,12 +40,12 @@ is_long (set (item x xs)) = true
 is_long x = false
 
 -- whether this number stands there
-abbrev pub is_number : ℕ → Edn → Bool
-is_number n x = is_that n (number_of x)
-
 abbrev pub is_that : ℕ → Option ℕ → Bool
 is_that n None = false
 is_that n (Some m) = m == n
+
+abbrev pub is_number : ℕ → Edn → Bool
+is_number n x = is_that n (number_of x)
 
 -- ---- how an operation is written
 

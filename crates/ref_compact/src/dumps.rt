@@ -1,5 +1,6 @@
 //! Whole dumps.
-ghost use Rattle.std.specs.Prelude.{◌≡◌, ◌∷◌, ◌≤◌, ◌<◌, ◌^◌, [], IfOk, length, map, option_copied};
+ghost use Rattle.std.specs.Prelude.{◌≡◌, ◌≤◌, ◌<◌, ◌^◌, IfOk, IfSome, IsTrue, length, map, option_copied};
+ghost use Rattle.ref_forms.specs.Plain.{elements, elements_within, forms_under};
 ghost use Rattle.ref_value.specs.Edn as edn;
 ghost use Rattle.ref_value.specs.Edn.{nil};
 ghost use Rattle.ref_value.specs.Order.{keys_ascend};

@@ -1,6 +1,8 @@
 //! Entries.
-ghost use Rattle.std.specs.Prelude.{◌≡◌, ◌+◌, ◌<◌, ◌^◌, IfOk, OnOk, length, unwrap_or};
+ghost use Rattle.std.specs.Prelude.{◌≡◌, ◌∷◌, ◌+◌, ◌<◌, ◌^◌, [], Some, IfOk, OnOk, length, unwrap_or};
 ghost use Rattle.ref_forms.specs.Plain.{elements_of};
+ghost use Rattle.ref_compact.specs.Operations.{after_one, one_turned, shallow_or, vector_form};
+ghost use Rattle.ref_compact.specs.declared.shapes.Shape.TheVariants.{Call};
 ghost use Rattle.ref_compact.specs.Entries.{atoms_after, dones_after, dones_turned, entries_turned, entry_turned, made, other_atoms, other_refs, refs_after, reset_after, tx_after, tx_turned};
 
 use crate::answers::{Answer, note};
@@ -33,8 +35,33 @@ fn turn_dones(
     }
 }
 
-// `[:tx W S READ [DONE ..] [SEND ..]]`
+// A transaction of these parts, with other operations, if there are.
 #[tactic(auto, using(crate::proofs::Depths::nothing_new))]
+fn with_dones(
+    alloc: Global,
+    form: &Value,
+    parts: (&Value, &Value, &Value, &Value, &Value, &Value),
+    new: Option<Value>,
+) -> Result<Value, AllocError>
+    requires { elements_of form.now ≡ Some (parts.0.now ∷ parts.1.now ∷ parts.2.now ∷ parts.3.now ∷ parts.4.now ∷ parts.5.now ∷ []) }
+    ensures { IfOk result (λ v. v ≡ shallow_or (vector_form (parts.0.now ∷ parts.1.now ∷ parts.2.now ∷ parts.3.now
+        ∷ unwrap_or new parts.4.now ∷ parts.5.now ∷ [])) form.now) }
+{
+    let Some(dones) = new else {
+        return form.share();
+    };
+    let (tag, worker, step, read, _, sends) = parts;
+    let mut forms = Vec::with_capacity(alloc, 6)?;
+    forms.push(tag.share()?)?;
+    forms.push(worker.share()?)?;
+    forms.push(step.share()?)?;
+    forms.push(read.share()?)?;
+    forms.push(dones)?;
+    forms.push(sends.share()?)?;
+    vector_or(alloc, forms, form)
+}
+
+// `[:tx W S READ [DONE ..] [SEND ..]]`
 fn turn_tx(
     alloc: Global,
     way: Way,
@@ -59,17 +86,8 @@ fn turn_tx(
     let (Some(dones), Some(sends), None) = (parts.next(), parts.next(), parts.next()) else {
         return form.share();
     };
-    let Some(dones) = turn_dones(alloc, way, point, refs, dones)? else {
-        return form.share();
-    };
-    let mut forms = Vec::with_capacity(alloc, 6)?;
-    forms.push(tag.share()?)?;
-    forms.push(w.share()?)?;
-    forms.push(s.share()?)?;
-    forms.push(read.share()?)?;
-    forms.push(dones)?;
-    forms.push(sends.share()?)?;
-    vector_or(alloc, forms, form)
+    let new = turn_dones(alloc, way, point, refs, dones)?;
+    with_dones(alloc, form, (tag, w, s, read, dones, sends), new)
 }
 
 // `[:swap A F [ARG ..] ANSWER]`

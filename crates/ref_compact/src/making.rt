@@ -29,14 +29,23 @@ pub(crate) fn number(n: u64) -> Value
     plain(Node::Int(n as i64))
 }
 
-/// The keyword before the point of an answer.
-pub(crate) fn as_keyword(alloc: Global) -> Result<Value, AllocError>
-    ensures { IfOk result (λ v. v ≡ keyword as_word) }
+// A keyword of this name.
+fn keyword_of(alloc: Global, name: &str) -> Result<Value, AllocError>
+    requires { is_keyword name.now ≡ true }
+    ensures { IfOk result (λ v. v ≡ keyword name.now) }
 {
-    match Value::of(Node::keyword(alloc, "as")?) {
+    match Value::of(Node::keyword(alloc, name)?) {
         Ok(value) => Ok(value),
         Err(_) => unreachable!(),
     }
+}
+
+/// The keyword before the point of an answer.
+#[tactic(auto, using(crate::proofs::Long::as_is_keyword))]
+pub(crate) fn as_keyword(alloc: Global) -> Result<Value, AllocError>
+    ensures { IfOk result (λ v. v ≡ keyword as_word) }
+{
+    keyword_of(alloc, "as")
 }
 
 /// The vector of these, or the old form, if that would be nested too deep.
@@ -54,16 +63,16 @@ pub(crate) fn vector_or(alloc: Global, forms: Vec<Value>, old: &Value) -> Result
 }
 
 /// The first parts.
+#[tactic(auto, using(crate::proofs::Long::taken, crate::proofs::Long::taken_all))]
 pub(crate) fn first_parts(alloc: Global, parts: &Items, n: usize) -> Result<Vec<Value>, AllocError>
     ensures { IfOk result (λ all. all.items ≡ take n parts.now) }
 {
-    let mut all = Vec::with_capacity(alloc, n + 2)?;
-    let mut rest = parts.iter();
-    for _ in 0..n {
-        match rest.next() {
-            Some(part) => all.push(part.share()?)?,
-            None => return Ok(all),
+    let mut all = Vec::with_capacity(alloc, parts.len())?;
+    for part in parts {
+        if all.len() == n {
+            return Ok(all);
         }
+        all.push(part.share()?)?;
     }
     Ok(all)
 }

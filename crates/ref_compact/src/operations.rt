@@ -1,6 +1,8 @@
 //! Operations with their answers.
-ghost use Rattle.std.specs.Prelude.{◌≡◌, IfOk, OnOk, option_copied, option_map, unwrap_or};
-ghost use Rattle.ref_compact.specs.Operations.{after_one, answer_of, answer_said, is_long, is_number, is_one, is_value, one_turned, op_after, op_turned, ops_after, ops_turned, referred};
+ghost use Rattle.std.specs.Prelude.{◌≡◌, ◌∷◌, ◌<◌, ◌^◌, [], None, Some, pos, IfNone, IfSome, IfOk, OnOk, option_copied, option_map, unwrap_or};
+ghost use Rattle.ref_value.specs.Edn.{int, keyword};
+ghost use Rattle.ref_compact.specs.Words.{as_word};
+ghost use Rattle.ref_compact.specs.Operations.{after_one, answer_of, answer_said, as_latest, is_long, is_number, is_one, is_value, one_turned, op_after, op_turned, ops_after, ops_turned, referred};
 ghost use Rattle.ref_compact.specs.declared.ways.Way.TheVariants.{Compact, Plain};
 
 use crate::answers::{Answer, latest, note};
@@ -13,13 +15,14 @@ use ref_value::{Items, Node, Value};
 use std::alloc::{AllocError, Global};
 
 // Whether a value is longer than a reference to an entry.
+#[tactic(auto, using(crate::proofs::Long::long_vector, crate::proofs::Long::long_map, crate::proofs::Long::long_set))]
 fn is_long(value: &Value) -> bool
     ensures { result ≡ is_long value.now }
 {
     match value.node() {
-        Node::Vector(xs) => !xs.is_empty(),
-        Node::Map(es) => !es.is_empty(),
-        Node::Set(xs) => !xs.is_empty(),
+        Node::Vector(xs) => xs.len() != 0,
+        Node::Map(es) => es.len() != 0,
+        Node::Set(xs) => xs.len() != 0,
         Node::Str(text) => text.as_bytes().len() >= 16,
         Node::ShortStr(text) => text.as_bytes().len() >= 16,
         _ => false,
@@ -111,7 +114,11 @@ fn plain_one(
 }
 
 // The point of the latest answer, if it is the same.
-fn point_of_same(before: Option<&Answer>, answer: &Value) -> Option<u64> {
+fn point_of_same(before: Option<&Answer>, answer: &Value) -> Option<u64>
+    ensures some { IfSome result (λ point. as_latest (option_copied before.entry) answer.now ≡ Some (keyword as_word ∷ int (pos point) ∷ [])) }
+    ensures none { IfNone result (as_latest (option_copied before.entry) answer.now ≡ None) }
+    ensures limit { IfSome result (λ point. point < 2 ^ 63) }
+{
     let before = before?;
     if before.value == *answer && before.point < 9_223_372_036_854_775_808 {
         Some(before.point)
@@ -217,5 +224,5 @@ pub(crate) fn turn_ops(
             None => all.push(form.share()?)?,
         }
     }
-    Ok(if stay { None } else { Some(all) })
+    if stay { Ok(None) } else { Ok(Some(all)) }
 }

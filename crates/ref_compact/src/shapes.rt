@@ -77,12 +77,16 @@ pub(crate) fn subject(parts: &Items) -> Option<u64>
 }
 
 /// The parts behind the first ones.
+#[tactic(auto, using(crate::proofs::Long::behind_some, crate::proofs::Long::behind_none))]
 pub(crate) fn behind(parts: &Items, n: usize) -> Iter<'_>
     ensures { result ≡ drop n parts.now }
 {
     let mut rest = parts.iter();
     for _ in 0..n {
-        let _part = rest.next();
+        match rest.next() {
+            Some(_) => {}
+            None => return rest,
+        }
     }
     rest
 }

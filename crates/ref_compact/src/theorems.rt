@@ -1,7 +1,12 @@
 //! Laws of the two forms. Each function's contract is a law; none does anything.
-ghost use Rattle.ref_compact.specs.Laws.{CompactSaysTheSame};
+ghost use Rattle.ref_compact.specs.Laws.{CompactDumpSaysAgain, CompactSaysAgain};
 
-/// The compact form of an entry says in plain form what the entry says, and has the same latest answers after it.
-pub fn compact_says_the_same()
-    ensures { CompactSaysTheSame }
+/// The compact form of a plain entry is that entry again in plain form, and has the same latest answers after it.
+pub fn compact_says_again()
+    ensures { CompactSaysAgain }
+{}
+
+/// The compact form of a dump of version 3 has its entries again in plain form, and all other parts.
+pub fn compact_dump_says_again()
+    ensures { CompactDumpSaysAgain }
 {}

@@ -27,7 +27,7 @@ use Rattle.ref_verdict.specs.Words.{alter_tag, commute_tag, ensure_tag, made_ato
 use Rattle.ref_verdict.specs.declared.reading.dumps.Kept.{Kept}
 use Rattle.ref_verdict.specs.declared.reading.dumps.KeptAgent.{KeptAgent}
 use Rattle.ref_verdict.specs.declared.reading.dumps.Version.{Version}
-use Rattle.ref_verdict.specs.declared.reading.dumps.Version.TheVariants.{One, Two, Three}
+use Rattle.ref_verdict.specs.declared.reading.dumps.Version.TheVariants.{One, Two, Three, Four}
 use Rattle.ref_verdict.specs.declared.reading.faults.DumpFault.{DumpFault}
 use Rattle.ref_verdict.specs.declared.reading.faults.DumpFault.TheVariants.{BadPart}
 use Rattle.ref_verdict.specs.declared.reading.faults.Key.{Key}
@@ -159,6 +159,7 @@ handled_said-passes : (version : Version) (xs : List Edn) (h : Handled) → hand
 handled_said-passes One xs h e = plain_handled-passes xs h e
 handled_said-passes Two xs h e = plain_handled-passes xs h e
 handled_said-passes Three xs h e = carrying_handled-passes xs h e
+handled_said-passes Four xs h e = carrying_handled-passes xs h e
 
 handled_passes : (version : Version) (x : Edn) (h : Handled) → handled_of version x ≡ Some h → is_handled_of_core h ≡ true
 handled_passes version x h e = let p = and_then-Some (handled_said version) (elements_of x) h e in handled_said-passes version p.0 h p.2

@@ -14,6 +14,7 @@
 --   :added N
 --   :taken N
 --
+-- One of version 4 has :dump 4 and the same keys. Its entries are in compact form (ref_compact), and say what they say in plain form.
 -- One of version 2 has :dump 2 and the same keys. In its actions nothing is said of carries, and none carries any.
 -- One of version 1 has :dump 1, :folded [COMMITS ADDED] and no :taken, and its actions are written as in version 2.
 -- Numbers are integers of 0 or more. What a form doesn't say, or says in another way, is no part of a dump: it is None here.
@@ -39,13 +40,15 @@ use Rattle.ref_agents.specs.declared.accounts.Mark.{Mark}
 use Rattle.ref_agents.specs.declared.accounts.Mark.TheVariants as marks
 use Rattle.ref_forms.specs.Calls.{action_of, any, carrying, rule_of}
 use Rattle.ref_forms.specs.Plain.{all_said, are_known, both, elements_of, elements_within, list_said, number_of, stamp_number, tagged_of, under}
+use Rattle.ref_compact.specs.Dumps.{forms_turned}
+use Rattle.ref_compact.specs.declared.ways.Way.TheVariants.{Plain}
 use Rattle.ref_verdict.specs.Words.{added_key, agents_key, alter_tag, atoms_key, base_atoms_key, base_refs_key, commits_key, commute_tag, done_mark, dump_key, ensure_tag, entries_key, failed_mark, failed_status, folded_key, keys_of, made_atom_tag, made_ref_tag, passed_mark, point_key, ready_status, refs_key, reset_tag, set_tag, swap_tag, taken_key, tally_key, tx_tag}
 use Rattle.ref_verdict.specs.declared.reading.dumps.Changed.{Changed}
 use Rattle.ref_verdict.specs.declared.reading.dumps.Dump.{Dump}
 use Rattle.ref_verdict.specs.declared.reading.dumps.Kept.{Kept}
 use Rattle.ref_verdict.specs.declared.reading.dumps.KeptAgent.{KeptAgent}
 use Rattle.ref_verdict.specs.declared.reading.dumps.Version.{Version}
-use Rattle.ref_verdict.specs.declared.reading.dumps.Version.TheVariants.{One, Two, Three}
+use Rattle.ref_verdict.specs.declared.reading.dumps.Version.TheVariants.{One, Two, Three, Four}
 use Rattle.ref_verdict.specs.declared.reading.faults.DumpFault.{DumpFault}
 use Rattle.ref_verdict.specs.declared.reading.faults.DumpFault.TheVariants.{NotDump, BadVersion, BadPart, BadEntry}
 use Rattle.ref_verdict.specs.declared.reading.faults.Key.{Key}
@@ -92,6 +95,7 @@ abbrev pub action_said : Version → List Edn → Option Action
 action_said One xs = plain_action_said xs
 action_said Two xs = plain_action_said xs
 action_said Three xs = carrying_action_said xs
+action_said Four xs = carrying_action_said xs
 
 -- ---- entries
 
@@ -126,7 +130,7 @@ done_said tag xs =
 abbrev pub done_of : Edn → Option Done
 done_of x = option_and_then (λ t. done_said t.0 t.1) (tagged_of x)
 
--- [G F [ARG ..]], and in version 3 [G F [ARG ..] [CARRY ..]]
+-- [G F [ARG ..]], and from version 3 on [G F [ARG ..] [CARRY ..]]
 abbrev pub sent_said : Version → List Edn → Option Sent
 sent_said version [] = None
 sent_said version (g ∷ xs) = both (λ n action. record { agent = n; action = action }) (reference_of g) (action_said version xs)
@@ -228,11 +232,12 @@ abbrev pub handled_said : Version → List Edn → Option Handled
 handled_said One xs = plain_handled_said xs
 handled_said Two xs = plain_handled_said xs
 handled_said Three xs = carrying_handled_said xs
+handled_said Four xs = carrying_handled_said xs
 
 abbrev pub handled_of : Version → Edn → Option Handled
 handled_of version x = option_and_then (handled_said version) (elements_of x)
 
--- [F [ARG ..]], and in version 3 [F [ARG ..] [CARRY ..]]
+-- [F [ARG ..]], and from version 3 on [F [ARG ..] [CARRY ..]]
 abbrev pub queued_of : Version → Edn → Option Action
 queued_of version x = option_and_then (action_said version) (elements_of x)
 
@@ -271,6 +276,7 @@ abbrev pub folded_said : Version → List Edn → Option (ℕ × ℕ × ℕ)
 folded_said One (commits ∷ added ∷ []) = books_with (number_of commits) (number_of added) (Some 0)
 folded_said Two (commits ∷ added ∷ taken ∷ []) = books_with (number_of commits) (number_of added) (number_of taken)
 folded_said Three (commits ∷ added ∷ taken ∷ []) = books_with (number_of commits) (number_of added) (number_of taken)
+folded_said Four (commits ∷ added ∷ taken ∷ []) = books_with (number_of commits) (number_of added) (number_of taken)
 folded_said version xs = None
 
 abbrev pub folded_of : Version → Edn → Option (ℕ × ℕ × ℕ)
@@ -301,17 +307,19 @@ abbrev pub version_number : Version → ℕ
 version_number One = 1
 version_number Two = 2
 version_number Three = 3
+version_number Four = 4
 
 -- whether a value is the number of a version
 abbrev pub is_version : Version → Option Edn → Bool
 is_version version (Some (int (pos n))) = n == version_number version
 is_version version x = false
 
--- The version that a map can have by its keys: one of version 1 has no book of what was taken. Those of versions 2 and 3 have the same
--- keys, and it is of version 3 where it says so.
+-- The version that a map can have by its keys: one of version 1 has no book of what was taken. Those of later versions have the same
+-- keys, and it is of version 4 or 3 where it says so.
 abbrev pub version_of : List (Edn × Edn) → Version
 version_of es =
-    if is_some (under es taken_key) then (if is_version Three (under es dump_key) then Three else Two) else
+    if is_some (under es taken_key) then
+    (if is_version Four (under es dump_key) then Four else if is_version Three (under es dump_key) then Three else Two) else
     One
 
 -- Each key is one of these, and each of these is there.
@@ -348,6 +356,14 @@ abbrev pub taken_said : Version → List (Edn × Edn) → Result ℕ DumpFault
 taken_said One es = Ok 0
 taken_said Two es = part_said es keys.Taken number_of
 taken_said Three es = part_said es keys.Taken number_of
+taken_said Four es = part_said es keys.Taken number_of
+
+-- The forms of the entries, each answer written out: in version 4 they are compact.
+abbrev pub plain_forms : Version → List (Edn × Edn) → List Edn → List Edn
+plain_forms One es forms = forms
+plain_forms Two es forms = forms
+plain_forms Three es forms = forms
+plain_forms Four es forms = forms_turned Plain es forms
 
 -- What the parts say, read in the order of their keys, and the entries last. Of entries there are at most 2^62, as of points.
 abbrev pub parts_said : Version → List (Edn × Edn) → Result Dump DumpFault
@@ -364,7 +380,7 @@ parts_said version es =
     and_then (part_said es keys.Refs (values_said kept_of)) (λ refs.
     and_then (taken_said version es) (λ taken.
     and_then (part_said es keys.Tally tally_of) (λ tally.
-    and_then (entries_from version 1 forms) (λ entries.
+    and_then (entries_from version 1 (plain_forms version es forms)) (λ entries.
     Ok (record {
       version = version;
       base = base_with point base_refs base_atoms tally folded;

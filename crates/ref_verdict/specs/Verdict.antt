@@ -36,7 +36,7 @@ use Rattle.ref_verdict.specs.declared.reading.dumps.Dump.{Dump}
 use Rattle.ref_verdict.specs.declared.reading.dumps.Kept.{Kept}
 use Rattle.ref_verdict.specs.declared.reading.dumps.KeptAgent.{KeptAgent}
 use Rattle.ref_verdict.specs.declared.reading.dumps.Version.{Version}
-use Rattle.ref_verdict.specs.declared.reading.dumps.Version.TheVariants.{One, Two, Three}
+use Rattle.ref_verdict.specs.declared.reading.dumps.Version.TheVariants.{One, Two, Three, Four}
 use Rattle.ref_verdict.specs.declared.reading.faults.DumpFault.{DumpFault}
 use Rattle.ref_verdict.specs.declared.reports.Verdict.{Verdict}
 use Rattle.ref_verdict.specs.declared.reports.Verdict.TheVariants as verdicts
@@ -71,6 +71,7 @@ abbrev pub fits_version : Version → Op → Bool
 fits_version One op = fits_side Added op
 fits_version Two op = fits_tally op
 fits_version Three op = fits_tally op
+fits_version Four op = fits_tally op
 
 abbrev pub fit_version : Version → Option ℕ → List Done → Bool
 fit_version version tally ds = list_all (λ d. not (is_tally tally d.r) || fits_version version d.op) ds

@@ -7,7 +7,7 @@ use Rattle.ref_fun.specs.declared.actions.Action.{Action}
 use Rattle.ref_fun.specs.declared.carries.Carry.{Carry}
 use Rattle.ref_fun.specs.declared.rules.Rule.{Rule}
 use Rattle.ref_verdict.specs.declared.reading.dumps.Version.{Version}
-use Rattle.ref_verdict.specs.declared.reading.dumps.Version.TheVariants.{One, Two, Three}
+use Rattle.ref_verdict.specs.declared.reading.dumps.Version.TheVariants.{One, Two, Three, Four}
 
 -- ---- the keys of the map
 
@@ -50,7 +50,7 @@ taken_key = codes "taken"
 abbrev pub tally_key : List ℕ
 tally_key = codes "tally"
 
--- those of versions 2 and 3, in value order
+-- those from version 2 on, in value order
 abbrev pub later_keys : List (List ℕ)
 later_keys =
     added_key ∷ agents_key ∷ atoms_key ∷ base_atoms_key ∷ base_refs_key ∷ commits_key
@@ -63,6 +63,7 @@ keys_of One =
     ∷ dump_key ∷ entries_key ∷ folded_key ∷ point_key ∷ refs_key ∷ tally_key ∷ []
 keys_of Two = later_keys
 keys_of Three = later_keys
+keys_of Four = later_keys
 
 -- ---- what an entry begins with
 

@@ -19,7 +19,7 @@ pub(crate) mod references;
 use crate::reading::dumps::{Changed, Dump, Version};
 use crate::reading::faults::{DumpFault, Key};
 use crate::reading::parts::{
-    entries_in, entry_forms, folded_part, list_part, misfit, number_part, parts_fault, taken_part,
+    entries_part, entry_forms, folded_part, list_part, misfit, number_part, parts_fault, taken_part,
     tally_part, values_part, version_of,
 };
 use ref_log::{Base, SharedVec};
@@ -75,7 +75,7 @@ fn parts_in(alloc: Global, version: Version, entries: &Entries) -> Result<Dump, 
     let refs = values_part(alloc, version, entries, Key::Refs)?;
     let taken = taken_part(version, entries)?;
     let tally = tally_part(entries)?;
-    let entries = entries_in(alloc, version, forms)?;
+    let entries = entries_part(alloc, version, entries, forms)?;
     let base = base_of(alloc, point, &base_refs, base_atoms, tally, folded)?;
     Ok(Dump {
         version,

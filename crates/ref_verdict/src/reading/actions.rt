@@ -118,7 +118,7 @@ pub(crate) fn action_parts(
 {
     match version {
         Version::One | Version::Two => plain_action(alloc, parts),
-        Version::Three => carrying_action(alloc, parts),
+        Version::Three | Version::Four => carrying_action(alloc, parts),
     }
 }
 
@@ -202,7 +202,7 @@ fn handled_parts(alloc: Global, version: Version, parts: Iter<'_>) -> Result<Han
 {
     match version {
         Version::One | Version::Two => plain_handled(alloc, parts),
-        Version::Three => carrying_handled(alloc, parts),
+        Version::Three | Version::Four => carrying_handled(alloc, parts),
     }
 }
 

@@ -14,6 +14,8 @@ pub enum Version {
     Two,
     /// With the sends that actions carry.
     Three,
+    /// With answers that are the points of entries.
+    Four,
 }
 
 /// A dump of a world.

@@ -130,7 +130,7 @@ impl FromForm for Done {
     }
 }
 
-// `G F [ARG ..]`, and in version 3 `G F [ARG ..] [CARRY ..]`
+// `G F [ARG ..]`, and from version 3 on `G F [ARG ..] [CARRY ..]`
 fn sent_in(alloc: Global, version: Version, mut parts: Iter<'_>) -> Result<Sent, Wrong>
     ensures { Reads (sent_said version parts.entry) result }
 {

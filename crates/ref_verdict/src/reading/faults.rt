@@ -61,7 +61,7 @@ pub enum DumpFault {
     /// It is no map, or its keys are those of no version.
     #[error("not a dump")]
     NotDump,
-    /// `:dump` isn't a version of its keys: 2 or 3 where there is `:taken`, and else 1.
+    /// `:dump` isn't a version of its keys: 2, 3 or 4 where there is `:taken`, and else 1.
     #[error("a version that isn't that of the keys")]
     BadVersion,
     /// The part under this key has a wrong form. Of the entries this says only that they are no vector.

@@ -3,7 +3,7 @@ ghost use Rattle.std.specs.Prelude.{◌≡◌, ◌<◌, ◌≤◌, ◌^◌, leng
 ghost use Rattle.std.specs.List.{list_all};
 ghost use Rattle.ref_value.specs.Edn.{Edn};
 ghost use Rattle.ref_forms.specs.Plain.{elements_of, elements_within, list_said, number_of, under};
-ghost use Rattle.ref_verdict.specs.DumpForm.{are_keys, entries_from, folded_of, folded_said, has_keys, is_version, key_word, misfit, part_said, reference_of, taken_said, tally_of, values_said, version_number, version_of};
+ghost use Rattle.ref_verdict.specs.DumpForm.{are_keys, entries_from, folded_of, folded_said, has_keys, is_version, key_word, misfit, part_said, plain_forms, reference_of, taken_said, tally_of, values_said, version_number, version_of};
 ghost use Rattle.ref_verdict.specs.Early.{is_said, parts_fault};
 ghost use Rattle.ref_verdict.specs.Reading.{Told, fault_at};
 ghost use Rattle.ref_verdict.specs.declared.reading.faults.DumpFault.TheVariants.{BadPart};
@@ -15,6 +15,7 @@ use crate::reading::dumps::Version;
 use crate::reading::entries::entry_in;
 use crate::reading::faults::{DumpFault, Key};
 use crate::reading::lists::{FromForm, list_in, values_in};
+use ref_compact::plain_entries;
 use ref_forms::Wrong;
 use ref_forms::maps::{are_known, under};
 use ref_forms::plain::{elements_in, elements_up_to, number_in};
@@ -65,6 +66,7 @@ impl Version {
             Version::One => 1,
             Version::Two => 2,
             Version::Three => 3,
+            Version::Four => 4,
         }
     }
 }
@@ -81,14 +83,16 @@ fn is_version(version: Version, form: Option<&Value>) -> bool
     }
 }
 
-/// The version that a map can have by its keys; of versions 2 and 3, which have the same, the one that it says.
+/// The version that a map can have by its keys; of versions 2 to 4, which have the same, the one that it says.
 pub(crate) fn version_of(entries: &Entries) -> Version
     ensures { result ≡ version_of entries.now }
 {
     if under(entries, b"taken").is_none() {
         return Version::One;
     }
-    if is_version(Version::Three, under(entries, b"dump")) {
+    if is_version(Version::Four, under(entries, b"dump")) {
+        Version::Four
+    } else if is_version(Version::Three, under(entries, b"dump")) {
         Version::Three
     } else {
         Version::Two
@@ -119,7 +123,7 @@ fn has_keys(version: Version, entries: &Entries) -> bool
 {
     match version {
         Version::One => are_keys(entries, &KEYS_OF_1),
-        Version::Two | Version::Three => are_keys(entries, &LATER_KEYS),
+        Version::Two | Version::Three | Version::Four => are_keys(entries, &LATER_KEYS),
     }
 }
 
@@ -241,7 +245,7 @@ fn folded_in(version: Version, form: &Value) -> Option<(u64, u64, u64)>
     };
     match (version, parts.next(), parts.next()) {
         (Version::One, None, None) => Some((number_in(commits)?, number_in(added)?, 0)),
-        (Version::Two | Version::Three, Some(taken), None) => {
+        (Version::Two | Version::Three | Version::Four, Some(taken), None) => {
             Some((number_in(commits)?, number_in(added)?, number_in(taken)?))
         }
         _ => None,
@@ -266,7 +270,7 @@ pub(crate) fn taken_part(version: Version, entries: &Entries) -> Result<u64, Dum
 {
     match version {
         Version::One => Ok(0),
-        Version::Two | Version::Three => number_part(entries, Key::Taken),
+        Version::Two | Version::Three | Version::Four => number_part(entries, Key::Taken),
     }
 }
 
@@ -308,8 +312,28 @@ pub(crate) fn entry_forms(entries: &Entries) -> Result<&Items, DumpFault>
     }
 }
 
-/// The entries, or the position of the first that is none.
-pub(crate) fn entries_in(
+/// The entries, or the position of the first that is none: of a dump, which is this map, by the forms that stand there.
+pub(crate) fn entries_part(
+    alloc: Global,
+    version: Version,
+    map: &Entries,
+    forms: &Items,
+) -> Result<PVec<Entry>, DumpFault>
+    requires { length forms.now ≤ most_entries }
+    ensures reads { Told (entries_from version 1 (plain_forms version map.now forms.now)) result }
+    ensures limit { IfOk result (λ es. length es ≤ length forms.now) }
+{
+    match version {
+        Version::One | Version::Two | Version::Three => entries_in(alloc, version, forms),
+        Version::Four => {
+            let plain = plain_entries(alloc, map, forms)?;
+            entries_in(alloc, version, &plain)
+        }
+    }
+}
+
+/// The entries, or the position of the first that is none, where each answer is written out.
+fn entries_in(
     alloc: Global,
     version: Version,
     forms: &Items,

@@ -15,7 +15,7 @@ fn fits_version(version: Version, op: &Op) -> bool
 {
     match version {
         Version::One => op.fits_side(Side::Added),
-        Version::Two | Version::Three => op.fits_tally(),
+        Version::Two | Version::Three | Version::Four => op.fits_tally(),
     }
 }
 
