@@ -61,7 +61,7 @@ td.name { text-align: left; }
 const LEGEND: &str =
     "<p>Each box is an entry. That of a transaction is in the lane of its worker, from its read point to its own point, \
 and shows the first ref that it touched: r0 is ref 0. Atoms are a0, a1 and so on; what was made has a +. \
-A dashed line leads from where a transaction began to one that was committed meanwhile, which isn't in conflict with it. \
+A dashed line leads from where a transaction began to one that was committed meanwhile, which isn't in conflict with it if the audit says ok. \
 What an entry did stands in its tooltip.</p>
 ";
 

@@ -6,8 +6,8 @@ ghost use Rattle.ref_forms.specs.Names.{NamesSeen};
 ghost use Rattle.ref_verdict.specs.OfCore.{IsOfCore};
 ghost use Rattle.ref_verdict.specs.declared.reading.dumps.Dump.{Dump};
 ghost use Rattle.ref_output.specs.Pieces.{WritesOne};
-ghost use Rattle.ref_history.specs.Looks.{looked, values_said};
-ghost use Rattle.ref_history.specs.Values.{values_at};
+ghost use Rattle.ref_history.specs.Looks.{is_there, looked, values_said};
+ghost use Rattle.ref_history.specs.Values.{has_point, values_at};
 ghost use Rattle.ref_history.specs.Visible.{is_visible};
 ghost use Rattle.ref_history.specs.Written.{CountsLook, IsLeft, IsLooked};
 
@@ -33,7 +33,8 @@ pub enum Look {
     At(u64),
 }
 
-/// Writes what is shown, in pieces while it is made, or returns the fault of the replay as far as that is needed: a history needs none.
+/// Writes what is shown, in pieces while it is made, or returns the fault of the replay as far as that is needed: a history needs none. The
+/// point whose values are shown has to be one of the dump ([`has_point`](crate::has_point)).
 pub fn write_look<F: Functions<Core>, W: Sink>(
     alloc: Global,
     funs: &F,
@@ -45,6 +46,7 @@ pub fn write_look<F: Functions<Core>, W: Sink>(
     requires core { HasCore (F.knows funs.now) }
     requires dump { IsOfCore dump.now }
     requires points { point_after dump.now.base dump.now.entries < 2 ^ 64 }
+    requires there { is_there look dump.now ≡ true }
     ensures ok { OnOk result (WritesOne (IsLooked (looked names.now look dump.now)) (W.written writer.old)
         (W.written writer.new)) }
     ensures err { IfErr result (λ f. IsLeft (looked names.now look dump.now) f (W.written writer.old)
@@ -73,6 +75,7 @@ fn write_at<F: Functions<Core>, W: Sink>(
     requires core { HasCore (F.knows funs.now) }
     requires dump { IsOfCore dump.now }
     requires points { point_after dump.now.base dump.now.entries < 2 ^ 64 }
+    requires there { has_point dump.now point ≡ true }
     ensures ok { OnOk result (WritesOne (IsLooked (values_said names.now point (values_at dump.now point)))
         (W.written writer.old) (W.written writer.new)) }
     ensures err { IfErr result (λ f. IsLeft (values_said names.now point (values_at dump.now point)) f

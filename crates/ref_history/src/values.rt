@@ -1,5 +1,5 @@
 //! The values at a point.
-ghost use Rattle.std.specs.Prelude.{◌≡◌, ◌≢◌, ◌<◌, ◌^◌, ◌++◌, Ok, Err, IfOk, IfErr, OnOk, slice_get};
+ghost use Rattle.std.specs.Prelude.{◌≡◌, ◌≢◌, ◌<◌, ◌^◌, ◌++◌, Ok, Err, IfOk, IfErr, OnOk, slice_get, true};
 ghost use Rattle.std.specs.Io.KnownBytes.{Appends};
 ghost use Rattle.ref_output.specs.Pieces.{BreaksOff, CountsWrites, Remains};
 ghost use Rattle.ref_fun.specs.Calls.{HasCore};
@@ -27,8 +27,7 @@ pub fn has_point(dump: &Dump, point: u64) -> bool
     dump.base.point <= point && point <= last
 }
 
-/// The values of refs and atoms at a point, by the replay of the entries up to it: those of the base at its point, and those at the end
-/// from the last point on. Where the replay comes to a fault on the way, it is returned. Linear in the base and in the operations up to
+/// The values of refs and atoms at a point that the dump has, by the replay of the entries up to it. Where the replay comes to a fault on the way, it is returned. Linear in the base and in the operations up to
 /// there, but for the functions that they call.
 #[tactic(auto, using(crate::proofs::Needed::nothing_missing_up_to))]
 pub fn values_at<F: Functions<Core>>(
@@ -40,6 +39,7 @@ pub fn values_at<F: Functions<Core>>(
     requires core { HasCore (F.knows funs.now) }
     requires dump { IsOfCore dump.now }
     requires points { point_after dump.now.base dump.now.entries < 2 ^ 64 }
+    requires there { has_point dump.now point ≡ true }
     ensures ok { IfOk result (λ state. values_at dump.now point ≡ Ok state) }
     ensures err { IfErr result (λ fault. fault ≢ AuditFault.Memory → values_at dump.now point ≡ Err fault) }
 {

@@ -1,10 +1,10 @@
 //! What is shown of a dump's text.
-ghost use Rattle.std.specs.Prelude.{◌+◌, ◌≡◌, ◌≢◌, ◌⊎◌, ◌<◌, ◌^◌, ℕ, Some, false, IfOk, IfErr, IfSome, OnOk};
+ghost use Rattle.std.specs.Prelude.{◌+◌, ◌≡◌, ◌≢◌, ◌⊎◌, ◌<◌, ◌^◌, ℕ, Some, true, false, IfOk, IfErr, IfSome, IsNone, OnOk};
 ghost use Rattle.std.specs.Io.KnownBytes.{Appends};
 ghost use Rattle.ref_edn.specs.Streams.{AppendsPart, ConsumesUpTo};
 ghost use Rattle.ref_fun.specs.Calls.{HasCore};
 ghost use Rattle.ref_audit.specs.Report.{verdict_line};
-ghost use Rattle.ref_history.specs.Looks.{looked};
+ghost use Rattle.ref_history.specs.Looks.{is_there, looked};
 ghost use Rattle.ref_history.specs.Values.{has_point};
 ghost use Rattle.ref_log.specs.Replay.{point_after};
 ghost use Rattle.ref_output.specs.Pieces.{CountsWrites as CountsOutput, WritesOne};
@@ -159,11 +159,18 @@ fn write_look_of<F: Functions<Core>, W: Sink>(
 // The point that is asked for, if the dump doesn't have it.
 fn absent_point(look: Look, dump: &Dump) -> Option<u64>
     requires { point_after dump.now.base dump.now.entries < 2 ^ 64 }
-    ensures { IfSome result (λ point. has_point dump.now point ≡ false) }
+    ensures some { IfSome result (λ point. has_point dump.now point ≡ false) }
+    ensures none { IsNone result → is_there look dump.now ≡ true }
 {
     match look {
-        Look::At(point) if !has_point(dump, point) => Some(point),
-        _ => None,
+        Look::History(_) | Look::Changes(_) => None,
+        Look::At(point) => {
+            if has_point(dump, point) {
+                None
+            } else {
+                Some(point)
+            }
+        }
     }
 }
 
@@ -179,6 +186,7 @@ fn write_shown<F: Functions<Core>, W: Sink>(
     requires core { HasCore (F.knows funs.now) }
     requires dump { IsOfCore dump.now }
     requires points { point_after dump.now.base dump.now.entries < 2 ^ 64 }
+    requires there { is_there look dump.now ≡ true }
     ensures ok { IfOk result (λ verdict. WritesOne (Shows (looked names.now look dump.now) verdict)
         (W.written writer.old) (W.written writer.new)) }
     ensures left { IfErr result (λ f. IsLeftOf (IsShown (looked names.now look dump.now)) (output_fault_of f)
