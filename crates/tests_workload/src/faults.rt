@@ -1,7 +1,7 @@
 //! What faults say, and a word of reports that no run shows.
 use crate::same::same;
 use ref_audit::{DumpFault, DumpMakeFault, Key, Reason, word_of};
-use ref_edn::{Failed, InputFault};
+use ref_edn::{Failed, InputFault, ReadFault};
 use ref_fun::{AddFault, CallFault, Cause, FunFault};
 use ref_log::Who;
 use ref_workload::PlanFault;
@@ -50,6 +50,36 @@ fn faults_of_streams_and_dumps_say_what_they_are(rt: HostRuntime) -> Result<(), 
     says(&rt, &DumpMakeFault::TooDeep, "the dump is nested too deep")?;
     says(&rt, &DumpMakeFault::Unnamed(50), "no function has code 50")?;
     says(&rt, &DumpMakeFault::Memory, "out of memory")
+}
+
+#[test]
+fn faults_of_texts_say_what_they_are_and_where(rt: HostRuntime) -> Result<(), Fail> {
+    let first = "no element before the end, at byte 0";
+    says(&rt, &ReadFault::Nothing(0), first)?;
+    let early = "the text ends too early, at byte 1";
+    says(&rt, &ReadFault::EndsEarly(1), early)?;
+    let byte = "no element begins with this byte, at byte 2";
+    says(&rt, &ReadFault::BadByte(2), byte)?;
+    says(&rt, &ReadFault::BadNumber(3), "not a number, at byte 3")?;
+    let large = "an integer outside 64 bits, at byte 4";
+    says(&rt, &ReadFault::TooLarge(4), large)?;
+    let escape = "an unknown escape in a string, at byte 5";
+    says(&rt, &ReadFault::BadEscape(5), escape)?;
+    says(&rt, &ReadFault::BadName(6), "not a name, at byte 6")?;
+    let close = "a closing bracket that closes nothing, at byte 7";
+    says(&rt, &ReadFault::WrongClose(7), close)?;
+    let twice = "a key or an element that is there already, at byte 8";
+    says(&rt, &ReadFault::Duplicate(8), twice)?;
+    let odd = "a key without a value, at byte 9";
+    says(&rt, &ReadFault::OddMap(9), odd)?;
+    let deep = "nested more than 64 deep, at byte 10";
+    says(&rt, &ReadFault::TooDeep(10), deep)?;
+    let left_out = "left out of this profile of EDN, at byte 11";
+    says(&rt, &ReadFault::LeftOut(11), left_out)?;
+    says(&rt, &ReadFault::NotUtf8(12), "not UTF-8, at byte 12")?;
+    let more = "more than one element, at byte 4294967296";
+    says(&rt, &ReadFault::Trailing(4_294_967_296), more)?;
+    says(&rt, &ReadFault::Memory, "out of memory")
 }
 
 #[test]
