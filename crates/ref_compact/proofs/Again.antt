@@ -5,7 +5,6 @@ use Rattle.std.specs.List.{list_all}
 use Rattle.std.specs.Ordering.{eq_by_cmp}
 use Rattle.std.proofs.lemmas.Bool.Decides.{nat_tests}
 use Rattle.ref_value.specs.Edn.{Edn, int, keyword, items_of, items_depth, nesting}
-use Rattle.ref_value.specs.Edn as edn
 use Rattle.ref_value.specs.Order.{edn_cmp}
 use Rattle.ref_value.specs.OrderLaws.{edn_eq}
 use Rattle.ref_value.specs.Names.{bytes_eq}
@@ -13,7 +12,7 @@ use Rattle.ref_forms.specs.Laws.{elements_of_vector}
 use Rattle.ref_forms.specs.Plain.{elements, elements_of}
 use Rattle.ref_compact.specs.Entries.{atoms_after, atoms_in, dones_after, dones_in, dones_turned, entry_in, entry_turned, other_atoms, other_refs, parts_turned, refs_after, refs_in, tagged_atoms, tagged_refs, tagged_turned, tx_after, tx_turned}
 use Rattle.ref_compact.specs.Laws.{SaysAgain, is_plain_by, is_plain_entry, is_plain_one, is_plain_op, is_plain_tagged, is_plain_tx}
-use Rattle.ref_compact.specs.Operations.{after_by, after_in, after_one, answer_of, answer_said, as_latest, compact_rest, front, is_long, is_one, is_value, latest, new_rest, noted, one_turned, op_after, op_turned, ops_after, ops_turned, plain_rest, shallow_or, shape_in, shape_of, subject, tag_in, turned_by, turned_in, value_in, vector_form, with_rest}
+use Rattle.ref_compact.specs.Operations.{after_by, after_in, after_one, answer_of, answer_said, as_latest, compact_rest, front, is_long, is_one, is_value, latest, new_rest, noted, one_turned, op_after, op_turned, ops_after, ops_turned, plain_rest, shallow_or, shape_in, shape_of, subject, tag_in, turned_by, turned_in, vector_form, with_rest}
 use Rattle.ref_compact.specs.Words.{as_word, swap_tag, tx_tag}
 use Rattle.ref_compact.specs.declared.answers.Answer.{Answer}
 use Rattle.ref_compact.specs.declared.shapes.Shape.{Shape}
@@ -248,7 +247,7 @@ ops_again point answers (x ∷ xs) shallow plain =
     let ys = ops_turned Compact point next xs in
     record {
       form = ap (λ y. y ∷ ops_turned Plain point (op_after point answers (op_turned Compact answers x)) ys) one.form
-        ∙ ap (λ a. x ∷ ops_turned Plain point a ys) (one.after point) ∙ ap (λ zs. x ∷ zs) more.form;
+          ∙ ap (λ a. x ∷ ops_turned Plain point a ys) (one.after point) ∙ ap (λ zs. x ∷ zs) more.form;
       after = ap (λ a. ops_after point a ys) (one.after point) ∙ more.after;
     }
 
@@ -385,9 +384,9 @@ module _ (point : ℕ) (refs atoms : List Answer) where
       record {
         form = entry_of_parts Plain y is.parts tag is.has u ∙ ap (λ b. cond b (tx_turned Plain point refs y is.parts) (cond (bytes_eq tag swap_tag) (one_turned Plain shapes.Call atoms y is.parts) y)) is_tx ∙ is.form;
         refs_then = refs_of_parts y is.parts tag is.has u ∙ ap (λ b. cond b (tx_after point refs is.parts) (cond (bytes_eq tag swap_tag) refs (other_refs point refs tag is.parts))) is_tx ∙ is.after
-          ∙ sym (refs_of_parts x xs tag e t ∙ ap (λ b. cond b (tx_after point refs xs) (cond (bytes_eq tag swap_tag) refs (other_refs point refs tag xs))) is_tx);
+            ∙ sym (refs_of_parts x xs tag e t ∙ ap (λ b. cond b (tx_after point refs xs) (cond (bytes_eq tag swap_tag) refs (other_refs point refs tag xs))) is_tx);
         atoms_then = atoms_of_parts y is.parts tag is.has u ∙ ap (λ b. cond b atoms (cond (bytes_eq tag swap_tag) (after_one point shapes.Call atoms is.parts) (other_atoms point atoms tag is.parts))) is_tx
-          ∙ sym (atoms_of_parts x xs tag e t ∙ ap (λ b. cond b atoms (cond (bytes_eq tag swap_tag) (after_one point shapes.Call atoms xs) (other_atoms point atoms tag xs))) is_tx);
+            ∙ sym (atoms_of_parts x xs tag e t ∙ ap (λ b. cond b atoms (cond (bytes_eq tag swap_tag) (after_one point shapes.Call atoms xs) (other_atoms point atoms tag xs))) is_tx);
       }
 
   of_swap : (x : Edn) (xs : List Edn) (tag : List ℕ) → nesting x ≤ 64 → elements_of x ≡ Some xs → tag_in xs ≡ Some tag → bytes_eq tag tx_tag ≡ false → bytes_eq tag swap_tag ≡ true → is_plain_one shapes.Call xs ≡ true
@@ -398,22 +397,22 @@ module _ (point : ℕ) (refs atoms : List Answer) where
       let u : tag_in is.parts ≡ Some tag = is.tag ∙ t in
       record {
         form = entry_of_parts Plain y is.parts tag is.has u ∙ ap (λ b. cond b (tx_turned Plain point refs y is.parts) (cond (bytes_eq tag swap_tag) (one_turned Plain shapes.Call atoms y is.parts) y)) no_tx
-          ∙ ap (λ b. cond b (one_turned Plain shapes.Call atoms y is.parts) y) is_swap ∙ is.form;
+            ∙ ap (λ b. cond b (one_turned Plain shapes.Call atoms y is.parts) y) is_swap ∙ is.form;
         refs_then = refs_of_parts y is.parts tag is.has u ∙ ap (λ b. cond b (tx_after point refs is.parts) (cond (bytes_eq tag swap_tag) refs (other_refs point refs tag is.parts))) no_tx
-          ∙ ap (λ b. cond b refs (other_refs point refs tag is.parts)) is_swap
-          ∙ sym (refs_of_parts x xs tag e t ∙ ap (λ b. cond b (tx_after point refs xs) (cond (bytes_eq tag swap_tag) refs (other_refs point refs tag xs))) no_tx
-          ∙ ap (λ b. cond b refs (other_refs point refs tag xs)) is_swap);
+            ∙ ap (λ b. cond b refs (other_refs point refs tag is.parts)) is_swap
+            ∙ sym (refs_of_parts x xs tag e t ∙ ap (λ b. cond b (tx_after point refs xs) (cond (bytes_eq tag swap_tag) refs (other_refs point refs tag xs))) no_tx
+            ∙ ap (λ b. cond b refs (other_refs point refs tag xs)) is_swap);
         atoms_then = atoms_of_parts y is.parts tag is.has u ∙ ap (λ b. cond b atoms (cond (bytes_eq tag swap_tag) (after_one point shapes.Call atoms is.parts) (other_atoms point atoms tag is.parts))) no_tx
-          ∙ ap (λ b. cond b (after_one point shapes.Call atoms is.parts) (other_atoms point atoms tag is.parts)) is_swap
-          ∙ one_then shapes.Call atoms x xs y is point
-          ∙ sym (atoms_of_parts x xs tag e t ∙ ap (λ b. cond b atoms (cond (bytes_eq tag swap_tag) (after_one point shapes.Call atoms xs) (other_atoms point atoms tag xs))) no_tx
-          ∙ ap (λ b. cond b (after_one point shapes.Call atoms xs) (other_atoms point atoms tag xs)) is_swap);
+            ∙ ap (λ b. cond b (after_one point shapes.Call atoms is.parts) (other_atoms point atoms tag is.parts)) is_swap
+            ∙ one_then shapes.Call atoms x xs y is point
+            ∙ sym (atoms_of_parts x xs tag e t ∙ ap (λ b. cond b atoms (cond (bytes_eq tag swap_tag) (after_one point shapes.Call atoms xs) (other_atoms point atoms tag xs))) no_tx
+            ∙ ap (λ b. cond b (after_one point shapes.Call atoms xs) (other_atoms point atoms tag xs)) is_swap);
       }
 
   of_another : (x : Edn) (xs : List Edn) (tag : List ℕ) → elements_of x ≡ Some xs → tag_in xs ≡ Some tag → bytes_eq tag tx_tag ≡ false → bytes_eq tag swap_tag ≡ false → SaysAgain point refs atoms x x
   of_another x xs tag e t no_tx no_swap = record {
     form = entry_of_parts Plain x xs tag e t ∙ ap (λ b. cond b (tx_turned Plain point refs x xs) (cond (bytes_eq tag swap_tag) (one_turned Plain shapes.Call atoms x xs) x)) no_tx
-      ∙ ap (λ b. cond b (one_turned Plain shapes.Call atoms x xs) x) no_swap;
+        ∙ ap (λ b. cond b (one_turned Plain shapes.Call atoms x xs) x) no_swap;
     refs_then = refl;
     atoms_then = refl;
   }

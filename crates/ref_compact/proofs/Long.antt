@@ -1,5 +1,5 @@
 -- Which values are long, which word stands before a point, and the first parts of a form.
-use Rattle.std.proofs.Common.{◌≡◌, ℕ, ◌+◌, ◌≤◌, ◌==◌, suc, Bool, true, false, not, List, [], ◌∷◌, ◌++◌, length, drop, take, refl, sym, ap, ◌∙◌, arith}
+use Rattle.std.proofs.Common.{◌≡◌, ℕ, ◌+◌, ◌≤◌, ◌==◌, zero, suc, true, false, not, List, [], ◌∷◌, ◌++◌, length, drop, take, refl, sym, ap, ◌∙◌, arith}
 use Rattle.std.proofs.Math.Numerals.{add-one}
 use Rattle.std.proofs.Math.Seq.{drop-nil, take-append_seam}
 use Rattle.std.proofs.lemmas.Bool.Decides.{nat_tests}
@@ -50,7 +50,7 @@ taken_all all xs n e few = sym (ap (take n) (sym e) ∙ take_all n all few)
 
 next_of : (xs : List Edn) (i : ℕ) (y : Edn) (new : List Edn) → drop i xs ≡ y ∷ new → drop (suc i) xs ≡ new
 next_of [] i y new e = let none : [] ≡ y ∷ new = sym (drop-nil i) ∙ e in absurd cc
-next_of (x ∷ xs) 0 y new e = cc
+next_of (x ∷ xs) zero y new e = cc
 next_of (x ∷ xs) (suc i) y new e = next_of xs i y new e
 
 pub behind_some : (xs : List Edn) (i : ℕ) (y : Edn) (rest new : List Edn) → rest ≡ drop i xs → rest ≡ y ∷ new → new ≡ drop (i + 1) xs
@@ -58,8 +58,8 @@ behind_some xs i y rest new e is = sym (ap (λ k. drop k xs) (add-one i) ∙ nex
 
 past : (xs : List Edn) (i n : ℕ) → drop i xs ≡ [] → i ≤ n → drop n xs ≡ []
 past [] i n e h = drop-nil n
-past (x ∷ xs) 0 n e h = absurd cc
-past (x ∷ xs) (suc i) 0 e h = absurd (omega arith)
+past (x ∷ xs) zero n e h = absurd cc
+past (x ∷ xs) (suc i) zero e h = absurd (omega arith)
 past (x ∷ xs) (suc i) (suc n) e h = past xs i n e (omega arith)
 
 pub behind_none : (xs : List Edn) (i n : ℕ) (rest new : List Edn) → rest ≡ drop i xs → rest ≡ [] → new ≡ [] → i ≤ n → new ≡ drop n xs

@@ -1,5 +1,5 @@
 -- What is compact is nested no deeper than what it was made of.
-use Rattle.std.proofs.Common.{◌≡◌, ℕ, ◌+◌, ◌≤◌, suc, Bool, true, false, cond, List, [], ◌∷◌, ◌++◌, Option, None, Some, refl, sym, ap, ◌∙◌, arith, take, drop}
+use Rattle.std.proofs.Common.{◌≡◌, ℕ, ◌+◌, ◌≤◌, zero, suc, Bool, true, false, cond, List, [], ◌∷◌, ◌++◌, Option, None, Some, refl, ap, arith, take, drop}
 use Rattle.std.specs.Prelude.{max, nat_le}
 use Rattle.std.proofs.Math.Nat.{le-max_left, le-max_right, max-le}
 use Rattle.ref_value.specs.Edn.{Edn, items_of, items_depth, nesting}
@@ -12,7 +12,7 @@ use Rattle.ref_compact.specs.declared.answers.Answer.{Answer}
 use Rattle.ref_compact.specs.declared.shapes.Shape.{Shape}
 use Rattle.ref_compact.specs.declared.shapes.Shape.TheVariants.{Call}
 use Rattle.ref_compact.specs.declared.ways.Way.TheVariants.{Compact}
-use Rattle.ref_compact.proofs.Again.{Shorter, shorter}
+use Rattle.ref_compact.proofs.Again.{shorter}
 use Rattle.ref_compact.proofs.Depths.{vector_of_elements}
 
 -- ---- lists
@@ -30,7 +30,7 @@ pub max_mono : (a b c d : ℕ) → a ≤ c → b ≤ d → max a b ≤ max c d
 max_mono a b c d p q = max-le (le_all a c (max c d) p (le-max_left c d)) (le_all b d (max c d) q (le-max_right c d))
 
 take_depth : (k : ℕ) (xs : List Edn) → items_depth (items_of (take k xs)) ≤ items_depth (items_of xs)
-take_depth 0 xs = omega arith
+take_depth zero xs = omega arith
 take_depth (suc k) [] = omega arith
 take_depth (suc k) (x ∷ xs) = max_mono (nesting x) (items_depth (items_of (take k xs))) (nesting x) (items_depth (items_of xs)) (itself_le (nesting x)) (take_depth k xs)
 

@@ -9,7 +9,7 @@ use Rattle.ref_value.specs.Edn.{Edn, entries_depth as depth_of_entries, entries_
 use Rattle.ref_value.specs.Edn as edn
 use Rattle.ref_forms.specs.Plain.{elements_of, elements_or_none, elements_within, forms_under, number_of, only_if, under}
 use Rattle.ref_log.specs.Limits.{most_entries}
-use Rattle.ref_compact.specs.Dumps.{answer_at, base_atoms, base_point, base_refs, compact_entries, compacted, first_of, forms_turned, map_compacted, number_under, parts_of, with_entries, with_part}
+use Rattle.ref_compact.specs.Dumps.{answer_at, base_atoms, base_point, base_refs, compact_entries, first_of, forms_turned, map_compacted, number_under, parts_of, with_entries, with_part}
 use Rattle.ref_compact.specs.Entries.{atoms_after, entries_turned, entry_turned, refs_after}
 use Rattle.ref_compact.specs.Laws.{DumpSaysAgain, SaysAgain, is_plain_entry}
 use Rattle.ref_compact.specs.Operations.{is_that, shallow_or, vector_form}
@@ -42,12 +42,12 @@ entries_again point refs atoms (x ∷ xs) shallow plain =
     let y = entry_turned Compact point refs atoms x in
     let is : SaysAgain point refs atoms y x = compact_again point refs atoms x (head_le (nesting x) (items_depth (items_of xs)) 64 shallow) p.0 in
     let rs = refs_after point refs x in
-    let as = atoms_after point atoms x in
-    let ys = entries_turned Compact (point + 1) rs as xs in
+    let others = atoms_after point atoms x in
+    let ys = entries_turned Compact (point + 1) rs others xs in
     ap (λ z. z ∷ entries_turned Plain (point + 1) (refs_after point refs y) (atoms_after point atoms y) ys) is.form
     ∙ ap (λ r. x ∷ entries_turned Plain (point + 1) r (atoms_after point atoms y) ys) is.refs_then
     ∙ ap (λ a. x ∷ entries_turned Plain (point + 1) rs a ys) is.atoms_then
-    ∙ ap (λ zs. x ∷ zs) (entries_again (point + 1) rs as xs (tail_le (nesting x) (items_depth (items_of xs)) 64 shallow) p.1)
+    ∙ ap (λ zs. x ∷ zs) (entries_again (point + 1) rs others xs (tail_le (nesting x) (items_depth (items_of xs)) 64 shallow) p.1)
 
 entries_length : (way : Way) (point : ℕ) (refs atoms : List Answer) (xs : List Edn) → lists.length (entries_turned way point refs atoms xs) ≡ lists.length xs
 entries_length way point refs atoms [] = refl
@@ -130,6 +130,6 @@ says_again es x forms shallow version under_is within_is plain =
     let new_depth : nesting new ≤ 64 = deeper (depth_of_entries (entries_of (parts_of entries es))) all 64 (parts_depth entries es all e_depth (itself all)) shallow in
     record {
       fits = ap (λ fs. map_compacted fs old) (pairs_of-entries_of es) ∙ ap (λ o. cond (is_that 3 o) (with_part es old (under es entries_key)) old) version
-        ∙ ap (with_part es old) under_is ∙ ap (with_entries es old x) within_is ∙ ap (λ e. shallow_or (edn.map (entries_of (parts_of e es))) old) e_fits ∙ fits new old new_depth;
+          ∙ ap (with_part es old) under_is ∙ ap (with_entries es old x) within_is ∙ ap (λ e. shallow_or (edn.map (entries_of (parts_of e es))) old) e_fits ∙ fits new old new_depth;
       again = forms_again entries es forms (le_all (items_depth (items_of forms)) (nesting x) 64 (inner x forms of_x) (le_all (nesting x) all 64 x_depth (below all 64 shallow))) plain;
     }

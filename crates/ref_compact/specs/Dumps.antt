@@ -10,7 +10,7 @@ use Rattle.ref_compact.specs.Operations.{is_that, shallow_or, vector_form}
 use Rattle.ref_compact.specs.Words.{base_atoms_key, base_refs_key, dump_key, entries_key, point_key}
 use Rattle.ref_compact.specs.declared.answers.Answer.{Answer}
 use Rattle.ref_compact.specs.declared.ways.Way.{Way}
-use Rattle.ref_compact.specs.declared.ways.Way.TheVariants.{Compact, Plain}
+use Rattle.ref_compact.specs.declared.ways.Way.TheVariants.{Compact}
 
 -- ---- the base
 

@@ -1,5 +1,5 @@
 -- Entries in plain and in compact form.
-use Rattle.std.specs.Prelude.{ℕ, ◌+◌, Bool, true, false, if◌then◌else◌, List, [], ◌∷◌, ◌++◌, Option, None, Some, option_and_then}
+use Rattle.std.specs.Prelude.{ℕ, ◌+◌, if◌then◌else◌, List, [], ◌∷◌, ◌++◌, Option, None, Some}
 use Rattle.ref_value.specs.Edn.{Edn}
 use Rattle.ref_value.specs.Names.{bytes_eq}
 use Rattle.ref_forms.specs.Plain.{elements_of, number_of}

@@ -10,7 +10,7 @@
 -- What has neither form is left as it stands.
 use Rattle.std.specs.Prelude.{ℕ, ◌^◌, ◌==◌, ◌&&◌, nat_le, nat_lt, Bool, true, false, if◌then◌else◌, List, [], ◌∷◌, ◌++◌, length, take, drop, Option, None, Some, option_and_then, slice_get, slice_set, pos}
 use Rattle.std.specs.Ordering.{eq_by_cmp}
-use Rattle.ref_value.specs.Edn.{Edn, nil, boolean, int, string, keyword, symbol, vector, map, set, Items, no_items, item, Entries, no_entries, entry, items_of, keyword_of, nesting}
+use Rattle.ref_value.specs.Edn.{Edn, int, string, keyword, vector, map, set, item, entry, items_of, keyword_of, nesting}
 use Rattle.ref_value.specs.Limits.{most_nested}
 use Rattle.ref_value.specs.Names.{bytes_eq}
 use Rattle.ref_value.specs.Order.{edn_cmp}

@@ -215,6 +215,7 @@ fn map_compacted(alloc: Global, map: &Entries, old: &Value) -> Result<Value, All
 /// A dump of version 3 as one of version 4, in compact form. What isn't one is returned as it is.
 ///
 /// Linear in the entries, but for look-ups. All but the version and the entries is shared.
+#[tactic(auto, using(crate::proofs::Keys::compacted_of_map))]
 pub fn compact(alloc: Global, dump: &Value) -> Result<Value, AllocError>
     ensures { IfOk result (λ v. v ≡ compacted dump.now) }
 {

@@ -44,11 +44,12 @@ fn with_dones(
     new: Option<Value>,
 ) -> Result<Value, AllocError>
     requires { elements_of form.now ≡ Some (parts.0.now ∷ parts.1.now ∷ parts.2.now ∷ parts.3.now ∷ parts.4.now ∷ parts.5.now ∷ []) }
-    ensures { IfOk result (λ v. v ≡ shallow_or (vector_form (parts.0.now ∷ parts.1.now ∷ parts.2.now ∷ parts.3.now
-        ∷ unwrap_or new parts.4.now ∷ parts.5.now ∷ [])) form.now) }
+    ensures { IfOk result (λ v. v ≡ shallow_or (vector_form (parts.entry.0.now ∷ parts.entry.1.now ∷ parts.entry.2.now ∷ parts.entry.3.now
+        ∷ unwrap_or new parts.entry.4.now ∷ parts.entry.5.now ∷ [])) form.now) }
 {
-    let Some(dones) = new else {
-        return form.share();
+    let dones = match new {
+        Some(dones) => dones,
+        None => return form.share(),
     };
     let (tag, worker, step, read, _, sends) = parts;
     let mut forms = Vec::with_capacity(alloc, 6)?;

@@ -6,3 +6,5 @@ pub mod Folds
 pub mod Maps
 pub mod Read
 pub mod Needed
+pub mod Written
+pub mod Compacting

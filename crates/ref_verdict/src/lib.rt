@@ -19,6 +19,7 @@
 pub mod auditor;
 pub mod reading;
 pub mod reports;
+pub mod theorems;
 pub mod verdicts;
 
 pub use auditor::audit;
