@@ -38,6 +38,7 @@ mod surroundings;
 mod verdicts;
 pub mod warnings;
 mod writing;
+mod wrong_calls;
 
 pub use explaining::{Mistake, explain, explain_start};
 pub use keys::FORMAT_VERSION;
