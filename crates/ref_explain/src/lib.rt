@@ -1,5 +1,5 @@
-//! Explanations, for people, of why a text was refused: line and column, the line itself, what is wrong in it, and the known word that
-//! is nearest to one that is unknown.
+//! Explanations, for people, of why a text was refused: line and column, the line itself, what is wrong in it, and of an unknown word what
+//! is written here for it, if it is one of Clojure, or the known word that is nearest to it.
 //!
 //! | Name | Is |
 //! |---|---|
@@ -17,6 +17,7 @@
 #![tactic(auto)]
 
 mod calls;
+mod clojure;
 mod documents;
 mod dumps;
 mod excerpts;
