@@ -12,8 +12,8 @@
 //! | [`places`] | line and column of a place |
 //!
 //! Values hold no places, so forms are found in the text by a walk of its bytes, which goes over each a few times and has no recursion. An
-//! explanation shows a few places and at most 80 bytes of a line. Guaranteed: line and column of a place, and that any text is gone through
-//! to an end. Not guaranteed: what is said, which only tests see.
+//! explanation shows a few places and at most 80 bytes of a line. Guaranteed: line and column of a place, that what is shown of a line has no
+//! control character and cuts no character, and that any text is gone through to an end. Not guaranteed: what is said, which only tests see.
 #![tactic(auto)]
 
 mod calls;
