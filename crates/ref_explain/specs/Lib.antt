@@ -1,2 +1,3 @@
 -- To be read and believed: all of it.
 pub mod Places
+pub mod Shown

@@ -39,6 +39,20 @@ pub(crate) fn own_call<'a>(said: &Said<'a>) -> Option<Call<'a>> {
     call_in(parts.next()?.members())
 }
 
+/// The predicate that a sentence asks, with its arguments.
+pub(crate) fn own_test<'a>(said: &Said<'a>) -> Option<Call<'a>> {
+    if let Some(parts) = at_slot(said, Slot::Predicate) {
+        return call_in(parts);
+    }
+    let mut parts = at_slot(said, Slot::Rule)?;
+    rule_call(&parts.next()?)
+}
+
+/// The predicate of a rule.
+pub(crate) fn rule_call<'a>(rule: &Form<'a>) -> Option<Call<'a>> {
+    call_in(rule.members())
+}
+
 /// The sends that a sentence carries, if it may carry any.
 pub(crate) fn carries_of<'a>(said: &Said<'a>) -> Option<Members<'a>> {
     at_slot(said, Slot::Carries)

@@ -1,4 +1,8 @@
 //! The line that a place stands in, as far as it is shown.
+ghost use Rattle.std.specs.Prelude.{◌≡◌, ◌≤◌, ◌-◌, ◌++◌, ◌⊎◌, IfOk, OnOk, true, length, take, drop, string_bytes};
+ghost use Rattle.std.specs.Int.{is_in_range};
+ghost use Rattle.ref_explain.specs.Shown.{begins, is_blank, is_control, is_hidden, is_mark, is_plain, plain, plain_text};
+
 use crate::inside::{from, up_to};
 use crate::places::goes_on;
 use std::alloc::{AllocError, Global};
@@ -39,8 +43,15 @@ fn first_line(text: &[u8]) -> &[u8] {
     }
 }
 
-/// Whole characters at the front, of at most so many bytes.
-pub(crate) fn head_of(text: &[u8], most: usize) -> &[u8] {
+/// Whole characters at the front, as many as there are in so many bytes.
+#[tactic(auto, using(crate::proofs::Characters::begins_at))]
+pub(crate) fn head_of(text: &[u8], most: usize) -> &[u8]
+    ensures front { result.now ≡ take (length result.now) text.now }
+    ensures most { length result.now ≤ most }
+    // No character is cut: an empty text, or what is left begins with one.
+    ensures edge { (length result.now ≡ 0) ⊎ (begins (drop (length result.now) text.now) ≡ true) }
+    ensures whole { length text.now ≤ most → result.now ≡ text.now }
+{
     if text.len() <= most {
         return text;
     }
@@ -56,32 +67,85 @@ pub(crate) fn head_of(text: &[u8], most: usize) -> &[u8] {
     up_to(text, end)
 }
 
-// Whole characters at the end, of at most so many bytes.
-fn tail_of(text: &[u8], most: usize) -> &[u8] {
+// Whole characters at the end, as many as there are in so many bytes.
+#[tactic(auto, using(crate::proofs::Characters::cuts))]
+fn tail_of(text: &[u8], most: usize) -> &[u8]
+    ensures back { result.now ≡ drop (length text.now - length result.now) text.now }
+    ensures most { length result.now ≤ most }
+    ensures edge { begins result.now ≡ true }
+    ensures whole { length text.now ≤ most → begins text.now ≡ true → result.now ≡ text.now }
+{
     let tail = from(text, text.len().saturating_sub(most));
-    match tail.iter().position(|b| !goes_on(*b)) {
-        Some(start) => from(tail, start),
-        None => tail,
+    for (i, b) in tail.iter().enumerate() {
+        if !goes_on(*b) {
+            return from(tail, i);
+        }
     }
+    &[]
 }
 
 fn count_characters(text: &[u8]) -> usize {
     text.iter().filter(|b| !goes_on(**b)).count()
 }
 
-// What moves the cursor or turns the direction of writing isn't shown as it is.
-fn plain(c: char) -> char {
-    match c {
-        '\t' | '\n' | '\r' => ' ',
-        '\0'..='\u{1f}' | '\u{7f}'..='\u{9f}' => '?',
-        '\u{200b}'..='\u{200f}' | '\u{2028}'..='\u{202e}' | '\u{2066}'..='\u{2069}' => '?',
-        '\u{feff}' | '\u{fffd}' => '?',
-        c => c,
+// What is shown of a character: a blank for a tab or the end of a line, and a question mark for what moves the cursor, turns the direction
+// of writing or isn't seen.
+#[tactic(auto, unfolding(crate::specs::Shown::plain))]
+fn plain(c: char) -> char
+    ensures { result ≡ plain c }
+{
+    let code = c as u32;
+    if is_blank(code) {
+        ' '
+    } else if is_hidden(code) {
+        '?'
+    } else {
+        c
     }
 }
 
+fn is_blank(code: u32) -> bool
+    ensures { result ≡ is_blank code }
+{
+    code == 9 || code == 10 || code == 13
+}
+
+fn is_hidden(code: u32) -> bool
+    ensures { result ≡ is_hidden code }
+{
+    is_control(code) || is_mark(code) || is_between(0xD800, 0xDFFF, code) || code > 0x10FFFF
+}
+
+fn is_control(code: u32) -> bool
+    ensures { result ≡ is_control code }
+{
+    code < 32 || is_between(0x7F, 0x9F, code)
+}
+
+fn is_mark(code: u32) -> bool
+    ensures { result ≡ is_mark code }
+{
+    code == 0xAD
+        || code == 0x61C
+        || code == 0x180E
+        || is_between(0x200B, 0x200F, code)
+        || is_between(0x2028, 0x202E, code)
+        || is_between(0x2060, 0x206F, code)
+        || code == 0xFEFF
+        || is_between(0xFFF9, 0xFFFD, code)
+        || is_between(0xE0000, 0xE007F, code)
+}
+
+fn is_between(first: u32, last: u32, code: u32) -> bool
+    ensures { result ≡ is_in_range first last code }
+{
+    first <= code && code <= last
+}
+
 /// Appends the characters of a short text, those that can't be shown as blanks or question marks.
-pub(crate) fn push_plain(alloc: Global, line: &mut String, text: &[u8]) -> Result<(), AllocError> {
+pub(crate) fn push_plain(alloc: Global, line: &mut String, text: &[u8]) -> Result<(), AllocError>
+    ensures { OnOk result (string_bytes line.new ≡ string_bytes line.old ++ plain_text text.now) }
+{
     let shown = String::from_utf8_lossy(alloc, text)?;
     for c in shown.as_str().chars() {
         line.push(plain(c))?;
@@ -95,7 +159,10 @@ pub(crate) fn excerpt_at(
     text: &[u8],
     start: usize,
     end: usize,
-) -> Result<Excerpt, AllocError> {
+) -> Result<Excerpt, AllocError>
+    // Nothing in the line moves the cursor.
+    ensures { IfOk result (λ excerpt. is_plain (string_bytes excerpt.line) ≡ true) }
+{
     let mut line = String::new(alloc);
     let whole = last_line(up_to(text, start));
     let before = tail_of(whole, MOST_BEFORE);

@@ -1,6 +1,7 @@
 //! The names of functions and predicates.
+use crate::clojure::{Place, advice_of};
 use crate::forms::Form;
-use crate::nearest::{Nearest, with_hint};
+use crate::nearest::{Nearest, with_advice};
 use crate::writing::Writing;
 use ref_calls::{functions, predicates};
 use ref_fun::codes::{ASSOC, AT_LEAST, DEC, DISJ, INC, IS_SOME, PLUS};
@@ -60,7 +61,14 @@ pub(crate) fn write_no_function(
         return writing.mark(form, "this is a predicate, and a function is needed");
     }
     let found = nearest_function(writing.alloc, word)?;
-    let message = with_hint(writing.alloc, "no function has this name", "", found)?;
+    let advice = advice_of(writing.alloc, Place::Function, word)?;
+    let message = with_advice(
+        writing.alloc,
+        "no function has this name",
+        advice,
+        "",
+        found,
+    )?;
     writing.mark(form, message.as_str())?;
     let all = functions(writing.alloc)?;
     let message = format!(in writing.alloc; "the functions are {all}")?;
@@ -77,7 +85,14 @@ pub(crate) fn write_no_predicate(
         return writing.mark(form, "this is a function, and a predicate is needed");
     }
     let found = nearest_predicate(writing.alloc, word)?;
-    let message = with_hint(writing.alloc, "no predicate has this name", "", found)?;
+    let advice = advice_of(writing.alloc, Place::Predicate, word)?;
+    let message = with_advice(
+        writing.alloc,
+        "no predicate has this name",
+        advice,
+        "",
+        found,
+    )?;
     writing.mark(form, message.as_str())?;
     let all = predicates(writing.alloc)?;
     let message = format!(in writing.alloc; "the predicates are {all}")?;

@@ -1,4 +1,5 @@
 //! What a byte of a text is in.
+ghost use Rattle.std.specs.Prelude.{◌≡◌, take, drop};
 
 /// What the bytes so far leave open.
 #[derive(Clone, Copy, Debug, PartialEq, Eq)]
@@ -44,11 +45,15 @@ pub(crate) fn is_delimiter(b: u8) -> bool {
 }
 
 /// The bytes from a place on.
-pub(crate) fn from(text: &[u8], place: usize) -> &[u8] {
+pub(crate) fn from(text: &[u8], place: usize) -> &[u8]
+    ensures { result.now ≡ drop place text.now }
+{
     text.get(place..).unwrap_or(&[])
 }
 
 /// The bytes up to a place.
-pub(crate) fn up_to(text: &[u8], place: usize) -> &[u8] {
+pub(crate) fn up_to(text: &[u8], place: usize) -> &[u8]
+    ensures { result.now ≡ take place text.now }
+{
     text.get(..place).unwrap_or(text)
 }

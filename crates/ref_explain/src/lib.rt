@@ -1,5 +1,5 @@
-//! Explanations, for people, of why a text was refused: line and column, the line itself, what is wrong in it, and the known word that
-//! is nearest to one that is unknown.
+//! Explanations, for people, of why a text was refused: line and column, the line itself, what is wrong in it, and of an unknown word what
+//! is written here for it, if it is one of Clojure, or the known word that is nearest to it.
 //!
 //! | Name | Is |
 //! |---|---|
@@ -12,11 +12,12 @@
 //! | [`places`] | line and column of a place |
 //!
 //! Values hold no places, so forms are found in the text by a walk of its bytes, which goes over each a few times and has no recursion. An
-//! explanation shows a few places and at most 80 bytes of a line. Guaranteed: line and column of a place, and that any text is gone through
-//! to an end. Not guaranteed: what is said, which only tests see.
+//! explanation shows a few places and at most 80 bytes of a line. Guaranteed: line and column of a place, that what is shown of a line has no
+//! control character and cuts no character, and that any text is gone through to an end. Not guaranteed: what is said, which only tests see.
 #![tactic(auto)]
 
 mod calls;
+mod clojure;
 mod documents;
 mod dumps;
 mod excerpts;
@@ -38,6 +39,7 @@ mod surroundings;
 mod verdicts;
 pub mod warnings;
 mod writing;
+mod wrong_calls;
 
 pub use explaining::{Mistake, explain, explain_start};
 pub use keys::FORMAT_VERSION;

@@ -67,3 +67,17 @@ pub(crate) fn with_hint(
         None => String::from_str(alloc, message),
     }
 }
+
+/// The same, or the advice in place of it, if there is one.
+pub(crate) fn with_advice(
+    alloc: Global,
+    message: &str,
+    advice: Option<String>,
+    mark: &str,
+    found: Option<&str>,
+) -> Result<String, AllocError> {
+    match advice {
+        Some(advice) => format!(in alloc; "{message}; {advice}"),
+        None => with_hint(alloc, message, mark, found),
+    }
+}

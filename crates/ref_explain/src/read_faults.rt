@@ -106,7 +106,7 @@ fn write_end(writing: &mut Writing<'_>, place: usize) -> Result<(), AllocError> 
             None => Ok(()),
         };
     }
-    if let Some(start) = around.discard {
+    if let Some(start) = around.discard() {
         return writing.mark_at(
             start,
             start.saturating_add(2),
@@ -121,8 +121,9 @@ fn write_end(writing: &mut Writing<'_>, place: usize) -> Result<(), AllocError> 
 fn write_close(writing: &mut Writing<'_>, place: usize) -> Result<(), AllocError> {
     let around = surroundings_of(writing.alloc, writing.text, place)?;
     let end = place.saturating_add(1);
-    if around.discard.is_some() {
-        return writing.mark_at(place, end, "the discard before this bracket has no element");
+    if let Some(start) = around.discard() {
+        writing.mark_at(place, end, "a discard before this bracket has no element")?;
+        return writing.mark_at(start, start.saturating_add(2), "this is the discard");
     }
     let Some(opening) = around.innermost() else {
         writing.mark_at(place, end, "this bracket closes nothing")?;
@@ -174,7 +175,10 @@ fn write_odd_map(writing: &mut Writing<'_>, place: usize) -> Result<(), AllocErr
 
 fn write_byte(writing: &mut Writing<'_>, place: usize) -> Result<(), AllocError> {
     let message = match from(writing.text, place) {
-        [b'\'' | b'`' | b'~' | b'@' | b'^', ..] => {
+        [b'@', ..] => {
+            "no element begins with this character: data has no reader macros, and arguments are constants"
+        }
+        [b'\'' | b'`' | b'~' | b'^', ..] => {
             "no element begins with this character: data needs no quotes and has no reader macros"
         }
         [0xef, 0xbb, 0xbf, ..] => "a byte-order mark: cut it off",
@@ -287,6 +291,10 @@ fn left_out(token: &[u8]) -> &'static str {
 }
 
 fn write_left_out(writing: &mut Writing<'_>, place: usize) -> Result<(), AllocError> {
-    let message = left_out(element_at(writing, place));
+    let message = match from(writing.text, place) {
+        [b'#', b'(', ..] => "functions without a name are left out; write the name of one",
+        [b'#', b'"', ..] => "regular expressions are left out; write a string",
+        _ => left_out(element_at(writing, place)),
+    };
     writing.mark_element(place, message)
 }

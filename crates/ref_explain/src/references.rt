@@ -1,10 +1,12 @@
 //! What is wrong with a reference that is declared.
+use crate::calls::rule_call;
 use crate::documents::{
     find_name, key_of, kind_of, member_at, name_of, names_of, part_of, reference_of,
 };
 use crate::forms::{Form, Sort};
 use crate::sentences::{DEEP, is_deep, write_bad_rule};
 use crate::writing::Writing;
+use crate::wrong_calls::wrong_predicate_call;
 use ref_forms::Kind;
 use ref_log::Who;
 use std::alloc::AllocError;
@@ -29,11 +31,29 @@ fn is_mark(kind: Kind, form: &Form<'_>) -> bool {
     }
 }
 
-fn marks(kind: Kind) -> &'static str {
-    match kind {
-        Kind::Ref => "only a rule or :tally can stand here",
-        Kind::Atom => "only a rule can stand here",
-        Kind::Agent => "only a rule, :fail or :continue can stand here",
+/// What stands behind name and value, as far as it was looked at.
+#[derive(Clone, Copy, Debug, PartialEq, Eq)]
+enum Tail {
+    Nothing,
+    Rule,
+    Mark,
+}
+
+const NOTHING_MORE: &str = "nothing can stand here";
+
+// What is said of a part that can't stand behind these.
+fn wrong_tail(kind: Kind, tail: Tail, part: &Form<'_>) -> &'static str {
+    match (kind, tail) {
+        (Kind::Ref, Tail::Nothing) => "only a rule or :tally can stand here",
+        (Kind::Ref, Tail::Rule) => "only :tally can stand here",
+        (Kind::Atom, Tail::Nothing) => "only a rule can stand here",
+        (Kind::Agent, Tail::Nothing) => "only a rule, :fail or :continue can stand here",
+        (Kind::Agent, Tail::Rule) => "only :fail or :continue can stand here",
+        (Kind::Ref, Tail::Mark) if part.is_vector() => "a rule stands before :tally",
+        (Kind::Agent, Tail::Mark) if part.is_vector() => {
+            "a rule stands before :fail and :continue"
+        }
+        _ => NOTHING_MORE,
     }
 }
 
@@ -61,24 +81,23 @@ fn write_bad_head(writing: &mut Writing<'_>, form: &Form<'_>) -> Result<bool, Al
     }
 }
 
-// Says what is wrong behind name and value.
+// Says what is wrong behind name and value, and whether something is.
 fn write_bad_tail(
     writing: &mut Writing<'_>,
     kind: Kind,
     form: &Form<'_>,
 ) -> Result<bool, AllocError> {
-    let mut is_rule_there = false;
-    for (i, part) in form.members().enumerate() {
-        if i < 2 {
-            continue;
-        }
-        if i == 2 && part.is_vector() {
+    let mut tail = Tail::Nothing;
+    for part in form.members().skip(2) {
+        if tail == Tail::Nothing && part.is_vector() {
             if write_bad_rule(writing, &part, true)? {
                 return Ok(true);
             }
-            is_rule_there = true;
-        } else if !is_mark(kind, &part) || i > 3 || (i == 3 && !is_rule_there) {
-            writing.mark(&part, marks(kind))?;
+            tail = Tail::Rule;
+        } else if tail != Tail::Mark && is_mark(kind, &part) {
+            tail = Tail::Mark;
+        } else {
+            writing.mark(&part, wrong_tail(kind, tail, &part))?;
             return Ok(true);
         }
     }
@@ -117,7 +136,8 @@ pub(crate) fn write_name_twice(writing: &mut Writing<'_>, who: Who) -> Result<()
     }
 }
 
-fn is_count(form: &Form<'_>) -> bool {
+/// Whether it is an integer of 0 or more.
+pub(crate) fn is_count(form: &Form<'_>) -> bool {
     form.sort() == Sort::Number
         && match form.integer() {
             Some(n) => n >= 0,
@@ -125,9 +145,9 @@ fn is_count(form: &Form<'_>) -> bool {
         }
 }
 
-// The first ref that is marked as the tally.
-fn first_tally<'a>(writing: &Writing<'a>) -> Option<Form<'a>> {
-    let refs = part_of(writing.text, key_of(Kind::Ref))?;
+/// The first ref that is marked as the tally.
+pub(crate) fn first_tally(text: &[u8]) -> Option<Form<'_>> {
+    let refs = part_of(text, key_of(Kind::Ref))?;
     for form in refs.members() {
         for (i, part) in form.members().enumerate() {
             if i >= 2 && part.is_word("tally") {
@@ -150,7 +170,7 @@ pub(crate) fn write_bad_tally(writing: &mut Writing<'_>, who: Who) -> Result<(),
         _ => {}
     }
     writing.mark(&form, "only one ref can be the tally")?;
-    match first_tally(writing) {
+    match first_tally(writing.text) {
         Some(first) => writing.mark(&first, "this one is it already"),
         None => Ok(()),
     }
@@ -162,12 +182,26 @@ pub(crate) fn write_start_invalid(writing: &mut Writing<'_>, who: Who) -> Result
         return Ok(());
     };
     match (member_at(&form, 1), member_at(&form, 2)) {
-        (Some(value), Some(rule)) => {
-            let shown = writing.shown(rule.bytes())?;
-            let message = format!(in writing.alloc; "the rule {shown} doesn't accept this value")?;
-            writing.mark(&value, message.as_str())?;
-        }
+        (Some(value), Some(rule)) => write_not_accepted(writing, &value, &rule)?,
         _ => writing.mark(&form, "the rule doesn't accept the value")?,
     }
     writing.note_text("the reference", &form)
+}
+
+/// Says that a rule doesn't accept a value, or that it accepts none.
+pub(crate) fn write_not_accepted(
+    writing: &mut Writing<'_>,
+    value: &Form<'_>,
+    rule: &Form<'_>,
+) -> Result<(), AllocError> {
+    let wrong = match rule_call(rule) {
+        Some(call) => wrong_predicate_call(&call),
+        None => None,
+    };
+    if let Some(wrong) = wrong {
+        return writing.mark(&wrong.form, wrong.message);
+    }
+    let shown = writing.shown(rule.bytes())?;
+    let message = format!(in writing.alloc; "the rule {shown} doesn't accept this value")?;
+    writing.mark(value, message.as_str())
 }

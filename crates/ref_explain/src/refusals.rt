@@ -1,10 +1,9 @@
 //! The steps that a run refused, by the lines of its report.
-use crate::calls::{Call, own_call};
+use crate::calls::own_call;
 use crate::documents::step_of;
-use crate::forms::{Form, Members};
-use crate::functions::{function_of, wrong_count};
 use crate::sentences::{Said, said_in};
 use crate::writing::Writing;
+use crate::wrong_calls::{Wrong, wrong_count_of};
 use ref_calls::Sentence;
 use std::alloc::{AllocError, Global};
 
@@ -26,27 +25,13 @@ pub struct Refused {
     pub wrong: WrongCall,
 }
 
-fn count_of(parts: Members<'_>) -> usize {
-    let mut count = 0usize;
-    for _ in parts {
-        count = count.saturating_add(1);
-    }
-    count
-}
-
-/// The name of a function that never takes as many arguments as it has here, and what it takes.
-pub(crate) fn bad_count<'a>(call: Call<'a>) -> Option<(Form<'a>, &'static str)> {
-    let code = function_of(call.head.bytes())?;
-    let message = wrong_count(code, count_of(call.args))?;
-    Some((call.head, message))
-}
-
-fn bad_count_of<'a>(said: &Said<'a>) -> Option<(Form<'a>, &'static str)> {
-    bad_count(own_call(said)?)
+// The function of a sentence, if it never takes as many arguments as it has here.
+fn bad_count_of<'a>(said: &Said<'a>) -> Option<Wrong<'a>> {
+    wrong_count_of(&own_call(said)?)
 }
 
 // The same for the first such call of a step.
-fn bad_count_in<'a>(step: &Said<'a>) -> Option<(Form<'a>, &'static str)> {
+fn bad_count_in<'a>(step: &Said<'a>) -> Option<Wrong<'a>> {
     if !step.is_transaction() {
         return bad_count_of(step);
     }
@@ -76,7 +61,7 @@ fn write_refused(writing: &mut Writing<'_>, refused: Refused) -> Result<(), Allo
                 None => None,
             };
             match bad {
-                Some((function, message)) => writing.mark(&function, message)?,
+                Some(wrong) => writing.mark(&wrong.form, wrong.message)?,
                 None => writing.mark(&form, "a function in it doesn't take so many arguments")?,
             }
         }

@@ -1,9 +1,10 @@
 //! What is wrong with the form of a step, an operation or an act.
 use crate::calls::{write_bad_call, write_bad_carries};
+use crate::clojure::{advice_of_word, first_word_called};
 use crate::documents::part_of;
 use crate::forms::{Form, Members};
-use crate::functions::{predicate_of, write_no_predicate};
-use crate::nearest::{Nearest, with_hint};
+use crate::functions::{function_of, predicate_of, write_no_predicate};
+use crate::nearest::{Nearest, with_advice, with_hint};
 use crate::writing::Writing;
 use ref_calls::{Sentence, Slot, StepWord, Version, WORDS, Word};
 use ref_fun::{MOST_ARGUMENTS, MOST_NESTED_RESULT};
@@ -91,12 +92,31 @@ fn write_unknown_word(
     if let Some(message) = elsewhere(sentence, name) {
         return writing.mark(head, message);
     }
+    if let Some((word, place)) = other_called(sentence, name) {
+        let message = format!(in writing.alloc; "here this is :{word}; {place}")?;
+        return writing.mark(head, message.as_str());
+    }
     let called = sentence.called();
     let unknown = format!(in writing.alloc; "no {called} has this word")?;
+    let advice = advice_of_word(writing.alloc, sentence, name)?;
     let found = nearest_word(writing, sentence, name)?;
-    let message = with_hint(writing.alloc, unknown.as_str(), ":", found)?;
+    let message = with_advice(writing.alloc, unknown.as_str(), advice, ":", found)?;
     writing.mark(head, message.as_str())?;
     write_words(writing, sentence)
+}
+
+// The word of the other sentence of workloads that Clojure calls so, where this one has none, and what is said of its place.
+fn other_called(sentence: Sentence, name: &[u8]) -> Option<(&'static str, &'static str)> {
+    let other = match sentence {
+        Sentence::Step => Sentence::Operation,
+        Sentence::Operation => Sentence::Step,
+        Sentence::Act => return None,
+    };
+    if first_word_called(sentence, name).is_some() {
+        return None;
+    }
+    let word = first_word_called(other, name)?;
+    Some((word, elsewhere(sentence, word.as_bytes())?))
 }
 
 // ---- what stands behind a word
@@ -194,6 +214,25 @@ fn is_point(form: &Form<'_>) -> bool {
     }
 }
 
+// What is said of a form that stands in the place of the name of a function.
+fn no_function(part: &Form<'_>) -> &'static str {
+    match part.members().next() {
+        Some(head) if function_of(head.bytes()).is_some() => {
+            "the name of a function is wanted here, and its arguments behind it, without brackets"
+        }
+        _ => "the name of a function is wanted here, a symbol",
+    }
+}
+
+fn no_predicate(part: &Form<'_>) -> &'static str {
+    match part.members().next() {
+        Some(head) if predicate_of(head.bytes()).is_some() => {
+            "the name of a predicate is wanted here, and its arguments behind it, without brackets"
+        }
+        _ => "the name of a predicate is wanted here, a symbol",
+    }
+}
+
 // What is wrong with what stands at a place, as far as its own form shows it.
 fn problem_of(sentence: Sentence, slot: Slot, part: &Form<'_>) -> Option<&'static str> {
     let is_act = sentence == Sentence::Act;
@@ -204,12 +243,8 @@ fn problem_of(sentence: Sentence, slot: Slot, part: &Form<'_>) -> Option<&'stati
         Slot::Name(_) | Slot::AnyName if part.symbol().is_none() && !(is_act && part.is_vector()) =>
             { Some("the name of a reference is wanted here, a symbol") }
         Slot::Value if !is_act && is_deep(part) => Some(DEEP),
-        Slot::Function if part.symbol().is_none() => {
-            Some("the name of a function is wanted here, a symbol")
-        }
-        Slot::Predicate if part.symbol().is_none() => {
-            Some("the name of a predicate is wanted here, a symbol")
-        }
+        Slot::Function if part.symbol().is_none() => Some(no_function(part)),
+        Slot::Predicate if part.symbol().is_none() => Some(no_predicate(part)),
         Slot::Mode | Slot::MaybeMode if !is_mode(part) => {
             Some(":fail or :continue is wanted here")
         }
@@ -303,11 +338,13 @@ fn write_bad_slots(
 
 // ---- sentences
 
+const AN_EVENT: &str = "an event is [ACTOR ACT ARG ..]";
+
 // Says that the actor of an act is missing or wrong, and whether it is.
 fn write_bad_actor(writing: &mut Writing<'_>, form: &Form<'_>) -> Result<bool, AllocError> {
     match form.members().next() {
         None => {
-            writing.mark(form, "an event is [ACTOR ACT ARG ..]")?;
+            writing.mark(form, AN_EVENT)?;
             Ok(true)
         }
         Some(actor) if !is_number(&actor) => {
@@ -339,11 +376,34 @@ fn write_no_word(
     match head.keyword() {
         Some(name) => write_unknown_word(writing, sentence, &head, name),
         None => {
-            let message = format!(in writing.alloc;
+            let wanted = format!(in writing.alloc;
                 "the word of the {called} is wanted here, a keyword"
             )?;
+            let meant = word_without_colon(sentence, &head);
+            let message = with_hint(writing.alloc, wanted.as_str(), ":", meant)?;
             writing.mark(&head, message.as_str())
         }
+    }
+}
+
+// The word that a symbol may stand for.
+fn word_without_colon(sentence: Sentence, head: &Form<'_>) -> Option<&'static str> {
+    let name = head.symbol()?;
+    match sentence.find(name) {
+        Some(word) => Some(word.word),
+        None => first_word_called(sentence, name),
+    }
+}
+
+fn no_vector(sentence: Sentence) -> &'static str {
+    match sentence {
+        Sentence::Step => {
+            "this step is no vector: a worker is a vector of steps, as [[:tx [:alter a + 1]] [:tx]]"
+        }
+        Sentence::Operation => {
+            "this operation is no vector: a transaction is written [:tx [:alter a + 1] [:ensure b]]"
+        }
+        Sentence::Act => AN_EVENT,
     }
 }
 
@@ -361,9 +421,7 @@ pub(crate) fn write_bad_form(
     form: &Form<'_>,
 ) -> Result<bool, AllocError> {
     if !form.is_vector() {
-        let called = sentence.called();
-        let message = format!(in writing.alloc; "this {called} is no vector")?;
-        writing.mark(form, message.as_str())?;
+        writing.mark(form, no_vector(sentence))?;
         return Ok(true);
     }
     if sentence == Sentence::Act && write_bad_actor(writing, form)? {
@@ -374,7 +432,10 @@ pub(crate) fn write_bad_form(
         return Ok(true);
     };
     if sentence != Sentence::Act && said.word.since == Version::Two && !is_of_version_2(writing) {
-        writing.mark_start(form, "only a workload of version 2 has this word")?;
+        writing.mark_start(
+            form,
+            "only a workload of version 2 has this word: write :version 2",
+        )?;
         return Ok(true);
     }
     let is_bad = !said.is_transaction() && write_bad_slots(writing, sentence, &said)?;

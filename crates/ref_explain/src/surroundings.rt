@@ -5,6 +5,16 @@ use std::alloc::{AllocError, Global};
 // No more brackets are remembered: a value has no more.
 const MOST_OPEN: usize = 64;
 
+/// Discards of one collection, or of none, that wait for their elements.
+#[derive(Clone, Copy, Debug)]
+struct Discards {
+    // How many, and the place of the first. Each element is that of the last.
+    count: usize,
+    first: usize,
+}
+
+const NO_DISCARDS: Discards = Discards { count: 0, first: 0 };
+
 /// A bracket that opens a collection.
 #[derive(Clone, Copy, Debug)]
 pub(crate) struct Opening {
@@ -14,6 +24,8 @@ pub(crate) struct Opening {
     column: usize,
     // Whether only blanks stand before it in its line.
     is_first: bool,
+    // Those that wait around the collection.
+    around: Discards,
 }
 
 /// What is open at a place.
@@ -27,13 +39,14 @@ pub(crate) struct Surroundings {
     pub long_string: Option<usize>,
     /// A bracket which may not be closed: it begins a line, and a later line in it begins no further to the right.
     pub suspect: Option<Opening>,
-    /// The place of the discard that waits for its element.
-    pub discard: Option<usize>,
+    discards: Discards,
     inside: Inside,
     line_start: usize,
     is_line_blank: bool,
     is_string_long: bool,
+    // Whether the last byte is a hash that no token began before, and whether it is of a token.
     has_hash: bool,
+    is_in_token: bool,
 }
 
 impl Surroundings {
@@ -43,12 +56,13 @@ impl Surroundings {
             string: None,
             long_string: None,
             suspect: None,
-            discard: None,
+            discards: NO_DISCARDS,
             inside: Inside::Plain,
             line_start: 0,
             is_line_blank: true,
             is_string_long: false,
             has_hash: false,
+            is_in_token: false,
         }
     }
 
@@ -57,14 +71,28 @@ impl Surroundings {
         self.open.last().copied()
     }
 
+    /// The place of the first discard in the innermost open collection that waits for its element.
+    pub fn discard(&self) -> Option<usize> {
+        if self.discards.count > 0 {
+            Some(self.discards.first)
+        } else {
+            None
+        }
+    }
+
     fn step(&mut self, place: usize, b: u8) -> Result<(), AllocError> {
         let was = self.inside;
         self.inside = was.after(b);
         match (was, self.inside) {
             (Inside::Plain, Inside::Plain) => self.plain_step(place, b),
             (Inside::Plain, Inside::Text) => {
+                self.end_token();
                 self.element(place);
                 self.begin_string(place);
+                Ok(())
+            }
+            (Inside::Plain, Inside::Comment) => {
+                self.end_token();
                 Ok(())
             }
             (Inside::Text, Inside::Plain) => {
@@ -104,24 +132,53 @@ impl Surroundings {
         if b == b'\n' {
             self.begin_line(place);
         } else if is_closing(b) {
-            self.open.pop();
-            self.is_line_blank = false;
+            self.close();
         } else if is_opening(b) {
             let is_first = self.is_line_blank;
             self.element(place);
-            return self.push(place, b, is_first);
-        } else if b == b'_' && self.has_hash {
-            self.discard = Some(place.saturating_sub(1));
+            self.push(place, b, is_first)?;
         } else if !is_blank(b) {
-            // The hash of a set or a discard isn't yet an element.
-            self.has_hash = b == b'#';
-            if !self.has_hash {
-                self.element(place);
-            }
+            self.token_step(place, b);
             return Ok(());
         }
-        self.has_hash = false;
+        self.end_token();
         Ok(())
+    }
+
+    // A byte of a token, or of the sign of a set or a discard, which isn't yet an element.
+    fn token_step(&mut self, place: usize, b: u8) {
+        if self.is_in_token {
+            return;
+        }
+        if self.has_hash && b == b'_' {
+            self.has_hash = false;
+            self.discard_at(place.saturating_sub(1));
+        } else if !self.has_hash && b == b'#' {
+            self.has_hash = true;
+        } else {
+            self.is_in_token = true;
+            self.element(place);
+        }
+    }
+
+    // No more of a token follows.
+    fn end_token(&mut self) {
+        self.has_hash = false;
+        self.is_in_token = false;
+    }
+
+    fn discard_at(&mut self, place: usize) {
+        if self.discards.count == 0 {
+            self.discards.first = place;
+        }
+        self.discards.count = self.discards.count.saturating_add(1);
+    }
+
+    fn close(&mut self) {
+        if let Some(opening) = self.open.pop() {
+            self.discards = opening.around;
+        }
+        self.is_line_blank = false;
     }
 
     fn push(&mut self, place: usize, bracket: u8, is_first: bool) -> Result<(), AllocError> {
@@ -130,17 +187,18 @@ impl Surroundings {
             bracket,
             column: place.saturating_sub(self.line_start),
             is_first,
+            around: self.discards,
         };
-        self.has_hash = false;
         if self.open.len() < MOST_OPEN {
             self.open.push(opening)?;
+            self.discards = NO_DISCARDS;
         }
         Ok(())
     }
 
-    // An element begins, or goes on.
+    // An element begins.
     fn element(&mut self, place: usize) {
-        self.discard = None;
+        self.discards.count = self.discards.count.saturating_sub(1);
         if self.is_line_blank {
             self.look_for_suspect(place.saturating_sub(self.line_start));
         }

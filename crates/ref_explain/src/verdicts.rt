@@ -1,6 +1,7 @@
 //! What of a dump an audit says no to.
 use crate::documents::{member_at, part_of};
 use crate::forms::Form;
+use crate::references::write_not_accepted;
 use crate::writing::Writing;
 use ref_verdict::Verdict;
 use std::alloc::AllocError;
@@ -128,11 +129,7 @@ fn write_rule(
         return Ok(());
     };
     match (member_at(&form, value), member_at(&form, rule)) {
-        (Some(value), Some(rule)) => {
-            let shown = writing.shown(rule.bytes())?;
-            let message = format!(in writing.alloc; "the rule {shown} doesn't accept this value")?;
-            writing.mark(&value, message.as_str())
-        }
+        (Some(value), Some(rule)) => write_not_accepted(writing, &value, &rule),
         _ => Ok(()),
     }
 }

@@ -1,4 +1,7 @@
 //! The lines of an explanation.
+ghost use Rattle.std.specs.Prelude.{◌≡◌, IfOk, true, string_bytes};
+ghost use Rattle.ref_explain.specs.Shown.{is_plain};
+
 use crate::excerpts::{MOST_SHOWN, excerpt_at, head_of, push_plain};
 use crate::forms::{Form, after_form};
 use crate::inside::{from, up_to};
@@ -131,7 +134,9 @@ impl<'a> Writing<'a> {
     }
 
     /// A short text of the input, as far as it is shown, for a message.
-    pub fn shown(&self, text: &[u8]) -> Result<String, AllocError> {
+    pub fn shown(&self, text: &[u8]) -> Result<String, AllocError>
+        ensures { IfOk result (λ shown. is_plain (string_bytes shown) ≡ true) }
+    {
         let mut shown = String::new(self.alloc);
         let head = head_of(text, 40);
         push_plain(self.alloc, &mut shown, head)?;
