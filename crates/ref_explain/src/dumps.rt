@@ -64,6 +64,24 @@ fn write_unknown_entry(
     writing.mark(head, message.as_str())
 }
 
+// Whether a dump says that it is compact.
+fn is_compact(writing: &Writing<'_>) -> bool {
+    match part_of(writing.text, "dump") {
+        Some(form) => form.integer() == Some(4),
+        None => false,
+    }
+}
+
+// Says how an answer may be left out of an entry of a compact dump, if this is one with answers.
+fn write_compact(writing: &mut Writing<'_>, name: &[u8]) -> Result<(), AllocError> {
+    match name {
+        b"tx" | b"swap" if is_compact(writing) => writing.note(
+            "an answer may be :as P, the point of the entry with the latest one before it; a :set may have none",
+        ),
+        _ => Ok(()),
+    }
+}
+
 fn write_entry(writing: &mut Writing<'_>, form: &Form<'_>) -> Result<(), AllocError> {
     let Some(head) = form.members().next() else {
         return writing.mark(form, "an entry is a vector that begins with its word");
@@ -74,7 +92,8 @@ fn write_entry(writing: &mut Writing<'_>, form: &Form<'_>) -> Result<(), AllocEr
     match entry_written(name) {
         Some(written) => {
             writing.mark(form, "this entry has a wrong form, or names no function")?;
-            writing.note(written)
+            writing.note(written)?;
+            write_compact(writing, name)
         }
         None => write_unknown_entry(writing, &head, name),
     }
