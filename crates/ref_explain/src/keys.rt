@@ -181,12 +181,34 @@ fn of_another(document: Document, word: &[u8]) -> Option<&'static str> {
     }
 }
 
+// Whether a text of this kind is known by this key.
+fn is_own(document: Document, word: &[u8]) -> bool {
+    matches!(
+        (document, word),
+        (Document::Workload, b"workers") | (Document::Events, b"events") | (Document::Dump, b"dump")
+    )
+}
+
+fn has_own(document: Document, map: &Form<'_>) -> bool {
+    for member in map.members().step_by(2) {
+        if let Some(word) = member.keyword() {
+            if is_own(document, word) {
+                return true;
+            }
+        }
+    }
+    false
+}
+
 // Says that it is another text, and whether it is.
 fn write_another(
     writing: &mut Writing<'_>,
     document: Document,
     map: &Form<'_>,
 ) -> Result<bool, AllocError> {
+    if has_own(document, map) {
+        return Ok(false);
+    }
     for member in map.members().step_by(2) {
         let found = match member.keyword() {
             Some(word) => of_another(document, word),
