@@ -52,6 +52,7 @@ WORDS = (
     ("`option_copied o`", "an option of a reference as one of what the reference points to"),
     ("`FitsInMemory T.row`", "a value of the type `T` takes less than 2^63 bytes, as each does of a type that is known"),
     ("`option_map f o`", "f of what the option has, or `None`"),
+    ("`unwrap_or o x`", "what the option has, or x"),
     ("`Result T E`, `Ok x`, `Err e`, `is_ok r`", "a result, and the test whether it is `Ok`"),
     ("`IfOk r (λ x. p)`, `IfErr r (λ e. p)`", "if the result is `Ok x`, then `p`; if it is `Err e`, then `p`"),
     ("`OnOk r p`, `OnErr r p`", "if the result is `Ok`, then `p`; if it is `Err`, then `p`"),

@@ -1,6 +1,6 @@
 -- A compact dump says what the dump says that it was made of.
-use Rattle.std.proofs.Common.{◌≡◌, ◌≢◌, ℕ, ◌+◌, ◌==◌, ◌≤◌, ◌^◌, Bool, true, false, not, cond, List, [], ◌∷◌, length, Option, None, Some, Result, Ok, Err, refl, sym, ap, ◌∙◌, arith}
-use Rattle.std.specs.Prelude.{is_some, nat_le, ok_or, option_map, option_and_then, pos, negsuc, ◌&&◌, ◌-◌}
+use Rattle.std.proofs.Common.{◌≡◌, ℕ, ◌+◌, ◌==◌, ◌≤◌, Bool, true, false, not, cond, List, [], ◌∷◌, length, Option, None, Some, Result, Ok, Err, refl, sym, ap, ◌∙◌, arith}
+use Rattle.std.specs.Prelude.{is_some, nat_le, ok_or, option_map, option_and_then, pos, ◌&&◌}
 use Rattle.std.specs.List.{list_all}
 use Rattle.std.proofs.lemmas.Bool.Decides.{nat_tests}
 use Rattle.ref_value.specs.Edn.{Edn, entries_of, int, items_of, nesting, pairs_of, pairs_of-entries_of}
@@ -11,15 +11,14 @@ use Rattle.ref_forms.specs.Plain.{all_said, and_said, are_known, elements_of, el
 use Rattle.ref_log.specs.Limits.{most_entries}
 use Rattle.ref_log.specs.declared.entries.Entry.{Entry}
 use Rattle.ref_log.specs.declared.entries.Entry.TheVariants.{Trans}
-use Rattle.ref_log.specs.declared.sends.Sent.{Sent}
-use Rattle.ref_compact.specs.Dumps.{compacted, forms_turned, number_under, parts_of}
+use Rattle.ref_compact.specs.Dumps.{compacted, forms_turned, parts_of}
 use Rattle.ref_compact.specs.Laws.{DumpSaysAgain}
 use Rattle.ref_compact.specs.Operations.{vector_form}
-use Rattle.ref_compact.specs.declared.ways.Way.TheVariants.{Compact, Plain}
+use Rattle.ref_compact.specs.declared.ways.Way.TheVariants.{Compact}
 use Rattle.ref_compact.proofs.Parts.{still_known, still_there, under_dump, under_entries, under_stays}
 use Rattle.ref_compact.proofs.Whole.{says_again, turned_length}
 use Rattle.ref_verdict.specs.Compacting.{CompactDumpsSayTheSame, as_version}
-use Rattle.ref_verdict.specs.DumpForm.{agent_of, agent_said, and_entry, and_then, are_keys, base_with, changed_of, done_of, dump_of, entries_from, entry_of, entry_said, folded_of, folded_said, has_keys, is_version, kept_of, key_word, made_atom_said, made_ref_said, misfit, part_said, parts_said, parts_unless, plain_forms, reset_said, sent_of, sent_said, stamp_of, swap_said, taken_said, tally_of, transaction_of, tx_said, values_said, version_of}
+use Rattle.ref_verdict.specs.DumpForm.{agent_of, agent_said, and_entry, and_then, base_with, changed_of, done_of, dump_of, entries_from, entry_of, entry_said, folded_of, folded_said, has_keys, is_version, kept_of, key_word, made_atom_said, made_ref_said, misfit, part_said, parts_said, parts_unless, plain_forms, reset_said, sent_of, sent_said, stamp_of, swap_said, taken_said, tally_of, transaction_of, tx_said, values_said, version_of}
 use Rattle.ref_verdict.specs.Words.{dump_key, entries_key, later_keys, made_atom_tag, made_ref_tag, reset_tag, swap_tag, taken_key, tx_tag}
 use Rattle.ref_verdict.specs.declared.reading.dumps.Changed.{Changed}
 use Rattle.ref_verdict.specs.declared.reading.dumps.Dump.{Dump}
@@ -164,11 +163,11 @@ and_then_ok : {A B : Type 0} (r : Result A DumpFault) (f : A → Result B DumpFa
 and_then_ok (Ok x) f y e = (x, refl, e)
 and_then_ok (Err fault) f y e = absurd cc
 
-mapped : (Dump → Dump) → Result Dump DumpFault → Result Dump DumpFault
+abbrev mapped : (Dump → Dump) → Result Dump DumpFault → Result Dump DumpFault
 mapped f (Ok x) = Ok (f x)
 mapped f (Err fault) = Err fault
 
-version_in : Version → Result Dump DumpFault → Version
+abbrev version_in : Version → Result Dump DumpFault → Version
 version_in version (Ok dump) = dump.version
 version_in version (Err fault) = version
 
@@ -275,8 +274,8 @@ module _ (entries : Edn) (es : List (Edn × Edn)) where
   parts_stay : (ys : List Edn) (m : Result (List Entry) DumpFault) → entries_from Four 1 (plain_forms Four (parts_of entries es) ys) ≡ m
       → with_forms Four (parts_of entries es) (Ok ys)
       ≡ joined Four (part_said es keys.Added number_of) (part_said es keys.Agents (list_said (agent_of Three))) (part_said es keys.Atoms (values_said kept_of)) (part_said es keys.BaseAtoms (values_said Some))
-        (part_said es keys.BaseRefs (values_said changed_of)) (part_said es keys.Commits number_of) (part_said es keys.Folded (folded_of Three)) (part_said es keys.Point number_of)
-        (part_said es keys.Refs (values_said kept_of)) (part_said es keys.Taken number_of) (part_said es keys.Tally tally_of) m
+      (part_said es keys.BaseRefs (values_said changed_of)) (part_said es keys.Commits number_of) (part_said es keys.Folded (folded_of Three)) (part_said es keys.Point number_of)
+      (part_said es keys.Refs (values_said kept_of)) (part_said es keys.Taken number_of) (part_said es keys.Tally tally_of) m
   parts_stay ys m is =
       let a = part_stays keys.Added number_of refl refl in
       let b = part_stays keys.Agents (list_said (agent_of Four)) refl refl ∙ same_part es keys.Agents (list_said (agent_of Four)) (list_said (agent_of Three)) (λ x. same_list (agent_of Four) (agent_of Three) x agent_same) in
@@ -341,15 +340,15 @@ of_map es dump shallow fits reads three =
     let es_then = parts_of entries es in
     let few : length ys ≤ most_entries = rw (turned_length es read.forms) (few_of (elements_of x.0) most_entries read.forms x.2) in
     let found_then : part_said es_then keys.Entries (elements_within most_entries) ≡ Ok ys =
-      ap (λ o. ok_or (option_and_then (elements_within most_entries) o) (BadPart keys.Entries)) (under_entries entries es ∙ ap (option_map (λ y. entries)) x.1)
-      ∙ ap (λ o. ok_or o (BadPart keys.Entries)) (few_said ys most_entries few) in
+    ap (λ o. ok_or (option_and_then (elements_within most_entries) o) (BadPart keys.Entries)) (under_entries entries es ∙ ap (option_map (λ y. entries)) x.1)
+    ∙ ap (λ o. ok_or o (BadPart keys.Entries)) (few_said ys most_entries few) in
     let says : entries_from Four 1 (plain_forms Four es_then ys) ≡ entries_from Three 1 read.forms = ap (entries_from Four 1) again.again ∙ entries_same 1 read.forms in
     let three_read = sym (ap (with_forms Three es) read.is) ∙ reads_three in
     ap dump_of again.fits ∙ dump_of_map es_then ∙ ap (λ o. parts_unless o es_then) (fits_four entries es has_three t says_three) ∙ ap (λ w. parts_said w es_then) (is_four entries es t says_three)
     ∙ ap (with_forms Four es_then) found_then ∙ parts_stay entries es ys (entries_from Three 1 read.forms) says
     ∙ joined_four (part_said es keys.Added number_of) (part_said es keys.Agents (list_said (agent_of Three))) (part_said es keys.Atoms (values_said kept_of)) (part_said es keys.BaseAtoms (values_said Some))
-      (part_said es keys.BaseRefs (values_said changed_of)) (part_said es keys.Commits number_of) (part_said es keys.Folded (folded_of Three)) (part_said es keys.Point number_of)
-      (part_said es keys.Refs (values_said kept_of)) (part_said es keys.Taken number_of) (part_said es keys.Tally tally_of) (entries_from Three 1 read.forms) dump three_read
+    (part_said es keys.BaseRefs (values_said changed_of)) (part_said es keys.Commits number_of) (part_said es keys.Folded (folded_of Three)) (part_said es keys.Point number_of)
+    (part_said es keys.Refs (values_said kept_of)) (part_said es keys.Taken number_of) (part_said es keys.Tally tally_of) (entries_from Three 1 read.forms) dump three_read
 
 by_misfit : (es : List (Edn × Edn)) (dump : Dump) (o : Option DumpFault) → nesting (edn.map (entries_of es)) ≤ 64 → misfit es ≡ o → parts_unless o es ≡ Ok dump → dump.version ≡ Three
     → dump_of (compacted (edn.map (entries_of es))) ≡ Ok (as_version Four dump)

@@ -6,11 +6,10 @@ use Rattle.std.proofs.lemmas.Bool.Decides.{nat_tests}
 use Rattle.ref_value.specs.Edn.{Edn, keyword_of}
 use Rattle.ref_value.specs.Names.{bytes_eq}
 use Rattle.ref_fun.specs.declared.actions.Action.{Action}
-use Rattle.ref_forms.specs.Plain.{all_said, and_said, elements, elements_of, list_said, number_of, tag_said, tagged_of}
+use Rattle.ref_forms.specs.Plain.{all_said, and_said, elements, elements_of, list_said, number_of, tag_said}
 use Rattle.ref_log.specs.declared.entries.Entry.{Entry}
 use Rattle.ref_log.specs.declared.entries.Entry.TheVariants.{Trans}
 use Rattle.ref_log.specs.declared.entries.Stamp.{Stamp}
-use Rattle.ref_log.specs.declared.entries.Transaction.{Transaction}
 use Rattle.ref_log.specs.declared.operations.Done.{Done}
 use Rattle.ref_log.specs.declared.sends.Sent.{Sent}
 use Rattle.ref_compact.specs.Laws.{is_plain_by, is_plain_entry, is_plain_one, is_plain_op, is_plain_tagged, is_plain_tx}

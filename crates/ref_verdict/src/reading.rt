@@ -19,8 +19,8 @@ pub(crate) mod references;
 use crate::reading::dumps::{Changed, Dump, Version};
 use crate::reading::faults::{DumpFault, Key};
 use crate::reading::parts::{
-    entries_part, entry_forms, folded_part, list_part, misfit, number_part, parts_fault, taken_part,
-    tally_part, values_part, version_of,
+    entries_part, entry_forms, folded_part, list_part, misfit, number_part, parts_fault,
+    taken_part, tally_part, values_part, version_of,
 };
 use ref_log::{Base, SharedVec};
 use ref_value::{Entries, Node, Value};

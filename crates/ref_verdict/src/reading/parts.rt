@@ -333,11 +333,7 @@ pub(crate) fn entries_part(
 }
 
 /// The entries, or the position of the first that is none, where each answer is written out.
-fn entries_in(
-    alloc: Global,
-    version: Version,
-    forms: &Items,
-) -> Result<PVec<Entry>, DumpFault>
+fn entries_in(alloc: Global, version: Version, forms: &Items) -> Result<PVec<Entry>, DumpFault>
     ensures reads { Told (entries_from version 1 forms.now) result }
     ensures limit { IfOk result (λ es. length es ≤ length forms.now) }
 {

@@ -12,5 +12,5 @@ unfolding has_keys
 returns-in-Two c =
     let es = c.args.entries.now in
     let same : are_keys later_keys es ≡ has_keys c.args.version es =
-    ⊎_elim (λ is. ap (λ v. has_keys v es) (sym is)) (λ is. ap (λ v. has_keys v es) (sym is)) c.in-Two.is in
+    ⊎_elim (λ is. ap (λ v. has_keys v es) (sym is)) (⊎_elim (λ is. ap (λ v. has_keys v es) (sym is)) (λ is. ap (λ v. has_keys v es) (sym is))) c.in-Two.is in
     c.are_keys-in-Two.ensures ∙ same
