@@ -368,7 +368,7 @@ fn write_dump_version(writing: &mut Writing<'_>) -> Result<(), AllocError> {
         return Ok(());
     };
     let message = match part_of(writing.text, "taken") {
-        Some(_) => "a dump with :taken is of version 2 or 3",
+        Some(_) => "a dump with :taken is of version 2, 3 or 4",
         None => "a dump without :taken is of version 1",
     };
     writing.mark(&version, message)
