@@ -1,0 +1,4 @@
+pub mod Letters
+pub mod Cuts
+pub mod Lines
+pub mod Heads

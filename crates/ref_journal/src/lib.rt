@@ -1,0 +1,4 @@
+//! Journals of worlds.
+#![tactic(auto)]
+
+pub mod seals;
