@@ -1,4 +1,6 @@
 pub mod Letters
 pub mod Cuts
 pub mod Lines
+pub mod Whole
 pub mod Heads
+pub mod Split

@@ -1,6 +1,6 @@
 -- The text of a journal: bodies, each on a line of its own that is sealed. A seal is a comment of EDN, and has a sum of all bodies up to
 -- there. Each write but the first begins with a head, a line without a value: what stood before it was durable when it was written.
-use Rattle.std.specs.Prelude.{ℕ, zero, suc, ◌+◌, ◌-◌, ◌*◌, ◌/◌, ◌%◌, nat_lt, nat_le, ◌==◌, ◌&&◌, not, Bool, false, List, [], ◌∷◌, ◌++◌, if◌then◌else◌, length, take, drop}
+use Rattle.std.specs.Prelude.{◌≡◌, ℕ, zero, suc, ◌+◌, ◌-◌, ◌*◌, ◌/◌, ◌%◌, nat_lt, nat_le, ◌==◌, ◌&&◌, not, Bool, true, false, List, [], ◌∷◌, ◌++◌, if◌then◌else◌, length, take, drop}
 use Rattle.std.specs.List.{list_all, list_any}
 use Rattle.ref_value.specs.Names.{bytes_eq}
 
@@ -134,3 +134,16 @@ is_inner b = not (b == 10)
 -- a text without the byte that ends a line
 abbrev pub is_one_line : List ℕ → Bool
 is_one_line body = list_all is_inner body
+
+-- ---- what a crash leaves
+
+-- A text says these bodies, and behind their lines there is at most the part of a line.
+pub record IsTorn (bodies : List (List ℕ)) (text : List ℕ) : Type 0 where
+  pub said : bodies_of text ≡ bodies
+  pub part : is_one_line (left_over text) ≡ true
+  pub undamaged : is_damaged text ≡ false
+
+-- A text says these bodies, and is damaged behind their lines.
+pub record IsBroken (bodies : List (List ℕ)) (text : List ℕ) : Type 0 where
+  pub said : bodies_of text ≡ bodies
+  pub damaged : is_damaged text ≡ true

@@ -1,4 +1,5 @@
 //! Journals of worlds.
 #![tactic(auto)]
 
+pub mod laws;
 pub mod seals;
