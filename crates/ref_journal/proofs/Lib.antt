@@ -4,3 +4,6 @@ pub mod Lines
 pub mod Whole
 pub mod Heads
 pub mod Split
+pub mod Moments
+pub mod Adding
+pub mod Fronts

@@ -79,7 +79,7 @@ pub behind : (xs ys : List ℕ) → drop (length xs) (xs ++ ys) ≡ ys
 behind [] ys = refl
 behind (x ∷ xs) ys = behind xs ys
 
-take_past : (xs ys : List ℕ) (k j : ℕ) → k ≡ length xs + j → take k (xs ++ ys) ≡ xs ++ take j ys
+pub take_past : (xs ys : List ℕ) (k j : ℕ) → k ≡ length xs + j → take k (xs ++ ys) ≡ xs ++ take j ys
 take_past [] ys k j is =
     let all : k ≡ j = omega (arith, is) in
     ap (λ n. take n ys) all
