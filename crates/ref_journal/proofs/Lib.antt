@@ -7,3 +7,4 @@ pub mod Split
 pub mod Moments
 pub mod Adding
 pub mod Fronts
+pub mod Printed

@@ -6,3 +6,4 @@ pub mod laws;
 pub mod medium;
 pub mod memory;
 pub mod seals;
+pub mod writing;
