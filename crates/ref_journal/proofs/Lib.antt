@@ -8,3 +8,7 @@ pub mod Moments
 pub mod Adding
 pub mod Fronts
 pub mod Printed
+pub mod Values
+pub mod Bases
+pub mod Entries
+pub mod Fits

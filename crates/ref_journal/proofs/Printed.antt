@@ -2,7 +2,9 @@
 use Rattle.std.proofs.Common.{◌≡◌, ℕ, Bool, true, false, cond, List, [], ◌∷◌, ◌++◌, refl, ap, sym, ◌∙◌, subst, inl, inr}
 use Rattle.std.specs.Prelude.{◌==◌, not}
 use Rattle.std.specs.Fmt.{signed_decimal}
-use Rattle.std.proofs.lemmas.Bool.{cases_Bool, eqb-true}
+use Rattle.std.specs.List.{list_all}
+use Rattle.std.proofs.lemmas.Bool.{and_from, cases_Bool, eqb-true}
+use Rattle.std.proofs.lemmas.List.Folds.{list_all-append}
 use Rattle.ref_value.specs.Edn.{Edn, nil, boolean, int, string, keyword, symbol, vector, map, set, Items, no_items, item, Entries, no_entries, entry}
 use Rattle.ref_value.specs.Lawful.{HasLawfulParts, AreLawful, AreLawfulEntries, IsLawful}
 use Rattle.ref_value.specs.Names.{nil_text, true_text, false_text}
@@ -108,3 +110,6 @@ printed_head (symbol s) l = token_head s [] (symbol_inside s l.parts) refl
 printed_head (vector xs) l = refl
 printed_head (map es) l = refl
 printed_head (set xs) l = refl
+
+pub one_line_more : (texts : List (List ℕ)) (t : List ℕ) → list_all is_one_line texts ≡ true → is_one_line t ≡ true → list_all is_one_line (texts ++ t ∷ []) ≡ true
+one_line_more texts t lines line = list_all-append is_one_line texts (t ∷ []) ∙ and_from (list_all is_one_line texts) (list_all is_one_line (t ∷ [])) lines (and_from (is_one_line t) true line refl)

@@ -67,3 +67,16 @@ whole_fits text =
     let both = length-append (sealed_text 0 (bodies_of text)) (left_over text) in
     let whole = length-text 0 (bodies_of text) in
     omega (arith, all, both, whole)
+
+-- a line is a byte at least
+few : (bodies : List (List ℕ)) → length bodies ≤ whole_len bodies
+few [] = omega arith
+few (body ∷ bodies) =
+    let more = few bodies in
+    omega (arith, more)
+
+pub few_lines : (text : List ℕ) → length (bodies_of text) ≤ length text
+few_lines text =
+    let whole = whole_fits text in
+    let lines = few (bodies_of text) in
+    omega (arith, whole, lines)

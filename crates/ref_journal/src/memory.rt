@@ -17,11 +17,13 @@ pub struct Memory {
 }
 
 impl Memory {
-    ghost use Rattle.ref_journal.specs.Kept.{memory_bytes, memory_synced};
+    ghost use Rattle.ref_journal.specs.Kept.{memory_bytes, memory_may_leave, memory_synced};
+    ghost use Rattle.ref_journal.specs.Medium.{Only};
 
     /// An empty medium.
     pub fn new(alloc: Global) -> Memory
-        ensures { memory_bytes result ≡ [] }
+        ensures bytes { memory_bytes result ≡ [] }
+        ensures durable { Only [] (memory_may_leave result) }
     {
         Memory {
             bytes: Vec::new(alloc),

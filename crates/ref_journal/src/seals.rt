@@ -149,8 +149,8 @@ fn is_sealed(alloc: Global, sum: u64, line: &[u8]) -> Result<bool, AllocError>
     Ok(has_seal(line, seal.as_slice()))
 }
 
-// What stands behind so many bytes.
-fn after(text: &[u8], count: usize) -> &[u8]
+/// What stands behind so many bytes.
+pub(crate) fn after(text: &[u8], count: usize) -> &[u8]
     requires { count ≤ length text.now }
     ensures { result.now ≡ drop count text.now }
 {

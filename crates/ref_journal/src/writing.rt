@@ -1,5 +1,6 @@
 //! The texts of values, which stand on the lines of a journal.
 ghost use Rattle.std.specs.Prelude.{◌≡◌, true, false, Ok, IfOk, map};
+ghost use Rattle.std.specs.List.{list_all};
 ghost use Rattle.ref_edn.specs.Printed.{printed};
 ghost use Rattle.ref_edn.specs.Reading.{one};
 ghost use Rattle.ref_journal.specs.Seals.{is_head, is_one_line};
@@ -21,17 +22,23 @@ pub fn a_printed_value_is_read()
 }
 
 // The text of a value.
+#[tactic(auto, using(crate::proofs::Printed::printed_inner))]
 fn text_of(alloc: Global, value: &Value) -> Result<Vec<u8>, AllocError>
-    ensures { IfOk result (λ text. text.items ≡ printed value.now) }
+    ensures text { IfOk result (λ text. text.items ≡ printed value.now) }
+    ensures line { IfOk result (λ text. is_one_line text.items ≡ true) }
 {
+    // That the value is lawful, which its type guarantees.
+    let _depth = value.depth();
     let mut text = Vec::new(alloc);
     print(alloc, value, &mut text)?;
     Ok(text)
 }
 
 /// The texts of values, each for a line of its own.
+#[tactic(auto, using(crate::proofs::Printed::one_line_more))]
 pub fn texts_of(alloc: Global, values: &[Value]) -> Result<Vec<Vec<u8>>, AllocError>
-    ensures { IfOk result (λ texts. map (λ text. text.items) texts.items ≡ map printed values.now) }
+    ensures texts { IfOk result (λ texts. map (λ text. text.items) texts.items ≡ map printed values.now) }
+    ensures lines { IfOk result (λ texts. list_all is_one_line (map (λ text. text.items) texts.items) ≡ true) }
 {
     let mut texts = Vec::new(alloc);
     for value in values {

@@ -10,7 +10,7 @@ ghost use Rattle.ref_verdict.specs.declared.reading.faults.DumpFault.TheVariants
 
 pub(crate) mod actions;
 pub mod dumps;
-pub(crate) mod entries;
+pub mod entries;
 pub mod faults;
 pub(crate) mod lists;
 pub(crate) mod parts;

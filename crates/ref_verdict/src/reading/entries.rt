@@ -274,7 +274,7 @@ fn tagged_entry_in(
 }
 
 /// An entry of the log.
-pub(crate) fn entry_in(alloc: Global, version: Version, form: &Value) -> Result<Entry, Wrong>
+pub fn entry_in(alloc: Global, version: Version, form: &Value) -> Result<Entry, Wrong>
     ensures { Reads (entry_of version form.now) result }
 {
     match tagged_in(form) {
