@@ -12,3 +12,4 @@ pub mod Values
 pub mod Bases
 pub mod Entries
 pub mod Fits
+pub mod Restoring

@@ -17,7 +17,7 @@ const ROWS: &[(&[&str], &str)] = &[
     (&[BASE, "[:reset 0 1]", "[:swap 0 + [1] 2]"], "[0 10] [2] at 2"),
     (&[BASE, "[:reset 0 1]", "[:swap 0 + [1] 3]"], "no replay: the entry at point 2 keeps a wrong answer"),
     (&[BASE, "[:reset 5 1]"], "no replay: the entry at point 1 is about a reference that isn't there"),
-    (&[BASE, "[:swap 0 dec [1] 2]"], "line 2 is no entry"),
+    (&[BASE, "[:swap 0 unheard-of [] 2]"], "line 2 is no entry"),
     (&[BASE, "[:swap 0 + [\"a\"] 2]"], "no replay: a function refuses in the entry at point 1"),
 ];
 
