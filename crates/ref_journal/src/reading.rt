@@ -124,7 +124,7 @@ fn said_in(alloc: Global, bodies: &[Vec<u8>], whole: usize, torn: usize) -> Resu
 /// What a text says as a journal, or the first reason why it is none. What stands behind the last whole line is dropped, and counted.
 ///
 /// Linear in the text.
-#[tactic(auto, using(crate::proofs::Split::whole_fits, crate::proofs::Split::few_lines))]
+#[tactic(auto, using(crate::proofs::Split::whole_fits, crate::proofs::Split::few_lines, crate::proofs::Restoring::damaged_said, crate::proofs::Restoring::whole_said))]
 pub fn read_journal(alloc: Global, text: &[u8]) -> Result<Said, RestoreFault>
     ensures reads { Told (journal_of text.now) result }
     // The base has the last change of each of its refs.

@@ -96,6 +96,7 @@ fn folded<M: Meaning, F: Functions<M>>(
 /// fault, by name and place.
 ///
 /// Linear in the text, but for the look-ups and what the functions cost.
+#[tactic(auto, using(crate::proofs::Restoring::restored_from, crate::proofs::Restoring::unfolded_from, crate::proofs::Restoring::refused_as))]
 pub fn restore<M: Meaning, F: Functions<M>>(
     alloc: Global,
     funs: &F,
